@@ -1,0 +1,29 @@
+-- What a sink in memory is, and what a write to it answers.
+use Rattle.std.specs.Prelude.{◌≡◌, ℕ, ◌==◌, List, [], ◌∷◌, ◌++◌, take, Option, Some, None, Result, Ok, Err, if◌then◌else◌}
+use Rattle.ul_base.specs.Causes.{counted}
+use Rattle.ul_base.specs.declared.sink.SinkRefused.{SinkRefused}
+use Rattle.ul_base.specs.declared.sink.SinkRefused.TheVariants.{Failed, NoMemory}
+
+-- a sink in memory: the bytes written, the numbers of the calls that fail, each with the count of bytes after which
+-- it does, how many calls there were, and how many of them failed
+pub record SinkState : Type 0 where
+  pub written : List ℕ
+  pub failing : List (ℕ × ℕ)
+  pub calls : ℕ
+  pub faults : ℕ
+
+-- after how many bytes the call of this number fails, if it does: the first pair that begins with the number counts
+abbrev pub bytes_before : List (ℕ × ℕ) → ℕ → Option ℕ
+bytes_before [] call = None
+bytes_before (pair ∷ pairs) call = if pair.0 == call then Some pair.1 else bytes_before pairs call
+
+-- the next call answers so, and leaves the sink so: it fails exactly where its number is one of those that fail, and
+-- then writes as many bytes as are said there, or the whole piece where that is less
+abbrev pub MemWrite : SinkState → SinkState → List ℕ → Result (Unit {0}) SinkRefused → Type 0
+MemWrite before now piece (Ok _) =
+    (bytes_before before.failing before.calls ≡ None)
+    × (now ≡ record before { written = before.written ++ piece; calls = counted before.calls })
+MemWrite before now piece (Err Failed) =
+    (count : ℕ) × (bytes_before before.failing before.calls ≡ Some count)
+    × (now ≡ record before { written = before.written ++ take count piece; calls = counted before.calls; faults = counted before.faults })
+MemWrite before now piece (Err NoMemory) = now ≡ record before { calls = counted before.calls }

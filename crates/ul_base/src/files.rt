@@ -1,0 +1,49 @@
+//! Files by their paths.
+ghost use Rattle.std.specs.Prelude.{◌≡◌, ℕ, List, Option};
+ghost use Rattle.ul_base.specs.Files.{FileMap, Told, Tells, ReadCause};
+
+use std::alloc::AllocError;
+
+/// Why a read gave no answer.
+#[derive(Clone, Copy, Debug, PartialEq, Eq)]
+pub enum ReadRefused {
+    /// The read failed, and the count of faults rose.
+    Failed,
+    /// The file has more bytes than the limit.
+    TooLong,
+    /// Memory ran out.
+    NoMemory,
+}
+
+impl From<AllocError> for ReadRefused {
+    ghost use Rattle.std.specs.Prelude.{◌≡◌};
+    ghost use Rattle.ul_base.specs.declared.files.ReadRefused.TheVariants.{NoMemory};
+
+    ghost from_gives = { λ _ e. e ≡ NoMemory };
+
+    fn from(_: AllocError) -> Self {
+        ReadRefused::NoMemory
+    }
+}
+
+/// Files by their paths, as far as the program sees them.
+pub trait Files {
+    /// The bytes at each path, where they are told: files in memory tell them, a real folder doesn't.
+    ghost map: { Self → Option FileMap };
+
+    /// How often a read has failed. The count never falls, and stands still at its type's end.
+    ghost faults: { Self → ℕ };
+
+    /// The path of the last read that answered `Failed`, where it is told.
+    ghost last_failed: { Self → Option (List ℕ) };
+
+    /// Reads the file at `path`, of at most `limit` bytes.
+    ///
+    /// `Ok(None)` says that there is none. `Failed` comes only where the count of faults rose in this call, or
+    /// stands at its last value, and every other answer leaves it as it was. Where the map is told, `TooLong` comes
+    /// exactly where the file is longer than `limit`. `NoMemory` may come in place of any answer.
+    fn read(&mut self, path: &str, limit: u64) -> Result<Option<Vec<u8>>, ReadRefused>
+        ensures told { Told (map self.old) (λ m. Tells m path.now limit result) }
+        ensures same { map self.new ≡ map self.old }
+        ensures cause { ReadCause (faults self.old) (faults self.new) (last_failed self.old) (last_failed self.new) path.now result };
+}

@@ -1,0 +1,153 @@
+//! Files in memory.
+ghost use Rattle.std.specs.Prelude.{◌≡◌, ◌≢◌, Some, None, string_bytes, option_map};
+ghost use Rattle.ul_base.specs.Files.{FileMap, files_of, content, Tells, ReadCause};
+ghost use Rattle.ul_base.specs.MemFiles.{FilesState, MemRead};
+
+use crate::files::{Files, ReadRefused};
+use std::alloc::Global;
+use std::marker::Model;
+
+/// Files in memory, of which the reads of given numbers fail.
+///
+/// A clause sees the map, the numbers of the reads that fail, how many reads there were and how many of them failed
+/// (both stand still at their type's end), and the path of the last that failed.
+#[derive(Drop)]
+pub struct MemFiles {
+    alloc: Global,
+    list: Vec<(String, Vec<u8>)>,
+    failing: Vec<u64>,
+    calls: u64,
+    faults: u64,
+    last: Option<String>,
+}
+
+impl Model for MemFiles {
+    ghost Value = { FilesState };
+
+    ghost view = { λ s. record {
+      files = files_of s.list.items;
+      failing = s.failing.items;
+      calls = s.calls;
+      faults = s.faults;
+      last = option_map string_bytes s.last;
+    } };
+}
+
+impl MemFiles {
+    /// The files of a list, of which the first pair of a path counts; the reads whose numbers, from 0, stand in
+    /// `failing` fail, and no other.
+    pub fn of(alloc: Global, list: Vec<(String, Vec<u8>)>, failing: Vec<u64>) -> MemFiles
+        ensures { result ≡ record { files = files_of list.items; failing = failing.items; calls = 0; faults = 0; last = None } }
+    {
+        MemFiles {
+            alloc,
+            list,
+            failing,
+            calls: 0,
+            faults: 0,
+            last: None,
+        }
+    }
+}
+
+impl Files for MemFiles {
+    ghost map = { λ s. Some s.files };
+
+    ghost faults = { λ s. s.faults };
+
+    ghost last_failed = { λ s. s.last };
+
+    /// Answers from the list. It copies the path before it answers `Failed`, so that it can answer `NoMemory` there.
+    fn read(&mut self, path: &str, limit: u64) -> Result<Option<Vec<u8>>, ReadRefused>
+        ensures told { Tells self.old.files path.now limit result }
+        ensures same { self.new.files ≡ self.old.files }
+        ensures cause { ReadCause self.old.faults self.new.faults self.old.last self.new.last path.now result }
+        ensures exact { MemRead self.old self.new path.now result }
+    {
+        let fails = self.failing.contains(&self.calls);
+        self.calls = self.calls.saturating_add(1);
+        if fails {
+            let copy = String::from_str(self.alloc, path)?;
+            self.last = Some(copy);
+            self.faults = self.faults.saturating_add(1);
+            return Err(ReadRefused::Failed);
+        }
+        answer(self.alloc, &self.list, path, limit)
+    }
+}
+
+/// Files in memory that never fail.
+///
+/// A clause sees the map.
+#[derive(Drop)]
+pub struct SureFiles {
+    alloc: Global,
+    list: Vec<(String, Vec<u8>)>,
+}
+
+impl Model for SureFiles {
+    ghost Value = { FileMap };
+
+    ghost view = { λ s. files_of s.list.items };
+}
+
+impl SureFiles {
+    /// The files of a list, of which the first pair of a path counts. No read fails.
+    pub fn of(alloc: Global, list: Vec<(String, Vec<u8>)>) -> SureFiles
+        ensures { result ≡ files_of list.items }
+    {
+        SureFiles { alloc, list }
+    }
+}
+
+impl Files for SureFiles {
+    ghost map = { λ s. Some s };
+
+    ghost faults = { λ _. 0 };
+
+    ghost last_failed = { λ _. None };
+
+    /// Answers from the list, and never `Failed`: the count of faults is 0 for good.
+    fn read(&mut self, path: &str, limit: u64) -> Result<Option<Vec<u8>>, ReadRefused>
+        ensures told { Tells self.old path.now limit result }
+        ensures same { self.new ≡ self.old }
+        ensures cause { ReadCause 0 0 None None path.now result }
+        ensures sure { result ≢ Err ReadRefused.Failed }
+    {
+        answer(self.alloc, &self.list, path, limit)
+    }
+}
+
+// The answer to a read that doesn't fail.
+fn answer(
+    alloc: Global,
+    list: &[(String, Vec<u8>)],
+    path: &str,
+    limit: u64,
+) -> Result<Option<Vec<u8>>, ReadRefused>
+    ensures tells { Tells (files_of list.now) path.now limit result }
+    ensures sure { result ≢ Err ReadRefused.Failed }
+{
+    match find(list, path) {
+        None => Ok(None),
+        Some(bytes) => {
+            if bytes.len() as u64 > limit {
+                return Err(ReadRefused::TooLong);
+            }
+            let copy = Vec::from_slice(alloc, bytes)?;
+            Ok(Some(copy))
+        }
+    }
+}
+
+// The bytes of the first pair that has the path.
+fn find<'a>(list: &'a [(String, Vec<u8>)], path: &str) -> Option<&'a [u8]>
+    ensures { option_map (λ b. b.now) result ≡ content (files_of list.now) path.now }
+{
+    for pair in list {
+        if pair.0.as_str() == path {
+            return Some(&pair.1);
+        }
+    }
+    None
+}

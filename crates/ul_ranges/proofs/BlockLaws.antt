@@ -1,0 +1,448 @@
+-- Laws of sets in blocks of 64 bits.
+use Rattle.std.proofs.Common.{◌≡◌, ℕ, zero, suc, List, [], ◌∷◌, Bool, true, false, cond, refl, ap, ◌∙◌, sym, get_or, ◌+◌, ◌-◌, ◌*◌, ◌/◌, ◌%◌, ◌^◌, ◌<◌, ◌≤◌, length, arith, eqb, inl, inr, w64, replicate, zero-add, lit<, set}
+use Rattle.std.specs.Prelude.{bit_and, bit_or, map, zip, min, max, ◌↔◌, ◌&&◌, ◌||◌, All, ◌++◌}
+use Rattle.std.specs.Int.{bit_at, bit_not}
+use Rattle.std.specs.List.{range_with_len, list_all, list_any}
+use Rattle.std.proofs.lemmas.Bool.{cases_lt, cases_Bool, eqb-true, eq-eqb, cases_eq, cases_order, ne_eqb, or_right, and_parts, both_ways, false_from_ne_true}
+use Rattle.std.proofs.lemmas.Bool.Decides.{same_from_decides, Decides-like, Decides-eqb}
+use Rattle.std.proofs.lemmas.Slice.Eq.{slice_eq-Decides}
+use Rattle.std.proofs.lemmas.List.Folds.{list_any-append, list_any_none}
+use Rattle.std.specs.Cmp.Lexicographic.{pointwise}
+use Rattle.std.proofs.Math.Nat.{mod-lt}
+use Rattle.std.proofs.lemmas.List.{ext_get_or, get_or_past, get_or-replicate, length-replicate, get_or-set_same, get_or-set_other, get_or_default, length-set}
+use Rattle.std.proofs.lemmas.List.FromFn.{length-map-range_with_len, get_or-map-range_with_len}
+use Rattle.std.proofs.lemmas.Nat.{and_le_l, or_lt, pow_below}
+use Rattle.std.proofs.lemmas.Nat.Bits.{bit_at_and, bit_at_or, bit_at_not, bit_at-lt, bit_at-zero, bit_at_set_same, bit_at_set_other, bit_at_ones, bit_at_ones_above, shr_and_one, same_from_bits_below}
+use Rattle.ul_ranges.specs.Flags.{has, both, either, less, is_blank, is_within, set_of}
+use Rattle.ul_ranges.specs.Blocks.{flag, flag_at, flags_of, block_count, IsExact, AreBlocksOf}
+use Rattle.ul_ranges.proofs.FlagLaws.{has-both, has-either, has-less, length-both, length-either, length-less, blank_some, blank_none, same_sets}
+
+-- ---- one bit
+min_flag : (a b : ℕ) → a < 2 → b < 2 → eqb (min a b) 1 ≡ cond (eqb a 1) (eqb b 1) false
+min_flag zero zero p q = refl
+min_flag zero (suc zero) p q = refl
+min_flag zero (suc (suc b)) p q = absurd (omega arith)
+min_flag (suc zero) zero p q = refl
+min_flag (suc zero) (suc zero) p q = refl
+min_flag (suc zero) (suc (suc b)) p q = absurd (omega arith)
+min_flag (suc (suc a)) b p q = absurd (omega arith)
+
+max_flag : (a b : ℕ) → a < 2 → b < 2 → eqb (max a b) 1 ≡ cond (eqb a 1) true (eqb b 1)
+max_flag zero zero p q = refl
+max_flag zero (suc zero) p q = refl
+max_flag zero (suc (suc b)) p q = absurd (omega arith)
+max_flag (suc zero) zero p q = refl
+max_flag (suc zero) (suc zero) p q = refl
+max_flag (suc zero) (suc (suc b)) p q = absurd (omega arith)
+max_flag (suc (suc a)) b p q = absurd (omega arith)
+
+less_flag : (a b : ℕ) → a < 2 → b < 2 → eqb (min a (1 - b)) 1 ≡ cond (eqb b 1) false (eqb a 1)
+less_flag zero zero p q = refl
+less_flag zero (suc zero) p q = refl
+less_flag zero (suc (suc b)) p q = absurd (omega arith)
+less_flag (suc zero) zero p q = refl
+less_flag (suc zero) (suc zero) p q = refl
+less_flag (suc zero) (suc (suc b)) p q = absurd (omega arith)
+less_flag (suc (suc a)) b p q = absurd (omega arith)
+
+flag_is : (a b : ℕ) → a < 2 → b < 2 → eqb a 1 ≡ eqb b 1 → a ≡ b
+flag_is zero zero p q e = refl
+flag_is zero (suc zero) p q e = cc
+flag_is zero (suc (suc b)) p q e = absurd (omega arith)
+flag_is (suc zero) zero p q e = cc
+flag_is (suc zero) (suc zero) p q e = refl
+flag_is (suc zero) (suc (suc b)) p q e = absurd (omega arith)
+flag_is (suc (suc a)) b p q e = absurd (omega arith)
+
+-- ---- one word
+pub flag-zero : (i : ℕ) → flag 0 i ≡ false
+unfolding flag
+flag-zero i = ap (λ v. eqb v 1) (bit_at-zero i)
+
+pub flag-and : (x y i : ℕ) → flag (bit_and x y) i ≡ cond (flag x i) (flag y i) false
+unfolding flag
+flag-and x y i = ap (λ v. eqb v 1) (bit_at_and x y i) ∙ min_flag (bit_at x i) (bit_at y i) (bit_at-lt x i) (bit_at-lt y i)
+
+pub flag-or : (x y i : ℕ) → flag (bit_or x y) i ≡ cond (flag x i) true (flag y i)
+unfolding flag
+flag-or x y i = ap (λ v. eqb v 1) (bit_at_or x y i) ∙ max_flag (bit_at x i) (bit_at y i) (bit_at-lt x i) (bit_at-lt y i)
+
+pub flag-and_not : (x y i : ℕ) → y < 2 ^ 64 → i < 64 → flag (bit_and x (bit_not w64 y)) i ≡ cond (flag y i) false (flag x i)
+unfolding flag
+flag-and_not x y i fits within =
+    ap (λ v. eqb v 1) (bit_at_and x (bit_not w64 y) i ∙ ap (λ v. min (bit_at x i) v) (bit_at_not w64 y i fits within))
+    ∙ less_flag (bit_at x i) (bit_at y i) (bit_at-lt x i) (bit_at-lt y i)
+
+pub flag-true : (x i : ℕ) → (bit_at x i ≡ 1) ↔ (flag x i ≡ true)
+unfolding flag
+flag-true x i = (λ e. eq-eqb (bit_at x i) 1 e, λ e. eqb-true (bit_at x i) 1 e)
+
+-- two words with the same flags are equal
+pub same_word : (x y : ℕ) → x < 2 ^ 64 → y < 2 ^ 64 → ((i : ℕ) → i < 64 → flag x i ≡ flag y i) → x ≡ y
+unfolding flag
+same_word x y p q h =
+    same_from_bits_below 64 x y p q (λ i within. flag_is (bit_at x i) (bit_at y i) (bit_at-lt x i) (bit_at-lt y i) (h i within))
+
+-- ---- a list of words
+pub flag_at-place : (bs : List ℕ) (j i : ℕ) → i < 64 → flag_at bs (64 * j + i) ≡ flag (get_or bs j 0) i
+unfolding flag_at
+flag_at-place bs j i within =
+    let d : (64 * j + i) / 64 ≡ j = omega arith in
+    let r : (64 * j + i) % 64 ≡ i = omega arith in cc
+
+pub length-flags_of : (size : ℕ) (bs : List ℕ) → length (flags_of size bs) ≡ size
+unfolding flags_of
+length-flags_of size bs = length-map-range_with_len (λ k. flag_at bs k) 0 size
+
+flag_within : (size : ℕ) (bs : List ℕ) (k : ℕ) → k < size → has k (flags_of size bs) ≡ flag_at bs k
+unfolding flags_of
+flag_within size bs k h = get_or-map-range_with_len (λ k. flag_at bs k) 0 size k k false h (zero-add k)
+
+pub has-flags_of : (size : ℕ) (bs : List ℕ) → IsExact size bs → (k : ℕ) → has k (flags_of size bs) ≡ flag_at bs k
+has-flags_of size bs exact k =
+    elim (cases_lt k size) [
+      | inl h ↦ flag_within size bs k h
+      | inr h ↦ get_or_past (flags_of size bs) k false (let e = length-flags_of size bs in omega arith) ∙ sym (exact.clear k h)
+    ]
+
+-- ---- an operation word by word
+word_at : (op : ℕ → ℕ → ℕ) → op 0 0 ≡ 0 → (a b : List ℕ) → length a ≡ length b
+    → (j : ℕ) → get_or (map (λ (p : ℕ × ℕ). op p.0 p.1) (zip a b)) j 0 ≡ op (get_or a j 0) (get_or b j 0)
+word_at op z [] [] e j = sym z
+word_at op z [] (y ∷ ys) e j = cc
+word_at op z (x ∷ xs) [] e j = cc
+word_at op z (x ∷ xs) (y ∷ ys) e zero = refl
+word_at op z (x ∷ xs) (y ∷ ys) e (suc j) = word_at op z xs ys (cc) j
+
+word_count : (op : ℕ → ℕ → ℕ) (a b : List ℕ) → length a ≡ length b → length (map (λ (p : ℕ × ℕ). op p.0 p.1) (zip a b)) ≡ length a
+word_count op [] [] e = refl
+word_count op [] (y ∷ ys) e = cc
+word_count op (x ∷ xs) [] e = cc
+word_count op (x ∷ xs) (y ∷ ys) e = ap suc (word_count op xs ys cc)
+
+-- two sets of one size in blocks
+pub record Paired (m n : ℕ) (a b : List ℕ) (s t : List Bool) : Type 0 where
+  pub left : IsExact m a
+  pub right : IsExact n b
+  pub left_is : flags_of m a ≡ s
+  pub right_is : flags_of n b ≡ t
+  pub sizes : length s ≡ length t
+
+-- an operation on words that is one on flags
+record IsFlagwise (op : ℕ → ℕ → ℕ) (f : Bool → Bool → Bool) : Type 0 where
+  nothing : op 0 0 ≡ 0
+  no_flag : f false false ≡ false
+  fits : (x y : ℕ) → x < 2 ^ 64 → y < 2 ^ 64 → op x y < 2 ^ 64
+  each : (x y i : ℕ) → y < 2 ^ 64 → i < 64 → flag (op x y) i ≡ f (flag x i) (flag y i)
+
+module _ (m n : ℕ) (a b : List ℕ) (s t : List Bool) (p : Paired m n a b s t) where
+  size_of_left : length s ≡ m
+  size_of_left = ap length (sym p.left_is) ∙ length-flags_of m a
+
+  one_size : m ≡ n
+  one_size = sym size_of_left ∙ p.sizes ∙ ap length (sym p.right_is) ∙ length-flags_of n b
+
+  one_count : length a ≡ length b
+  one_count = p.left.count ∙ ap block_count one_size ∙ sym p.right.count
+
+  module _ (op : ℕ → ℕ → ℕ) (f : Bool → Bool → Bool) (w : IsFlagwise op f) where
+    zipped_flag : (k : ℕ) → flag_at (map (λ (p : ℕ × ℕ). op p.0 p.1) (zip a b)) k ≡ f (flag_at a k) (flag_at b k)
+    unfolding flag_at
+    zipped_flag k =
+        ap (λ v. flag v (k % 64)) (word_at op w.nothing a b one_count (k / 64))
+        ∙ w.each (get_or a (k / 64) 0) (get_or b (k / 64) 0) (k % 64) (p.right.words (k / 64)) (omega arith)
+
+    zipped_exact : IsExact m (map (λ (p : ℕ × ℕ). op p.0 p.1) (zip a b))
+    zipped_exact = record {
+      count = word_count op a b one_count ∙ p.left.count;
+      words = λ j. rw (word_at op w.nothing a b one_count j) (w.fits (get_or a j 0) (get_or b j 0) (p.left.words j) (p.right.words j));
+      clear = λ k h.
+          let l = p.left.clear k h in
+          let r = p.right.clear k (let e = one_size in omega arith) in
+          zipped_flag k ∙ rw (l, r) w.no_flag;
+    }
+
+    zipped_has : (k : ℕ) → has k (flags_of m (map (λ (p : ℕ × ℕ). op p.0 p.1) (zip a b))) ≡ f (has k s) (has k t)
+    zipped_has k =
+        let l : has k s ≡ flag_at a k = ap (has k) (sym p.left_is) ∙ has-flags_of m a p.left k in
+        let r : has k t ≡ flag_at b k = ap (has k) (sym p.right_is) ∙ has-flags_of n b p.right k in
+        has-flags_of m (map (λ (p : ℕ × ℕ). op p.0 p.1) (zip a b)) zipped_exact k ∙ zipped_flag k ∙ rw (l, r)
+
+    zipped : (g : List Bool → List Bool → List Bool) → (length (g s t) ≡ length s) → ((k : ℕ) → has k (g s t) ≡ f (has k s) (has k t))
+        → (r : List ℕ) → r ≡ map (λ (p : ℕ × ℕ). op p.0 p.1) (zip a b) → IsExact m r × (flags_of m r ≡ g s t)
+    zipped g long each r e =
+        rw e (
+          zipped_exact,
+          same_sets _ (g s t)
+              (length-flags_of m (map (λ (p : ℕ × ℕ). op p.0 p.1) (zip a b)) ∙ sym size_of_left ∙ sym long)
+              (λ k. zipped_has k ∙ sym (each k)),
+        )
+
+  pub meet_blocks : (r : List ℕ) → r ≡ map (λ p. bit_and p.0 p.1) (zip a b) → IsExact m r × (flags_of m r ≡ both s t)
+  meet_blocks r e =
+      zipped bit_and (λ x y. cond x y false) (record { nothing = refl; no_flag = refl; fits = λ x y h _. let e = and_le_l x y in omega arith; each = λ x y i _ _. flag-and x y i })
+      both (length-both s t p.sizes) (λ k. has-both k s t) r e
+
+  pub join_blocks : (r : List ℕ) → r ≡ map (λ p. bit_or p.0 p.1) (zip a b) → IsExact m r × (flags_of m r ≡ either s t)
+  join_blocks r e =
+      zipped bit_or (λ x y. cond x true y) (record { nothing = refl; no_flag = refl; fits = λ x y g h. or_lt 64 x y g h; each = λ x y i _ _. flag-or x y i })
+      either (length-either s t p.sizes) (λ k. has-either k s t) r e
+
+  pub less_blocks : (r : List ℕ) → r ≡ map (λ p. bit_and p.0 (bit_not w64 p.1)) (zip a b) → IsExact m r × (flags_of m r ≡ less s t)
+  less_blocks r e =
+      zipped (λ x y. bit_and x (bit_not w64 y)) (λ x y. cond y false x) (record { nothing = refl; no_flag = refl; fits = λ x y h _. let e = and_le_l x (bit_not w64 y) in omega arith; each = λ x y i h l. flag-and_not x y i h l })
+      less (length-less s t) (λ k. has-less k s t) r e
+
+-- ---- emptiness
+all_zero : (xs : List ℕ) → list_all (λ x. eqb x 0) xs ≡ true → (j : ℕ) → get_or xs j 0 ≡ 0
+all_zero [] h j = refl
+all_zero (x ∷ xs) h zero = eqb-true x 0 (and_parts (eqb x 0) (list_all (λ x. eqb x 0) xs) h).0
+all_zero (x ∷ xs) h (suc j) = all_zero xs (and_parts (eqb x 0) (list_all (λ x. eqb x 0) xs) h).1 j
+
+zero_all : (xs : List ℕ) → ((j : ℕ) → get_or xs j 0 ≡ 0) → list_all (λ x. eqb x 0) xs ≡ true
+zero_all [] h = refl
+zero_all (x ∷ xs) h = rw (eq-eqb x 0 (h 0)) (zero_all xs (λ j. h (suc j)))
+
+all_clear : (a : List ℕ) → list_all (λ x. eqb x 0) a ≡ true → (k : ℕ) → flag_at a k ≡ false
+unfolding flag_at
+all_clear a h k = ap (λ v. flag v (k % 64)) (all_zero a h (k / 64)) ∙ flag-zero (k % 64)
+
+pub blank_blocks : (m : ℕ) (a : List ℕ) (s : List Bool) → IsExact m a → flags_of m a ≡ s
+    → list_all (λ x. eqb x 0) a ≡ is_blank s
+blank_blocks m a s exact is =
+    let each : (k : ℕ) → has k s ≡ flag_at a k = λ k. ap (has k) (sym is) ∙ has-flags_of m a exact k in
+    elim (cases_Bool (is_blank s)) [
+      | inl e ↦ zero_all a (λ j. same_word (get_or a j 0) 0 (exact.words j) (lit< tt)
+          (λ i h. sym (flag_at-place a j i h) ∙ sym (each (64 * j + i)) ∙ blank_none s e (64 * j + i) ∙ sym (flag-zero i))) ∙ sym e
+      | inr e ↦ false_from_ne_true _ (λ h. let r = blank_some s e in
+          both_ways (flag_at a r.0) (all_clear a h r.0) (sym (each r.0) ∙ r.1)) ∙ sym e
+    ]
+
+-- ---- equality
+pub same_blocks : (m n : ℕ) (a b : List ℕ) → IsExact m a → IsExact n b
+    → flags_of m a ≡ flags_of n b → (m ≡ n) × (a ≡ b)
+same_blocks m n a b x y e =
+    let sizes : m ≡ n = sym (length-flags_of m a) ∙ ap length e ∙ length-flags_of n b in (
+      sizes,
+      ext_get_or 0 a b (x.count ∙ ap block_count sizes ∙ sym y.count) (λ j _. same_word (get_or a j 0) (get_or b j 0) (x.words j) (y.words j)
+          (λ i h. sym (flag_at-place a j i h) ∙ sym (has-flags_of m a x (64 * j + i)) ∙ ap (has (64 * j + i)) e ∙ has-flags_of n b y (64 * j + i) ∙ flag_at-place b j i h)),
+    )
+
+-- ---- what the blocks are
+pub blocks_of_set : (m : ℕ) (a : List ℕ) (s : List Bool) → IsExact m a → flags_of m a ≡ s → AreBlocksOf s a
+blocks_of_set m a s exact is =
+    let each : (k i : ℕ) → i < 64 → has (64 * k + i) s ≡ flag (get_or a k 0) i =
+    λ k i h. ap (has (64 * k + i)) (sym is) ∙ has-flags_of m a exact (64 * k + i) ∙ flag_at-place a k i h in
+    record {
+      count = exact.count ∙ ap block_count (sym (length-flags_of m a) ∙ ap length is);
+      bits = λ k i h. let f = flag-true (get_or a k 0) i in (λ e. each k i h ∙ f.0 e, λ e. f.1 (sym (each k i h) ∙ e));
+    }
+
+-- ---- inclusion
+all_of_map : (op : ℕ × ℕ → ℕ) (ps : List (ℕ × ℕ)) → list_all (λ p. eqb (op p) 0) ps ≡ list_all (λ x. eqb x 0) (map op ps)
+all_of_map op [] = refl
+all_of_map op (p ∷ ps) = ap (λ b. eqb (op p) 0 && b) (all_of_map op ps)
+
+pub within_blocks : (m n : ℕ) (a b : List ℕ) (s t : List Bool) → Paired m n a b s t
+    → list_all (λ p. eqb (bit_and p.0 (bit_not w64 p.1)) 0) (zip a b) ≡ is_within s t
+within_blocks m n a b s t p =
+    let r = less_blocks m n a b s t p (map (λ p. bit_and p.0 (bit_not w64 p.1)) (zip a b)) refl in
+    all_of_map (λ p. bit_and p.0 (bit_not w64 p.1)) (zip a b) ∙ blank_blocks m _ (less s t) r.0 r.1
+
+-- ---- a set made of a list of its members
+-- the blocks of this size have the flags of these numbers and no others
+pub record HasMarked (size : ℕ) (blocks members : List ℕ) : Type 0 where
+  pub count : length blocks ≡ block_count size
+  pub words : (j : ℕ) → get_or blocks j 0 < 2 ^ 64
+  pub flags : (k : ℕ) → flag_at blocks k ≡ list_any (λ m. eqb m k) members
+
+or_false : (b : Bool) → (b || false) ≡ b
+or_false true = refl
+or_false false = refl
+
+zeros : (n j : ℕ) → ◌≡◌ {A = ℕ} (get_or (replicate n 0) j 0) 0
+zeros n j =
+    elim (cases_lt j n) [
+      | inl h ↦ get_or-replicate n j 0 0 h
+      | inr h ↦ get_or_past (replicate n 0) j 0 (let e = length-replicate {A = ℕ} n 0 in omega arith)
+    ]
+
+-- no bit is set at the start
+pub unmarked : (size : ℕ) (bs : List ℕ) (n : ℕ) → n ≡ block_count size → bs ≡ replicate n 0 → HasMarked size bs []
+unfolding flag_at
+unmarked size bs n count is = rw is (record {
+  count = length-replicate n 0 ∙ count;
+  words = λ j. rw (zeros n j) (lit< tt);
+  flags = λ k. ap (λ v. flag v (k % 64)) (zeros n (k / 64)) ∙ flag-zero (k % 64);
+})
+
+-- bit b of a word is set
+word_marked : (w b i : ℕ) → b < 64 → i < 64 → flag (bit_or w (1 * 2 ^ b % 2 ^ 64)) i ≡ (flag w i || eqb b i)
+unfolding flag
+word_marked w b i h l =
+    elim (cases_eq i b) [
+      | inl e ↦
+          let set : bit_at (bit_or w (1 * 2 ^ b % 2 ^ 64)) b ≡ 1 = bit_at_set_same w64 w b h in
+          rw (e, set, eq-eqb b b refl) (sym (or_right (eqb (bit_at w b) 1) true refl))
+      | inr ne ↦
+          let kept : bit_at (bit_or w (1 * 2 ^ b % 2 ^ 64)) i ≡ bit_at w i = bit_at_set_other w64 w b h i ne in
+          rw (kept, ne_eqb b i (λ e. ne (sym e))) (sym (or_false (eqb (bit_at w i) 1)))
+    ]
+
+marked_flag : (bs : List ℕ) (m w k : ℕ) → m / 64 < length bs → w ≡ get_or bs (m / 64) 0
+    → flag_at (set bs (m / 64) (bit_or w (1 * 2 ^ (m % 64) % 2 ^ 64))) k ≡ (flag_at bs k || eqb m k)
+unfolding flag_at
+marked_flag bs m w k inside was =
+    elim (cases_eq (k / 64) (m / 64)) [
+      | inl e ↦
+          let one : eqb (m % 64) (k % 64) ≡ eqb m k = same_from_decides (eqb (m % 64) (k % 64)) (eqb m k)
+          (Decides-like (eqb (m % 64) (k % 64)) (λ h. omega arith) (λ h. omega arith) (Decides-eqb (m % 64) (k % 64))) (Decides-eqb m k) in
+          rw (e, get_or-set_same bs (m / 64) (bit_or w (1 * 2 ^ (m % 64) % 2 ^ 64)) 0 inside, ← was)
+          (word_marked w (m % 64) (k % 64) (omega arith) (omega arith) ∙ ap (λ b. flag w (k % 64) || b) one)
+      | inr ne ↦
+          rw (get_or-set_other bs (m / 64) (k / 64) (bit_or w (1 * 2 ^ (m % 64) % 2 ^ 64)) 0 ne, ne_eqb m k (λ h. ne (ap (λ v. v / 64) (sym h))))
+          (sym (or_false (flag (get_or bs (k / 64) 0) (k % 64))))
+    ]
+
+pub marked : (size : ℕ) (bs ms : List ℕ) (m w : ℕ) → m < size → HasMarked size bs ms → w ≡ get_or bs (m / 64) w
+    → HasMarked size (set bs (m / 64) (bit_or w (1 * 2 ^ (m % 64) % 2 ^ 64))) (ms ++ m ∷ [])
+marked size bs ms m w within h is =
+    let inside : m / 64 < length bs = let e = h.count in omega arith in
+    let was : w ≡ get_or bs (m / 64) 0 = is ∙ get_or_default bs (m / 64) w 0 inside in
+    record {
+      count = length-set bs (m / 64) (bit_or w (1 * 2 ^ (m % 64) % 2 ^ 64)) ∙ h.count;
+      words = λ j. elim (cases_eq j (m / 64)) [
+        | inl e ↦ rw (e, get_or-set_same bs (m / 64) (bit_or w (1 * 2 ^ (m % 64) % 2 ^ 64)) 0 inside)
+            (or_lt 64 w (1 * 2 ^ (m % 64) % 2 ^ 64) (rw was (h.words (m / 64))) (mod-lt (1 * 2 ^ (m % 64)) (lit< tt)))
+        | inr ne ↦ rw (get_or-set_other bs (m / 64) j (bit_or w (1 * 2 ^ (m % 64) % 2 ^ 64)) 0 ne) (h.words j)
+      ];
+      flags = λ k. marked_flag bs m w k inside was ∙ ap (λ b. b || eqb m k) (h.flags k)
+          ∙ ap (λ b. list_any (λ m. eqb m k) ms || b) (sym (or_false (eqb m k))) ∙ sym (list_any-append (λ m. eqb m k) ms (m ∷ []));
+    }
+
+-- the set that the blocks are
+pub of_marked : (size : ℕ) (bs ms : List ℕ) → All (λ m. m < size) ms → HasMarked size bs ms → IsExact size bs × (flags_of size bs ≡ set_of size ms)
+unfolding set_of
+of_marked size bs ms all h = (
+  record { count = h.count; words = h.words; clear = λ k past. h.flags k ∙ list_any_none (λ m. eqb m k) ms (λ j d l. ne_eqb (get_or ms j d) k (let e = all j d l in λ q. absurd (omega arith))) },
+  ext_get_or false (flags_of size bs) (map (λ k. list_any (λ m. eqb m k) ms) (range_with_len 0 size))
+      (length-flags_of size bs ∙ sym (length-map-range_with_len (λ k. list_any (λ m. eqb m k) ms) 0 size))
+      (λ k l. let l2 : k < size = let e = length-flags_of size bs in omega arith in
+      flag_within size bs k l2 ∙ h.flags k ∙ sym (get_or-map-range_with_len (λ k. list_any (λ m. eqb m k) ms) 0 size k k false l2 (zero-add k))),
+)
+
+-- the set with no member
+pub of_unmarked : (size : ℕ) (bs : List ℕ) → HasMarked size bs [] → IsExact size bs × (flags_of size bs ≡ replicate size false)
+of_unmarked size bs h = (
+  record { count = h.count; words = h.words; clear = λ k past. h.flags k },
+  ext_get_or false (flags_of size bs) (replicate size false) (length-flags_of size bs ∙ sym (length-replicate size false))
+      (λ k l. let l2 : k < size = let e = length-flags_of size bs in omega arith in
+      flag_within size bs k l2 ∙ h.flags k ∙ sym (get_or-replicate size k false false l2)),
+)
+
+-- ---- a member
+pub has_block : (m : ℕ) (a : List ℕ) (s : List Bool) → IsExact m a → flags_of m a ≡ s → (k w : ℕ) → w ≡ get_or a (k / 64) 0
+    → eqb (bit_and (w / 2 ^ (k % 64)) 1) 1 ≡ has k s
+unfolding flag_at flag
+has_block m a s exact is k w e =
+    ap (λ v. eqb v 1) (shr_and_one w (k % 64)) ∙ ap (λ v. eqb (bit_at v (k % 64)) 1) e ∙ sym (has-flags_of m a exact k) ∙ ap (has k) is
+
+pub has_no_block : (m : ℕ) (a : List ℕ) (s : List Bool) → IsExact m a → flags_of m a ≡ s → (k : ℕ) → length a ≤ k / 64 → false ≡ has k s
+unfolding flag_at
+has_no_block m a s exact is k past =
+    sym (ap (λ v. flag v (k % 64)) (get_or_past a (k / 64) 0 past) ∙ flag-zero (k % 64)) ∙ sym (has-flags_of m a exact k) ∙ ap (has k) is
+
+-- ---- equal sets
+pub equal_blocks : (m n : ℕ) (a b : List ℕ) (s t : List Bool) → IsExact m a → IsExact n b → flags_of m a ≡ s → flags_of n b ≡ t → (r : Bool) → m ≡ n
+    → r ≡ pointwise eqb a b → (r ≡ true → s ≡ t) × (s ≡ t → r ≡ true)
+equal_blocks m n a b s t x y p q r e h =
+    let d = slice_eq-Decides Decides-eqb a b r h in (
+      λ f. let ab : a ≡ b = d.0 f in sym p ∙ rw (e, ab) q,
+      λ f. d.1 (same_blocks m n a b x y (p ∙ f ∙ sym q)).1,
+    )
+
+pub unequal_sizes : (m n : ℕ) (a b : List ℕ) (s t : List Bool) → flags_of m a ≡ s → flags_of n b ≡ t → s ≡ t → m ≡ n
+unequal_sizes m n a b s t p q f = sym (length-flags_of m a) ∙ ap length (p ∙ f ∙ sym q) ∙ length-flags_of n b
+
+-- ---- the set of all
+-- the flags of these blocks are those below the size
+pub record IsFull (size : ℕ) (blocks : List ℕ) : Type 0 where
+  pub count : length blocks ≡ block_count size
+  pub words : (j : ℕ) → get_or blocks j 0 < 2 ^ 64
+  pub below : (k : ℕ) → k < size → flag_at blocks k ≡ true
+  pub above : (k : ℕ) → size ≤ k → flag_at blocks k ≡ false
+
+ones_below : (b i : ℕ) → i < b → flag (2 ^ b - 1) i ≡ true
+unfolding flag
+ones_below b i h = eq-eqb (bit_at (2 ^ b - 1) i) 1 (bit_at_ones b i h)
+
+ones_above : (b i : ℕ) → b ≤ i → flag (2 ^ b - 1) i ≡ false
+unfolding flag
+ones_above b i h = ap (λ v. eqb v 1) (bit_at_ones_above b i h)
+
+pub low_mask : (b : ℕ) → b < 64 → 1 * 2 ^ b % 2 ^ 64 - 1 ≡ 2 ^ b - 1
+low_mask b h = let p = pow_below b 64 h in omega arith
+
+-- whole blocks alone
+pub full_blocks : (size n : ℕ) (bs : List ℕ) → n ≡ block_count size → size % 64 ≡ 0 → bs ≡ replicate n 18446744073709551615 → IsFull size bs
+unfolding flag_at
+full_blocks size n bs count even is =
+    let long : length bs ≡ n = ap length is ∙ length-replicate n 18446744073709551615 in
+    let inside : (j : ℕ) → j < n → get_or bs j 0 ≡ 18446744073709551615 =
+    λ j h. ap (λ (l : List ℕ). get_or l j 0) is ∙ get_or-replicate n j 18446744073709551615 0 h in
+    let past : (j : ℕ) → n ≤ j → get_or bs j 0 ≡ 0 = λ j h. get_or_past bs j 0 (omega arith) in
+    record {
+      count = long ∙ count;
+      words = λ j. elim (cases_lt j n) [ inl h ↦ rw (inside j h) (lit< tt) | inr h ↦ rw (past j h) (lit< tt) ];
+      below = λ k h. ap (λ v. flag v (k % 64)) (inside (k / 64) (omega arith)) ∙ ones_below 64 (k % 64) (omega arith);
+      above = λ k h. ap (λ v. flag v (k % 64)) (past (k / 64) (omega arith)) ∙ flag-zero (k % 64);
+    }
+
+-- and a part of the last one
+pub full_but_last : (size n : ℕ) (bs : List ℕ) (w : ℕ) → n ≡ block_count size → 0 < size % 64 → w ≡ 2 ^ (size % 64) - 1
+    → bs ≡ set (replicate n 18446744073709551615) (size / 64) w → IsFull size bs
+unfolding flag_at
+full_but_last size n bs w count odd mask is =
+    let last : size / 64 < length (replicate {A = ℕ} n 18446744073709551615) = let e = length-replicate {A = ℕ} n 18446744073709551615 in omega arith in
+    let long : length bs ≡ n = ap length is ∙ length-set (replicate n 18446744073709551615) (size / 64) w ∙ length-replicate n 18446744073709551615 in
+    let at : get_or bs (size / 64) 0 ≡ w =
+    ap (λ (l : List ℕ). get_or l (size / 64) 0) is ∙ get_or-set_same (replicate n 18446744073709551615) (size / 64) w 0 last in
+    let inside : (j : ℕ) → j < size / 64 → get_or bs j 0 ≡ 18446744073709551615 =
+    λ j h. ap (λ (l : List ℕ). get_or l j 0) is
+    ∙ get_or-set_other (replicate n 18446744073709551615) (size / 64) j w 0 (λ e. absurd (omega arith))
+    ∙ get_or-replicate n j 18446744073709551615 0 (omega arith) in
+    let past : (j : ℕ) → n ≤ j → get_or bs j 0 ≡ 0 = λ j h. get_or_past bs j 0 (omega arith) in
+    record {
+      count = long ∙ count;
+      words = λ j. elim (cases_order j (size / 64)) [
+        | inl e ↦ rw (e, at, mask) (let p = pow_below (size % 64) 64 (omega arith) in omega arith)
+        | inr (inl h) ↦ rw (inside j h) (lit< tt)
+        | inr (inr h) ↦ rw (past j (omega arith)) (lit< tt)
+      ];
+      below = λ k h. elim (cases_lt (k / 64) (size / 64)) [
+        | inl l ↦ ap (λ v. flag v (k % 64)) (inside (k / 64) l) ∙ ones_below 64 (k % 64) (omega arith)
+        | inr l ↦
+            let same : k / 64 ≡ size / 64 = omega arith in
+            rw (same, at, mask) (ones_below (size % 64) (k % 64) (omega arith))
+      ];
+      above = λ k h. elim (cases_lt (size / 64) (k / 64)) [
+        | inl l ↦ ap (λ v. flag v (k % 64)) (past (k / 64) (omega arith)) ∙ flag-zero (k % 64)
+        | inr l ↦
+            let same : k / 64 ≡ size / 64 = omega arith in
+            rw (same, at, mask) (ones_above (size % 64) (k % 64) (omega arith))
+      ];
+    }
+
+pub of_full : (size : ℕ) (bs : List ℕ) → IsFull size bs → IsExact size bs × (flags_of size bs ≡ replicate size true)
+of_full size bs h = (
+  record { count = h.count; words = h.words; clear = h.above },
+  ext_get_or
+      false
+      (flags_of size bs)
+      (replicate size true)
+      (length-flags_of size bs ∙ sym (length-replicate size true))
+      (
+      λ k l. let l2 : k < size = let e = length-flags_of size bs in omega arith in
+      flag_within size bs k l2 ∙ h.below k l2 ∙ sym (get_or-replicate size k true false l2)
+      ),
+)

@@ -1,0 +1,20 @@
+use Rattle.std.proofs.Common.{refl}
+use Rattle.ul_ranges.specs.Flags.{set_of}
+use Rattle.ul_ranges.proofs.examples.sets.Goals as goal
+
+pub returns : goal.returns
+unfolding set_of
+returns c = record {
+  listed = refl;
+  meet = refl;
+  join = refl;
+  left = refl;
+  right = refl;
+  blank = refl;
+  filled = refl;
+  within = refl;
+  without = refl;
+  past = refl;
+  first = refl;
+  absent = refl;
+}

@@ -1,0 +1,5 @@
+use Rattle.ul_ranges.proofs.PlainLaws.{either_zip}
+use Rattle.ul_ranges.proofs.plain.join.Goals as goal
+
+pub returns : goal.returns
+returns c = rw (either_zip c.args.xs.now c.args.ys.now c.requires) at c.join_pairs.ensures

@@ -1,0 +1,5 @@
+use Rattle.ul_ranges.proofs.PlainLaws.{both_zip}
+use Rattle.ul_ranges.proofs.plain.meet.Goals as goal
+
+pub returns : goal.returns
+returns c = rw (both_zip c.args.xs.now c.args.ys.now c.requires) at c.meet_pairs.ensures

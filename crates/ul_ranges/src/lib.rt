@@ -1,0 +1,17 @@
+//! Sets of numbers below a size, and pieces of the numbers below 2^96.
+//!
+//! `Ordinals` is a set of a package's versions by their places in an order. `Cuts` cuts the line of interpreter versions into
+//! half-open pieces.
+#![tactic(auto)]
+
+mod cuts;
+pub mod examples;
+pub mod laws;
+mod ordinals;
+pub mod plain;
+
+pub use cuts::Cuts;
+pub use ordinals::Ordinals;
+
+#[cfg(test)]
+mod tests;

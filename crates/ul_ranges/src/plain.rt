@@ -1,0 +1,120 @@
+//! The plain bodies: sets as lists of flags, one by one, and pieces by looking at each start. The block sets and the searches keep
+//! the same contracts; these stay for comparison.
+ghost use Rattle.std.specs.Prelude.{◌≡◌, ◌^◌, ◌<◌, length, IfOk, map, zip, cond, true, false};
+ghost use Rattle.ul_ranges.specs.Flags.{has, both, either, less, is_blank, is_within, set_of, first_in};
+ghost use Rattle.ul_ranges.specs.Pieces.{AreStarts, IsPiece, IsRefinement};
+
+use std::alloc::{AllocError, Global};
+
+/// The flags of the numbers of a list.
+#[tactic(auto, unfolding(crate::specs::Flags::set_of))]
+pub fn of_list(alloc: Global, size: u32, members: &[u32]) -> Result<Vec<bool>, AllocError>
+    ensures { IfOk result (λ v. v.items ≡ set_of size members.now) }
+{
+    (0..size).map(|k| members.contains(&k)).collect(alloc)
+}
+
+/// Whether the set has `k`.
+pub fn has(flags: &[bool], k: u32) -> bool
+    ensures { result ≡ has k flags.now }
+{
+    flags.get(k as usize).copied().unwrap_or(false)
+}
+
+/// The members of both.
+pub fn meet(alloc: Global, xs: &[bool], ys: &[bool]) -> Result<Vec<bool>, AllocError>
+    requires { length xs.now ≡ length ys.now }
+    ensures { IfOk result (λ v. v.items ≡ both xs.now ys.now) }
+{
+    meet_pairs(alloc, xs, ys)
+}
+
+/// The members of either.
+pub fn join(alloc: Global, xs: &[bool], ys: &[bool]) -> Result<Vec<bool>, AllocError>
+    requires { length xs.now ≡ length ys.now }
+    ensures { IfOk result (λ v. v.items ≡ either xs.now ys.now) }
+{
+    join_pairs(alloc, xs, ys)
+}
+
+/// The members that the second lacks.
+pub fn less(alloc: Global, xs: &[bool], ys: &[bool]) -> Result<Vec<bool>, AllocError>
+    requires { length xs.now ≡ length ys.now }
+    ensures { IfOk result (λ v. v.items ≡ less xs.now ys.now) }
+{
+    less_pairs(alloc, xs, ys)
+}
+
+/// Whether there is no member.
+pub fn is_empty(flags: &[bool]) -> bool
+    ensures { result ≡ is_blank flags.now }
+{
+    for flag in flags {
+        if *flag {
+            return false;
+        }
+    }
+    true
+}
+
+/// The first of `order` in the set.
+pub fn first_in(flags: &[bool], order: &[u32]) -> Option<u32>
+    ensures { result ≡ first_in order.now flags.now }
+{
+    order.iter().copied().find(|k| has(flags, *k))
+}
+
+/// The number of the piece that has `x`, from the first start on.
+pub fn piece_of(starts: &[u128], x: u128) -> usize
+    requires cuts { AreStarts starts.now }
+    requires small { x < 2 ^ 96 }
+    ensures { IsPiece starts.now result x }
+{
+    let mut piece = 0;
+    for (index, start) in starts.iter().enumerate() {
+        if *start <= x {
+            piece = index;
+        }
+    }
+    piece
+}
+
+/// The starts of either, sorted and without repeats.
+pub fn refine(alloc: Global, xs: &[u128], ys: &[u128]) -> Result<Vec<u128>, AllocError>
+    requires xs { AreStarts xs.now }
+    requires ys { AreStarts ys.now }
+    ensures { IfOk result (λ v. IsRefinement xs.now ys.now v.items) }
+{
+    let mut starts = Vec::from_slice(alloc, xs)?;
+    starts.extend_from_slice(ys)?;
+    starts.sort_unstable();
+    starts.dedup();
+    Ok(starts)
+}
+
+fn meet_pairs(alloc: Global, xs: &[bool], ys: &[bool]) -> Result<Vec<bool>, AllocError>
+    ensures { IfOk result (λ v. v.items ≡ map (λ p. cond p.0 p.1 false) (zip xs.now ys.now)) }
+{
+    xs.iter()
+        .zip(ys.iter())
+        .map(|(x, y)| if *x { *y } else { false })
+        .collect(alloc)
+}
+
+fn join_pairs(alloc: Global, xs: &[bool], ys: &[bool]) -> Result<Vec<bool>, AllocError>
+    ensures { IfOk result (λ v. v.items ≡ map (λ p. cond p.0 true p.1) (zip xs.now ys.now)) }
+{
+    xs.iter()
+        .zip(ys.iter())
+        .map(|(x, y)| if *x { true } else { *y })
+        .collect(alloc)
+}
+
+fn less_pairs(alloc: Global, xs: &[bool], ys: &[bool]) -> Result<Vec<bool>, AllocError>
+    ensures { IfOk result (λ v. v.items ≡ map (λ p. cond p.1 false p.0) (zip xs.now ys.now)) }
+{
+    xs.iter()
+        .zip(ys.iter())
+        .map(|(x, y)| if *y { false } else { *x })
+        .collect(alloc)
+}
