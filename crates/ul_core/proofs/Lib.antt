@@ -1,0 +1,4 @@
+pub mod Logs
+pub mod RunsLaw
+pub mod TreeParts
+pub mod Worked

@@ -1,0 +1,6 @@
+use Rattle.std.proofs.Common.{refl}
+use Rattle.ul_core.proofs.Worked.{worked}
+use Rattle.ul_core.proofs.laws.run_vectors.Goals as goal
+
+pub returns : goal.returns
+returns c = record { worked = worked; full = (refl, refl) }

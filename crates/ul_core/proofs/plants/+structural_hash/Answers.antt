@@ -1,0 +1,19 @@
+use Rattle.std.proofs.Common.{◌≡◌, ℕ, map, take, ap, sym, ◌∙◌, arith}
+use Rattle.std.proofs.lemmas.Grind.{common_steps}
+use Rattle.std.specs.List.{fold}
+use Rattle.ul_core.specs.Hashes.{tree_hash, hash_step, mixed}
+use Rattle.ul_core.specs.declared.trees.Tree.TheViews.{out-Tree, out-roll-Tree}
+use Rattle.ul_core.specs.declared.trees.Tree.TheFolds.{fold_out-Tree}
+use Rattle.ul_core.proofs.plants.+structural_hash.Goals as goal
+
+pub loop-part-init : goal.loop-part-init
+loop-part-init g t c = let f = g.L.Label.hash_of in
+    c.hash-hash.ensures ∙ (sym (ap (λ z. f z.label) (out-roll-Tree _ record { label = c.plant.inside.label; parts = c.plant.inside.parts.items })) ∙ ap (λ z. f (out-Tree _ z).label) c.plant.view_is)
+
+pub returns : goal.returns
+returns g t c =
+    let f = g.L.Label.hash_of in
+    let all : take c.loop-part.part-index c.deref-part-items.result.now ≡ c.deref-part-items.result.now = grind (arith, common_steps) in
+    let kept = ap (λ z. z.parts) (out-roll-Tree _ record { label = c.plant.inside.label; parts = c.plant.inside.parts.items }) in
+    let row : c.deref-part-items.result.now ≡ (out-Tree _ c.args.plant.now).parts = c.deref-part-items.ensures.value ∙ (sym kept ∙ ap (λ z. (out-Tree _ z).parts) c.plant.view_is) in
+    c.loop-part.invariant ∙ (ap (λ xs. fold mixed (f (out-Tree _ c.args.plant.now).label) (map (tree_hash f) xs)) (all ∙ row) ∙ sym (fold_out-Tree _ ℕ (hash_step f) c.args.plant.now))
