@@ -1,0 +1,6 @@
+pub mod CoreClaims
+pub mod Keeping
+pub mod Numbers
+pub mod Drawing
+pub mod Gathered
+pub mod Worked

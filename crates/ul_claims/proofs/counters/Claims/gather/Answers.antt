@@ -1,0 +1,43 @@
+use Rattle.std.proofs.Common.{rules, arith, ◌≡◌, ◌<◌, ◌↔◌, ℕ, List, [], ap, ◌∙◌}
+use Rattle.std.specs.Prelude.{Contains}
+use Rattle.ul_claims.specs.Rule.{times, once_below}
+use Rattle.ul_claims.specs.Seats.{times_drawn}
+use Rattle.ul_claims.proofs.Keeping.{looks}
+use Rattle.ul_claims.proofs.Gathered.{joined_more, joined_drawn, joined_parts, drawn_from_times, times_from_drawn, sorted_rises, sorted_has, all_drawn}
+use Rattle.ul_claims.proofs.counters.Claims.gather.Goals as goal
+
+pub loop-seat-preserved : goal.loop-seat-preserved
+loop-seat-preserved c =
+    let i = c.loop-seat.invariant in
+    let t = c.in_ok-take_in.ensures in record {
+      table = t.seat.0 ∙ i.table;
+      free = ap (λ m. m.1) t.seat.1 ∙ i.free;
+      joined = joined_more _ _ _ _ _ _ _ _ _ _ i.joined c.in-Some-pop.ensures.items t.numbers _ t.seat.1;
+    }
+
+pub load-requires : goal.load-requires
+load-requires c = (search rules, search rules, looks _ _ _)
+
+pub returns-clause-rising : goal.returns-clause-rising
+returns-clause-rising c =
+    let drawn : List ℕ = c.loop-seat.all.me.0.drawn in
+    sorted_rises c.args.self.limit drawn _ _ c.loop-seat.invariant.joined.kept c.load.ensures.2.1 c.sort_unstable.ensures.permutation c.sort_unstable.ensures.sorted
+
+pub returns-clause-exact : goal.returns-clause-exact
+returns-clause-exact c n =
+    let drawn : List ℕ = c.loop-seat.all.me.0.drawn in
+    let none : c.loop-seat.seats.items ≡ [] = search rules in
+    let same : times n drawn ≡ times_drawn n c.args.seats.items = joined_drawn _ _ _ _ _ _ c.loop-seat.invariant.joined none n in
+    let has : Contains c.sort_unstable.new.self.items n ↔ ((n < c.args.self.limit) × (0 < times n drawn)) = sorted_has c.args.self.limit drawn _ _ c.loop-seat.invariant.joined.kept c.sort_unstable.ensures.permutation n in (
+      (λ h. let d = has.0 h in (d.0, drawn_from_times n c.args.seats.items (omega (arith, d.1)))),
+      (λ h. has.1 (h.0, omega (arith, times_from_drawn n c.args.seats.items h.1))),
+    )
+
+pub returns-clause-whole : goal.returns-clause-whole
+returns-clause-whole c every refused n low =
+    let drawn : List ℕ = c.loop-seat.all.me.0.drawn in
+    let none : c.loop-seat.seats.items ≡ [] = search rules in
+    let joined = c.loop-seat.invariant.joined in
+    let counted : (x : ℕ) → times x drawn ≡ once_below x c.load.result = c.load.ensures.2.2 (joined_parts _ _ _ _ _ _ joined none every) in
+    let has : Contains c.sort_unstable.new.self.items n ↔ ((n < c.args.self.limit) × (0 < times n drawn)) = sorted_has c.args.self.limit drawn _ _ joined.kept c.sort_unstable.ensures.permutation n in
+    has.1 (low, all_drawn c.args.self c.args.seats.items drawn c.load.result c.requires.own (joined_drawn _ _ _ _ _ _ joined none) counted refused n low)

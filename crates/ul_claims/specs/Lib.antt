@@ -1,0 +1,4 @@
+pub mod Claimed
+pub mod Rule
+pub mod Seats
+pub mod Vectors
