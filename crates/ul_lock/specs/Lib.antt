@@ -1,0 +1,5 @@
+pub mod Laws
+pub mod Samples
+pub mod Spelled
+pub mod Text
+pub mod WellFormed

@@ -1,0 +1,10 @@
+pub mod Numerals
+pub mod PartsLeft
+pub mod EachRead
+pub mod TomlReading
+pub mod PinParts
+pub mod TomlPins
+pub mod JsonReading
+pub mod JsonPins
+pub mod UsableApart
+pub mod PinText

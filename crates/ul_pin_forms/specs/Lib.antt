@@ -1,0 +1,12 @@
+pub mod Answers
+pub mod DocumentForm
+pub mod Faults
+pub mod Json
+pub mod PinLaws
+pub mod Pins
+pub mod Plain
+pub mod ProjectForm
+pub mod Reading
+pub mod Seen
+pub mod Toml
+pub mod Usable

@@ -1,0 +1,10 @@
+pub mod Astray
+pub mod Bests
+pub mod Checks
+pub mod Locks
+pub mod Maps
+pub mod Members
+pub mod Naming
+pub mod Releasing
+pub mod Steps
+pub mod VersionOrder

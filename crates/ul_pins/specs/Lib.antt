@@ -1,0 +1,9 @@
+pub mod Best
+pub mod ByNames
+pub mod Indexes
+pub mod Locking
+pub mod Lockings
+pub mod Samples
+pub mod Serving
+pub mod Walking
+pub mod Walks

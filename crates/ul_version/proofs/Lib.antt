@@ -1,0 +1,11 @@
+pub mod Orders
+pub mod OrderLaws
+pub mod Cuts
+pub mod Faults
+pub mod Spelling
+pub mod Bounds
+pub mod RoundTrip
+pub mod Complete
+pub mod Longest
+pub mod LawProofs
+pub mod Examples

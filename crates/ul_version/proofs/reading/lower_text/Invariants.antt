@@ -1,0 +1,7 @@
+use Rattle.std.proofs.Common.{◌≡◌, take}
+use Rattle.std.specs.Prelude.{string_bytes}
+use Rattle.ul_version.specs.Reading.{lowered}
+use Rattle.ul_version.proofs.reading.lower_text.Given as goal
+
+abbrev pub invariant-loop-byte : goal.invariant-loop-byte
+invariant-loop-byte l = string_bytes l.text ≡ lowered (take l.byte-index l.piece)

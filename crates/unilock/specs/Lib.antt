@@ -1,0 +1,10 @@
+pub mod Answer
+pub mod Answers
+pub mod Growing
+pub mod Jobs
+pub mod Loaded
+pub mod Loading
+pub mod Questions
+pub mod Refusals
+pub mod Refused
+pub mod Words
