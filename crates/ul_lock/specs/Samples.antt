@@ -13,6 +13,7 @@ edge_to name numbers = record { target = record { name = name; extra = None }; v
 abbrev pub package_of : List ℕ → List ℕ → List Edge → Locked
 package_of name numbers edges = record { name = name; version = plain numbers; edges = edges }
 
+-- the package a at version 1, which needs nothing
 abbrev pub a_1 : Locked
 a_1 = package_of (codes "a") (1 ∷ []) []
 
@@ -20,6 +21,7 @@ a_1 = package_of (codes "a") (1 ∷ []) []
 abbrev pub demo_needing_a : Locked
 demo_needing_a = package_of (codes "demo") (0 ∷ 1 ∷ []) (edge_to (codes "a") (1 ∷ []) ∷ [])
 
+-- the lock of the root demo with these packages
 abbrev pub lock_of : List Locked → Lock
 lock_of packages = record { root = codes "demo"; packages = packages }
 
@@ -27,6 +29,7 @@ lock_of packages = record { root = codes "demo"; packages = packages }
 abbrev pub one_pin : Lock
 one_pin = lock_of (a_1 ∷ demo_needing_a ∷ [])
 
+-- the text of the lock of one pin
 abbrev pub one_pin_text : List ℕ
 one_pin_text =
     codes "version = 1\nroot = \"demo\"\n"
@@ -38,12 +41,15 @@ one_pin_text =
 abbrev pub lone_project : Lock
 lone_project = lock_of (package_of (codes "demo") (0 ∷ 1 ∷ []) [] ∷ [])
 
+-- the text of the lock of a project without dependencies
 abbrev pub lone_project_text : List ℕ
 lone_project_text = codes "version = 1\nroot = \"demo\"\n" ++ codes "\n[[package]]\nname = \"demo\"\nversion = \"0.1\"\n"
 
+-- the package b at version 1.10, which needs nothing
 abbrev pub b_1_10 : Locked
 b_1_10 = package_of (codes "b") (1 ∷ 10 ∷ []) []
 
+-- the package c at version 2.0.5, which needs nothing
 abbrev pub c_2_0_5 : Locked
 c_2_0_5 = package_of (codes "c") (2 ∷ 0 ∷ 5 ∷ []) []
 
@@ -56,6 +62,7 @@ demo_needing_both =
 abbrev pub two_pins : Lock
 two_pins = lock_of (b_1_10 ∷ c_2_0_5 ∷ demo_needing_both ∷ [])
 
+-- the text of the lock of two pins
 abbrev pub two_pins_text : List ℕ
 two_pins_text =
     codes "version = 1\nroot = \"demo\"\n"

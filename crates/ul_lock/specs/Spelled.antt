@@ -12,10 +12,12 @@ use Rattle.ul_lock.specs.declared.parts.Lock.{Lock}
 abbrev pub IsSpelledVersion : Fields → Type 0
 IsSpelledVersion f = version_of (version_text f) ≡ Some f
 
+-- the edge's target is a normal name, and its version's text reads back
 pub record IsSpelledEdge (e : Edge) : Type 0 where
   pub name : IsNormalName e.target.name
   pub version : IsSpelledVersion e.version
 
+-- the package's name is normal, its version's text reads back, and so do its edges
 pub record IsSpelledPackage (p : Locked) : Type 0 where
   pub name : IsNormalName p.name
   pub version : IsSpelledVersion p.version

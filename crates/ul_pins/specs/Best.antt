@@ -35,6 +35,7 @@ pins_in (r ∷ rs) v = if is_eq (version_cmp r.version v) then r.pins else pins_
 abbrev pub pins_at : List Package → List ℕ → Fields → List Pin
 pins_at c name v = pins_in (releases_of c name) v
 
+-- the names of pins, in their order
 abbrev pub pinned_names : List Pin → List (List ℕ)
 pinned_names pins = map (λ p. p.name) pins
 

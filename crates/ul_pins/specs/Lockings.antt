@@ -22,6 +22,7 @@ pub record AreTargets (b : List Decision) (pins : List Pin) (ts : List Decision)
   pub pinned : (t : Decision) → IsOneOf t ts → (pin : Pin) × IsOneOf pin pins × (pin.name ≡ t.name)
   pub whole : (pin : Pin) → IsOneOf pin pins → (e : Decision) → IsOneOf e b → e.name ≡ pin.name → (t : Decision) × IsOneOf t ts × (t.name ≡ pin.name)
 
+-- the edge to what is decided
 abbrev pub edge_of : Decision → Edge
 edge_of t = edge_to t.name t.version
 

@@ -12,9 +12,11 @@ use Rattle.ul_pins.specs.declared.walk.Decision.{Decision}
 abbrev pub Step : Type 0
 Step = List ℕ × Release
 
+-- the decision that a step makes
 abbrev pub decision_of : Step → Decision
 decision_of t = record { name = t.0; version = t.1.version }
 
+-- the decisions that steps make, in their order
 abbrev pub decisions_of : List Step → List Decision
 decisions_of s = map decision_of s
 
@@ -37,6 +39,7 @@ pub record IsForced (c : List Package) (s : List Step) : Type 0 where
 abbrev pub IsMetIn : List Decision → Pin → Type 0
 IsMetIn d pin = (w : Fields) × (version_in d pin.name ≡ Some w) × IsMet pin w
 
+-- decisions meet each of the pins
 abbrev pub AreMetIn : List Decision → List Pin → Type 0
 AreMetIn d pins = (pin : Pin) → IsOneOf pin pins → IsMetIn d pin
 

@@ -15,6 +15,7 @@ use Rattle.ul_pins.specs.declared.walk.Walk.{Walk}
 abbrev pub steps_of : List Taken → List Step
 steps_of ts = map (λ t. (t.name.now, record { version = t.version.now; pins = t.pins.now })) ts
 
+-- the steps that a walk has taken
 abbrev pub steps_in : Walk → List Step
 steps_in w = steps_of w.taken.items
 

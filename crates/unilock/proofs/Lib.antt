@@ -6,3 +6,4 @@ pub mod OneRead
 pub mod PrintedAnswers
 pub mod Steps
 pub mod Turns
+pub mod WorkedAnswers

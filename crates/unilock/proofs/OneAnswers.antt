@@ -79,7 +79,7 @@ load_catalog m folder (suc turns) names i packages c h x = elim (cases_Bool (nat
     below : (a b : ℕ) → nat_lt a b ≡ true → a < b
     below a b h = grind (arith, nat_tests)
 
-loaded_catalog : (m : FileMap) (folder : List ℕ) (project : Project) (c : List Package) → Loads m folder project (Ok c) → IsCatalog c
+pub loaded_catalog : (m : FileMap) (folder : List ℕ) (project : Project) (c : List Package) → Loads m folder project (Ok c) → IsCatalog c
 loaded_catalog m folder project c h =
     load_catalog m folder h.0 (first_names project) 1 (project_package project ∷ []) c (sown project.name (record { version = project.version; pins = project.pins }) (pinned_names project.pins)) h.1
 

@@ -1,5 +1,6 @@
 pub mod Answer
 pub mod Answers
+pub mod Examples
 pub mod Growing
 pub mod Jobs
 pub mod Loaded
