@@ -25,6 +25,9 @@ const DIAMOND: &str =
 const CYCLE: &str =
     "version = 1\nroot = \"demo\"\n\n[[package]]\nname = \"a\"\nversion = \"1\"\ndependencies = [\n    { name = \"demo\", version = \"0.1\" },\n]\n\n[[package]]\nname = \"demo\"\nversion = \"0.1\"\ndependencies = [\n    { name = \"a\", version = \"1\" },\n]\n";
 
+const OTHER_SPELLING: &str =
+    "version = 1\nroot = \"demo\"\n\n[[package]]\nname = \"a-b\"\nversion = \"1\"\n\n[[package]]\nname = \"demo\"\nversion = \"0.1\"\ndependencies = [\n    { name = \"a-b\", version = \"1\" },\n]\n";
+
 const USAGE: &str = "usage: unilock lock|why|env|check|gen|export|verify WORDS\n";
 
 const NOTHING_SERVES: &str =
@@ -110,6 +113,12 @@ fn locks_pins_or_says_that_nothing_serves(rt: HostRuntime) -> Result<(), Fail> {
             0,
             CYCLE,
         ),
+        (
+            "\"A.B==1\", \"a_b==1.0\"",
+            "@ix/a-b.json\n{\"name\": \"a__B\", \"versions\": [{\"version\": \"1\"}]}",
+            0,
+            OTHER_SPELLING,
+        ),
         ("\"a==1\", \"a==2\"", A_TWICE, 1, NOTHING_SERVES),
         ("\"a==3\"", A_TWICE, 1, NOTHING_SERVES),
         ("\"z==1\"", A, 1, NOTHING_SERVES),
@@ -142,6 +151,12 @@ fn names_what_it_cannot_read(rt: HostRuntime) -> Result<(), Fail> {
             3,
             "malformed: ix/a.json: not JSON\n",
         ),
+        (
+            "\"a==1\", \"b==1\"",
+            "@ix/a.json\n{\"name\": \"a\", \"versions\": [{\"version\": \"1\"}]}@ix/b.json\n{]",
+            3,
+            "malformed: ix/b.json: not JSON\n",
+        ),
         ("\"a==1\"", "@ix/a.json\n[]", 3, "not built: document\n"),
         (
             "\"a==1\"",
@@ -161,6 +176,24 @@ fn names_what_it_cannot_read(rt: HostRuntime) -> Result<(), Fail> {
         assert_eq!(rt; answered.0, status, "at {documents}");
         assert_eq!(rt; answered.1.as_str(), text, "at {documents}");
     }
+    Ok(())
+}
+
+#[test]
+fn names_the_limit_of_a_file(rt: HostRuntime) -> Result<(), Fail> {
+    let alloc = rt.alloc();
+    let blank = Vec::from_elem(alloc, b' ', 16_777_217)?;
+    let mut files = Vec::new(alloc);
+    files.push((String::from_str(alloc, "p.toml")?, blank))?;
+    let mut given = MemFiles::of(alloc, files, Vec::new(alloc));
+    let mut out = MemSink::of(alloc, Vec::new(alloc));
+    let mut words = Vec::new(alloc);
+    for word in LOCK.split(' ') {
+        words.push(String::from_str(alloc, word)?)?;
+    }
+    let status = run(&rt, alloc, &words, &mut given, &mut out, &Open);
+    assert_eq!(rt; status, 4);
+    assert!(rt; out.bytes().as_slice() == b"limit: file-bytes 16777216\n".as_slice());
     Ok(())
 }
 
