@@ -1,0 +1,149 @@
+-- What is known of a node and of a step of a number.
+use Rattle.std.proofs.Common.{◌≡◌, ℕ, zero, suc, ◌+◌, ◌-◌, ◌<◌, ◌⊎◌, inl, inr, Bool, true, false, Option, Some, None, List, [], ◌∷◌, drop, length, get_or, subst, sym, ap, ◌∙◌, refl, slice_get, arith}
+use Rattle.std.specs.Prelude.{option_map, IsTrue, ◌↔◌, IfSome, IfOk, Result, Ok, Err}
+use Rattle.std.specs.Option.{is_some}
+use Rattle.std.proofs.lemmas.Option.{none-some, same_Some, slice_get-get_or}
+use Rattle.ul_ranges.specs.Flags.{has, is_within}
+use Rattle.ul_ranges.proofs.FlagLaws.{within}
+use Rattle.ul_problem.specs.Plain.{Plain, node_at, size_in, size_of, base_in, base_of, barred_in, barred_of, needs_in, needs_of}
+use Rattle.ul_problem.specs.Problems.{IsWellFormed}
+use Rattle.ul_problem.specs.Serving.{IsOneOf, HasNone}
+use Rattle.ul_problem.specs.Terms.{term_on}
+use Rattle.ul_problem.specs.Steps.{AreTermsOf, AreOfOne, HasNeed, HasTermOn, IsResolvent, IsCutOf, IsRightNeed, IsRightPython, IsRightBase, IsRight, IsStepWithin, AreRightAfter, AreRootTerms, ClosesWith, says, step_of}
+use Rattle.ul_problem.specs.declared.problem.Need.{Need}
+use Rattle.ul_problem.specs.declared.problem.NodeFacts.{NodeFacts}
+use Rattle.ul_problem.specs.declared.step.Step.{Step}
+use Rattle.ul_problem.specs.declared.step.Step.TheVariants.{Cut}
+use Rattle.ul_problem.specs.declared.term.Term.{Term}
+use Rattle.ul_problem.proofs.Rules.{barred_size, need_fits, node_whole}
+use Rattle.ul_problem.proofs.Wholes.{all_within}
+use Rattle.ul_problem.proofs.Merging.{one_resolvent}
+use Rattle.ul_problem.proofs.Soundness.{step_place, accepted_none}
+
+abbrev pub IsSetOf : Plain → ℕ → List Bool → Type 0
+IsSetOf p n s = (n < length p.nodes) × (length s ≡ size_of p n)
+
+-- the node that is read
+pub node_read : (p : Plain) (nodes : List NodeFacts) (n : ℕ) (d : NodeFacts) → nodes ≡ p.nodes → n < length p.nodes → node_at p n ≡ Some (get_or nodes n d)
+node_read p nodes n d e h = slice_get-get_or p.nodes n d h ∙ ap (λ (l : List NodeFacts). Some (get_or l n d)) (sym e)
+
+-- a base step
+some_is : (o : Option ℕ) → is_some o ≡ true → (b : ℕ) × (o ≡ Some b)
+some_is None e = cc
+some_is (Some b) e = (b, refl)
+
+is_there : (o : Option ℕ) (b : ℕ) → o ≡ Some b → is_some o ≡ true
+is_there None b e = absurd (none-some b e)
+is_there (Some c) b e = refl
+
+pub base_tested : (p : Plain) (n : ℕ) (s : List Bool) (x : NodeFacts) (b : Bool) → node_at p n ≡ Some x → b ≡ is_some x.base → IsSetOf p n s → IsTrue b ↔ IsRightBase p n s
+base_tested p n s x b e f h = (
+  λ t. (let r = some_is x.base (sym f ∙ t) in (h.0, h.1, (r.0, ap base_in e ∙ r.1))),
+  λ r. f ∙ is_there x.base r.2.0 (sym (ap base_in e) ∙ r.2.1),
+)
+
+-- a python step
+pub python_sizes : (p : Plain) (n : ℕ) (s : List Bool) (x : NodeFacts) → IsWellFormed p → node_at p n ≡ Some x → IsSetOf p n s → length s ≡ length x.barred
+python_sizes p n s x wf e h = h.1 ∙ (sym (barred_size p n wf) ∙ ap (λ (o : Option NodeFacts). length (barred_in o)) e)
+
+pub python_tested : (p : Plain) (n : ℕ) (s : List Bool) (x : NodeFacts) (b : Bool) → node_at p n ≡ Some x → b ≡ is_within s x.barred → IsSetOf p n s → IsTrue b ↔ IsRightPython p n s
+python_tested p n s x b e f h =
+    let g : barred_of p n ≡ x.barred = ap barred_in e in
+    let w = within s x.barred in (
+      λ t. (h.0, h.1, λ v k. ap (has v) g ∙ w.0 (sym f ∙ t) v k),
+      λ r. f ∙ w.1 (λ v k. sym (ap (has v) g) ∙ r.2 v k),
+    )
+
+-- a need step
+pub rows_fit : (p : Plain) (n : ℕ) (s : List Bool) (x : NodeFacts) (rows : List (List Need)) → IsWellFormed p → node_at p n ≡ Some x → rows ≡ x.needs → IsSetOf p n s → length rows ≡ length s
+rows_fit p n s x rows wf e q h = ap length q ∙ ((node_whole p n x wf e).rows ∙ (sym (ap size_in e) ∙ sym h.1))
+
+row_is : (p : Plain) (n v : ℕ) (x : NodeFacts) (rows : List (List Need)) → node_at p n ≡ Some x → rows ≡ x.needs → needs_of p n v ≡ get_or rows v []
+row_is p n v x rows e q = ap (λ (o : Option NodeFacts). needs_in o v) e ∙ ap (λ (l : List (List Need)). get_or l v []) (sym q)
+
+pub needs_fit : (p : Plain) (n m v : ℕ) (w : List Bool) (x : NodeFacts) (rows : List (List Need)) (need : Need) → IsWellFormed p → node_at p n ≡ Some x → rows ≡ x.needs → IsSetOf p m w → IsOneOf need (get_or rows v []) → need.node ≡ m → length need.permitted ≡ length w
+needs_fit p n m v w x rows need wf e q h i f =
+    let j : IsOneOf need (needs_of p n v) = subst (λ (l : List Need). IsOneOf need l) (sym (row_is p n v x rows e q)) i in
+    (need_fits p n v need wf j).1 ∙ (ap (λ (k : ℕ). size_of p k) f ∙ sym h.1)
+
+pub need_tested : (p : Plain) (n m : ℕ) (s w : List Bool) (x : NodeFacts) (rows : List (List Need)) (b : Bool) → node_at p n ≡ Some x → rows ≡ x.needs → (IsTrue b ↔ ((v : ℕ) → has v s ≡ true → HasNeed (get_or rows v []) m w)) → IsSetOf p n s → IsSetOf p m w → IsTrue b ↔ IsRightNeed p n s m w
+need_tested p n m s w x rows b e q t h k = (
+  λ g. (h.0, k.0, h.1, k.1, λ v i. subst (λ (l : List Need). HasNeed l m w) (sym (row_is p n v x rows e q)) (t.0 g v i)),
+  λ r. t.1 (λ v i. subst (λ (l : List Need). HasNeed l m w) (row_is p n v x rows e q) (r.4 v i)),
+)
+
+-- a resolvent
+pub resolvent_tested : (m : ℕ) (left right ts wanted read : List Term) (b : Bool) → HasTermOn m left → HasTermOn m right → IsResolvent m left right wanted → read ≡ wanted → (IsTrue b ↔ (read ≡ ts))
+    → IsTrue b ↔ (HasTermOn m left × HasTermOn m right × IsResolvent m left right ts)
+resolvent_tested m left right ts wanted read b l r res e t = (
+  λ g. (l, r, subst (λ (x : List Term). IsResolvent m left right x) (sym e ∙ t.0 g) res),
+  λ g. t.1 (e ∙ one_resolvent m left right wanted ts res g.2),
+)
+
+-- what a step of a number says
+pub within_of : (p : Plain) (earlier : List Step) (i : ℕ) (o : Option Step) (s : Step) → AreRightAfter p [] earlier → o ≡ step_of earlier i → o ≡ Some s → IsStepWithin p s
+within_of p earlier i o s r e f = let k = step_place earlier i s (sym e ∙ f) in all_within p earlier r k.0 s k.1
+
+said_from : (p : Plain) (o : Option Step) (l : List Term) → Some l ≡ option_map (λ s. says p s) o → (s : Step) × (o ≡ Some s) × (says p s ≡ l)
+said_from p None l e = absurd (none-some l (sym e))
+said_from p (Some s) l e = (s, refl, same_Some (says p s) l (sym e))
+
+pub cut_tested : (p : Plain) (earlier : List Step) (i j m : ℕ) (l r ts : List Term) (b : Bool) → Some l ≡ option_map (λ s. says p s) (step_of earlier i) → Some r ≡ option_map (λ s. says p s) (step_of earlier j)
+    → (IsTrue b ↔ (HasTermOn m l × HasTermOn m r × IsResolvent m l r ts)) → IsTrue b ↔ IsCutOf p earlier i j m ts
+cut_tested p earlier i j m l r ts b e f t =
+    let x = said_from p (step_of earlier i) l e in
+    let y = said_from p (step_of earlier j) r f in (
+      λ g. (let h = t.0 g in (
+        x.0,
+        y.0,
+        x.1,
+        y.1,
+        subst (HasTermOn m) (sym x.2) h.0,
+        subst (HasTermOn m) (sym y.2) h.1,
+        subst (λ (a : List Term). IsResolvent m a (says p y.0) ts) (sym x.2) (subst (λ (a : List Term). IsResolvent m l a ts) (sym y.2) h.2),
+      )),
+      λ g. t.1 (back x y g),
+    )
+  where
+    back : (x : (s : Step) × (step_of earlier i ≡ Some s) × (says p s ≡ l)) (y : (s : Step) × (step_of earlier j ≡ Some s) × (says p s ≡ r)) → IsCutOf p earlier i j m ts → HasTermOn m l × HasTermOn m r × IsResolvent m l r ts
+    back x y (left, right, el, er, hl, hr, res) =
+        let a : says p left ≡ l = ap (says p) (same_Some left x.0 (sym el ∙ x.1)) ∙ x.2 in
+        let c : says p right ≡ r = ap (says p) (same_Some right y.0 (sym er ∙ y.1)) ∙ y.2 in
+        (subst (HasTermOn m) a hl, subst (HasTermOn m) c hr, subst (λ (d : List Term). IsResolvent m d r ts) a (subst (λ (d : List Term). IsResolvent m (says p left) d ts) c res))
+
+pub cut_missing : (p : Plain) (earlier : List Step) (i j m : ℕ) (ts : List Term) → (None ≡ option_map (λ s. says p s) (step_of earlier i)) ⊎ (None ≡ option_map (λ s. says p s) (step_of earlier j)) → IsCutOf p earlier i j m ts → ⊥
+cut_missing p earlier i j m ts (inl e) (left, right, el, er, hl, hr, res) = none-some (says p left) (e ∙ ap (option_map (λ s. says p s)) el)
+cut_missing p earlier i j m ts (inr e) (left, right, el, er, hl, hr, res) = none-some (says p right) (e ∙ ap (option_map (λ s. says p s)) er)
+
+-- the last step
+closes_at : (p : Plain) (steps : List Step) (s : Step) → slice_get steps (length steps - 1) ≡ Some s → (AreRootTerms p (says p s) → ClosesWith p steps) × (ClosesWith p steps → AreRootTerms p (says p s))
+closes_at p [] s e = absurd (none-some s e)
+closes_at p (x ∷ []) s e = let f : x ≡ s = same_Some x s e in
+    ((λ h. subst (λ (y : Step). AreRootTerms p (says p y)) (sym f) h), (λ h. subst (λ (y : Step). AreRootTerms p (says p y)) f h))
+closes_at p (x ∷ y ∷ ss) s e =
+    let f : suc (suc (length ss)) - 1 ≡ suc (suc (length ss) - 1) = omega arith in
+    closes_at p (y ∷ ss) s (sym (ap (λ (k : ℕ). slice_get (x ∷ y ∷ ss) k) f) ∙ e)
+
+pub closes_tested : (p : Plain) (steps : List Step) (o : Option Step) (s : Step) (ts read : List Term) (b : Bool) → o ≡ slice_get steps (length steps - 1) → o ≡ Some s → ts ≡ says p s → read ≡ ts → (IsTrue b ↔ AreRootTerms p read) → IsTrue b ↔ ClosesWith p steps
+closes_tested p steps o s ts read b e f g h t =
+    let c = closes_at p steps s (sym e ∙ f) in
+    let k : read ≡ says p s = h ∙ g in
+    ((λ x. c.0 (subst (AreRootTerms p) k (t.0 x))), (λ x. t.1 (subst (AreRootTerms p) (sym k) (c.1 x))))
+
+pub last_within : (p : Plain) (steps : List Step) (o : Option Step) (s : Step) → AreRightAfter p [] steps → o ≡ slice_get steps (length steps - 1) → o ≡ Some s → IsStepWithin p s
+last_within p steps o s r e f = all_within p steps r (length steps - 1) s (sym e ∙ f)
+
+-- what holds of an answer
+pub ok_then : {A E : Type 0} (r : Result A E) (P Q : A → Type 0) → IfOk r P → ((x : A) → P x → Q x) → IfOk r Q
+ok_then (Ok x) P Q h f = f x h
+ok_then (Err e) P Q h f = tt
+
+pub some_fits : (p : Plain) (o : Option (List Term)) (l : List Term) → IfSome o (λ ts. AreTermsOf p ts) → o ≡ Some l → AreTermsOf p l
+some_fits p None l h e = absurd (none-some l e)
+some_fits p (Some x) l h e = subst (AreTermsOf p) (same_Some x l e) h
+
+pub right_cut : (p : Plain) (earlier : List Step) (i j m : ℕ) (ts read : List Term) (step : Step) (b : Bool) → step ≡ Cut i j m ts → read ≡ ts → AreTermsOf p read → IsTrue b ↔ IsCutOf p earlier i j m read → IsTrue b ↔ IsRight p earlier step
+right_cut p earlier i j m ts read step b e f a t =
+    let g : IsTrue b ↔ IsRight p earlier (Cut i j m ts) =
+    ((λ h. (subst (AreTermsOf p) f a, subst (IsCutOf p earlier i j m) f (t.0 h))), (λ r. t.1 (subst (IsCutOf p earlier i j m) (sym f) r.1))) in
+    subst (λ (s : Step). IsTrue b ↔ IsRight p earlier s) (sym e) g

@@ -1,0 +1,24 @@
+-- A search for a need.
+use Rattle.std.proofs.Common.{◌≡◌, ℕ, zero, suc, ◌+◌, ◌<◌, ◌⊎◌, inl, inr, Bool, true, List, [], ◌∷◌, drop, length, get_or, subst, sym, ap, ◌∙◌, arith}
+use Rattle.std.proofs.lemmas.List.{drop_more}
+use Rattle.ul_ranges.specs.Flags.{has}
+use Rattle.ul_problem.specs.Serving.{IsOneOf}
+use Rattle.ul_problem.specs.Steps.{HasNeed}
+use Rattle.ul_problem.specs.declared.problem.Need.{Need}
+
+pub one_at : {A : Type 0} (xs : List A) (i : ℕ) (x : A) → i < length xs → x ≡ get_or xs i x → IsOneOf x xs
+one_at [] i x h e = absurd (omega arith)
+one_at (y ∷ ys) zero x h e = inl (sym e)
+one_at (y ∷ ys) (suc i) x h e = inr (one_at ys i x (omega arith) e)
+
+pub need_here : (needs : List Need) (i : ℕ) (x : Need) (m : ℕ) (w : List Bool) → i < length needs → x ≡ get_or needs i x → x.node ≡ m → ((u : ℕ) → has u x.permitted ≡ true → has u w ≡ true) → HasNeed needs m w
+need_here needs i x m w h e f g = (x, one_at needs i x h e, f, g)
+
+past_head : (x : Need) (needs : List Need) (m : ℕ) (w : List Bool) → (x.node ≡ m → ((u : ℕ) → has u x.permitted ≡ true → has u w ≡ true) → ⊥) → HasNeed (x ∷ needs) m w → HasNeed needs m w
+past_head x needs m w n (y, inl e, f, g) = absurd (n (ap (λ (z : Need). z.node) e ∙ f) (subst (λ (z : Need). (u : ℕ) → has u z.permitted ≡ true → has u w ≡ true) (sym e) g))
+past_head x needs m w n (y, inr i, f, g) = (y, i, f, g)
+
+pub need_past : (needs : List Need) (i : ℕ) (x : Need) (m : ℕ) (w : List Bool) → i < length needs → x ≡ get_or needs i x → (x.node ≡ m → ((u : ℕ) → has u x.permitted ≡ true → has u w ≡ true) → ⊥) → HasNeed (drop i needs) m w → HasNeed (drop (i + 1) needs) m w
+need_past needs i x m w h e n r =
+    let f : drop i needs ≡ x ∷ drop (i + 1) needs = drop_more needs i x h ∙ ap (λ (z : Need). z ∷ drop (i + 1) needs) (sym e) in
+    past_head x (drop (i + 1) needs) m w n (subst (λ (l : List Need). HasNeed l m w) f r)

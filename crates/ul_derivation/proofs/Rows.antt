@@ -1,0 +1,65 @@
+-- The worked example.
+use Rattle.std.proofs.Common.{◌≡◌, ◌≢◌, ℕ, zero, suc, ◌+◌, List, [], ◌∷◌, Bool, true, false, Option, Some, None, refl, inl, inr, arith, ◌<◌}
+use Rattle.std.proofs.lemmas.Bool.{true≢false, ne_eqb}
+use Rattle.std.proofs.Common.{nat_eq, subst, sym}
+use Rattle.std.proofs.lemmas.Option.{same_Some, none-some}
+use Rattle.ul_problem.specs.Serving.{IsOneOf}
+use Rattle.ul_problem.specs.Steps.{says}
+use Rattle.ul_problem.specs.declared.step.Step.{Step}
+use Rattle.ul_ranges.specs.Flags.{has}
+use Rattle.ul_problem.specs.Plain.{needs_of}
+use Rattle.ul_problem.specs.Terms.{term_on}
+use Rattle.ul_problem.specs.Steps.{HasNeed, IsRight, IsResolvent, AreRightAfter, Accepts, resolved}
+use Rattle.ul_problem.specs.declared.term.Term.{Term}
+use Rattle.ul_problem.specs.declared.term.Term.TheVariants.{In, NotIn}
+use Rattle.ul_problem.specs.declared.step.Step.TheVariants.{Cut}
+use Rattle.ul_derivation.specs.Rows.{clash, first_step, second_step, ClashAccepted, ClashShort, ClashUncut}
+
+first_need : (v : ℕ) → has v (true ∷ []) ≡ true → HasNeed (needs_of clash 0 v) 1 (true ∷ false ∷ [])
+first_need zero h = (record { node = 1; permitted = true ∷ false ∷ [] }, inl refl, refl, λ u e. e)
+first_need (suc v) h = cc
+
+second_need : (v : ℕ) → has v (true ∷ false ∷ []) ≡ true → HasNeed (needs_of clash 1 v) 2 []
+second_need zero h = (record { node = 2; permitted = [] }, inl refl, refl, λ u e. e)
+second_need (suc zero) h = cc
+second_need (suc (suc v)) h = cc
+
+first_right : IsRight clash [] first_step
+first_right = (omega arith, omega arith, refl, refl, first_need)
+
+second_right : IsRight clash (first_step ∷ []) second_step
+second_right = (omega arith, omega arith, refl, refl, second_need)
+
+abbrev EachAt : ℕ → Type 0
+EachAt k = term_on k (In 0 (true ∷ []) ∷ []) ≡ resolved 1 k (term_on k (In 0 (true ∷ []) ∷ NotIn 1 (true ∷ false ∷ []) ∷ [])) (term_on k (In 1 (true ∷ false ∷ []) ∷ []))
+
+beyond : (k : ℕ) → 1 < k → EachAt k
+beyond k h =
+    let a : nat_eq 0 k ≡ false = ne_eqb 0 k (omega arith) in
+    let b : nat_eq 1 k ≡ false = ne_eqb 1 k (omega arith) in
+    let c : nat_eq k 1 ≡ false = ne_eqb k 1 (omega arith) in
+    rw (a, b, c) refl
+
+cut_each : IsResolvent 1 (In 0 (true ∷ []) ∷ NotIn 1 (true ∷ false ∷ []) ∷ []) (In 1 (true ∷ false ∷ []) ∷ []) (In 0 (true ∷ []) ∷ [])
+cut_each = record { ordered = tt; each = elim [ zero ↦ refl | suc k ↦ elim k as (λ j. EachAt (suc j)) [ zero ↦ refl | suc j ↦ beyond (suc (suc j)) (omega arith) ] ] }
+
+pub accepted : ClashAccepted
+accepted = ((first_right, (second_right, ((((omega arith, refl), tt), (first_step, second_step, refl, refl, (NotIn 1 (true ∷ false ∷ []), refl), (In 1 (true ∷ false ∷ []), refl), cut_each)), tt))), ((inl refl, (omega arith, refl), refl), tt))
+
+pub short : ClashShort
+short = record { counted = omega arith; before = (first_right, (second_right, tt)); bad = inl (Cut 1 2 1 [], refl, bad_cut) }
+  where
+    bad_cut : IsRight clash (first_step ∷ second_step ∷ []) (Cut 1 2 1 []) → ⊥
+    bad_cut (of, (left, right, el, er, tl, tr, res)) =
+        let l = same_Some first_step left el in
+        let r = same_Some second_step right er in
+        let e = subst (λ (x : Step). None ≡ resolved 1 0 (term_on 0 (says clash x)) (term_on 0 (says clash right))) (sym l) (res.each 0) in
+        let g = subst (λ (x : Step). None ≡ resolved 1 0 (term_on 0 (says clash first_step)) (term_on 0 (says clash x))) (sym r) e in
+        none-some (In 0 (true ∷ [])) g
+
+pub uncut : ClashUncut
+uncut = record { counted = omega arith; before = (first_right, (second_right, tt)); bad = inr (refl, λ h. not_root h.0.0) }
+  where
+    not_root : IsOneOf {A = ℕ} 1 (0 ∷ []) → ⊥
+    not_root (inl e) = absurd (omega arith)
+    not_root (inr i) = i

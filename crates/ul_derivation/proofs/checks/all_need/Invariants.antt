@@ -1,0 +1,7 @@
+use Rattle.std.proofs.Common.{◌≡◌, ℕ, ◌<◌, [], true, get_or}
+use Rattle.ul_ranges.specs.Flags.{has}
+use Rattle.ul_problem.specs.Steps.{HasNeed}
+use Rattle.ul_derivation.proofs.checks.all_need.Given as goal
+
+abbrev pub invariant-loop-v : goal.invariant-loop-v
+invariant-loop-v l = (k : ℕ) → k < l.v → has k l.versions ≡ true → HasNeed (get_or l.rows k []) l.target l.permitted

@@ -1,0 +1,197 @@
+//! The tests of a step.
+ghost use Rattle.std.specs.Prelude.{◌≡◌, ◌<◌, ◌↔◌, ℕ, [], true, length, get_or, option_map, IfOk, IfSome, IsTrue};
+ghost use Rattle.std.specs.Option.{option_copied};
+ghost use Rattle.ul_ranges.specs.Flags.{has};
+ghost use Rattle.ul_problem.specs.Plain.{size_of};
+ghost use Rattle.ul_problem.specs.Serving.{IsOneOf};
+ghost use Rattle.ul_problem.specs.Steps.{AreOfOne, AreRightAfter, AreTermsOf, HasNeed, HasTermOn, IsResolvent, IsRight, IsRightBase, IsCutOf, IsRightNeed, IsRightPython, says, step_of};
+ghost use Rattle.ul_problem.specs.declared.problem.Need.{Need};
+
+use std::alloc::{AllocError, Global};
+use ul_problem::{Incompat, Need, NeedRow, Problem, Step, Term, resolvent, same_terms, term_on};
+use ul_ranges::Ordinals;
+
+// Whether the problem has the node, and the set has the size of its versions.
+pub fn is_set_of(problem: &Problem, node: u64, set: &Ordinals) -> bool
+    ensures { IsTrue result ↔ ((node < length problem.now.nodes) × (length set.now ≡ size_of problem.now node)) }
+{
+    match problem.nodes().get(node as usize) {
+        Some(facts) => facts.versions.as_slice().len() == set.size() as usize,
+        None => false,
+    }
+}
+
+// Whether among the needs of a version is one of this target, whose permitted versions are all in the set.
+fn has_need(needs: &[Need], target: u64, permitted: &Ordinals) -> bool
+    requires { (need : Need) → IsOneOf need needs.now → need.node ≡ target → length need.permitted ≡ length permitted.now }
+    ensures { IsTrue result ↔ HasNeed needs.now target permitted.now }
+{
+    for need in needs {
+        if need.node == target && need.permitted.is_within(permitted) {
+            return true;
+        }
+    }
+    false
+}
+
+// Whether each of the versions has the need.
+fn all_need(rows: &[NeedRow], versions: &Ordinals, target: u64, permitted: &Ordinals) -> bool
+    requires rows { length rows.now ≡ length versions.now }
+    requires sizes { (v : ℕ) (need : Need) → IsOneOf need (get_or rows.now v []) → need.node ≡ target → length need.permitted ≡ length permitted.now }
+    ensures { IsTrue result ↔ ((v : ℕ) → has v versions.now ≡ true → HasNeed (get_or rows.now v []) target permitted.now) }
+{
+    for v in 0..versions.size() {
+        if versions.has(v) && !has_need(rows[v as usize].as_slice(), target, permitted) {
+            return false;
+        }
+    }
+    true
+}
+
+fn need_is_right(
+    problem: &Problem,
+    node: u64,
+    versions: &Ordinals,
+    target: u64,
+    permitted: &Ordinals,
+) -> bool
+    ensures { IsTrue result ↔ IsRightNeed problem.now node versions.now target permitted.now }
+{
+    if is_set_of(problem, node, versions) && is_set_of(problem, target, permitted) {
+        let rows = problem.nodes()[node as usize].needs.as_slice();
+        all_need(rows, versions, target, permitted)
+    } else {
+        false
+    }
+}
+
+fn python_is_right(problem: &Problem, node: u64, versions: &Ordinals) -> bool
+    ensures { IsTrue result ↔ IsRightPython problem.now node versions.now }
+{
+    is_set_of(problem, node, versions) && versions.is_within(&problem.nodes()[node as usize].barred)
+}
+
+fn base_is_right(problem: &Problem, node: u64, versions: &Ordinals) -> bool
+    ensures { IsTrue result ↔ IsRightBase problem.now node versions.now }
+{
+    is_set_of(problem, node, versions) && problem.nodes()[node as usize].base.is_some()
+}
+
+// The step of a number, from 1.
+fn step_of(earlier: &[Step], number: u64) -> Option<&Step>
+    ensures { option_copied result ≡ step_of earlier.now number }
+{
+    if number == 0 {
+        None
+    } else {
+        earlier.get(number as usize - 1)
+    }
+}
+
+fn are_terms_of(problem: &Problem, terms: &[Term]) -> bool
+    ensures { IsTrue result ↔ AreTermsOf problem.now terms.now }
+{
+    for term in terms {
+        if !is_set_of(problem, term.node(), term.set()) {
+            return false;
+        }
+    }
+    true
+}
+
+fn has_term_on(terms: &[Term], node: u64) -> bool
+    ensures { IsTrue result ↔ HasTermOn node terms.now }
+{
+    term_on(terms, node).is_some()
+}
+
+// Whether both have a term on the node, and the terms are their resolvent on it.
+fn is_resolvent(
+    alloc: Global,
+    node: u64,
+    left: &Incompat,
+    right: &Incompat,
+    terms: &[Term],
+) -> Result<bool, AllocError>
+    requires { AreOfOne left.now right.now }
+    ensures { IfOk result (λ b. IsTrue b ↔ (HasTermOn node left.now × HasTermOn node right.now × IsResolvent node left.now right.now terms.now)) }
+{
+    if has_term_on(left.terms(), node) && has_term_on(right.terms(), node) {
+        let wanted = resolvent(alloc, node, left, right)?;
+        Ok(same_terms(wanted.terms(), terms))
+    } else {
+        Ok(false)
+    }
+}
+
+// What the step of a number says, where there is one.
+fn said(
+    alloc: Global,
+    problem: &Problem,
+    earlier: &[Step],
+    number: u64,
+) -> Result<Option<Incompat>, AllocError>
+    requires { AreRightAfter problem.now [] earlier.now }
+    ensures value { IfOk result (λ o. o ≡ option_map (λ s. says problem.now s) (step_of earlier.now number)) }
+    ensures fits { IfOk result (λ o. IfSome o (λ ts. AreTermsOf problem.now ts)) }
+{
+    match step_of(earlier, number) {
+        Some(step) => Ok(Some(step.says(alloc, problem)?)),
+        None => Ok(None),
+    }
+}
+
+// Whether the terms are the resolvent on a node of the steps of two numbers.
+fn is_cut(
+    alloc: Global,
+    problem: &Problem,
+    earlier: &[Step],
+    numbers: (u64, u64),
+    node: u64,
+    terms: &[Term],
+) -> Result<bool, AllocError>
+    requires { AreRightAfter problem.now [] earlier.now }
+    ensures { IfOk result (λ b. IsTrue b ↔ IsCutOf problem.now earlier.now numbers.0 numbers.1 node terms.now) }
+{
+    let left = said(alloc, problem, earlier, numbers.0)?;
+    let right = said(alloc, problem, earlier, numbers.1)?;
+    match (&left, &right) {
+        (Some(left), Some(right)) => is_resolvent(alloc, node, left, right, terms),
+        _ => Ok(false),
+    }
+}
+
+// Whether a step is right after earlier ones, which are right.
+pub fn is_right(
+    alloc: Global,
+    problem: &Problem,
+    earlier: &[Step],
+    step: &Step,
+) -> Result<bool, AllocError>
+    requires { AreRightAfter problem.now [] earlier.now }
+    ensures { IfOk result (λ b. IsTrue b ↔ IsRight problem.now earlier.now step.now) }
+{
+    match step {
+        Step::Need {
+            node,
+            versions,
+            target,
+            permitted,
+        } => Ok(need_is_right(problem, *node, versions, *target, permitted)),
+        Step::Python { node, versions } => Ok(python_is_right(problem, *node, versions)),
+        Step::Base { node, versions } => Ok(base_is_right(problem, *node, versions)),
+        Step::Cut {
+            left,
+            right,
+            node,
+            terms,
+        } => {
+            let terms = terms.as_slice();
+            if are_terms_of(problem, terms) {
+                is_cut(alloc, problem, earlier, (*left, *right), *node, terms)
+            } else {
+                Ok(false)
+            }
+        }
+    }
+}

@@ -1,0 +1,242 @@
+use Rattle.std.proofs.Common.{◌≡◌, ℕ, List, [], ◌∷◌, ◌++◌, Bool, true, false, cond, Option, Some, None, ◌<◌, ◌⊎◌, inl, inr, refl, sym, ap, subst, ◌∙◌, nat_eq, eq-eqb, slice_get, append_assoc}
+use Rattle.std.proofs.lemmas.Bool.{eqb-true, cases_order, true≢false}
+use Rattle.std.proofs.lemmas.Option.{same_Some}
+use Rattle.std.proofs.lemmas.List.{append-nil}
+use Rattle.ul_problem.specs.Terms.{Selection, is_among}
+use Rattle.ul_problem.specs.Plain.{Plain, needs_of, base_of}
+use Rattle.ul_problem.specs.Serving.{Serves, IsOneOf}
+use Rattle.ul_problem.specs.Problems.{IsWellFormed}
+use Rattle.ul_problem.proofs.Rules.{some_root, root_base, need_base}
+use Rattle.ul_problem.specs.declared.problem.Need.{Need}
+use Rattle.ul_problem.specs.Best.{Picks, order_of, is_decided, first_open, targets, wanted, next_of, Agrees, Extends, IsFirst, IsBestFrom, IsBest, version_in, IsTrailed, IsChain}
+
+-- two first versions are one
+same_place : (p : Plain) (d : Picks) (n v w : ℕ) (a : IsFirst p d n v) (b : IsFirst p d n w) → (a.0 ≡ b.0) ⊎ ((a.0 < b.0) ⊎ (b.0 < a.0)) → v ≡ w
+same_place p d n v w a b (inl e) = same_Some v w (sym a.1 ∙ (ap (λ (i : ℕ). slice_get (order_of p n) i) e ∙ b.1))
+same_place p d n v w a b (inr (inl h)) = absurd (b.3 a.0 v h a.1 a.2)
+same_place p d n v w a b (inr (inr h)) = absurd (a.3 b.0 w h b.1 b.2)
+
+first_one : (p : Plain) (d : Picks) (n v w : ℕ) → IsFirst p d n v → IsFirst p d n w → v ≡ w
+first_one p d n v w a b = same_place p d n v w a b (cases_order a.0 b.0)
+
+pub best_one_from : (p : Plain) (d xs ys : Picks) → IsBestFrom p d xs → IsBestFrom p d ys → xs ≡ ys
+best_one_from p d [] [] a b = refl
+best_one_from p d [] (y ∷ ys) a b = cc (a, b.0)
+best_one_from p d (x ∷ xs) [] a b = cc (a.0, b)
+best_one_from p d ((n, v) ∷ xs) ((m, w) ∷ ys) a b =
+    let en : n ≡ m = same_Some n m (sym a.0 ∙ b.0) in
+    let bf : IsFirst p d n w = subst (λ (k : ℕ). IsFirst p d k w) (sym en) b.1 in
+    let ev : v ≡ w = first_one p d n v w a.1 bf in
+    let e : ◌≡◌ {A = ℕ × ℕ} (n, v) (m, w) = λ i. (en i, ev i) in
+    let br : IsBestFrom p (d ++ (n, v) ∷ []) ys = subst (λ (x : ℕ × ℕ). IsBestFrom p (d ++ x ∷ []) ys) (sym e) b.2 in
+    let r : xs ≡ ys = best_one_from p (d ++ (n, v) ∷ []) xs ys a.2 br in
+    λ i. e i ∷ r i
+
+-- a trail's list is best
+agrees_left : (σ : Selection) (xs ys : Picks) → Agrees σ (xs ++ ys) → Agrees σ xs
+agrees_left σ [] ys h = tt
+agrees_left σ (x ∷ xs) ys h = (h.0, agrees_left σ xs ys h.1)
+
+pub trailed_best : (p : Plain) (d rest : Picks) (σ : Selection) → Serves p σ → Agrees σ (d ++ rest) → IsTrailed p d rest → IsBestFrom p d rest
+trailed_best p d [] σ s a t = t
+trailed_best p d (e ∷ rest) σ s a t =
+    let more : Agrees σ ((d ++ e ∷ []) ++ rest) = subst (λ (xs : Picks). Agrees σ xs) (sym (append_assoc d (e ∷ []) rest)) a in
+    (t.0, (t.1.0, t.1.1, (σ, s, agrees_left σ (d ++ e ∷ []) rest more), t.1.2), trailed_best p (d ++ e ∷ []) rest σ s more t.2)
+
+-- a version that the list has is the selection's
+at_here : (σ : Selection) (e : ℕ × ℕ) (r : Option ℕ) (n v : ℕ) (b : Bool) → nat_eq e.0 n ≡ b → σ e.0 ≡ Some e.1 → (r ≡ Some v → σ n ≡ Some v) → cond b (Some e.1) r ≡ Some v → σ n ≡ Some v
+at_here σ e r n v true f h k g = subst (λ (m : ℕ). σ m ≡ Some v) (eqb-true e.0 n f) (h ∙ g)
+at_here σ e r n v false f h k g = k g
+
+agree_at : (σ : Selection) (d : Picks) (n v : ℕ) → Agrees σ d → version_in d n ≡ Some v → σ n ≡ Some v
+agree_at σ [] n v a h = cc
+agree_at σ (e ∷ d) n v a h = at_here σ e (version_in d n) n v (nat_eq e.0 n) refl a.0 (agree_at σ d n v a.1) h
+
+decided_here : (e : ℕ × ℕ) (r : Bool) (o : Option ℕ) (b : Bool) → (r ≡ true → (v : ℕ) × (o ≡ Some v)) → cond b true r ≡ true → (v : ℕ) × (cond b (Some e.1) o ≡ Some v)
+decided_here e r o true h k = (e.1, refl)
+decided_here e r o false h k = h k
+
+pub decided_version : (d : Picks) (n : ℕ) → is_decided n d ≡ true → (v : ℕ) × (version_in d n ≡ Some v)
+decided_version [] n h = cc
+decided_version (e ∷ d) n h = decided_here e (is_decided n d) (version_in d n) (nat_eq e.0 n) (decided_version d n) h
+
+-- a node that has a version by the list is one of the list's
+pick_here : (e : ℕ × ℕ) (d : Picks) (o : Option ℕ) (n v : ℕ) (b : Bool) → nat_eq e.0 n ≡ b → (o ≡ Some v → IsOneOf (n, v) d) → cond b (Some e.1) o ≡ Some v → IsOneOf (n, v) (e ∷ d)
+pick_here (m, w) d o n v true f h k =
+    let en : m ≡ n = eqb-true m n f in
+    let ev : w ≡ v = same_Some w v k in
+    inl (λ i. (en i, ev i))
+pick_here e d o n v false f h k = inr (h k)
+
+pub pick_of : (d : Picks) (n v : ℕ) → version_in d n ≡ Some v → IsOneOf (n, v) d
+pick_of [] n v h = cc
+pick_of (e ∷ d) n v h = pick_here e d (version_in d n) n v (nat_eq e.0 n) refl (pick_of d n v) h
+
+-- where no node is open each is decided
+open_here : (d : Picks) (m : ℕ) (r : Option ℕ) (b : Bool) → is_decided m d ≡ b → cond b r (Some m) ≡ None → (is_decided m d ≡ true) × (r ≡ None)
+open_here d m r true e h = (e, h)
+open_here d m r false e h = cc
+
+pub none_open : (d : Picks) (ns : List ℕ) (n : ℕ) → first_open d ns ≡ None → IsOneOf n ns → is_decided n d ≡ true
+none_open d [] n h i = absurd i
+none_open d (m ∷ ns) n h (inl e) = subst (λ (k : ℕ). is_decided k d ≡ true) e ((open_here d m (first_open d ns) (is_decided m d) refl h).0)
+none_open d (m ∷ ns) n h (inr i) = none_open d ns n ((open_here d m (first_open d ns) (is_decided m d) refl h).1) i
+
+pub one_left : {A : Type 0} (x : A) (xs ys : List A) → IsOneOf x xs → IsOneOf x (xs ++ ys)
+one_left x [] ys h = absurd h
+one_left x (z ∷ xs) ys (inl e) = inl e
+one_left x (z ∷ xs) ys (inr h) = inr (one_left x xs ys h)
+
+pub one_right : {A : Type 0} (x : A) (xs ys : List A) → IsOneOf x ys → IsOneOf x (xs ++ ys)
+one_right x [] ys h = h
+one_right x (z ∷ xs) ys h = inr (one_right x xs ys h)
+
+one_cases : {A : Type 0} (x : A) (xs ys : List A) → IsOneOf x (xs ++ ys) → IsOneOf x xs ⊎ IsOneOf x ys
+one_cases x [] ys h = inr h
+one_cases x (z ∷ xs) ys (inl e) = inl (inl e)
+one_cases x (z ∷ xs) ys (inr h) = elim (one_cases x xs ys h) [ inl i ↦ inl (inr i) | inr i ↦ inr i ]
+
+-- the joined needs
+target_of : (needs : List Need) (need : Need) → IsOneOf need needs → IsOneOf need.node (targets needs)
+target_of [] need h = absurd h
+target_of (x ∷ needs) need (inl e) = inl (ap (λ (y : Need). y.node) e)
+target_of (x ∷ needs) need (inr h) = inr (target_of needs need h)
+
+need_of : (needs : List Need) (m : ℕ) → IsOneOf m (targets needs) → (need : Need) × IsOneOf need needs × (need.node ≡ m)
+need_of [] m h = absurd h
+need_of (x ∷ needs) m (inl e) = (x, inl refl, e)
+need_of (x ∷ needs) m (inr h) = let r = need_of needs m h in (r.0, inr r.1, r.2)
+
+pub wanted_one : (p : Plain) (d : Picks) (n v : ℕ) (need : Need) → IsOneOf (n, v) d → IsOneOf need (needs_of p n v) → IsOneOf need.node (wanted p d)
+wanted_one p [] n v need h i = absurd h
+wanted_one p (e ∷ d) n v need (inl f) i =
+    let j : IsOneOf need (needs_of p e.0 e.1) = subst (λ (x : ℕ × ℕ). IsOneOf need (needs_of p x.0 x.1)) (sym f) i in
+    one_left need.node (targets (needs_of p e.0 e.1)) (wanted p d) (target_of (needs_of p e.0 e.1) need j)
+wanted_one p (e ∷ d) n v need (inr h) i = one_right need.node (targets (needs_of p e.0 e.1)) (wanted p d) (wanted_one p d n v need h i)
+
+wanted_from : (p : Plain) (d : Picks) (m : ℕ) → IsOneOf m (wanted p d) → (e : ℕ × ℕ) × IsOneOf e d × IsOneOf m (targets (needs_of p e.0 e.1))
+wanted_from p [] m h = absurd h
+wanted_from p (e ∷ d) m h = elim (one_cases m (targets (needs_of p e.0 e.1)) (wanted p d) h) [
+  | inl i ↦ (e, inl refl, i)
+  | inr i ↦ (let r = wanted_from p d m i in (r.0, inr r.1, r.2))
+]
+
+-- the base of a node that is asked for is asked for
+abbrev pub IsAsked : Plain → Picks → ℕ → Type 0
+IsAsked p d n = IsOneOf n (p.roots ++ wanted p d)
+
+pub asked_base : (p : Plain) (d : Picks) (n b : ℕ) → IsWellFormed p → IsAsked p d n → base_of p n ≡ Some b → IsAsked p d b
+asked_base p d n b wf h e = elim (one_cases n p.roots (wanted p d) h) [
+  | inl i ↦ one_left b p.roots (wanted p d) (root_base p n b wf i e)
+  | inr i ↦ (let w = wanted_from p d n i in
+      let r = need_of (needs_of p w.0.0 w.0.1) n w.2 in
+      let eb : base_of p r.0.node ≡ Some b = ap (λ (k : ℕ). base_of p k) r.2 ∙ e in
+      let o = need_base p w.0.0 w.0.1 b r.0 wf r.1 eb in
+      one_right b p.roots (wanted p d) (subst (λ (k : ℕ). IsOneOf k (wanted p d)) o.2 (wanted_one p d w.0.0 w.0.1 o.0 w.1 o.1)))
+]
+
+wanted_append : (p : Plain) (xs ys : Picks) → wanted p (xs ++ ys) ≡ wanted p xs ++ wanted p ys
+wanted_append p [] ys = refl
+wanted_append p (e ∷ xs) ys = ap (λ (l : List ℕ). targets (needs_of p e.0 e.1) ++ l) (wanted_append p xs ys) ∙ sym (append_assoc (targets (needs_of p e.0 e.1)) (wanted p xs) (wanted p ys))
+
+asked_more : (p : Plain) (xs ys : Picks) (n : ℕ) → IsAsked p xs n → IsAsked p (xs ++ ys) n
+asked_more p xs ys n h = elim (one_cases n p.roots (wanted p xs) h) [
+  | inl i ↦ one_left n p.roots (wanted p (xs ++ ys)) i
+  | inr i ↦ one_right n p.roots (wanted p (xs ++ ys)) (subst (λ (l : List ℕ). IsOneOf n l) (sym (wanted_append p xs ys)) (one_left n (wanted p xs) (wanted p ys) i))
+]
+
+open_which : (d : Picks) (ns : List ℕ) (m n : ℕ) (b : Bool) → (first_open d ns ≡ Some n → IsOneOf n ns) → cond b (first_open d ns) (Some m) ≡ Some n → IsOneOf n (m ∷ ns)
+open_which d ns m n true k h = inr (k h)
+open_which d ns m n false k h = inl (same_Some m n h)
+
+pub open_one : (d : Picks) (ns : List ℕ) (n : ℕ) → first_open d ns ≡ Some n → IsOneOf n ns
+open_one d [] n h = cc
+open_one d (m ∷ ns) n h = open_which d ns m n (is_decided m d) (open_one d ns n) h
+
+-- each node of a chain is asked for
+pub asked_all : (p : Plain) (d rest : Picks) (n v : ℕ) → IsChain p d rest → IsOneOf (n, v) rest → IsAsked p (d ++ rest) n
+asked_all p d [] n v b h = absurd h
+asked_all p d (e ∷ rest) n v b (inl f) =
+    let o : next_of p d ≡ Some n = subst (λ (x : ℕ × ℕ). next_of p d ≡ Some x.0) f b.0 in
+    asked_more p d (e ∷ rest) n (open_one d (p.roots ++ wanted p d) n o)
+asked_all p d (e ∷ rest) n v b (inr h) =
+    let r = asked_all p (d ++ e ∷ []) rest n v b.1 h in
+    subst (λ (l : Picks). IsAsked p l n) (append_assoc d (e ∷ []) rest) r
+
+chain_best : (p : Plain) (d rest : Picks) → IsBestFrom p d rest → IsChain p d rest
+chain_best p d [] b = tt
+chain_best p d (e ∷ rest) b = (b.0, chain_best p (d ++ e ∷ []) rest b.2)
+
+-- at the end all that is asked for is decided
+end_of : (p : Plain) (d rest : Picks) → IsBestFrom p d rest → next_of p (d ++ rest) ≡ None
+end_of p d [] b = subst (λ (l : Picks). next_of p l ≡ None) (sym (append-nil d)) b
+end_of p d (e ∷ rest) b = subst (λ (l : Picks). next_of p l ≡ None) (append_assoc d (e ∷ []) rest) (end_of p (d ++ e ∷ []) rest b.2)
+
+extends_all : (p : Plain) (d : Picks) (e : ℕ × ℕ) (rest : Picks) → IsBestFrom p d (e ∷ rest) → Extends p (d ++ e ∷ rest)
+extends_all p d e [] b = b.1.2
+extends_all p d e (f ∷ rest) b = subst (λ (l : Picks). Extends p l) (append_assoc d (e ∷ []) (f ∷ rest)) (extends_all p (d ++ e ∷ []) f rest b.2)
+
+map_serves : (p : Plain) (d : Picks) → IsWellFormed p → IsBest p d → Extends p d → Serves p (version_in d)
+map_serves p d wf b (σ, s, a) =
+    let done : (n : ℕ) → IsAsked p d n → is_decided n d ≡ true = λ n h. none_open d (p.roots ++ wanted p d) n (end_of p [] d b) h in
+    let has : (n v : ℕ) → version_in d n ≡ Some v → σ n ≡ Some v = λ n v h. agree_at σ d n v a h in
+    let same : (n v : ℕ) → IsAsked p d n → σ n ≡ Some v → version_in d n ≡ Some v = λ n v h e. (let r = decided_version d n (done n h) in r.1 ∙ (sym (has n r.0 r.1) ∙ e)) in
+    record {
+      within = λ n v h. s.within n v (has n v h);
+      rooted = λ n h. decided_version d n (done n (one_left n p.roots (wanted p d) h));
+      fit = λ n v h. s.fit n v (has n v h);
+      based = λ n v b' h e. same b' v (asked_base p d n b' wf (asked_all p [] d n v (chain_best p [] d b) (pick_of d n v h)) e) (s.based n v b' (has n v h) e);
+      met = λ n v h need i. (let r = decided_version d need.node (done need.node (one_right need.node p.roots (wanted p d) (wanted_one p d n v need (pick_of d n v h) i))) in
+          let both : version_in d need.node ≡ σ need.node = r.1 ∙ sym (has need.node r.0 r.1) in
+          ap (λ (o : Option ℕ). is_among o need.permitted) both ∙ s.met n v (has n v h) need i);
+    }
+
+pub best_serves : (p : Plain) (d : Picks) → IsWellFormed p → IsBest p d → Serves p (version_in d)
+best_serves p [] wf b = absurd (true≢false (sym (none_open [] (p.roots ++ []) (some_root p wf).0 b (one_left (some_root p wf).0 p.roots [] (some_root p wf).1))))
+best_serves p (e ∷ d) wf b = map_serves p (e ∷ d) wf b (extends_all p [] e d b)
+
+-- the next node is undecided
+open_which_not : (d : Picks) (ns : List ℕ) (m n : ℕ) (b : Bool) → is_decided m d ≡ b → (first_open d ns ≡ Some n → is_decided n d ≡ false) → cond b (first_open d ns) (Some m) ≡ Some n → is_decided n d ≡ false
+open_which_not d ns m n true e k h = k h
+open_which_not d ns m n false e k h = subst (λ (j : ℕ). is_decided j d ≡ false) (same_Some m n h) e
+
+open_not : (d : Picks) (ns : List ℕ) (n : ℕ) → first_open d ns ≡ Some n → is_decided n d ≡ false
+open_not d [] n h = cc
+open_not d (m ∷ ns) n h = open_which_not d ns m n (is_decided m d) refl (open_not d ns n) h
+
+pub not_decided : (p : Plain) (d : Picks) (n : ℕ) → next_of p d ≡ Some n → is_decided n d ≡ false
+not_decided p d n h = open_not d (p.roots ++ wanted p d) n h
+
+-- a further pick of an undecided node leaves the others
+version_kept : (xs : Picks) (e : ℕ × ℕ) (n v : ℕ) → version_in xs n ≡ Some v → version_in (xs ++ e ∷ []) n ≡ Some v
+version_kept [] e n v h = cc
+version_kept (x ∷ xs) e n v h = which (nat_eq x.0 n) h (version_kept xs e n v)
+  where
+    which : (b : Bool) → cond b (Some x.1) (version_in xs n) ≡ Some v → (version_in xs n ≡ Some v → version_in (xs ++ e ∷ []) n ≡ Some v) → cond b (Some x.1) (version_in (xs ++ e ∷ []) n) ≡ Some v
+    which true h k = h
+    which false h k = k h
+
+version_last : (xs : Picks) (n v : ℕ) → is_decided n xs ≡ false → version_in (xs ++ (n, v) ∷ []) n ≡ Some v
+version_last [] n v h = which (nat_eq n n) (eq-eqb n n refl)
+  where
+    which : (b : Bool) → b ≡ true → cond b (Some v) None ≡ Some v
+    which true e = refl
+    which false e = cc
+version_last (x ∷ xs) n v h = which (nat_eq x.0 n) h (version_last xs n v)
+  where
+    which : (b : Bool) → cond b true (is_decided n xs) ≡ false → (is_decided n xs ≡ false → version_in (xs ++ (n, v) ∷ []) n ≡ Some v) → cond b (Some x.1) (version_in (xs ++ (n, v) ∷ []) n) ≡ Some v
+    which true e k = cc
+    which false e k = k e
+
+agrees_kept : (f g : Selection) (d : Picks) → ((n v : ℕ) → f n ≡ Some v → g n ≡ Some v) → Agrees f d → Agrees g d
+agrees_kept f g [] k a = tt
+agrees_kept f g (x ∷ d) k a = (k x.0 x.1 a.0, agrees_kept f g d k a.1)
+
+agrees_join : (σ : Selection) (xs ys : Picks) → Agrees σ xs → Agrees σ ys → Agrees σ (xs ++ ys)
+agrees_join σ [] ys a b = b
+agrees_join σ (x ∷ xs) ys a b = (a.0, agrees_join σ xs ys a.1 b)
+
+pub agrees_more : (d : Picks) (e : ℕ × ℕ) → is_decided e.0 d ≡ false → Agrees (version_in d) d → Agrees (version_in (d ++ e ∷ [])) (d ++ e ∷ [])
+agrees_more d (n, v) h a = agrees_join (version_in (d ++ (n, v) ∷ [])) d ((n, v) ∷ [])
+    (agrees_kept (version_in d) (version_in (d ++ (n, v) ∷ [])) d (version_kept d (n, v)) a)
+    (version_last d n v h, tt)

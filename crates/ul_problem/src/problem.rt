@@ -1,0 +1,151 @@
+//! A problem: nodes with their versions, and what each version needs.
+ghost use Rattle.std.specs.Prelude.{◌≡◌};
+ghost use Rattle.ul_problem.specs.Problems.{IsWellFormed};
+
+use crate::lists::{Places, Versions};
+use std::marker::Model;
+use ul_base::Node;
+use ul_ranges::Ordinals;
+
+/// A need of a version: a target, and which of its versions meet the need.
+#[derive(Drop)]
+pub struct Need {
+    /// The target's place among the nodes.
+    pub node: u64,
+    /// The target's versions that meet the need.
+    pub permitted: Ordinals,
+}
+
+/// The needs of one version.
+#[derive(Drop)]
+pub struct NeedRow {
+    needs: Vec<Need>,
+}
+
+impl Model for NeedRow {
+    ghost use Rattle.std.specs.Prelude.{List};
+    ghost use Rattle.ul_problem.specs.declared.problem.Need.{Need};
+
+    ghost Value = { List Need };
+
+    ghost view = { λ s. s.needs.items };
+}
+
+impl NeedRow {
+    pub fn of(needs: Vec<Need>) -> NeedRow
+        ensures { result ≡ needs.items }
+    {
+        NeedRow { needs }
+    }
+
+    pub fn as_slice(&self) -> &[Need]
+        ensures { result.now ≡ self.now }
+    {
+        self.needs.as_slice()
+    }
+
+    pub fn into_vec(self) -> Vec<Need>
+        ensures { result.items ≡ self }
+    {
+        self.needs
+    }
+}
+
+/// The needs of each version of a node.
+#[derive(Drop)]
+pub struct NeedRows {
+    rows: Vec<NeedRow>,
+}
+
+impl Model for NeedRows {
+    ghost use Rattle.std.specs.Prelude.{List};
+    ghost use Rattle.ul_problem.specs.declared.problem.Need.{Need};
+
+    ghost Value = { List (List Need) };
+
+    ghost view = { λ s. s.rows.items };
+}
+
+impl NeedRows {
+    pub fn of(rows: Vec<NeedRow>) -> NeedRows
+        ensures { result ≡ rows.items }
+    {
+        NeedRows { rows }
+    }
+
+    pub fn as_slice(&self) -> &[NeedRow]
+        ensures { result.now ≡ self.now }
+    {
+        self.rows.as_slice()
+    }
+
+    pub fn into_vec(self) -> Vec<NeedRow>
+        ensures { result.items ≡ self }
+    {
+        self.rows
+    }
+}
+
+/// What is known of a node.
+#[derive(Drop)]
+pub struct NodeFacts {
+    pub node: Node,
+    /// The place of the node's base, where the node has an extra.
+    pub base: Option<u64>,
+    /// The versions, which increase.
+    pub versions: Versions,
+    /// The places of the versions in the order of preference.
+    pub order: Places,
+    /// The versions that aren't fit throughout the region.
+    pub barred: Ordinals,
+    /// The needs of each version.
+    pub needs: NeedRows,
+}
+
+/// A problem of a region: its nodes, and the places of the project's own.
+///
+/// The nodes strictly increase. Each place is in range, and each set has the size of its node's versions. An order has each version
+/// once. An extra has a base and the base's versions. A need of an extra comes after a need of its base. The roots strictly
+/// increase and are a base and extras of it, and each has exactly one version.
+#[derive(Drop)]
+pub struct Problem {
+    roots: Vec<u64>,
+    nodes: Vec<NodeFacts>,
+}
+
+impl Model for Problem {
+    ghost use Rattle.ul_problem.specs.Plain.{Plain};
+    ghost use Rattle.ul_problem.specs.Problems.{IsWellFormed};
+
+    ghost Value = { Plain };
+
+    ghost view = { λ s. record { roots = s.roots.items; nodes = s.nodes.items } };
+
+    ghost invariant = { λ s. IsWellFormed (record { roots = s.roots.items; nodes = s.nodes.items }) };
+}
+
+impl Problem {
+    /// The problem of these roots and nodes. `Problem::fits` tests the condition.
+    pub fn of(roots: Vec<u64>, nodes: Vec<NodeFacts>) -> Problem
+        requires { IsWellFormed (record { roots = roots.items; nodes = nodes.items }) }
+        ensures { result ≡ record { roots = roots.items; nodes = nodes.items } }
+    {
+        Problem { roots, nodes }
+    }
+
+    /// The places of the project's base and of its extras.
+    pub fn roots(&self) -> &[u64]
+        ensures value { result.now ≡ self.now.roots }
+        ensures whole { IsWellFormed self.now }
+    {
+        self.roots.as_slice()
+    }
+
+    /// The nodes.
+    pub fn nodes(&self) -> &[NodeFacts]
+        ensures value { result.now ≡ self.now.nodes }
+        ensures whole { IsWellFormed self.now }
+    {
+        self.nodes.as_slice()
+    }
+}

@@ -1,0 +1,149 @@
+//! The resolvent of two incompatibilities.
+ghost use Rattle.std.specs.Prelude.{◌≡◌, ◌++◌, Option, Some, length, IfOk};
+ghost use Rattle.std.specs.Option.{option_copied, option_to_list};
+ghost use Rattle.ul_problem.specs.Terms.{node_of, set_of, IsOrdered};
+ghost use Rattle.ul_problem.specs.Plain.{Plain};
+ghost use Rattle.ul_problem.specs.Steps.{AreOfOne, AreTermsOf, IsResolvent, resolved};
+ghost use Rattle.ul_problem.specs.Turns.{turn_of, lone_of, AreLevel};
+
+use crate::incompat::Incompat;
+use crate::term::{Term, Terms};
+use std::alloc::{AllocError, Global};
+
+// What the next turn of a merge takes from each side, and the term that it gives.
+#[derive(Drop)]
+struct Turn {
+    left: usize,
+    right: usize,
+    term: Option<Term>,
+}
+
+/// The resolvent of two incompatibilities on a node: their terms on that node joined, and on every other node met.
+///
+/// Both are of one problem, and so is the resolvent.
+pub fn resolvent(
+    alloc: Global,
+    node: u64,
+    left: &Incompat,
+    right: &Incompat,
+) -> Result<Incompat, AllocError>
+    requires { AreOfOne left.now right.now }
+    ensures value { IfOk result (λ ts. IsResolvent node left.now right.now ts) }
+    ensures fits { IfOk result (λ ts. (p : Plain) → AreTermsOf p left.now → AreTermsOf p right.now → AreTermsOf p ts) }
+{
+    let terms = merged(alloc, node, left.terms(), right.terms())?;
+    Ok(Incompat::of(terms))
+}
+
+// The merge of two lists of terms in the order of their nodes.
+fn merged(alloc: Global, node: u64, left: &[Term], right: &[Term]) -> Result<Terms, AllocError>
+    requires sizes { AreOfOne left.now right.now }
+    requires in_order { IsOrdered left.now × IsOrdered right.now }
+    ensures { IfOk result (λ ts. IsResolvent node left.now right.now ts) }
+{
+    let mut terms = Vec::new(alloc);
+    let mut i = 0;
+    let mut j = 0;
+    while i < left.len() || j < right.len() {
+        let turn = next_turn(alloc, node, left[i..].first(), right[j..].first())?;
+        i += turn.left;
+        j += turn.right;
+        push_some(&mut terms, turn.term)?;
+    }
+    Ok(Terms::of(terms))
+}
+
+// A term at the end of a list, where there is one.
+fn push_some(terms: &mut Vec<Term>, term: Option<Term>) -> Result<(), AllocError>
+    ensures { IfOk result (λ _. terms.new.items ≡ terms.old.items ++ option_to_list term) }
+{
+    if let Some(term) = term {
+        terms.push(term)?;
+    }
+    Ok(())
+}
+
+// The turn of a merge: the side whose first term is on the earlier node, or both.
+fn next_turn(
+    alloc: Global,
+    node: u64,
+    left: Option<&Term>,
+    right: Option<&Term>,
+) -> Result<Turn, AllocError>
+    requires { AreLevel (option_copied left) (option_copied right) }
+    ensures { IfOk result (λ t. t ≡ turn_of node (option_copied left.entry) (option_copied right.entry)) }
+{
+    match (left, right) {
+        (Some(a), Some(b)) if a.node() == b.node() => {
+            let term = both_terms(alloc, node, a, b)?;
+            Ok(Turn {
+                left: 1,
+                right: 1,
+                term,
+            })
+        }
+        (Some(a), Some(b)) if b.node() < a.node() => {
+            let term = lone_term(alloc, node, b)?;
+            Ok(Turn {
+                left: 0,
+                right: 1,
+                term,
+            })
+        }
+        (Some(a), _) => {
+            let term = lone_term(alloc, node, a)?;
+            Ok(Turn {
+                left: 1,
+                right: 0,
+                term,
+            })
+        }
+        (None, Some(b)) => {
+            let term = lone_term(alloc, node, b)?;
+            Ok(Turn {
+                left: 0,
+                right: 1,
+                term,
+            })
+        }
+        (None, None) => Ok(Turn {
+            left: 0,
+            right: 0,
+            term: None,
+        }),
+    }
+}
+
+// The resolvent's term on the node of a term that one side alone has.
+fn lone_term(alloc: Global, node: u64, term: &Term) -> Result<Option<Term>, AllocError>
+    ensures { IfOk result (λ t. t ≡ lone_of node term.now) }
+{
+    if term.node() == node {
+        Ok(None)
+    } else {
+        Ok(Some(term.copy(alloc)?))
+    }
+}
+
+// The resolvent's term on the node that two terms have.
+fn both_terms(
+    alloc: Global,
+    node: u64,
+    left: &Term,
+    right: &Term,
+) -> Result<Option<Term>, AllocError>
+    requires nodes { node_of left.now ≡ node_of right.now }
+    requires sizes { length (set_of left.now) ≡ length (set_of right.now) }
+    ensures { IfOk result (λ t. t ≡ resolved node (node_of left.now) (Some left.now) (Some right.now)) }
+{
+    let term = if left.node() == node {
+        left.join(alloc, right)?
+    } else {
+        left.meet(alloc, right)?
+    };
+    Ok(if term.always_holds() {
+        None
+    } else {
+        Some(term)
+    })
+}

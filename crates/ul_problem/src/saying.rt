@@ -1,0 +1,101 @@
+//! What a step says.
+ghost use Rattle.std.specs.Prelude.{◌≡◌, ◌∷◌, [], length, slice_get, IfOk};
+ghost use Rattle.ul_problem.specs.Plain.{base_in};
+ghost use Rattle.ul_problem.specs.Terms.{node_of, set_of};
+ghost use Rattle.ul_problem.specs.Steps.{AreTermsOf, IsStepWithin, base_or, says, pair_of, with_term, written};
+
+use crate::incompat::Incompat;
+use crate::problem::{NodeFacts, Problem};
+use crate::step::Step;
+use crate::term::{Term, Terms};
+use std::alloc::{AllocError, Global};
+
+impl Step {
+    /// The incompatibility that the step says, of a step whose places and sets are the problem's.
+    pub fn says(&self, alloc: Global, problem: &Problem) -> Result<Incompat, AllocError>
+        requires { IsStepWithin problem.now self.now }
+        ensures value { IfOk result (λ ts. ts ≡ says problem.now self.now) }
+        ensures fits { IfOk result (λ ts. AreTermsOf problem.now ts) }
+    {
+        let nodes = problem.nodes();
+        let terms = match self {
+            Step::Need {
+                node,
+                versions,
+                target,
+                permitted,
+            } => {
+                let term = Term::In(*node, versions.copy(alloc)?);
+                pair(alloc, term, Term::NotIn(*target, permitted.copy(alloc)?))?
+            }
+            Step::Python { node, versions } => one(alloc, Term::In(*node, versions.copy(alloc)?))?,
+            Step::Base { node, versions } => {
+                let term = Term::In(*node, versions.copy(alloc)?);
+                pair(
+                    alloc,
+                    term,
+                    Term::NotIn(base_or_node(nodes, *node), versions.copy(alloc)?),
+                )?
+            }
+            Step::Cut { terms, .. } => terms.copy(alloc)?,
+        };
+        Ok(Incompat::of(terms))
+    }
+}
+
+// The place of a node's base, or the node's own where it has none.
+fn base_or_node(nodes: &[NodeFacts], node: u64) -> u64
+    ensures { result ≡ base_or (base_in (slice_get nodes.now node)) node }
+{
+    match nodes.get(node as usize) {
+        Some(facts) => facts.base.unwrap_or(node),
+        None => node,
+    }
+}
+
+// The term, or none where it always holds.
+fn written(term: Term) -> Option<Term>
+    ensures { result ≡ written term }
+{
+    if term.always_holds() {
+        None
+    } else {
+        Some(term)
+    }
+}
+
+// The terms that are there.
+fn listed(alloc: Global, first: Option<Term>, second: Option<Term>) -> Result<Terms, AllocError>
+    ensures { IfOk result (λ ts. ts ≡ with_term first (with_term second [])) }
+{
+    let mut terms = Vec::new(alloc);
+    if let Some(term) = first {
+        terms.push(term)?;
+    }
+    if let Some(term) = second {
+        terms.push(term)?;
+    }
+    Ok(Terms::of(terms))
+}
+
+// Two terms in the order of their nodes, or met into one.
+fn pair(alloc: Global, term: Term, other: Term) -> Result<Terms, AllocError>
+    requires { node_of term ≡ node_of other → length (set_of term) ≡ length (set_of other) }
+    ensures { IfOk result (λ ts. ts ≡ pair_of term other) }
+{
+    if term.node() < other.node() {
+        listed(alloc, written(term), written(other))
+    } else if other.node() < term.node() {
+        listed(alloc, written(other), written(term))
+    } else {
+        listed(alloc, written(term.meet(alloc, &other)?), None)
+    }
+}
+
+fn one(alloc: Global, term: Term) -> Result<Terms, AllocError>
+    ensures { IfOk result (λ ts. ts ≡ term ∷ []) }
+{
+    let mut terms = Vec::new(alloc);
+    terms.push(term)?;
+    Ok(Terms::of(terms))
+}

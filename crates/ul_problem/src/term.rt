@@ -1,0 +1,264 @@
+//! Terms on a node.
+ghost use Rattle.std.specs.Prelude.{◌≡◌, length, option_map, IfOk, IsTrue, ◌↔◌};
+ghost use Rattle.ul_problem.specs.Steps.{written};
+ghost use Rattle.ul_problem.specs.Terms.{node_of, set_of, meet_of, join_of, relation_of, relation_from_of, term_on};
+
+use std::alloc::{AllocError, Global};
+use std::marker::Model;
+use ul_ranges::Ordinals;
+
+/// What is said of a selection: `In`, that it has the node at a version of the set; `NotIn`, that this isn't so.
+#[derive(Drop)]
+pub enum Term {
+    In(u64, Ordinals),
+    NotIn(u64, Ordinals),
+}
+
+/// A list of terms, as a step of a derivation has them.
+#[derive(Drop)]
+pub struct Terms {
+    list: Vec<Term>,
+}
+
+impl Model for Terms {
+    ghost use Rattle.std.specs.Prelude.{List};
+    ghost use Rattle.ul_problem.specs.declared.term.Term.{Term};
+
+    ghost Value = { List Term };
+
+    ghost view = { λ s. s.list.items };
+}
+
+impl Terms {
+    pub fn of(list: Vec<Term>) -> Terms
+        ensures { result ≡ list.items }
+    {
+        Terms { list }
+    }
+
+    pub fn as_slice(&self) -> &[Term]
+        ensures { result.now ≡ self.now }
+    {
+        self.list.as_slice()
+    }
+
+    pub fn into_vec(self) -> Vec<Term>
+        ensures { result.items ≡ self }
+    {
+        self.list
+    }
+
+    /// Equal terms.
+    pub fn copy(&self, alloc: Global) -> Result<Terms, AllocError>
+        ensures { IfOk result (λ ts. ts ≡ self.now) }
+    {
+        let list = copied(alloc, self.list.as_slice())?;
+        Ok(Terms { list })
+    }
+}
+
+// Equal terms.
+fn copied(alloc: Global, terms: &[Term]) -> Result<Vec<Term>, AllocError>
+    ensures { IfOk result (λ v. v.items ≡ terms.now) }
+{
+    let mut copies = Vec::with_capacity(alloc, terms.len())?;
+    for term in terms {
+        copies.push(term.copy(alloc)?)?;
+    }
+    Ok(copies)
+}
+
+/// The first term of a list on a node.
+pub fn term_on(terms: &[Term], node: u64) -> Option<&Term>
+    ensures { option_map (λ t. t.now) result ≡ term_on node terms.now }
+{
+    for term in terms {
+        if term.node() == node {
+            return Some(term);
+        }
+    }
+    None
+}
+
+/// Whether two lists of terms are equal.
+pub fn same_terms(terms: &[Term], others: &[Term]) -> bool
+    ensures { IsTrue result ↔ (terms.now ≡ others.now) }
+{
+    if terms.len() != others.len() {
+        return false;
+    }
+    for k in 0..terms.len() {
+        if !terms[k].same(&others[k]) {
+            return false;
+        }
+    }
+    true
+}
+
+/// What a term that is known tells of another.
+#[derive(Clone, Copy, Debug, PartialEq, Eq)]
+pub enum Relation {
+    Holds,
+    Fails,
+    Unknown,
+}
+
+impl Term {
+    /// The node.
+    pub fn node(&self) -> u64
+        ensures { result ≡ node_of self.now }
+    {
+        match self {
+            Term::In(node, _) => *node,
+            Term::NotIn(node, _) => *node,
+        }
+    }
+
+    /// The set.
+    pub fn set(&self) -> &Ordinals
+        ensures { result.now ≡ set_of self.now }
+    {
+        match self {
+            Term::In(_, set) => set,
+            Term::NotIn(_, set) => set,
+        }
+    }
+
+    /// Whether it is `NotIn` of the empty set, and so holds of each selection.
+    pub fn always_holds(&self) -> bool
+        ensures { IsTrue result ↔ (written self.now ≡ None) }
+    {
+        match self {
+            Term::In(_, _) => false,
+            Term::NotIn(_, set) => set.is_empty(),
+        }
+    }
+
+    /// An equal term.
+    pub fn copy(&self, alloc: Global) -> Result<Term, AllocError>
+        ensures { IfOk result (λ t. t ≡ self.now) }
+    {
+        match self {
+            Term::In(node, set) => Ok(Term::In(*node, set.copy(alloc)?)),
+            Term::NotIn(node, set) => Ok(Term::NotIn(*node, set.copy(alloc)?)),
+        }
+    }
+
+    /// Whether the two are equal.
+    pub fn same(&self, other: &Term) -> bool
+        ensures { IsTrue result ↔ (self.now ≡ other.now) }
+    {
+        match (self, other) {
+            (Term::In(node, set), Term::In(place, versions)) => node == place && set.same(versions),
+            (Term::NotIn(node, set), Term::NotIn(place, versions)) => node == place
+                && set.same(versions),
+            _ => false,
+        }
+    }
+
+    /// The term that holds where both do.
+    pub fn meet(&self, alloc: Global, other: &Term) -> Result<Term, AllocError>
+        requires sizes { length (set_of self.now) ≡ length (set_of other.now) }
+        requires nodes { node_of self.now ≡ node_of other.now }
+        ensures { IfOk result (λ t. t ≡ meet_of self.now other.now) }
+    {
+        match self {
+            Term::In(node, mine) => match other {
+                Term::In(_, theirs) => {
+                    let set = mine.meet(alloc, theirs)?;
+                    Ok(Term::In(*node, set))
+                }
+                Term::NotIn(_, theirs) => {
+                    let set = mine.less(alloc, theirs)?;
+                    Ok(Term::In(*node, set))
+                }
+            },
+            Term::NotIn(node, mine) => match other {
+                Term::In(_, theirs) => {
+                    let set = theirs.less(alloc, mine)?;
+                    Ok(Term::In(*node, set))
+                }
+                Term::NotIn(_, theirs) => {
+                    let union = mine.join(alloc, theirs)?;
+                    Ok(Term::NotIn(*node, union))
+                }
+            },
+        }
+    }
+
+    /// The term that holds where one of the two does.
+    pub fn join(&self, alloc: Global, other: &Term) -> Result<Term, AllocError>
+        requires sizes { length (set_of self.now) ≡ length (set_of other.now) }
+        requires nodes { node_of self.now ≡ node_of other.now }
+        ensures { IfOk result (λ t. t ≡ join_of self.now other.now) }
+    {
+        match self {
+            Term::In(node, mine) => match other {
+                Term::In(_, theirs) => {
+                    let set = mine.join(alloc, theirs)?;
+                    Ok(Term::In(*node, set))
+                }
+                Term::NotIn(_, theirs) => {
+                    let set = theirs.less(alloc, mine)?;
+                    Ok(Term::NotIn(*node, set))
+                }
+            },
+            Term::NotIn(node, mine) => match other {
+                Term::In(_, theirs) => {
+                    let set = mine.less(alloc, theirs)?;
+                    Ok(Term::NotIn(*node, set))
+                }
+                Term::NotIn(_, theirs) => {
+                    let set = mine.meet(alloc, theirs)?;
+                    Ok(Term::NotIn(*node, set))
+                }
+            },
+        }
+    }
+
+    /// What a known term tells of this one: that it holds, that it fails, or neither.
+    ///
+    /// A known term that never holds tells both, and the answer is then `Holds`.
+    pub fn relation(&self, alloc: Global, known: &Term) -> Result<Relation, AllocError>
+        requires sizes { length (set_of self.now) ≡ length (set_of known.now) }
+        requires nodes { node_of self.now ≡ node_of known.now }
+        ensures { IfOk result (λ r. r ≡ relation_of known.now self.now) }
+    {
+        match known {
+            Term::In(_, theirs) => match self {
+                Term::In(_, mine) => {
+                    let outside = theirs.less(alloc, mine)?;
+                    let inside = theirs.meet(alloc, mine)?;
+                    Ok(relation_from(outside.is_empty(), inside.is_empty()))
+                }
+                Term::NotIn(_, mine) => {
+                    let outside = theirs.less(alloc, mine)?;
+                    let inside = theirs.meet(alloc, mine)?;
+                    Ok(relation_from(inside.is_empty(), outside.is_empty()))
+                }
+            },
+            Term::NotIn(_, theirs) => match self {
+                Term::In(_, mine) => {
+                    let outside = mine.less(alloc, theirs)?;
+                    Ok(relation_from(false, outside.is_empty()))
+                }
+                Term::NotIn(_, mine) => {
+                    let outside = mine.less(alloc, theirs)?;
+                    Ok(relation_from(outside.is_empty(), false))
+                }
+            },
+        }
+    }
+}
+
+fn relation_from(holds: bool, fails: bool) -> Relation
+    ensures { result ≡ relation_from_of holds fails }
+{
+    if holds {
+        Relation::Holds
+    } else if fails {
+        Relation::Fails
+    } else {
+        Relation::Unknown
+    }
+}

@@ -1,0 +1,266 @@
+-- Lemmas on the pieces of a specifier's text.
+use Rattle.std.proofs.Common.{◌≡◌, ℕ, zero, suc, ◌+◌, ◌-◌, ◌<◌, ◌≤◌, List, [], ◌∷◌, ◌++◌, length, drop, take, get_or, refl, sym, ap, subst, ◌∙◌, arith, Bool, true, false, true≢false, Option, Some, None}
+use Rattle.std.specs.Prelude.{All, ◌&&◌, ◌||◌, not, ◌==◌}
+use Rattle.std.proofs.lemmas.List.{drop_more, drop_all, take_more, get_or-take, length-take, take-append-drop, append-nil, append_assoc}
+use Rattle.std.proofs.lemmas.Bool.{and_parts, and_from, ltb-true}
+use Rattle.std.proofs.lemmas.Bool.Decides.{nat_tests}
+use Rattle.std.proofs.lemmas.List.Splits.{slice_split_none, slice_split_at, length-slice_split}
+use Rattle.std.proofs.lemmas.Str.{IsUtf8-from_ascii}
+use Rattle.std.proofs.lemmas.Str.Ascii.{IsAscii-from_all}
+use Rattle.std.proofs.lemmas.List.Elements.{All-cons, All-nil}
+use Rattle.std.proofs.lemmas.Grind.{get_or_default_zero}
+use Rattle.std.specs.Str.{IsUtf8}
+use Rattle.std.specs.List.{list_all, slice_split}
+use Rattle.ul_version.specs.Fields.{Fields, IsVersion}
+use Rattle.ul_version.specs.Reading.{◌>>=◌, version_of}
+use Rattle.ul_version.proofs.Cuts.{bind_some}
+use Rattle.ul_version.proofs.Spelling.{cond_some}
+use Rattle.ul_version.proofs.LawProofs.{versions}
+use Rattle.ul_specifier.specs.Clauses.{ClauseFields, IsClause, has_local, is_bare, is_compatible, is_equality}
+use Rattle.ul_specifier.specs.Reading.{after_all, before_all, unless_last, is_version_byte, is_comma, listed, clause_of, clauses_of, clause_after, clause_with, version_clause, before_end, starred, unstarred, star_of, may_stand, operator, specifiers_of}
+use Rattle.ul_specifier.specs.declared.clause.Op.{Op}
+use Rattle.ul_specifier.specs.declared.clause.Op.TheVariants.{Equal, Unequal, AtLeast, AtMost, More, Less, Compatible}
+use Rattle.ul_specifier.proofs.Public.{bare_no_local}
+
+-- ---- white space
+
+pub after_all-skip : (test : ℕ → Bool) (xs : List ℕ) (i : ℕ) → i < length xs → test (get_or xs i 0) ≡ true → after_all test (drop i xs) ≡ after_all test (drop (i + 1) xs)
+unfolding after_all
+after_all-skip test xs i h w = rw (drop_more xs i 0 h, w) refl
+
+pub after_all-stop : (test : ℕ → Bool) (xs : List ℕ) (i : ℕ) → i < length xs → test (get_or xs i 0) ≡ false → after_all test (drop i xs) ≡ drop i xs
+unfolding after_all
+after_all-stop test xs i h w = rw (drop_more xs i 0 h, w) refl
+
+pub after_all-end : (test : ℕ → Bool) (xs : List ℕ) (i : ℕ) → length xs ≤ i → after_all test (drop i xs) ≡ drop i xs
+unfolding after_all
+after_all-end test xs i h = rw (drop_all i xs h) refl
+
+before_all-push : (test : ℕ → Bool) (xs : List ℕ) (b : ℕ) → test b ≡ true → before_all test (xs ++ b ∷ []) ≡ before_all test xs
+unfolding before_all
+before_all-push test [] b w = rw w refl
+before_all-push test (x ∷ xs) b w = ap (unless_last test x) (before_all-push test xs b w)
+
+before_all-kept : (test : ℕ → Bool) (xs : List ℕ) (b : ℕ) → test b ≡ false → before_all test (xs ++ b ∷ []) ≡ xs ++ b ∷ []
+unfolding before_all
+before_all-kept test [] b w = rw w refl
+before_all-kept test (x ∷ []) b w = rw w refl
+before_all-kept test (x ∷ y ∷ xs) b w = rw (before_all-kept test (y ∷ xs) b w) refl
+
+-- the last of the first n bytes passes the test, or doesn't
+pub before_all-skip : (test : ℕ → Bool) (xs : List ℕ) (n k : ℕ) → n ≡ k + 1 → n ≤ length xs → test (get_or xs k 0) ≡ true
+    → before_all test (take n xs) ≡ before_all test (take k xs)
+before_all-skip test xs n k e h w = rw e (rw (take_more xs k 0 (omega arith)) (before_all-push test (take k xs) (get_or xs k 0) w))
+
+pub before_all-stop : (test : ℕ → Bool) (xs : List ℕ) (n k : ℕ) → n ≡ k + 1 → n ≤ length xs → test (get_or xs k 0) ≡ false
+    → before_all test (take n xs) ≡ take n xs
+before_all-stop test xs n k e h w = rw e (rw (take_more xs k 0 (omega arith)) (before_all-kept test (take k xs) (get_or xs k 0) w))
+
+pub before_all-none : (test : ℕ → Bool) (xs : List ℕ) (n : ℕ) → n ≡ 0 → before_all test (take n xs) ≡ take n xs
+unfolding before_all
+before_all-none test xs n e = rw e refl
+
+-- ---- runs
+
+version_byte-ascii : (b : ℕ) → is_version_byte b ≡ true → b < 128
+version_byte-ascii b h = grind (arith, nat_tests)
+
+run_at : (xs : List ℕ) (k d : ℕ) → list_all is_version_byte xs ≡ true → k < length xs → get_or xs k d < 128
+run_at [] k d h lt = absurd (omega arith)
+run_at (x ∷ xs) zero d h lt = version_byte-ascii x (and_parts (is_version_byte x) (list_all is_version_byte xs) h).0
+run_at (x ∷ xs) (suc k) d h lt = run_at xs k d (and_parts (is_version_byte x) (list_all is_version_byte xs) h).1 (omega arith)
+
+-- a run is a text
+pub run-utf8 : (xs : List ℕ) → list_all is_version_byte xs ≡ true → IsUtf8 xs
+run-utf8 xs h = IsUtf8-from_ascii xs (IsAscii-from_all xs (λ k d lt. run_at xs k d h lt))
+
+-- a front of a run is a run
+pub run-take : (n : ℕ) (xs : List ℕ) → list_all is_version_byte xs ≡ true → list_all is_version_byte (take n xs) ≡ true
+run-take zero xs h = refl
+run-take (suc n) [] h = refl
+run-take (suc n) (x ∷ xs) h =
+    let p = and_parts (is_version_byte x) (list_all is_version_byte xs) h in
+    and_from (is_version_byte x) (list_all is_version_byte (take n xs)) p.0 (run-take n xs p.1)
+
+pub run-before_end : (word text front : List ℕ) → Some front ≡ before_end word text → list_all is_version_byte text ≡ true → list_all is_version_byte front ≡ true
+run-before_end word text front e h =
+    let (ends, same) = cond_some _ (Some (take (length text - length word) text)) front (sym e) in
+    let is : take (length text - length word) text ≡ front = cc same in
+    rw (← is) (run-take (length text - length word) text h)
+
+pub not_empty : (n : ℕ) → false ≡ (n == 0) → 0 < n
+not_empty zero h = absurd (true≢false (sym h))
+not_empty (suc n) h = omega arith
+
+-- ---- what is read is a clause
+
+star-equality : (op : Op) (prefix : Bool) → star_of op ≡ Some prefix → prefix ≡ true → is_equality op ≡ true
+star-equality Equal prefix e h = refl
+star-equality Unequal prefix e h = refl
+star-equality AtLeast true e h = cc e
+star-equality AtLeast false e h = absurd (true≢false (sym h))
+star-equality AtMost prefix e h = cc e
+star-equality More prefix e h = cc e
+star-equality Less true e h = cc e
+star-equality Less false e h = absurd (true≢false (sym h))
+star-equality Compatible prefix e h = cc e
+
+star-compatible : (op : Op) (prefix : Bool) → star_of op ≡ Some prefix → is_compatible op ≡ true → ⊥
+star-compatible Equal prefix e h = true≢false (sym h)
+star-compatible Unequal prefix e h = true≢false (sym h)
+star-compatible AtLeast prefix e h = true≢false (sym h)
+star-compatible AtMost prefix e h = true≢false (sym h)
+star-compatible More prefix e h = true≢false (sym h)
+star-compatible Less prefix e h = true≢false (sym h)
+star-compatible Compatible prefix e h = cc e
+
+pub bare-clause : (op : Op) (V : Fields) (prefix : Bool) → star_of op ≡ Some prefix → is_bare V ≡ true → IsVersion V
+    → IsClause (record { op = op; version = V; prefix = prefix })
+bare-clause op V prefix star bare v = record {
+  version = v;
+  prefix = λ e. (star-equality op prefix star e, bare);
+  local = λ e. absurd (bare_no_local V bare e);
+  compatible = λ e. absurd (star-compatible op prefix star e);
+}
+
+local-stands : (e l k : Bool) → ((e || not l) && k) ≡ true → l ≡ true → e ≡ true
+local-stands true l k h s = refl
+local-stands false true k h s = absurd (true≢false (sym h))
+local-stands false false k h s = absurd (true≢false (sym s))
+
+long-stands : (e c k : Bool) → (e && (not c || k)) ≡ true → c ≡ true → k ≡ true
+long-stands true true k h s = h
+long-stands true false k h s = absurd (true≢false (sym s))
+long-stands false c k h s = absurd (true≢false (sym h))
+
+pub standing-clause : (op : Op) (V : Fields) → may_stand op V ≡ true → IsVersion V → IsClause (record { op = op; version = V; prefix = false })
+standing-clause op V h v = record {
+  version = v;
+  prefix = λ e. absurd (true≢false (sym e));
+  local = local-stands (is_equality op) (has_local V) _ h;
+  compatible = λ e. ltb-true 1 (length V.release) (long-stands _ (is_compatible op) _ h e);
+}
+
+inside : (x y : ClauseFields) → Some x ≡ Some y → x ≡ y
+inside x y e = cc e
+
+starred-clause : (op : Op) (V : Fields) (c : ClauseFields) → IsVersion V → starred op V ≡ Some c → IsClause c
+unfolding starred
+starred-clause op V c v e =
+    let (prefix, star, same) = bind_some (star_of op) _ _ e in
+    let (bare, some) = cond_some (is_bare V) _ _ same in
+    subst (λ (x : ClauseFields). IsClause x) (inside _ c some) (bare-clause op V prefix star bare v)
+
+unstarred-clause : (op : Op) (V : Fields) (c : ClauseFields) → IsVersion V → unstarred op V ≡ Some c → IsClause c
+unfolding unstarred
+unstarred-clause op V c v e =
+    let (stands, some) = cond_some (may_stand op V) _ _ e in
+    subst (λ (x : ClauseFields). IsClause x) (inside _ c some) (standing-clause op V stands v)
+
+version_clause-clause : (op : Op) (text : List ℕ) (front : Option (List ℕ)) (c : ClauseFields) → version_clause op text front ≡ Some c → IsClause c
+version_clause-clause op text None c e =
+    let (V, is, some) = bind_some (version_of text) _ _ e in unstarred-clause op V c (versions text V is) some
+version_clause-clause op text (Some front) c e =
+    let (V, is, some) = bind_some (version_of front) _ _ e in starred-clause op V c (versions front V is) some
+
+pub clause_after-clause : (op : Op) (text : List ℕ) (c : ClauseFields) → clause_after op text ≡ Some c → IsClause c
+unfolding clause_after
+clause_after-clause op text c e = version_clause-clause op text _ c (cond_some (list_all is_version_byte text) _ _ e).1
+
+pub clause_with-clause : (op : Op) (text : List ℕ) (c : ClauseFields) → clause_with op text ≡ Some c → IsClause c
+unfolding clause_with
+clause_with-clause op text c e = clause_after-clause op _ c e
+
+clause_of-clause : (text : List ℕ) (c : ClauseFields) → clause_of text ≡ Some c → IsClause c
+unfolding clause_of
+clause_of-clause text c e = let (o, is, some) = bind_some (operator _) _ _ e in clause_after-clause o.0 _ c some
+
+clauses_of-clauses : (pieces : List (List ℕ)) (cs : List ClauseFields) → clauses_of pieces ≡ Some cs → All IsClause cs
+unfolding clauses_of
+clauses_of-clauses [] cs e =
+    let same : [] ≡ cs = cc e in subst (λ (l : List ClauseFields). All IsClause l) same (All-nil IsClause)
+clauses_of-clauses (piece ∷ pieces) cs e =
+    let (c, is, more) = bind_some (clause_of piece) _ _ e in
+    let (ds, are, some) = bind_some (clauses_of pieces) _ _ more in
+    let same : c ∷ ds ≡ cs = cc some in
+    subst (λ (l : List ClauseFields). All IsClause l) same (All-cons IsClause c ds (clause_of-clause piece c is) (clauses_of-clauses pieces ds are))
+
+pub specifiers-clauses : (text : List ℕ) (cs : List ClauseFields) → specifiers_of text ≡ Some cs → All IsClause cs
+unfolding specifiers_of
+specifiers-clauses text cs e = clauses_of-clauses _ cs e
+
+-- ---- commas
+
+no_commas : (xs : List ℕ) → ((k : ℕ) → k < length xs → is_comma (get_or xs k 0) ≡ false) → All (λ x. is_comma x ≡ false) xs
+no_commas xs h k d lt = rw (get_or_default_zero xs k d lt) (h k lt)
+
+pub split-last : (xs : List ℕ) → ((k : ℕ) → k < length xs → is_comma (get_or xs k 0) ≡ false) → slice_split is_comma xs ≡ xs ∷ []
+split-last xs h = slice_split_none is_comma xs (no_commas xs h)
+
+pub split-more : (xs : List ℕ) (n : ℕ) → n < length xs → is_comma (get_or xs n 0) ≡ true → ((k : ℕ) → k < n → is_comma (get_or xs k 0) ≡ false)
+    → slice_split is_comma xs ≡ take n xs ∷ slice_split is_comma (drop (n + 1) xs)
+split-more xs n lt comma none =
+    let whole : xs ≡ take n xs ++ (get_or xs n 0 ∷ drop (n + 1) xs) = sym (take-append-drop n xs) ∙ ap (λ (l : List ℕ). take n xs ++ l) (drop_more xs n 0 lt) in
+    let front : All (λ x. is_comma x ≡ false) (take n xs) = no_commas (take n xs) (λ k inner.
+    let below : k < n = omega (arith, length-take n xs) in rw (get_or-take n xs k 0 below) (none k below)) in
+    ap (λ (l : List ℕ). slice_split is_comma l) whole
+    ∙ slice_split_at is_comma (take n xs) (get_or xs n 0) (drop (n + 1) xs) front comma
+
+-- ---- lists
+
+listed_more : (piece : List ℕ) (pieces : List (List ℕ)) → 0 < length pieces → listed (piece ∷ pieces) ≡ piece ∷ listed pieces
+listed_more piece [] h = absurd (omega arith)
+listed_more [] (next ∷ pieces) h = refl
+listed_more (b ∷ piece) (next ∷ pieces) h = refl
+
+listed_last : (piece : List ℕ) → 0 < length piece → listed (piece ∷ []) ≡ piece ∷ []
+listed_last [] h = absurd (omega arith)
+listed_last (b ∷ piece) h = refl
+
+-- the clauses of the list that a text is
+abbrev pub list_of : List ℕ → Option (List ClauseFields)
+list_of text = clauses_of (listed (slice_split is_comma text))
+
+-- clauses before those of a part
+abbrev pub joined : List ClauseFields → Option (List ClauseFields) → Option (List ClauseFields)
+joined cs part = part >>= λ ds. Some (cs ++ ds)
+
+pub joined-start : (part : Option (List ClauseFields)) (cs : List ClauseFields) → cs ≡ [] → part ≡ joined cs part
+joined-start None cs e = refl
+joined-start (Some ds) cs e = rw e refl
+
+joined_more : (cs : List ClauseFields) (c : ClauseFields) (part : Option (List ClauseFields)) → joined cs (part >>= λ ds. Some (c ∷ ds)) ≡ joined (cs ++ c ∷ []) part
+joined_more cs c None = refl
+joined_more cs c (Some ds) = ap (λ (l : List ClauseFields). Some l) (sym (append_assoc cs (c ∷ []) ds))
+
+pub list-end : (text : List ℕ) (cs : List ClauseFields) → length text ≡ 0 → joined cs (list_of text) ≡ Some cs
+unfolding clauses_of
+list-end [] cs e = ap (λ (l : List ClauseFields). Some l) (append-nil cs)
+list-end (b ∷ text) cs e = absurd (omega arith)
+
+first-none : (pieces more : List (List ℕ)) (piece : List ℕ) (cs : List ClauseFields) → pieces ≡ piece ∷ more → clause_of piece ≡ None → joined cs (clauses_of pieces) ≡ None
+unfolding clauses_of
+first-none pieces more piece cs e none = rw (e, none) refl
+
+pub list-none : (text piece rest : List ℕ) (cs : List ClauseFields) → slice_split is_comma text ≡ piece ∷ slice_split is_comma rest → clause_of piece ≡ None
+    → joined cs (list_of text) ≡ None
+list-none text piece rest cs e none =
+    let filled : 0 < length (slice_split is_comma rest) = omega (arith, length-slice_split is_comma rest) in
+    first-none (listed (slice_split is_comma text)) _ piece cs (ap (λ (l : List (List ℕ)). listed l) e ∙ listed_more piece (slice_split is_comma rest) filled) none
+
+pub list-last_none : (text : List ℕ) (cs : List ClauseFields) → 0 < length text → slice_split is_comma text ≡ text ∷ [] → clause_of text ≡ None
+    → joined cs (list_of text) ≡ None
+list-last_none text cs h e none =
+    first-none (listed (slice_split is_comma text)) [] text cs (ap (λ (l : List (List ℕ)). listed l) e ∙ listed_last text h) none
+
+pub list-last : (text : List ℕ) (cs ds : List ClauseFields) (c : ClauseFields) → 0 < length text → slice_split is_comma text ≡ text ∷ [] → clause_of text ≡ Some c
+    → ds ≡ cs ++ c ∷ [] → joined cs (list_of text) ≡ Some ds
+unfolding clauses_of
+list-last text cs ds c h e is so = rw (e, listed_last text h, is, so) refl
+
+pub list-more : (text piece rest : List ℕ) (cs ds : List ClauseFields) (c : ClauseFields) → slice_split is_comma text ≡ piece ∷ slice_split is_comma rest
+    → clause_of piece ≡ Some c → ds ≡ cs ++ c ∷ [] → joined cs (list_of text) ≡ joined ds (list_of rest)
+unfolding clauses_of
+list-more text piece rest cs ds c e is so =
+    let filled : 0 < length (slice_split is_comma rest) = omega (arith, length-slice_split is_comma rest) in
+    rw (e, listed_more piece (slice_split is_comma rest) filled, is, so) (joined_more cs c (list_of rest))

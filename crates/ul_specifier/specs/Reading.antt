@@ -1,0 +1,131 @@
+-- The texts of version specifiers (PEP 440, "Version specifiers"):
+--     list   = [clause *("," clause) [","]]
+--     clause = operator version [".*"]
+-- Space and tab may stand around clauses and between an operator and its version, and white space of any
+-- kind at the ends of the text. A comma after the last clause and `.*` with `>=` and `<` are beyond PEP 440.
+use Rattle.std.specs.Prelude.{ℕ, ◌-◌, ◌==◌, ◌&&◌, ◌||◌, Bool, true, false, not, nat_eq, nat_lt, List, [], ◌∷◌, length, take, drop, codes, Option, Some, None, if◌then◌else◌}
+use Rattle.std.specs.Char.{is_ascii_alphanumeric}
+use Rattle.std.specs.List.{list_all, slice_split, starts_with, ends_with}
+use Rattle.ul_version.specs.Fields.{Fields}
+use Rattle.ul_version.specs.Reading.{◌>>=◌, is_white, or_else, version_of}
+use Rattle.ul_specifier.specs.Clauses.{ClauseFields, has_local, is_bare, is_compatible, is_equality}
+use Rattle.ul_specifier.specs.declared.clause.Op.{Op}
+use Rattle.ul_specifier.specs.declared.clause.Op.TheVariants.{Equal, Unequal, AtLeast, AtMost, More, Less, Compatible}
+
+-- ---- white space
+
+-- space and tab, which may stand inside a text
+abbrev pub is_blank : ℕ → Bool
+is_blank b = b == 32 || b == 9
+
+-- a text without the bytes in front of it that pass the test
+unfoldable pub after_all : (ℕ → Bool) → List ℕ → List ℕ
+after_all test [] = []
+after_all test (b ∷ rest) = if test b then after_all test rest else b ∷ rest
+
+-- a byte before a text whose bytes at the end were dropped
+abbrev pub unless_last : (ℕ → Bool) → ℕ → List ℕ → List ℕ
+unless_last test b [] = if test b then [] else b ∷ []
+unless_last test b (c ∷ rest) = b ∷ c ∷ rest
+
+-- a text without the bytes at its end that pass the test
+unfoldable pub before_all : (ℕ → Bool) → List ℕ → List ℕ
+before_all test [] = []
+before_all test (b ∷ rest) = unless_last test b (before_all test rest)
+
+-- a text without the bytes at both ends that pass the test
+abbrev pub stripped : (ℕ → Bool) → List ℕ → List ℕ
+stripped test text = before_all test (after_all test text)
+
+-- ---- operators
+
+-- the text after a word, where the text begins with it
+abbrev pub after_front : List ℕ → List ℕ → Option (List ℕ)
+after_front word text = if starts_with nat_eq text word then Some (drop (length word) text) else None
+
+-- the text before a word, where the text ends with it
+abbrev pub before_end : List ℕ → List ℕ → Option (List ℕ)
+before_end word text = if ends_with nat_eq text word then Some (take (length text - length word) text) else None
+
+-- an operator, where its text stands in front, and the text after it
+abbrev pub after_operator : List ℕ → Op → List ℕ → Option (Op × List ℕ)
+after_operator word op text = after_front word text >>= λ rest. Some (op, rest)
+
+-- the longest operator that stands in front, and the text after it
+unfoldable pub operator : List ℕ → Option (Op × List ℕ)
+operator text =
+    or_else (after_operator (codes "==") Equal text)
+    (or_else (after_operator (codes "!=") Unequal text)
+    (or_else (after_operator (codes ">=") AtLeast text)
+    (or_else (after_operator (codes "<=") AtMost text)
+    (or_else (after_operator (codes "~=") Compatible text)
+    (or_else (after_operator (codes ">") More text)
+    (after_operator (codes "<") Less text))))))
+
+-- ---- an operator and the text of its version
+
+-- a byte of a version's text: a letter, a digit or one of `- _ . * + !`
+abbrev pub is_version_byte : ℕ → Bool
+is_version_byte b = is_ascii_alphanumeric b || (b == 45 || (b == 95 || (b == 46 || (b == 42 || (b == 43 || b == 33)))))
+
+-- what `.*` says with an operator: with `==` and `!=` that the clause asks for the front of a release, with
+-- `>=` and `<` nothing; it stands with no other
+abbrev pub star_of : Op → Option Bool
+star_of Equal = Some true
+star_of Unequal = Some true
+star_of AtLeast = Some false
+star_of AtMost = None
+star_of More = None
+star_of Less = Some false
+star_of Compatible = None
+
+-- a version before `.*`, which has an epoch and a release alone
+unfoldable pub starred : Op → Fields → Option ClauseFields
+starred op V = star_of op >>= λ prefix. if is_bare V then Some (record { op = op; version = V; prefix = prefix }) else None
+
+-- a version with a local part stands with `==` and `!=` alone, and `~=` needs two release numbers
+abbrev pub may_stand : Op → Fields → Bool
+may_stand op V = (is_equality op || not (has_local V)) && (not (is_compatible op) || nat_lt 1 (length V.release))
+
+-- a version without `.*`
+unfoldable pub unstarred : Op → Fields → Option ClauseFields
+unstarred op V = if may_stand op V then Some (record { op = op; version = V; prefix = false }) else None
+
+-- the clause of a text, or of the text before `.*`
+abbrev pub version_clause : Op → List ℕ → Option (List ℕ) → Option ClauseFields
+version_clause op text None = version_of text >>= unstarred op
+version_clause op text (Some front) = version_of front >>= starred op
+
+-- the clause of an operator and the text after it, which is a run of bytes of a version's text
+unfoldable pub clause_after : Op → List ℕ → Option ClauseFields
+clause_after op text = if list_all is_version_byte text then version_clause op text (before_end (codes ".*") text) else None
+
+-- the clause of an operator and a text, which may have white space at its ends
+unfoldable pub clause_with : Op → List ℕ → Option ClauseFields
+clause_with op text = clause_after op (stripped is_white text)
+
+-- ---- lists
+
+-- one clause of a list
+unfoldable pub clause_of : List ℕ → Option ClauseFields
+clause_of text = operator (stripped is_blank text) >>= λ o. clause_after o.0 (after_all is_blank o.1)
+
+-- the clauses of the pieces of a list
+unfoldable pub clauses_of : List (List ℕ) → Option (List ClauseFields)
+clauses_of [] = Some []
+clauses_of (piece ∷ pieces) = clause_of piece >>= λ c. clauses_of pieces >>= λ cs. Some (c ∷ cs)
+
+-- the byte between two clauses
+abbrev pub is_comma : ℕ → Bool
+is_comma b = b == 44
+
+-- the pieces of a list between its commas, of which the last counts only if it isn't empty
+abbrev pub listed : List (List ℕ) → List (List ℕ)
+listed [] = []
+listed ([] ∷ []) = []
+listed ((b ∷ piece) ∷ []) = (b ∷ piece) ∷ []
+listed (piece ∷ next ∷ pieces) = piece ∷ listed (next ∷ pieces)
+
+-- the clauses that a text spells; the empty list is one without clauses
+unfoldable pub specifiers_of : List ℕ → Option (List ClauseFields)
+specifiers_of text = clauses_of (listed (slice_split is_comma (stripped is_white text)))

@@ -1,0 +1,16 @@
+//! Version specifiers as PEP 440 spells and means them.
+#![tactic(auto)]
+
+mod clause;
+mod fault;
+pub mod laws;
+mod lower;
+mod meets;
+mod order;
+mod reading;
+
+pub use clause::{Clause, Op, Specifiers};
+pub use fault::SpecFault;
+
+#[cfg(test)]
+mod tests;

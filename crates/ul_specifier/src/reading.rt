@@ -1,0 +1,285 @@
+//! Reading specifiers and clauses from their texts.
+
+ghost use Rattle.std.specs.Prelude.{◌≡◌, ◌≤◌, ◌<◌, ◌+◌, All, IfErr, IfOk, IsTrue, Some, None, length, take, drop, ◌∷◌, []};
+ghost use Rattle.std.specs.List.{list_all, slice_split};
+ghost use Rattle.ul_version.specs.Reading as Versions;
+ghost use Rattle.ul_specifier.specs.Clauses;
+ghost use Rattle.ul_specifier.specs.Clauses.{IsClause};
+ghost use Rattle.ul_specifier.specs.Reading as Grammar;
+ghost use Rattle.ul_specifier.specs.Views.{clauses_view, operator_view, rest_view, space, Reads};
+
+use crate::order::has_local;
+use crate::{Clause, Op, SpecFault, Specifiers};
+use std::alloc::Global;
+use ul_version::{Version, VersionFault};
+
+// Space or tab inside a text, and white space of any kind at its ends.
+fn is_space(byte: u8, inside: bool) -> bool
+    ensures { result ≡ space inside byte }
+{
+    if inside {
+        byte == b' ' || byte == b'\t'
+    } else {
+        byte == b' ' || (9 <= byte && byte <= 13)
+    }
+}
+
+fn after_space(input: &[u8], inside: bool) -> &[u8]
+    ensures { result.now ≡ Grammar.after_all (space inside) input.now }
+{
+    for i in 0..input.len() {
+        if !is_space(input[i], inside) {
+            return &input[i..];
+        }
+    }
+    &input[input.len()..]
+}
+
+fn before_space(input: &[u8], inside: bool) -> &[u8]
+    ensures { result.now ≡ Grammar.before_all (space inside) input.now }
+{
+    let mut end = input.len();
+    while end > 0 && is_space(input[end - 1], inside) {
+        end -= 1;
+    }
+    &input[..end]
+}
+
+// The text after a word, where the text begins with it.
+fn after_front<'a>(input: &'a [u8], word: &[u8]) -> Option<&'a [u8]>
+    ensures { rest_view result ≡ Grammar.after_front word.now input.now }
+{
+    input.strip_prefix(word)
+}
+
+// The text before a word, where the text ends with it.
+fn before_end<'a>(input: &'a [u8], word: &[u8]) -> Option<&'a [u8]>
+    ensures { rest_view result ≡ Grammar.before_end word.now input.now }
+{
+    input.strip_suffix(word)
+}
+
+// The operator in front, and the text after it.
+#[tactic(auto, unfolding(crate::specs::Reading::operator))]
+fn operator(input: &[u8]) -> Option<(Op, &[u8])>
+    ensures { operator_view result ≡ Grammar.operator input.now }
+{
+    if let Some(rest) = after_front(input, b"==") {
+        return Some((Op::Equal, rest));
+    }
+    if let Some(rest) = after_front(input, b"!=") {
+        return Some((Op::Unequal, rest));
+    }
+    if let Some(rest) = after_front(input, b">=") {
+        return Some((Op::AtLeast, rest));
+    }
+    if let Some(rest) = after_front(input, b"<=") {
+        return Some((Op::AtMost, rest));
+    }
+    if let Some(rest) = after_front(input, b"~=") {
+        return Some((Op::Compatible, rest));
+    }
+    if let Some(rest) = after_front(input, b">") {
+        return Some((Op::More, rest));
+    }
+    let rest = after_front(input, b"<")?;
+    Some((Op::Less, rest))
+}
+
+fn is_version_byte(byte: u8) -> bool
+    ensures { result ≡ Grammar.is_version_byte byte }
+{
+    byte.is_ascii_alphanumeric()
+        || (byte == b'-'
+            || (byte == b'_' || (byte == b'.' || (byte == b'*' || (byte == b'+' || byte == b'!')))))
+}
+
+// Whether the text is a run of bytes that stand in a version's text.
+fn is_run(text: &[u8]) -> bool
+    ensures { result ≡ list_all Grammar.is_version_byte text.now }
+{
+    for i in 0..text.len() {
+        if !is_version_byte(text[i]) {
+            return false;
+        }
+    }
+    true
+}
+
+// The version that a run spells.
+fn version(alloc: Global, text: &[u8]) -> Result<Version, SpecFault>
+    requires { IsTrue (list_all Grammar.is_version_byte text.now) }
+    ensures { Reads (λ v. v) result (Versions.version_of text.now) }
+{
+    let Ok(text) = str::from_utf8(text) else {
+        return Err(SpecFault::NoReading);
+    };
+    match Version::read(alloc, text) {
+        Ok(version) => Ok(version),
+        Err(VersionFault::NoReading) => Err(SpecFault::NoReading),
+        Err(VersionFault::NoMemory) => Err(SpecFault::NoMemory),
+    }
+}
+
+// What `.*` says with an operator: whether the clause asks for the front of a release.
+fn star_of(op: Op) -> Option<bool>
+    ensures { result ≡ Grammar.star_of op }
+{
+    match op {
+        Op::Equal | Op::Unequal => Some(true),
+        Op::AtLeast | Op::Less => Some(false),
+        Op::AtMost | Op::More | Op::Compatible => None,
+    }
+}
+
+// The clause of a version before `.*`.
+#[tactic(auto, unfolding(crate::specs::Reading::starred))]
+fn starred(op: Op, version: Version) -> Result<Clause, SpecFault>
+    ensures { Reads (λ c. c) result (Grammar.starred op version) }
+{
+    let Some(prefix) = star_of(op) else {
+        return Err(SpecFault::NoReading);
+    };
+    if !is_bare(&version) {
+        return Err(SpecFault::NoReading);
+    }
+    Ok(Clause {
+        op,
+        version,
+        prefix,
+    })
+}
+
+// The clause of a version without `.*`.
+#[tactic(auto, unfolding(crate::specs::Reading::unstarred))]
+fn unstarred(op: Op, version: Version) -> Result<Clause, SpecFault>
+    ensures { Reads (λ c. c) result (Grammar.unstarred op version) }
+{
+    if !may_stand(op, &version) {
+        return Err(SpecFault::NoReading);
+    }
+    Ok(Clause {
+        op,
+        version,
+        prefix: false,
+    })
+}
+
+// Whether a version has an epoch and a release alone.
+fn is_bare(version: &Version) -> bool
+    ensures { result ≡ Clauses.is_bare version.now }
+{
+    !(version.pre.is_some()
+        || (version.post.is_some() || (version.dev.is_some() || has_local(version))))
+}
+
+// Whether a version may stand with an operator without `.*`.
+fn may_stand(op: Op, version: &Version) -> bool
+    ensures { result ≡ Grammar.may_stand op version.now }
+{
+    match op {
+        Op::Equal | Op::Unequal => true,
+        Op::AtLeast | Op::AtMost | Op::More | Op::Less => !has_local(version),
+        Op::Compatible => !has_local(version) && version.release.len() > 1,
+    }
+}
+
+// The clause of an operator and the text after it.
+#[tactic(auto, unfolding(crate::specs::Reading::clause_after))]
+fn clause_after(alloc: Global, op: Op, text: &[u8]) -> Result<Clause, SpecFault>
+    ensures { Reads (λ c. c) result (Grammar.clause_after op text.now) }
+{
+    if !is_run(text) {
+        return Err(SpecFault::NoReading);
+    }
+    match before_end(text, b".*") {
+        Some(front) => starred(op, version(alloc, front)?),
+        None => unstarred(op, version(alloc, text)?),
+    }
+}
+
+// One clause of a list.
+#[tactic(auto, unfolding(crate::specs::Reading::clause_of))]
+fn clause(alloc: Global, text: &[u8]) -> Result<Clause, SpecFault>
+    ensures { Reads (λ c. c) result (Grammar.clause_of text.now) }
+{
+    let Some((op, rest)) = operator(before_space(after_space(text, true), true)) else {
+        return Err(SpecFault::NoReading);
+    };
+    clause_after(alloc, op, after_space(rest, true))
+}
+
+// The length of the text before the first comma, or of the whole text.
+fn piece_len(input: &[u8]) -> usize
+    ensures fits { result ≤ length input.now }
+    ensures last { length input.now ≤ result → slice_split Grammar.is_comma input.now ≡ input.now ∷ [] }
+    ensures more { result < length input.now → slice_split Grammar.is_comma input.now
+        ≡ take result input.now ∷ slice_split Grammar.is_comma (drop (result + 1) input.now) }
+{
+    for i in 0..input.len() {
+        if input[i] == b',' {
+            return i;
+        }
+    }
+    input.len()
+}
+
+// The clauses of a list, between its commas.
+fn clauses(alloc: Global, input: &[u8]) -> Result<Vec<Clause>, SpecFault>
+    ensures { Reads clauses_view result (Grammar.clauses_of (Grammar.listed (slice_split Grammar.is_comma input.now))) }
+{
+    let mut list = Vec::new(alloc);
+    let mut rest = input;
+    'pieces: while !rest.is_empty() {
+        let n = piece_len(rest);
+        let clause = clause(alloc, &rest[..n])?;
+        list.push(clause)?;
+        if n >= rest.len() {
+            return Ok(list);
+        }
+        rest = &rest[n..][1..];
+    }
+    Ok(list)
+}
+
+impl Clause {
+    /// The clause of an operator and the text of its version, by PEP 440's grammar.
+    ///
+    /// White space at both ends of the text is dropped. `.*` may follow a version that has an epoch and a
+    /// release alone, with `==` and `!=`; with `>=` and `<` it is read and dropped, where PEP 440 has no
+    /// `.*`. A local part may stand with `==` and `!=` alone, without `.*`, and `~=` needs two release
+    /// numbers. `NoReading` is the answer exactly where the text has no reading.
+    #[tactic(auto, unfolding(crate::specs::Reading::clause_with))]
+    pub fn read(alloc: Global, op: Op, text: &str) -> Result<Clause, SpecFault>
+        ensures read { IfOk result (λ c. Grammar.clause_with op text.now ≡ Some c) }
+        ensures valid { IfOk result IsClause }
+        ensures no_reading { IfErr result (λ e. e ≡ SpecFault.NoReading → Grammar.clause_with op text.now ≡ None) }
+    {
+        clause_after(
+            alloc,
+            op,
+            before_space(after_space(text.as_bytes(), false), false),
+        )
+    }
+}
+
+impl Specifiers {
+    /// The specifier that a text spells, by PEP 440's grammar.
+    ///
+    /// Clauses are separated by commas, one comma may follow the last, and the empty text has no clause.
+    /// Space and tab may stand around clauses and between an operator and its version, and white space at
+    /// both ends of the text is dropped. Each clause is read as `Clause::read` does, and `===` isn't an
+    /// operator. `NoReading` is the answer exactly where the text has no reading.
+    #[tactic(auto, unfolding(crate::specs::Reading::specifiers_of))]
+    pub fn read(alloc: Global, text: &str) -> Result<Specifiers, SpecFault>
+        ensures read { IfOk result (λ s. Grammar.specifiers_of text.now ≡ Some s) }
+        ensures valid { IfOk result (λ s. All IsClause s) }
+        ensures no_reading { IfErr result (λ e. e ≡ SpecFault.NoReading → Grammar.specifiers_of text.now ≡ None) }
+    {
+        let clauses = clauses(
+            alloc,
+            before_space(after_space(text.as_bytes(), false), false),
+        )?;
+        Ok(Specifiers { clauses })
+    }
+}
