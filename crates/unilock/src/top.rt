@@ -1,5 +1,5 @@
 //! The top call.
-ghost use Rattle.std.specs.Prelude.{◌≡◌, ◌≢◌, ◌<◌, ◌++◌, ◌⊎◌, ◌↔◌, ℕ, List, map, string_bytes, Some, IfOk, codes};
+ghost use Rattle.std.specs.Prelude.{◌≡◌, ◌≢◌, ◌<◌, ◌++◌, take, ◌⊎◌, ◌↔◌, ℕ, List, map, string_bytes, Some, IfOk, codes};
 ghost use Rattle.std.specs.Fmt.{decimal};
 ghost use Rattle.ul_base.specs.Files.{Told};
 ghost use Rattle.ul_base.specs.Causes.{Rose};
@@ -174,6 +174,9 @@ pub fn run<R: Threads + Wait + Sync, F: Files, K: Sink, G: Gate + Sync>(
     ensures path { result ≡ 5 → (p had : List ℕ) → F.last_failed files.new ≡ Some p → K.bytes out.old ≡ Some had
         → K.bytes out.new ≡ Some (had ++ read_fault_text p) }
     ensures which { Told (F.map files.old) (λ m. result ≡ 5 → (p : List ℕ) → F.last_failed files.new ≡ Some p → IsRead (texts_of words.now) m p) }
+    // Where the write failed, a front of the answer was appended.
+    ensures cut { Told (F.map files.old) (λ m. (had : List ℕ) → K.bytes out.old ≡ Some had → ¬ Rose (F.faults files.old) (F.faults files.new) → result ≡ 6
+        → (status n : ℕ) × (bytes : List ℕ) × IsAnswer (texts_of words.now) m status bytes × (K.bytes out.new ≡ Some (had ++ take n bytes))) }
     ensures no_memory { result ≡ 7 → K.bytes out.new ≡ K.bytes out.old }
 {
     match answer(alloc, files, words.as_slice()) {
@@ -189,6 +192,7 @@ fn print<K: Sink>(out: &mut K, output: &Output) -> u8
     ensures status { (result ≡ output.now.status) ⊎ (result ≡ 6) ⊎ (result ≡ 7) }
     ensures write_fault { result ≡ 6 → Rose (K.faults out.old) (K.faults out.new) }
     ensures write_rise { K.faults out.old < K.faults out.new → result ≡ 6 }
+    ensures cut { (had : List ℕ) → K.bytes out.old ≡ Some had → result ≡ 6 → (n : ℕ) × (K.bytes out.new ≡ Some (had ++ take n output.now.text.items)) }
     ensures no_memory { result ≡ 7 → K.bytes out.new ≡ K.bytes out.old }
 {
     if output.text.is_empty() {
