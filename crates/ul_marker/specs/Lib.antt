@@ -1,0 +1,5 @@
+pub mod Atoms
+pub mod Worlds
+pub mod Formulas
+pub mod Truth
+pub mod Views
