@@ -172,3 +172,14 @@ own_plain release V Answer.Equal h e =
 -- and no version with a release alone is
 pub plain-own : (release : List ℕ) (V : Fields) → has_local V ≡ true → false ≡ is_eq (version_cmp (plain release) V)
 plain-own release V h = sym (own_plain release V _ h refl)
+
+-- ---- `==V` and a version with a release alone
+
+pub equal_plain-public : (V : Fields) (release : List ℕ) → has_local V ≡ false
+    → is_eq (version_cmp (plain release) (without_local V)) ≡ meets_clause (record { op = Equal; version = V; prefix = false }) (plain release)
+equal_plain-public V release h = public-meets (record { op = Equal; version = V; prefix = false }) (plain release) false h refl
+
+pub equal_plain-own : (V : Fields) (release : List ℕ) → has_local V ≡ true
+    → false ≡ meets_clause (record { op = Equal; version = V; prefix = false }) (plain release)
+unfolding meets_clause
+equal_plain-own V release h = rw h (plain-own release V h)

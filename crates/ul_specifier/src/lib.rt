@@ -11,6 +11,8 @@ mod reading;
 
 pub use clause::{Clause, Op, Specifiers};
 pub use fault::SpecFault;
+pub use meets::equals_plain;
+pub use reading::{after_space, before_space};
 
 #[cfg(test)]
 mod tests;

@@ -1,6 +1,6 @@
 //! Which versions meet a clause.
 
-ghost use Rattle.std.specs.Prelude.{◌≡◌, ◌<◌, length};
+ghost use Rattle.std.specs.Prelude.{◌≡◌, ◌<◌, false, length};
 ghost use Rattle.ul_version.specs.Fields.{plain, without_local};
 ghost use Rattle.ul_specifier.specs.Meaning;
 ghost use Rattle.ul_specifier.specs.Meaning.{begins_as, meets_clause, meets_list, names_pre_of, pins_clause, pins_of, series};
@@ -21,14 +21,7 @@ impl Clause {
         if has_local(&self.version) {
             return self.meets_own(false);
         }
-        let candidate = Public {
-            epoch: 0,
-            release,
-            pre: None,
-            post: None,
-            dev: None,
-        };
-        meets_public(self, &candidate, false)
+        meets_public(self, &Public::plain(release), false)
     }
 
     /// Whether a version meets the clause.
@@ -57,6 +50,15 @@ impl Clause {
     {
         matches!(self.op, Op::Equal) && !self.prefix && self.version.cmp(v).is_eq()
     }
+}
+
+/// Whether the version that has this release, epoch 0 and nothing else meets `==V`, without `.*`.
+///
+/// It takes no memory. No such version equals a V with a local part.
+pub fn equals_plain(version: &Version, release: &[u64]) -> bool
+    ensures { result ≡ meets_clause (record { op = Op.Equal; version = version.now; prefix = false }) (plain release.now) }
+{
+    !has_local(version) && Public::plain(release).cmp(&Public::of(version)).is_eq()
 }
 
 // Whether a version meets a clause whose version has no local part, by the candidate's public part and

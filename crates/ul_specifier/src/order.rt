@@ -1,7 +1,7 @@
 //! The order of versions without their local parts, which takes no memory.
 
 ghost use Rattle.std.specs.Prelude.{◌≡◌, slice_index};
-ghost use Rattle.ul_version.specs.Fields.{is_pre_of, without_local};
+ghost use Rattle.ul_version.specs.Fields.{is_pre_of, plain, without_local};
 ghost use Rattle.ul_version.specs.Order.{has_release_front, place_cmp, post_place, dev_place, pre_place, release_cmp, suffix_cmp, version_cmp};
 ghost use Rattle.ul_specifier.specs.Clauses;
 
@@ -38,6 +38,19 @@ impl<'a> Public<'a> {
             pre: version.pre,
             post: version.post,
             dev: version.dev,
+        }
+    }
+
+    // The version that has a release, epoch 0 and nothing else.
+    pub(crate) fn plain(release: &'a [u64]) -> Public<'a>
+        ensures { result ≡ plain release.now }
+    {
+        Public {
+            epoch: 0,
+            release,
+            pre: None,
+            post: None,
+            dev: None,
         }
     }
 

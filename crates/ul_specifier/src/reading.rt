@@ -24,7 +24,11 @@ fn is_space(byte: u8, inside: bool) -> bool
     }
 }
 
-fn after_space(input: &[u8], inside: bool) -> &[u8]
+/// The text without the white space in front of it.
+///
+/// White space is space and tab where `inside`, as inside a text, and else each byte of ASCII that is white
+/// space (space, and 9 to 13), as at the ends of a text.
+pub fn after_space(input: &[u8], inside: bool) -> &[u8]
     ensures { result.now ≡ Grammar.after_all (space inside) input.now }
 {
     for i in 0..input.len() {
@@ -35,7 +39,8 @@ fn after_space(input: &[u8], inside: bool) -> &[u8]
     &input[input.len()..]
 }
 
-fn before_space(input: &[u8], inside: bool) -> &[u8]
+/// The text without the white space at its end, which is as for `after_space`.
+pub fn before_space(input: &[u8], inside: bool) -> &[u8]
     ensures { result.now ≡ Grammar.before_all (space inside) input.now }
 {
     let mut end = input.len();

@@ -1,6 +1,6 @@
 //! Meanings and readings of PEP 440, as tables.
 
-use crate::{Clause, Op, SpecFault, Specifiers};
+use crate::{Clause, Op, SpecFault, Specifiers, equals_plain};
 use std::test::Fail;
 use ul_version::Version;
 
@@ -188,6 +188,10 @@ fn plain_versions_meet_alike(rt: HostRuntime) -> Result<(), Fail> {
             for clause in &specifiers.clauses {
                 let plain = clause.meets_plain(version.release.as_slice());
                 assert_eq!(rt; plain, clause.meets(&version), "{text}");
+                if matches!(clause.op, Op::Equal) && !clause.prefix {
+                    let equal = equals_plain(&clause.version, version.release.as_slice());
+                    assert_eq!(rt; equal, clause.meets(&version), "{text}");
+                }
             }
         }
     }

@@ -12,4 +12,4 @@ returns-then-has_local c =
 pub returns : goal.returns
 returns c =
     c.meets_public.ensures
-    ∙ rw (← c.self.view_is) (public-meets _ (plain c.args.release.now) false (sym c.if-has_local.ensures) refl)
+    ∙ rw (c.plain.ensures, ← c.self.view_is) (public-meets _ (plain c.args.release.now) false (sym c.if-has_local.ensures) refl)
