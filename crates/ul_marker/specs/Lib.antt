@@ -3,3 +3,5 @@ pub mod Worlds
 pub mod Formulas
 pub mod Truth
 pub mod Views
+pub mod Rising
+pub mod TruthVectors

@@ -28,10 +28,14 @@ is_empty (b ∷ bs) = false
 abbrev pub equals_extra : List ℕ → List ℕ → Bool
 equals_extra literal x = (is_empty literal || is_name literal) && bytes_eq literal x
 
+-- of an interpreter's three numbers, those that `python_full_version` or `python_version` has
+abbrev pub python_numbers : Bool → ℕ → ℕ → ℕ → List ℕ
+python_numbers true major minor patch = major ∷ minor ∷ patch ∷ []
+python_numbers false major minor patch = major ∷ minor ∷ []
+
 -- the release that `python_full_version` or `python_version` is
 abbrev pub python_release : Bool → WorldFields → List ℕ
-python_release true w = w.major ∷ w.minor ∷ w.patch ∷ []
-python_release false w = w.major ∷ w.minor ∷ []
+python_release full w = python_numbers full w.major w.minor w.patch
 
 -- the clause `==V`
 abbrev pub equal_to : Fields → ClauseFields

@@ -1,6 +1,8 @@
 //! Opaque comparisons.
-ghost use Rattle.std.specs.Prelude.{◌≡◌, IfOk};
-ghost use Rattle.ul_marker.specs.Atoms.{atom_cmp};
+ghost use Rattle.std.specs.Prelude.{◌≡◌, IfOk, IfSome, None, string_bytes};
+ghost use Rattle.std.specs.List.{list_all};
+ghost use Rattle.ul_marker.specs.Atoms;
+ghost use Rattle.ul_marker.specs.Atoms.{IsAtom, atom_cmp, is_literal_byte};
 
 use crate::{AtomKind, Variable};
 use std::alloc::{AllocError, Global};
@@ -31,6 +33,24 @@ impl Model for Atom {
 }
 
 impl Atom {
+    /// The comparison of a variable with a literal.
+    ///
+    /// `None` exactly where the kind doesn't stand with the variable, or the literal has another byte than those
+    /// of printable ASCII without the backslash, or both quotes. It takes no memory.
+    pub fn of(variable: Variable, kind: AtomKind, literal: String) -> Option<Atom>
+        ensures given { IfSome result (λ a. a ≡ record { variable = variable; kind = kind; literal = string_bytes literal }) }
+        ensures refused { result ≡ None → ¬ IsAtom (record { variable = variable; kind = kind; literal = string_bytes literal }) }
+    {
+        if !may_compare(kind, variable) || !is_literal(literal.as_bytes()) {
+            return None;
+        }
+        Some(Atom {
+            variable,
+            kind,
+            literal,
+        })
+    }
+
     /// The order of atoms: by variable, then by kind, then by the literal's bytes.
     pub fn cmp(&self, other: &Atom) -> Ordering
         ensures { result ≡ atom_cmp self.now other.now }
@@ -53,4 +73,46 @@ impl Atom {
             literal,
         })
     }
+}
+
+// Whether a kind stands with a variable.
+fn may_compare(kind: AtomKind, variable: Variable) -> bool
+    ensures { result ≡ Atoms.may_compare kind variable }
+{
+    let version = matches!(variable, Variable::ImplementationVersion);
+    match kind {
+        AtomKind::Contains => true,
+        AtomKind::Within | AtomKind::Below | AtomKind::AtMost => variable.is_text() || version,
+        AtomKind::Same => version,
+    }
+}
+
+// Whether a text can stand in a literal.
+fn is_literal(text: &[u8]) -> bool
+    ensures { result ≡ Atoms.is_literal text.now }
+{
+    has_literal_bytes(text) && !(has_byte(b'\'', text) && has_byte(b'"', text))
+}
+
+// Whether each byte of a text can stand in a literal.
+fn has_literal_bytes(text: &[u8]) -> bool
+    ensures { result ≡ list_all is_literal_byte text.now }
+{
+    for byte in text {
+        if !(32..=126).contains(byte) || *byte == b'\\' {
+            return false;
+        }
+    }
+    true
+}
+
+fn has_byte(byte: u8, text: &[u8]) -> bool
+    ensures { result ≡ Atoms.has_byte byte text.now }
+{
+    for other in text {
+        if *other == byte {
+            return true;
+        }
+    }
+    false
 }

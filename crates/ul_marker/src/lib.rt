@@ -3,12 +3,18 @@
 
 mod atom;
 mod fault;
+pub mod laws;
 mod marker;
+mod truth;
 mod variable;
 mod world;
 
 pub use atom::Atom;
 pub use fault::MarkerFault;
 pub use marker::Marker;
+pub use truth::meets_python;
 pub use variable::{AtomKind, Variable};
 pub use world::World;
+
+#[cfg(test)]
+mod tests;

@@ -1,0 +1,31 @@
+-- Atoms that increase pass the test, and no others do.
+use Rattle.std.proofs.Common.{◌≡◌, List, [], ◌∷◌, Bool, true, false, ◌&&◌, true≢false, sym, refl, ap, Some, None}
+use Rattle.std.specs.Ordering.{is_lt}
+use Rattle.std.specs.declared.cmp.Ordering.{Ordering}
+use Rattle.std.specs.declared.cmp.Ordering.TheVariants as Answer
+use Rattle.ul_marker.specs.Atoms.{AtomFields, atom_cmp}
+use Rattle.ul_marker.specs.Rising.{rises, rises_after}
+use Rattle.ul_marker.specs.Worlds.{Rise}
+
+less : (o : Ordering) (b : Bool) → (is_lt o && b) ≡ true → (o ≡ Answer.Less) × (b ≡ true)
+less Answer.Less b h = (refl, h)
+less Answer.Equal b h = absurd (true≢false (sym h))
+less Answer.Greater b h = absurd (true≢false (sym h))
+
+rise_after : (a : AtomFields) (atoms : List AtomFields) → rises_after a atoms ≡ true → Rise (Some a) atoms
+rise_after a [] h = tt
+rise_after a (b ∷ rest) h = let (before, more) = less (atom_cmp a b) (rises_after b rest) h in (before, rise_after b rest more)
+
+-- what passes the test increases
+pub rise : (atoms : List AtomFields) → rises atoms ≡ true → Rise None atoms
+rise [] h = tt
+rise (a ∷ rest) h = (tt, rise_after a rest h)
+
+rises_from : (a : AtomFields) (atoms : List AtomFields) → Rise (Some a) atoms → rises_after a atoms ≡ true
+rises_from a [] h = refl
+rises_from a (b ∷ rest) h = rw (h.0) (rises_from b rest h.1)
+
+-- what increases passes the test
+pub risen : (atoms : List AtomFields) → Rise None atoms → rises atoms ≡ true
+risen [] h = refl
+risen (a ∷ rest) h = rises_from a rest h.1

@@ -1,0 +1,6 @@
+use Rattle.std.proofs.Common.{◌≡◌, drop}
+use Rattle.ul_marker.specs.Rising.{rises, rises_after}
+use Rattle.ul_marker.proofs.world.rises.Given as goal
+
+abbrev pub invariant-loop-atom : goal.invariant-loop-atom
+invariant-loop-atom l = rises_after l.last (drop l.atom-index l.rest) ≡ rises l.atoms

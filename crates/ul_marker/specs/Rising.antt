@@ -1,0 +1,14 @@
+-- Atoms in increasing order, each once, by a test.
+use Rattle.std.specs.Prelude.{◌&&◌, Bool, true, List, [], ◌∷◌}
+use Rattle.std.specs.Ordering.{is_lt}
+use Rattle.ul_marker.specs.Atoms.{AtomFields, atom_cmp}
+
+-- whether atoms increase, all of them after one
+abbrev pub rises_after : AtomFields → List AtomFields → Bool
+rises_after a [] = true
+rises_after a (b ∷ rest) = is_lt (atom_cmp a b) && rises_after b rest
+
+-- whether atoms increase
+abbrev pub rises : List AtomFields → Bool
+rises [] = true
+rises (a ∷ rest) = rises_after a rest

@@ -1,0 +1,115 @@
+//! Truths of markers at worlds, the order of atoms, and the texts of a world, as tables.
+
+use crate::{Atom, AtomKind, Marker, Variable, World, meets_python};
+use std::alloc::Global;
+use std::test::Fail;
+use ul_specifier::{Clause, Op};
+use ul_version::Version;
+
+// The eight texts of three machines.
+const MACHINES: [&str; 3] = [
+    "posix|linux|x86_64|CPython|6.1.0|Linux|#1 SMP|cpython",
+    "nt|win32|AMD64|CPython|10|Windows|10.0.19045|cpython",
+    "posix|darwin|arm64|PyPy|22.6.0|Darwin|Darwin Kernel|pypy",
+];
+
+const INTERPRETERS: [(u32, u32, u32); 3] = [(3, 8, 5), (3, 10, 0), (2, 7, 18)];
+
+// Two comparisons hold at the first machine, one at the second, none at the third.
+fn worlds(alloc: Global) -> Result<Vec<World>, Fail> {
+    let mut worlds = Vec::new(alloc);
+    for (number, (line, python)) in MACHINES.iter().zip(INTERPRETERS).enumerate() {
+        let mut texts = Vec::new(alloc);
+        for text in line.split('|') {
+            texts.push(String::from_str(alloc, text)?)?;
+        }
+        let mut truths = Vec::new(alloc);
+        if number < 2 {
+            truths.push(atom(alloc, Variable::OsName, AtomKind::Contains, "n")?)?;
+        }
+        if number < 1 {
+            truths.push(atom(
+                alloc,
+                Variable::ImplementationVersion,
+                AtomKind::Same,
+                "3.8.5",
+            )?)?;
+        }
+        worlds.push(World::of(python, texts, truths).ok_or("no world")?)?;
+    }
+    Ok(worlds)
+}
+
+fn atom(alloc: Global, variable: Variable, kind: AtomKind, literal: &str) -> Result<Atom, Fail> {
+    let literal = String::from_str(alloc, literal)?;
+    Ok(Atom::of(variable, kind, literal).ok_or("no atom")?)
+}
+
+fn extra(alloc: Global, literal: &str, equal: bool) -> Result<Marker, Fail> {
+    let literal = String::from_str(alloc, literal)?;
+    Ok(Marker::Extra { literal, equal })
+}
+
+fn text(alloc: Global, variable: Variable, literal: &str, equal: bool) -> Result<Marker, Fail> {
+    let literal = String::from_str(alloc, literal)?;
+    Ok(Marker::Text {
+        variable,
+        literal,
+        equal,
+    })
+}
+
+fn python(alloc: Global, full: bool, op: Op, version: &str) -> Result<Marker, Fail> {
+    let clause = Clause::read(alloc, op, version)?;
+    Ok(Marker::Python { full, clause })
+}
+
+fn list(alloc: Global, full: bool, list: &str, within: bool) -> Result<Marker, Fail> {
+    let mut versions = Vec::new(alloc);
+    for version in list.split(' ').filter(|version| !version.is_empty()) {
+        versions.push(Version::read(alloc, version)?)?;
+    }
+    Ok(Marker::PythonList {
+        full,
+        versions,
+        within,
+    })
+}
+
+// Where a marker holds: for each of the three worlds, without an extra and with the extra `test`.
+fn truths(alloc: Global, marker: &Marker) -> Result<String, Fail> {
+    let mut truths = String::new(alloc);
+    for world in &worlds(alloc)? {
+        for extra in ["", "test"] {
+            truths.push_str(if marker.holds(world, extra) { "1" } else { "0" })?;
+        }
+    }
+    Ok(truths)
+}
+
+#[test]
+fn markers_hold_as_defined(rt: HostRuntime) -> Result<(), Fail> {
+    let alloc = rt.alloc();
+    for (marker, want) in [
+        (extra(alloc, "test", true)?, "010101"),
+        (extra(alloc, "test", false)?, "101010"),
+        (extra(alloc, "", true)?, "101010"),
+        (extra(alloc, "te st", true)?, "000000"),
+        (python(alloc, false, Op::Equal, "3.8")?, "110000"),
+        (python(alloc, true, Op::Equal, "3.8")?, "000000"),
+        (python(alloc, true, Op::Equal, "3.8.*")?, "110000"),
+        (python(alloc, false, Op::AtLeast, "3.9")?, "001100"),
+        (python(alloc, true, Op::Less, "3.8.5")?, "000011"),
+        (list(alloc, false, "2.7 3.10", true)?, "001111"),
+        (list(alloc, true, "2.7 3.10", true)?, "001100"),
+        (list(alloc, false, "2.7 3.10", false)?, "110000"),
+        (list(alloc, false, "", true)?, "000000"),
+        (list(alloc, true, "", false)?, "111111"),
+        (text(alloc, Variable::OsName, "posix", true)?, "110011"),
+        (text(alloc, Variable::ImplementationName, "pypy", false)?, "111100"),
+    ] {
+        let held = truths(alloc, &marker)?;
+        assert_eq!(rt; held.as_str(), want);
+    }
+    Ok(())
+}
