@@ -106,10 +106,149 @@ fn markers_hold_as_defined(rt: HostRuntime) -> Result<(), Fail> {
         (list(alloc, false, "", true)?, "000000"),
         (list(alloc, true, "", false)?, "111111"),
         (text(alloc, Variable::OsName, "posix", true)?, "110011"),
-        (text(alloc, Variable::ImplementationName, "pypy", false)?, "111100"),
+        (
+            text(alloc, Variable::ImplementationName, "pypy", false)?,
+            "111100",
+        ),
     ] {
         let held = truths(alloc, &marker)?;
         assert_eq!(rt; held.as_str(), want);
     }
+    Ok(())
+}
+
+#[test]
+fn joined_markers_hold_as_defined(rt: HostRuntime) -> Result<(), Fail> {
+    let alloc = rt.alloc();
+    for (kind, positive, want) in [
+        (AtomKind::Contains, true, "111100"),
+        (AtomKind::Contains, false, "000011"),
+        (AtomKind::Within, true, "000000"),
+    ] {
+        let atom = atom(alloc, Variable::OsName, kind, "n")?;
+        let held = truths(alloc, &Marker::Opaque { atom, positive })?;
+        assert_eq!(rt; held.as_str(), want);
+    }
+    for (first, second, all, any) in [
+        ("", "linux", "100000", "111010"),
+        ("test", "linux", "010000", "110101"),
+        ("test", "plan9", "000000", "010101"),
+    ] {
+        let mut parts = Vec::new(alloc);
+        parts.push(extra(alloc, first, true)?)?;
+        parts.push(text(alloc, Variable::SysPlatform, second, true)?)?;
+        assert_eq!(rt;
+            truths(alloc, &Marker::All(parts))?.as_str(),
+            all,
+            "{first} {second}"
+        );
+        let mut parts = Vec::new(alloc);
+        parts.push(extra(alloc, first, true)?)?;
+        parts.push(text(alloc, Variable::SysPlatform, second, true)?)?;
+        assert_eq!(rt;
+            truths(alloc, &Marker::Any(parts))?.as_str(),
+            any,
+            "{first} {second}"
+        );
+    }
+    assert_eq!(rt;
+        truths(alloc, &Marker::All(Vec::new(alloc)))?.as_str(),
+        "111111"
+    );
+    assert_eq!(rt;
+        truths(alloc, &Marker::Any(Vec::new(alloc)))?.as_str(),
+        "000000"
+    );
+    Ok(())
+}
+
+#[test]
+fn atoms_are_ordered(rt: HostRuntime) -> Result<(), Fail> {
+    let alloc = rt.alloc();
+    let mut atoms = Vec::new(alloc);
+    for (variable, kind, literal) in [
+        (Variable::OsName, AtomKind::Contains, ""),
+        (Variable::OsName, AtomKind::Contains, "a"),
+        (Variable::OsName, AtomKind::Contains, "a a"),
+        (Variable::OsName, AtomKind::Contains, "b"),
+        (Variable::OsName, AtomKind::Within, "a"),
+        (Variable::OsName, AtomKind::Below, "a"),
+        (Variable::OsName, AtomKind::AtMost, "a"),
+        (Variable::SysPlatform, AtomKind::Below, "B"),
+        (Variable::SysPlatform, AtomKind::Below, "a"),
+        (Variable::PlatformVersion, AtomKind::Contains, "a"),
+        (Variable::PythonVersion, AtomKind::Contains, "a"),
+        (Variable::PythonFullVersion, AtomKind::Contains, "3."),
+        (Variable::ImplementationName, AtomKind::Contains, "a"),
+        (Variable::ImplementationVersion, AtomKind::AtMost, "a"),
+        (Variable::ImplementationVersion, AtomKind::Same, "a"),
+    ] {
+        atoms.push(atom(alloc, variable, kind, literal)?)?;
+    }
+    for (i, first) in atoms.iter().enumerate() {
+        for (j, second) in atoms.iter().enumerate() {
+            assert_eq!(rt; first.copy(alloc)?.cmp(second), i.cmp(&j), "{i} {j}");
+        }
+    }
+    Ok(())
+}
+
+#[test]
+fn atoms_and_worlds_are_checked(rt: HostRuntime) -> Result<(), Fail> {
+    let alloc = rt.alloc();
+    for (variable, kind, literal, stands) in [
+        (Variable::PythonVersion, AtomKind::Contains, "~ '", true),
+        (Variable::PythonVersion, AtomKind::Within, "a", false),
+        (Variable::OsName, AtomKind::Same, "a", false),
+        (Variable::ImplementationVersion, AtomKind::Below, "\"", true),
+        (Variable::OsName, AtomKind::Below, "'\"", false),
+        (Variable::OsName, AtomKind::Below, "a\\b", false),
+        (Variable::OsName, AtomKind::Below, "\u{7f}", false),
+        (Variable::OsName, AtomKind::Below, "a\tb", false),
+    ] {
+        let literal = String::from_str(alloc, literal)?;
+        assert_eq!(rt; Atom::of(variable, kind, literal).is_some(), stands);
+    }
+    for (first, second, is_world) in [("a", "b", true), ("b", "a", false), ("a", "a", false)] {
+        let mut texts = Vec::new(alloc);
+        for text in MACHINES[0].split('|') {
+            texts.push(String::from_str(alloc, text)?)?;
+        }
+        let mut truths = Vec::new(alloc);
+        truths.push(atom(alloc, Variable::OsName, AtomKind::Below, first)?)?;
+        truths.push(atom(alloc, Variable::OsName, AtomKind::Below, second)?)?;
+        assert_eq!(rt;
+            World::of((3, 8, 5), texts, truths).is_some(),
+            is_world,
+            "{first} {second}"
+        );
+    }
+    assert!(rt; World::of((3, 8, 5), Vec::new(alloc), Vec::new(alloc)).is_none());
+    Ok(())
+}
+
+#[test]
+fn texts_stand_in_the_order_of_their_variables(rt: HostRuntime) -> Result<(), Fail> {
+    let worlds = worlds(rt.alloc())?;
+    for (variable, want) in [
+        (Variable::OsName, "posix"),
+        (Variable::SysPlatform, "linux"),
+        (Variable::PlatformMachine, "x86_64"),
+        (Variable::PlatformPythonImplementation, "CPython"),
+        (Variable::PlatformRelease, "6.1.0"),
+        (Variable::PlatformSystem, "Linux"),
+        (Variable::PlatformVersion, "#1 SMP"),
+        (Variable::ImplementationName, "cpython"),
+        (Variable::PythonVersion, ""),
+        (Variable::ImplementationVersion, ""),
+    ] {
+        for world in worlds.iter().take(1) {
+            assert_eq!(rt; world.text(variable), want);
+        }
+    }
+    let clause = Clause::read(rt.alloc(), Op::Compatible, "3.7")?;
+    assert!(rt;
+        meets_python(&clause, false, (3, 10, 0)) && !meets_python(&clause, true, (4, 0, 0))
+    );
     Ok(())
 }
