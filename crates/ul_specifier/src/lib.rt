@@ -12,7 +12,7 @@ mod reading;
 pub use clause::{Clause, Op, Specifiers};
 pub use fault::SpecFault;
 pub use meets::equals_plain;
-pub use reading::{after_space, before_space};
+pub use reading::{after_space, before_space, operator};
 
 #[cfg(test)]
 mod tests;

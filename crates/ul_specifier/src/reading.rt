@@ -64,9 +64,11 @@ fn before_end<'a>(input: &'a [u8], word: &[u8]) -> Option<&'a [u8]>
     input.strip_suffix(word)
 }
 
-// The operator in front, and the text after it.
+/// The longest operator that stands in front of a text, and the text after it.
+///
+/// `None` exactly where no operator of PEP 440 stands there; `===` isn't one here.
 #[tactic(auto, unfolding(crate::specs::Reading::operator))]
-fn operator(input: &[u8]) -> Option<(Op, &[u8])>
+pub fn operator(input: &[u8]) -> Option<(Op, &[u8])>
     ensures { operator_view result ≡ Grammar.operator input.now }
 {
     if let Some(rest) = after_front(input, b"==") {
