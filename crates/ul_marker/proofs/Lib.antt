@@ -1,2 +1,12 @@
 pub mod Rises
 pub mod TruthExamples
+pub mod Tokens
+pub mod Refusals
+pub mod Compared
+pub mod Listed
+pub mod Chains
+pub mod Valid
+pub mod ReadingExamples
+pub mod Joining
+pub mod Related
+pub mod Spelled

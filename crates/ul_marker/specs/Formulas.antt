@@ -1,5 +1,5 @@
 -- A marker as plain data: a formula of comparisons (PEP 508, "Environment Markers").
-use Rattle.std.specs.Prelude.{◌≡◌, ℕ, List, [], ◌∷◌, All, Bool, true, Option, Some}
+use Rattle.std.specs.Prelude.{◌≡◌, ℕ, List, [], ◌∷◌, All, Bool, true, Some}
 use Rattle.ul_base.specs.Names.{name_of}
 use Rattle.ul_version.specs.Fields.{Fields, IsVersion}
 use Rattle.ul_specifier.specs.Clauses.{ClauseFields, IsClause}

@@ -5,3 +5,10 @@ pub mod Truth
 pub mod Views
 pub mod Rising
 pub mod TruthVectors
+pub mod Words
+pub mod Comparisons
+pub mod Reading
+pub mod Readers
+pub mod Grammar
+pub mod ReadingLaws
+pub mod ReadingVectors

@@ -2,7 +2,7 @@
 --
 -- Where PEP 508 compares texts by PEP 440 if both sides are versions, text variables are compared as texts
 -- here; and `in` with a Python variable on the left asks for a version of a list.
-use Rattle.std.specs.Prelude.{ℕ, ◌==◌, ◌&&◌, ◌||◌, Bool, true, false, not, List, [], ◌∷◌}
+use Rattle.std.specs.Prelude.{ℕ, ◌&&◌, ◌||◌, Bool, true, false, not, List, [], ◌∷◌}
 use Rattle.std.specs.List.{list_any}
 use Rattle.std.specs.Str.{bytes_eq}
 use Rattle.ul_base.specs.Names.{is_name}
@@ -10,7 +10,7 @@ use Rattle.ul_version.specs.Fields.{Fields, plain}
 use Rattle.ul_specifier.specs.Clauses.{ClauseFields}
 use Rattle.ul_specifier.specs.Meaning.{meets_clause}
 use Rattle.ul_specifier.specs.declared.clause.Op.TheVariants.{Equal}
-use Rattle.ul_marker.specs.Atoms.{AtomFields, has_atom}
+use Rattle.ul_marker.specs.Atoms.{has_atom}
 use Rattle.ul_marker.specs.Formulas.{Formula, extra, python, python_list, text, opaque, all, any, Formulas, none, more}
 use Rattle.ul_marker.specs.Worlds.{WorldFields, text_at}
 

@@ -1,6 +1,6 @@
 -- Worked examples: the truth of formulas at three worlds (PEP 508, "Environment Markers").
 use Rattle.std.specs.Prelude.{◌≡◌, ℕ, Bool, true, false, List, [], ◌∷◌, codes}
-use Rattle.ul_version.specs.Fields.{Fields, plain}
+use Rattle.ul_version.specs.Fields.{plain}
 use Rattle.ul_specifier.specs.Clauses.{ClauseFields}
 use Rattle.ul_specifier.specs.declared.clause.Op.{Op}
 use Rattle.ul_specifier.specs.declared.clause.Op.TheVariants.{Equal, AtLeast}
@@ -8,8 +8,8 @@ use Rattle.ul_marker.specs.Atoms.{AtomFields}
 use Rattle.ul_marker.specs.Formulas.{Formula, extra, python, python_list, text, opaque, all, any, Formulas, none, more}
 use Rattle.ul_marker.specs.Truth.{marker_holds}
 use Rattle.ul_marker.specs.Worlds.{WorldFields}
-use Rattle.ul_marker.specs.declared.variable.AtomKind.TheVariants.{Contains, Within, Below, AtMost, Same}
-use Rattle.ul_marker.specs.declared.variable.Variable.TheVariants.{OsName, SysPlatform, PlatformSystem, ImplementationName, ImplementationVersion, PythonVersion}
+use Rattle.ul_marker.specs.declared.variable.AtomKind.TheVariants.{Contains, Within, Below, Same}
+use Rattle.ul_marker.specs.declared.variable.Variable.TheVariants.{OsName, SysPlatform, PlatformSystem, ImplementationName, ImplementationVersion}
 
 -- the texts of a machine, in the order of the text variables
 abbrev pub linux : List (List ℕ)

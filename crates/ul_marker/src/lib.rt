@@ -2,11 +2,14 @@
 #![tactic(auto)]
 
 mod atom;
+mod comparison;
 mod fault;
 pub mod laws;
 mod marker;
+mod reading;
 mod truth;
 mod variable;
+mod words;
 mod world;
 
 pub use atom::Atom;
@@ -16,5 +19,9 @@ pub use truth::meets_python;
 pub use variable::{AtomKind, Variable};
 pub use world::World;
 
+#[cfg(test)]
+mod package_tests;
+#[cfg(test)]
+mod reading_tests;
 #[cfg(test)]
 mod tests;

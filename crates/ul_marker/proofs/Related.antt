@@ -1,0 +1,244 @@
+-- Comparisons with their sides exchanged, and negated ones.
+use Rattle.std.proofs.Common.{◌≡◌, ℕ, List, [], ◌∷◌, refl, sym, ◌∙◌, Bool, true, false, true≢false, Option, Some, None}
+use Rattle.std.specs.Prelude.{not, codes, if◌then◌else◌}
+use Rattle.std.specs.List.{list_all, slice_split}
+use Rattle.ul_version.specs.Fields.{Fields, plain}
+use Rattle.ul_version.specs.Reading.{◌>>=◌, is_white, version_of}
+use Rattle.ul_version.proofs.Spelling.{inside}
+use Rattle.ul_specifier.specs.Clauses.{ClauseFields, is_bare}
+use Rattle.ul_specifier.specs.Laws.{meets_with}
+use Rattle.ul_specifier.specs.Reading.{before_end, clause_after, clause_with, is_version_byte, may_stand, star_of, starred, stripped, unstarred, version_clause}
+use Rattle.ul_specifier.specs.declared.clause.Op.{Op}
+use Rattle.ul_specifier.specs.declared.clause.Op.TheVariants.{Equal, Unequal, AtLeast, AtMost, More, Less}
+use Rattle.ul_specifier.proofs.LawProofs as Clauses
+use Rattle.ul_marker.specs.Atoms.{is_text}
+use Rattle.ul_marker.specs.Comparisons.{comparison_of, contained, mirrored, opaquely, parts_versions, python_full, python_sign, python_within, signed, text_sign, versions_of, within}
+use Rattle.ul_marker.specs.Formulas.{Formula, python, python_list, text}
+use Rattle.ul_marker.specs.Reading.{atom_at, before_close, chain_at, chain_with, each, enclosed, joined, marker_of, part_at, pieces_from}
+use Rattle.ul_marker.specs.ReadingLaws.{AreOpposed, HasTokens, MirroredIsSame, NegatedRelations, NotInIsNegation, subject}
+use Rattle.ul_marker.specs.Truth.{python_release}
+use Rattle.ul_marker.specs.declared.reading.Chain.{Chain}
+use Rattle.ul_marker.specs.declared.reading.Chain.TheVariants.{Conjunction, Disjunction}
+use Rattle.ul_marker.specs.declared.variable.AtomKind.TheVariants as Kind
+use Rattle.ul_marker.specs.declared.variable.Variable.{Variable}
+use Rattle.ul_marker.specs.declared.words.Token.{Token}
+use Rattle.ul_marker.specs.declared.words.Token.TheVariants.{In, Not, Extra, Sign, Literal}
+use Rattle.ul_marker.proofs.Chains.{atom-comparison}
+
+-- ---- texts of one comparison
+
+single : (chain : Chain) (read : List Token → Option Formula) (ts : List Token) → pieces_from chain 0 ts ≡ ts ∷ [] → chain_with chain read ts ≡ read ts
+unfolding chain_with each
+single chain read ts e = rw e (go (read ts))
+  where
+    go : (answer : Option Formula) → ((answer >>= λ f. Some (f ∷ [])) >>= λ fs. Some (joined chain fs)) ≡ answer
+    go None = refl
+    go (Some f) = refl
+
+-- tokens in which nothing joins and nothing is enclosed are read as a comparison
+pub sole : (ts : List Token) → pieces_from Conjunction 0 ts ≡ ts ∷ [] → pieces_from Disjunction 0 ts ≡ ts ∷ [] → enclosed ts ≡ None
+    → chain_at Disjunction 64 ts ≡ comparison_of ts
+unfolding chain_at part_at
+sole ts p q e =
+    single Disjunction (part_at Disjunction 64) ts q ∙ single Conjunction (atom_at 64) ts p ∙ atom-comparison 64 ts e
+
+read-tokens : (input : List ℕ) (ts : List Token) → HasTokens input ts → pieces_from Conjunction 0 ts ≡ ts ∷ [] → pieces_from Disjunction 0 ts ≡ ts ∷ []
+    → enclosed ts ≡ None → marker_of input ≡ comparison_of ts
+unfolding marker_of
+read-tokens input ts h p q e = rw h (sole ts p q e)
+
+sign-right : (input : List ℕ) (variable : Option Variable) (op : Op) (literal : List ℕ) → HasTokens input (subject variable ∷ Sign op ∷ Literal literal ∷ [])
+    → marker_of input ≡ signed (subject variable) op literal
+unfolding pieces_from enclosed before_close comparison_of
+sign-right input None op literal h = read-tokens input _ h refl refl refl
+sign-right input (Some v) op literal h = read-tokens input _ h refl refl refl
+
+sign-left : (input : List ℕ) (variable : Option Variable) (op : Op) (literal : List ℕ) → HasTokens input (Literal literal ∷ Sign op ∷ subject variable ∷ [])
+    → marker_of input ≡ (mirrored op >>= λ sign. signed (subject variable) sign literal)
+unfolding pieces_from enclosed before_close comparison_of
+sign-left input None op literal h = read-tokens input _ h refl refl refl
+sign-left input (Some v) op literal h = read-tokens input _ h refl refl refl
+
+in-right : (input : List ℕ) (variable : Option Variable) (literal : List ℕ) → HasTokens input (subject variable ∷ In ∷ Literal literal ∷ [])
+    → marker_of input ≡ within true (subject variable) literal
+unfolding pieces_from enclosed before_close comparison_of
+in-right input None literal h = read-tokens input _ h refl refl refl
+in-right input (Some v) literal h = read-tokens input _ h refl refl refl
+
+not-right : (input : List ℕ) (variable : Option Variable) (literal : List ℕ) → HasTokens input (subject variable ∷ Not ∷ In ∷ Literal literal ∷ [])
+    → marker_of input ≡ within false (subject variable) literal
+unfolding pieces_from enclosed before_close comparison_of
+not-right input None literal h = read-tokens input _ h refl refl refl
+not-right input (Some v) literal h = read-tokens input _ h refl refl refl
+
+in-left : (input : List ℕ) (variable : Option Variable) (literal : List ℕ) → HasTokens input (Literal literal ∷ In ∷ subject variable ∷ [])
+    → marker_of input ≡ contained true (subject variable) literal
+unfolding pieces_from enclosed before_close comparison_of
+in-left input None literal h = read-tokens input _ h refl refl refl
+in-left input (Some v) literal h = read-tokens input _ h refl refl refl
+
+not-left : (input : List ℕ) (variable : Option Variable) (literal : List ℕ) → HasTokens input (Literal literal ∷ Not ∷ In ∷ subject variable ∷ [])
+    → marker_of input ≡ contained false (subject variable) literal
+unfolding pieces_from enclosed before_close comparison_of
+not-left input None literal h = read-tokens input _ h refl refl refl
+not-left input (Some v) literal h = read-tokens input _ h refl refl refl
+
+pub mirrored_is_same : MirroredIsSame
+mirrored_is_same input other variable literal op sign e h k =
+    sign-left input variable op literal h ∙ rw e (sym (sign-right other variable sign literal k))
+
+-- ---- clauses
+
+not-not : (a b : Bool) → a ≡ not b → b ≡ not a
+not-not true true e = absurd (true≢false e)
+not-not true false e = refl
+not-not false true e = refl
+not-not false false e = absurd (true≢false (sym e))
+
+-- two operators whose clauses stand in the same places and are opposed at releases
+record Opposite (op other : Op) : Type 0 where
+  stars : star_of op ≡ star_of other
+  stand : (V : Fields) → may_stand op V ≡ may_stand other V
+  without : (V : Fields) (release : List ℕ) → meets_with other V false (plain release) ≡ not (meets_with op V false (plain release))
+  starred : (V : Fields) (prefix : Bool) (release : List ℕ) → star_of op ≡ Some prefix → meets_with other V prefix (plain release) ≡ not (meets_with op V prefix (plain release))
+
+-- the formula of a clause
+abbrev clause-formula : Bool → Option ClauseFields → Option Formula
+clause-formula full part = part >>= λ clause. Some (python full clause)
+
+unstarred-opposed : (op other : Op) (full : Bool) (V : Fields) → Opposite op other → AreOpposed (clause-formula full (unstarred op V)) (clause-formula full (unstarred other V))
+unfolding unstarred
+unstarred-opposed op other full V o = rw (← o.stand V) (go (may_stand op V))
+  where
+    go : (b : Bool) → AreOpposed (clause-formula full (if b then Some (record { op = op; version = V; prefix = false }) else None))
+        (clause-formula full (if b then Some (record { op = other; version = V; prefix = false }) else None))
+    go true = λ w x. o.without V (python_release full w)
+    go false = tt
+
+starred-opposed : (op other : Op) (full : Bool) (V : Fields) → Opposite op other → AreOpposed (clause-formula full (starred op V)) (clause-formula full (starred other V))
+unfolding starred
+starred-opposed op other full V o = rw (← o.stars) (go (star_of op) refl (is_bare V))
+  where
+    go : (star : Option Bool) → star_of op ≡ star → (b : Bool)
+        → AreOpposed (clause-formula full (star >>= λ prefix. if b then Some (record { op = op; version = V; prefix = prefix }) else None))
+        (clause-formula full (star >>= λ prefix. if b then Some (record { op = other; version = V; prefix = prefix }) else None))
+    go None e b = tt
+    go (Some prefix) e true = λ w x. o.starred V prefix (python_release full w) e
+    go (Some prefix) e false = tt
+
+version-opposed : (op other : Op) (full : Bool) (input : List ℕ) (front : Option (List ℕ)) → Opposite op other
+    → AreOpposed (clause-formula full (version_clause op input front)) (clause-formula full (version_clause other input front))
+version-opposed op other full input None o = go (version_of input)
+  where
+    go : (read : Option Fields) → AreOpposed (clause-formula full (read >>= unstarred op)) (clause-formula full (read >>= unstarred other))
+    go None = tt
+    go (Some V) = unstarred-opposed op other full V o
+version-opposed op other full input (Some front) o = go (version_of front)
+  where
+    go : (read : Option Fields) → AreOpposed (clause-formula full (read >>= starred op)) (clause-formula full (read >>= starred other))
+    go None = tt
+    go (Some V) = starred-opposed op other full V o
+
+clause-opposed : (op other : Op) (full : Bool) (literal : List ℕ) → Opposite op other → AreOpposed (clause-formula full (clause_with op literal)) (clause-formula full (clause_with other literal))
+unfolding clause_with clause_after
+clause-opposed op other full literal o =
+    let input = stripped is_white literal in
+    go (list_all is_version_byte input) (before_end (codes ".*") input)
+  where
+    go : (b : Bool) (front : Option (List ℕ)) → AreOpposed (clause-formula full (if b then version_clause op (stripped is_white literal) front else None))
+        (clause-formula full (if b then version_clause other (stripped is_white literal) front else None))
+    go true front = version-opposed op other full (stripped is_white literal) front o
+    go false front = tt
+
+equal-unequal : Opposite Equal Unequal
+equal-unequal = record {
+  stars = refl;
+  stand = λ V. refl;
+  without = λ V release. Clauses.unequal V (plain release) false;
+  starred = λ V prefix release e. Clauses.unequal V (plain release) prefix;
+}
+
+less-at_least : Opposite Less AtLeast
+less-at_least = record {
+  stars = refl;
+  stand = λ V. refl;
+  without = λ V release. not-not _ _ (Clauses.less V (plain release) refl refl);
+  starred = λ V prefix release e. rw (inside prefix false (sym e)) (not-not _ _ (Clauses.less V (plain release) refl refl));
+}
+
+at_most-more : Opposite AtMost More
+at_most-more = record {
+  stars = refl;
+  stand = λ V. refl;
+  without = λ V release. Clauses.more V (plain release) refl refl;
+  starred = λ V prefix release e. absurd (cc e);
+}
+
+-- ---- negated comparisons
+
+-- two operators that are opposed beside text variables
+record OppositeTexts (op other : Op) : Type 0 where
+  texts : (v : Variable) (literal : List ℕ) → AreOpposed (text_sign v op literal) (text_sign v other literal)
+  extras : (literal : List ℕ) → AreOpposed (signed Extra op literal) (signed Extra other literal)
+
+signed-opposed : (op other : Op) (variable : Option Variable) (literal : List ℕ) → Opposite op other → OppositeTexts op other
+    → AreOpposed (signed (subject variable) op literal) (signed (subject variable) other literal)
+unfolding signed
+signed-opposed op other None literal o t = t.extras literal
+signed-opposed op other (Some v) literal o t = go (python_full v)
+  where
+    go : (full : Option Bool) → AreOpposed (python_sign v op literal full) (python_sign v other literal full)
+    go None = t.texts v literal
+    go (Some full) = clause-opposed op other full literal o
+
+equal-unequal-texts : OppositeTexts Equal Unequal
+unfolding signed
+equal-unequal-texts = record {
+  texts = λ v literal. elim (is_text v) as (λ (b : Bool). AreOpposed (Some (if b then text v literal true else opaquely v Kind.Same literal true)) (Some (if b then text v literal false else opaquely v Kind.Same literal false))) [
+    | true ↦ λ w x. refl
+    | false ↦ λ w x. refl
+  ];
+  extras = λ literal w x. refl;
+}
+
+less-at_least-texts : OppositeTexts Less AtLeast
+unfolding signed
+less-at_least-texts = record { texts = λ v literal w x. refl; extras = λ literal. tt }
+
+at_most-more-texts : OppositeTexts AtMost More
+unfolding signed
+at_most-more-texts = record { texts = λ v literal w x. refl; extras = λ literal. tt }
+
+within-opposed : (variable : Option Variable) (literal : List ℕ) → AreOpposed (within true (subject variable) literal) (within false (subject variable) literal)
+unfolding within
+within-opposed None literal = tt
+within-opposed (Some v) literal = go (python_full v)
+  where
+    listed : (full : Bool) (read : Option (List Fields)) → AreOpposed (read >>= λ versions. Some (python_list full versions true)) (read >>= λ versions. Some (python_list full versions false))
+    listed full None = tt
+    listed full (Some versions) = λ w x. refl
+
+    go : (full : Option Bool) → AreOpposed (python_within v literal true full) (python_within v literal false full)
+    go None = λ w x. refl
+    go (Some full) = listed full (versions_of (slice_split parts_versions literal))
+
+contained-opposed : (variable : Option Variable) (literal : List ℕ) → AreOpposed (contained true (subject variable) literal) (contained false (subject variable) literal)
+unfolding contained
+contained-opposed None literal = tt
+contained-opposed (Some v) literal = λ w x. refl
+
+pub negated_relations : NegatedRelations
+negated_relations = record {
+  unequal = λ input other variable literal h k.
+      rw (sign-right input variable Equal literal h, sign-right other variable Unequal literal k) (signed-opposed Equal Unequal variable literal equal-unequal equal-unequal-texts);
+  at_least = λ input other variable literal h k.
+      rw (sign-right input variable Less literal h, sign-right other variable AtLeast literal k) (signed-opposed Less AtLeast variable literal less-at_least less-at_least-texts);
+  more = λ input other variable literal h k.
+      rw (sign-right input variable AtMost literal h, sign-right other variable More literal k) (signed-opposed AtMost More variable literal at_most-more at_most-more-texts);
+  not_in = λ input other variable literal h k.
+      rw (in-right input variable literal h, not-right other variable literal k) (within-opposed variable literal);
+}
+
+pub not_in_is_negation : NotInIsNegation
+not_in_is_negation input other variable literal h k =
+    rw (in-left input variable literal h, not-left other variable literal k) (contained-opposed variable literal)

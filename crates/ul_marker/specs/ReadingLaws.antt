@@ -1,0 +1,90 @@
+-- What holds of all texts of markers and their formulas.
+use Rattle.std.specs.Prelude.{◌≡◌, ◌↔◌, ℕ, ◌++◌, Bool, not, List, [], ◌∷◌, Option, Some, None}
+use Rattle.ul_version.specs.Reading.{is_white}
+use Rattle.ul_specifier.specs.Reading.{stripped}
+use Rattle.ul_specifier.specs.declared.clause.Op.{Op}
+use Rattle.ul_specifier.specs.declared.clause.Op.TheVariants.{Equal, Unequal, AtLeast, AtMost, More, Less}
+use Rattle.ul_marker.specs.Comparisons.{mirrored}
+use Rattle.ul_marker.specs.Formulas.{Formula, IsFormula, formulas_of}
+use Rattle.ul_marker.specs.Grammar.{Spells}
+use Rattle.ul_marker.specs.Reading.{join, marker_of}
+use Rattle.ul_marker.specs.Truth.{marker_holds}
+use Rattle.ul_marker.specs.Words.{tokens_of}
+use Rattle.ul_marker.specs.Worlds.{WorldFields}
+use Rattle.ul_marker.specs.declared.reading.Chain.{Chain}
+use Rattle.ul_marker.specs.declared.variable.Variable.{Variable}
+use Rattle.ul_marker.specs.declared.words.Token.{Token}
+use Rattle.ul_marker.specs.declared.words.Token.TheVariants.{In, Not, Extra, Named, Sign, Literal}
+
+-- ---- reading
+
+-- a text is read as a formula exactly where the grammar spells it so
+abbrev pub ReadingIsGrammar : Type 0
+ReadingIsGrammar = (input : List ℕ) (f : Formula) → (marker_of input ≡ Some f) ↔ Spells input f
+
+-- a text spells one formula at most
+abbrev pub SpelledOnce : Type 0
+SpelledOnce = (input : List ℕ) (f g : Formula) → Spells input f → Spells input g → f ≡ g
+
+-- what is read is a formula
+abbrev pub ReadIsFormula : Type 0
+ReadIsFormula = (input : List ℕ) (f : Formula) → marker_of input ≡ Some f → IsFormula f
+
+-- ---- comparisons
+
+-- a text that has these tokens
+abbrev pub HasTokens : List ℕ → List Token → Type 0
+HasTokens input tokens = tokens_of (stripped is_white input) ≡ Some tokens
+
+-- the token of a variable, or of `extra`
+abbrev pub subject : Option Variable → Token
+subject None = Extra
+subject (Some variable) = Named variable
+
+-- a literal, a sign and a variable read as the variable, the mirrored sign and the literal
+abbrev pub MirroredIsSame : Type 0
+MirroredIsSame = (input other : List ℕ) (variable : Option Variable) (literal : List ℕ) (op sign : Op) → mirrored op ≡ Some sign
+    → HasTokens input (Literal literal ∷ Sign op ∷ subject variable ∷ []) → HasTokens other (subject variable ∷ Sign sign ∷ Literal literal ∷ [])
+    → marker_of input ≡ marker_of other
+
+-- two readings, of which neither is there, or both are and the one is true exactly where the other isn't
+abbrev pub AreOpposed : Option Formula → Option Formula → Type 0
+AreOpposed None None = Unit {0}
+AreOpposed None (Some g) = ⊥
+AreOpposed (Some f) None = ⊥
+AreOpposed (Some f) (Some g) = (w : WorldFields) (x : List ℕ) → marker_holds g w x ≡ not (marker_holds f w x)
+
+-- a variable and a literal with one relation between them, and with another, have opposed readings
+abbrev pub RelationsOppose : List Token → List Token → Type 0
+RelationsOppose one two = (input other : List ℕ) (variable : Option Variable) (literal : List ℕ)
+    → HasTokens input (subject variable ∷ (one ++ (Literal literal ∷ []))) → HasTokens other (subject variable ∷ (two ++ (Literal literal ∷ [])))
+    → AreOpposed (marker_of input) (marker_of other)
+
+-- the negated relations
+pub record NegatedRelations : Type 0 where
+  pub unequal : RelationsOppose (Sign Equal ∷ []) (Sign Unequal ∷ [])
+  pub at_least : RelationsOppose (Sign Less ∷ []) (Sign AtLeast ∷ [])
+  pub more : RelationsOppose (Sign AtMost ∷ []) (Sign More ∷ [])
+  pub not_in : RelationsOppose (In ∷ []) (Not ∷ In ∷ [])
+
+-- a literal `not in` a variable is the negation of the literal `in` it
+abbrev pub NotInIsNegation : Type 0
+NotInIsNegation = (input other : List ℕ) (variable : Option Variable) (literal : List ℕ)
+    → HasTokens input (Literal literal ∷ In ∷ subject variable ∷ []) → HasTokens other (Literal literal ∷ Not ∷ In ∷ subject variable ∷ [])
+    → AreOpposed (marker_of input) (marker_of other)
+
+-- ---- `and` and `or`
+
+-- the truth of formulas joined by `and` or by `or`
+abbrev pub holds_joined : Chain → List Formula → WorldFields → List ℕ → Bool
+holds_joined chain fs w x = marker_holds (join chain (formulas_of fs)) w x
+
+-- joined formulas within joined formulas are as if they stood there alone
+abbrev pub GroupingIsFree : Type 0
+GroupingIsFree = (chain : Chain) (before inner after : List Formula) (w : WorldFields) (x : List ℕ)
+    → holds_joined chain (before ++ (join chain (formulas_of inner) ∷ after)) w x ≡ holds_joined chain (before ++ (inner ++ after)) w x
+
+-- neighbours may change places
+abbrev pub OrderIsFree : Type 0
+OrderIsFree = (chain : Chain) (before after : List Formula) (f g : Formula) (w : WorldFields) (x : List ℕ)
+    → holds_joined chain (before ++ (f ∷ g ∷ after)) w x ≡ holds_joined chain (before ++ (g ∷ f ∷ after)) w x

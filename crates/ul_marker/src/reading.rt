@@ -1,0 +1,201 @@
+//! Reading markers from their texts.
+
+ghost use Rattle.std.specs.Prelude.{◌≡◌, ◌≤◌, ◌<◌, ◌+◌, ◌^◌, [], ◌∷◌, Some, None, IfErr, IfOk, length, map, take, drop};
+ghost use Rattle.ul_marker.specs.Formulas.{IsFormula};
+ghost use Rattle.ul_marker.specs.Reading as Grammar;
+ghost use Rattle.ul_marker.specs.Readers.{optional_tokens, Reads};
+ghost use Rattle.ul_marker.specs.Views.{marker_view};
+
+use crate::comparison::comparison;
+use crate::words::{Token, tokens};
+use crate::{Marker, MarkerFault};
+use std::alloc::Global;
+use ul_specifier::{after_space, before_space};
+
+// How many parentheses may be open at one place.
+const MAX_DEPTH: u8 = 64;
+
+/// How parts are joined: by `and`, or by `or`.
+#[derive(Clone, Copy, Debug)]
+pub enum Chain {
+    Conjunction,
+    Disjunction,
+}
+
+// Whether a token stands between two parts.
+fn joins(token: &Token, kind: Chain) -> bool
+    ensures { result ≡ Grammar.joins kind token.now }
+{
+    match kind {
+        Chain::Conjunction => matches!(token, Token::And),
+        Chain::Disjunction => matches!(token, Token::Or),
+    }
+}
+
+// How many parentheses are open after a token.
+fn opened(token: &Token, count: usize) -> usize
+    requires { count + 1 < 2 ^ 64 }
+    ensures { result ≡ Grammar.opened token.now count }
+{
+    match token {
+        Token::Open => count + 1,
+        Token::Close => count.saturating_sub(1),
+        Token::And
+        | Token::Or
+        | Token::In
+        | Token::Not
+        | Token::Extra
+        | Token::Named(_)
+        | Token::Sign(_)
+        | Token::Literal(_) => count,
+    }
+}
+
+// How many tokens stand before the first joining one that stands in no parentheses, or in all.
+fn part_len(tokens: &[Token], kind: Chain) -> usize
+    ensures fits { result ≤ length tokens.now }
+    ensures last { length tokens.now ≤ result → Grammar.pieces_from kind 0 tokens.now ≡ tokens.now ∷ [] }
+    ensures more { result < length tokens.now → Grammar.pieces_from kind 0 tokens.now
+        ≡ take result tokens.now ∷ Grammar.pieces_from kind 0 (drop (result + 1) tokens.now) }
+{
+    let mut count: usize = 0;
+    for i in 0..tokens.len() {
+        let token = &tokens[i];
+        if cuts(token, count, kind) {
+            return i;
+        }
+        count = opened(token, count);
+    }
+    tokens.len()
+}
+
+// Whether a token stands between two parts, where so many parentheses are open.
+fn cuts(token: &Token, count: usize, kind: Chain) -> bool
+    ensures { result ≡ Grammar.cuts kind count token.now }
+{
+    count == 0 && joins(token, kind)
+}
+
+fn is_open(token: &Token) -> bool
+    ensures { result ≡ Grammar.is_open token.now }
+{
+    matches!(token, Token::Open)
+}
+
+fn is_close(token: &Token) -> bool
+    ensures { result ≡ Grammar.is_close token.now }
+{
+    matches!(token, Token::Close)
+}
+
+// The tokens between a parenthesis in front and one at the end.
+fn enclosed(tokens: &[Token]) -> Option<&[Token]>
+    ensures { optional_tokens result ≡ Grammar.enclosed tokens.now }
+{
+    match tokens {
+        [first, inner @ .., last] => {
+            if !is_open(first) {
+                return None;
+            }
+            if !is_close(last) {
+                return None;
+            }
+            Some(inner)
+        }
+        _ => None,
+    }
+}
+
+// One part is itself, two or more are joined.
+fn joined(mut parts: Vec<Marker>, kind: Chain) -> Marker
+    requires { 0 < length parts.items }
+    ensures { marker_view result ≡ Grammar.joined kind (map marker_view parts.items) }
+{
+    if parts.len() == 1 {
+        if let Some(only) = parts.pop() {
+            return only;
+        }
+    }
+    match kind {
+        Chain::Conjunction => Marker::All(parts),
+        Chain::Disjunction => Marker::Any(parts),
+    }
+}
+
+// A conjunction or a marker whose parentheses nest so deep at most.
+#[cycle(reading)]
+fn read_chain(
+    alloc: Global,
+    tokens: &[Token],
+    depth: u8,
+    kind: Chain,
+) -> Result<Marker, MarkerFault>
+    ensures { Reads marker_view result (Grammar.chain_at kind depth tokens.now) }
+{
+    let mut parts = Vec::new(alloc);
+    let mut rest = tokens;
+    'parts: loop {
+        let (front, back) = rest.split_at(part_len(rest, kind));
+        let part = read_part(alloc, front, depth, kind)?;
+        parts.push(part)?;
+        let [_, others @ ..] = back else {
+            return Ok(joined(parts, kind));
+        };
+        rest = others;
+    }
+}
+
+// An atom of a conjunction, or a conjunction of a marker.
+#[cycle(reading)]
+#[tactic(auto, unfolding(crate::specs::Reading::part_at, crate::specs::Reading::chain_at))]
+fn read_part(alloc: Global, tokens: &[Token], depth: u8, kind: Chain) -> Result<Marker, MarkerFault>
+    ensures { Reads marker_view result (Grammar.part_at kind depth tokens.now) }
+{
+    match kind {
+        Chain::Conjunction => read_atom(alloc, tokens, depth),
+        Chain::Disjunction => read_chain(alloc, tokens, depth, Chain::Conjunction),
+    }
+}
+
+// A marker in parentheses, or a comparison.
+#[cycle(reading)]
+fn read_atom(alloc: Global, tokens: &[Token], depth: u8) -> Result<Marker, MarkerFault>
+    ensures { Reads marker_view result (Grammar.atom_at depth tokens.now) }
+{
+    let Some(inner) = enclosed(tokens) else {
+        return comparison(alloc, tokens);
+    };
+    if depth == 0 {
+        return Err(MarkerFault::NoReading);
+    }
+    read_chain(alloc, inner, depth - 1, Chain::Disjunction)
+}
+
+impl Marker {
+    /// The marker that a text spells, by the grammar of PEP 508 ("Environment Markers").
+    ///
+    /// Words are in lower case, and variables may have the older spellings `os.name`, `sys.platform`,
+    /// `platform.version`, `platform.machine`, `platform.python_implementation` and
+    /// `python_implementation`. Space and tab may stand between tokens, and white space at both ends of the
+    /// text is dropped. `and` binds closer than `or`, and parentheses nest at most 64 deep. A literal is
+    /// printable ASCII without the backslash.
+    ///
+    /// A comparison has one variable and one literal, on either side, and a sign with the literal on its
+    /// left says the same as the mirrored sign. With `extra` stand `==` and `!=` alone. The versions of
+    /// Python are compared with a version by any sign of PEP 440 but `===`, `~=` not mirrored, and may be
+    /// `in` a list of versions between spaces and commas. Any other variable stands with each sign but
+    /// `~=`, and may be `in` a literal; a literal may be `in` any variable but `extra`. `NoReading` is the
+    /// answer exactly where the text has no reading.
+    #[tactic(auto, unfolding(crate::specs::Reading::marker_of))]
+    pub fn read(alloc: Global, text: &str) -> Result<Marker, MarkerFault>
+        ensures read { IfOk result (λ m. Grammar.marker_of text.now ≡ Some (marker_view m)) }
+        ensures valid { IfOk result (λ m. IsFormula (marker_view m)) }
+        ensures no_reading { IfErr result (λ e. e ≡ MarkerFault.NoReading → Grammar.marker_of text.now ≡ None) }
+    {
+        let tokens = tokens(
+            alloc,
+            before_space(after_space(text.as_bytes(), false), false),
+        )?;
+        read_chain(alloc, tokens.as_slice(), MAX_DEPTH, Chain::Disjunction)
+    }
+}

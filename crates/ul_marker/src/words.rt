@@ -1,0 +1,322 @@
+//! The tokens of a marker's text.
+
+ghost use Rattle.std.specs.Prelude.{◌≡◌, ◌≤◌, Some, true, length};
+ghost use Rattle.std.specs.List.{list_all};
+ghost use Rattle.std.specs.Str.{bytes_eq};
+ghost use Rattle.ul_version.specs.Reading as Versions;
+ghost use Rattle.ul_marker.specs.Atoms.{is_literal};
+ghost use Rattle.ul_marker.specs.Readers.{front_view, optional_bytes, optional_front, tokens_view, Reads};
+ghost use Rattle.ul_marker.specs.Words as Grammar;
+
+use crate::{MarkerFault, Variable};
+use std::alloc::{AllocError, Global};
+use std::marker::Model;
+use ul_specifier::{Op, after_space, operator};
+
+/// The text of a literal: printable ASCII without the backslash, and not with both quotes.
+///
+/// Contracts see it as its bytes.
+#[derive(Drop)]
+pub struct Literal {
+    text: String,
+}
+
+impl Model for Literal {
+    ghost use Rattle.std.specs.Prelude.{◌≡◌, true, List, ℕ, string_bytes};
+    ghost use Rattle.ul_marker.specs.Atoms.{is_literal};
+
+    ghost Value = { List ℕ };
+
+    ghost view = { λ l. string_bytes l.text };
+
+    ghost invariant = { λ l. is_literal (string_bytes l.text) ≡ true };
+}
+
+impl Literal {
+    /// The text itself.
+    pub fn as_str(&self) -> &str
+        ensures text { result.now ≡ self.now }
+        ensures literal { is_literal self.now ≡ true }
+    {
+        self.text.as_str()
+    }
+}
+
+/// A token of a marker's text.
+#[derive(Drop)]
+pub enum Token {
+    /// `(`
+    Open,
+    /// `)`
+    Close,
+    /// `and`
+    And,
+    /// `or`
+    Or,
+    /// `in`
+    In,
+    /// `not`
+    Not,
+    /// `extra`
+    Extra,
+    /// The name of a variable, in its newer or its older spelling.
+    Named(Variable),
+    /// The sign of a comparison.
+    Sign(Op),
+    /// A literal, without its quotes.
+    Literal(Literal),
+}
+
+fn is_white(byte: u8) -> bool
+    ensures { result ≡ Versions.is_white byte }
+{
+    byte == b' ' || (9 <= byte && byte <= 13)
+}
+
+fn is_quote(byte: u8) -> bool
+    ensures { result ≡ Grammar.is_quote byte }
+{
+    byte == b'\'' || byte == b'"'
+}
+
+fn is_sign_byte(byte: u8) -> bool
+    ensures { result ≡ Grammar.is_sign_byte byte }
+{
+    byte == b'<' || (byte == b'>' || (byte == b'=' || (byte == b'!' || byte == b'~')))
+}
+
+fn is_word_byte(byte: u8) -> bool
+    ensures { result ≡ Grammar.is_word_byte byte }
+{
+    !(is_white(byte) || (byte == b'(' || (byte == b')' || (is_quote(byte) || is_sign_byte(byte)))))
+}
+
+fn is_quoted(quote: u8, byte: u8) -> bool
+    ensures { result ≡ Grammar.is_quoted quote byte }
+{
+    (32 <= byte && (byte <= 126 && byte != b'\\')) && byte != quote
+}
+
+// How many bytes in front stand in a word.
+fn word_len(input: &[u8]) -> usize
+    ensures length { result ≡ Grammar.run_length Grammar.is_word_byte input.now }
+    ensures fits { result ≤ length input.now }
+{
+    for i in 0..input.len() {
+        if !is_word_byte(input[i]) {
+            return i;
+        }
+    }
+    input.len()
+}
+
+// How many bytes in front stand in a literal with this quote.
+fn literal_len(quote: u8, input: &[u8]) -> usize
+    ensures length { result ≡ Grammar.run_length (Grammar.is_quoted quote) input.now }
+    ensures fits { result ≤ length input.now }
+{
+    for i in 0..input.len() {
+        if !is_quoted(quote, input[i]) {
+            return i;
+        }
+    }
+    input.len()
+}
+
+fn is_same(word: &[u8], other: &[u8]) -> bool
+    ensures { result ≡ bytes_eq word.now other.now }
+{
+    word == other
+}
+
+fn keyword(word: &[u8]) -> Option<Token>
+    ensures { result ≡ Grammar.listed Grammar.keywords word.now }
+{
+    if is_same(word, b"and") {
+        return Some(Token::And);
+    }
+    if is_same(word, b"or") {
+        return Some(Token::Or);
+    }
+    if is_same(word, b"in") {
+        return Some(Token::In);
+    }
+    if is_same(word, b"not") {
+        return Some(Token::Not);
+    }
+    if is_same(word, b"extra") {
+        return Some(Token::Extra);
+    }
+    None
+}
+
+fn variable(word: &[u8]) -> Option<Token>
+    ensures { result ≡ Grammar.listed Grammar.variables word.now }
+{
+    if is_same(word, b"os_name") {
+        return Some(Token::Named(Variable::OsName));
+    }
+    if is_same(word, b"sys_platform") {
+        return Some(Token::Named(Variable::SysPlatform));
+    }
+    if is_same(word, b"platform_machine") {
+        return Some(Token::Named(Variable::PlatformMachine));
+    }
+    if is_same(word, b"platform_python_implementation") {
+        return Some(Token::Named(Variable::PlatformPythonImplementation));
+    }
+    if is_same(word, b"platform_release") {
+        return Some(Token::Named(Variable::PlatformRelease));
+    }
+    if is_same(word, b"platform_system") {
+        return Some(Token::Named(Variable::PlatformSystem));
+    }
+    if is_same(word, b"platform_version") {
+        return Some(Token::Named(Variable::PlatformVersion));
+    }
+    if is_same(word, b"python_version") {
+        return Some(Token::Named(Variable::PythonVersion));
+    }
+    if is_same(word, b"python_full_version") {
+        return Some(Token::Named(Variable::PythonFullVersion));
+    }
+    if is_same(word, b"implementation_name") {
+        return Some(Token::Named(Variable::ImplementationName));
+    }
+    if is_same(word, b"implementation_version") {
+        return Some(Token::Named(Variable::ImplementationVersion));
+    }
+    None
+}
+
+// A variable in its older spelling.
+fn old_variable(word: &[u8]) -> Option<Token>
+    ensures { result ≡ Grammar.listed Grammar.old_variables word.now }
+{
+    if is_same(word, b"os.name") {
+        return Some(Token::Named(Variable::OsName));
+    }
+    if is_same(word, b"sys.platform") {
+        return Some(Token::Named(Variable::SysPlatform));
+    }
+    if is_same(word, b"platform.version") {
+        return Some(Token::Named(Variable::PlatformVersion));
+    }
+    if is_same(word, b"platform.machine") {
+        return Some(Token::Named(Variable::PlatformMachine));
+    }
+    if is_same(word, b"platform.python_implementation") {
+        return Some(Token::Named(Variable::PlatformPythonImplementation));
+    }
+    if is_same(word, b"python_implementation") {
+        return Some(Token::Named(Variable::PlatformPythonImplementation));
+    }
+    None
+}
+
+#[tactic(auto, unfolding(crate::specs::Words::word_token))]
+fn word_token(word: &[u8]) -> Option<Token>
+    ensures { result ≡ Grammar.word_token word.now }
+{
+    if let Some(token) = keyword(word) {
+        return Some(token);
+    }
+    if let Some(token) = variable(word) {
+        return Some(token);
+    }
+    old_variable(word)
+}
+
+// The word in front, and the text after it.
+#[tactic(auto, unfolding(crate::specs::Words::front_word))]
+fn front_word(input: &[u8]) -> Option<(Token, &[u8])>
+    ensures { optional_front result ≡ Grammar.front_word input.now }
+{
+    let n = word_len(input);
+    let token = word_token(&input[..n])?;
+    Some((token, &input[n..]))
+}
+
+// The token of the sign in front, and the text after it.
+#[tactic(auto, unfolding(crate::specs::Words::front_sign))]
+fn front_sign(input: &[u8]) -> Option<(Token, &[u8])>
+    ensures { optional_front result ≡ Grammar.front_sign input.now }
+{
+    let (op, rest) = operator(input)?;
+    Some((Token::Sign(op), rest))
+}
+
+// The literal of bytes that stand in one.
+fn literal_text(alloc: Global, quote: u8, bytes: &[u8]) -> Result<Literal, MarkerFault>
+    requires quote { Grammar.is_quote quote ≡ true }
+    requires bytes { list_all (Grammar.is_quoted quote) bytes.now ≡ true }
+    ensures { Reads (λ l. l) result (Some bytes.now) }
+{
+    let Ok(text) = str::from_utf8(bytes) else {
+        return Err(MarkerFault::NoReading);
+    };
+    let text = String::from_str(alloc, text)?;
+    Ok(Literal { text })
+}
+
+// The literal in front, after its first quote, and the text after it.
+#[tactic(auto, unfolding(crate::specs::Words::front_literal))]
+fn front_literal(alloc: Global, quote: u8, input: &[u8]) -> Result<(Token, &[u8]), MarkerFault>
+    requires { Grammar.is_quote quote ≡ true }
+    ensures { Reads front_view result (Grammar.front_literal quote input.now) }
+{
+    let n = literal_len(quote, input);
+    let Some(rest) = after_quote(quote, &input[n..]) else {
+        return Err(MarkerFault::NoReading);
+    };
+    let literal = literal_text(alloc, quote, &input[..n])?;
+    Ok((Token::Literal(literal), rest))
+}
+
+// The text after a quote in front.
+fn after_quote(quote: u8, input: &[u8]) -> Option<&[u8]>
+    ensures { optional_bytes result ≡ Grammar.after_quote quote input.now }
+{
+    let [byte, rest @ ..] = input else {
+        return None;
+    };
+    if *byte == quote { Some(rest) } else { None }
+}
+
+// The token in front, and the text after it.
+#[tactic(auto, unfolding(crate::specs::Words::front_token))]
+fn front_token(alloc: Global, input: &[u8]) -> Result<(Token, &[u8]), MarkerFault>
+    ensures { Reads front_view result (Grammar.front_token input.now) }
+{
+    let [byte, rest @ ..] = input else {
+        return Err(MarkerFault::NoReading);
+    };
+    let byte = *byte;
+    if byte == b'(' {
+        return Ok((Token::Open, rest));
+    }
+    if byte == b')' {
+        return Ok((Token::Close, rest));
+    }
+    if is_quote(byte) {
+        return front_literal(alloc, byte, rest);
+    }
+    if is_sign_byte(byte) {
+        return front_sign(input).ok_or(MarkerFault::NoReading);
+    }
+    front_word(input).ok_or(MarkerFault::NoReading)
+}
+
+/// The tokens of a text without blanks in front.
+pub fn tokens(alloc: Global, input: &[u8]) -> Result<Vec<Token>, MarkerFault>
+    ensures { Reads tokens_view result (Grammar.tokens_of input.now) }
+{
+    let mut list = Vec::new(alloc);
+    let mut rest = input;
+    'tokens: while !rest.is_empty() {
+        let (token, after) = front_token(alloc, rest)?;
+        list.push(token)?;
+        rest = after_space(after, true);
+    }
+    Ok(list)
+}
