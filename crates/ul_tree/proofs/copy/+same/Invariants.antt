@@ -1,0 +1,11 @@
+use Rattle.std.proofs.Common.{◌≡◌}
+use Rattle.ul_tree.specs.Apply.{size, same as same_plain, sames as sames_plain}
+use Rattle.ul_tree.specs.Keys.{branches_of, branches_from}
+use Rattle.ul_tree.specs.Views.{tree_view}
+use Rattle.ul_tree.proofs.copy.+same.Given as goal
+
+abbrev pub decreases-same : goal.decreases-same
+decreases-same l = size (tree_view l.a.now)
+
+abbrev pub invariant-loop-index : goal.invariant-loop-index
+invariant-loop-index l = same_plain (tree_view l.a) (tree_view l.b) ≡ sames_plain (branches_from l.index (branches_of (tree_view l.a))) (branches_from l.index (branches_of (tree_view l.b)))

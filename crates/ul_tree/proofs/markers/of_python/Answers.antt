@@ -1,0 +1,38 @@
+use Rattle.std.proofs.Common.{ap, sym, ◌∙◌, List, true, subst, ◌++◌, ◌+◌, map, drop}
+use Rattle.std.specs.Prelude.{All}
+use Rattle.std.proofs.lemmas.List.Elements.{All-push}
+use Rattle.ul_version.specs.Fields.{plain}
+use Rattle.ul_specifier.specs.Clauses.{ClauseFields}
+use Rattle.ul_specifier.specs.Meaning.{meets_clause, meets_list}
+use Rattle.ul_marker.specs.Truth.{python_release}
+use Rattle.ul_tree.specs.Joining.{joint, truths_of}
+use Rattle.ul_tree.specs.Reduced.{IsReduced}
+use Rattle.ul_tree.specs.Views.{tree_view}
+use Rattle.ul_tree.specs.declared.tree.Tree.{Tree}
+use Rattle.ul_tree.proofs.Joint.{meets_joint, truths_all, truths_more}
+use Rattle.ul_tree.proofs.markers.of_python.Goals as goal
+
+pub loop-clause-preserved : goal.loop-clause-preserved
+loop-clause-preserved c =
+    let pushed = c.in_ok-push.ensures.items in
+    let trees = c.loop-clause.trees.items in
+    let tree = c.in_ok-clause_tree.field-0 in
+    let items = c.deref-clause-items.result.now in
+    let i = c.loop-clause.clause-index in
+    record {
+      reduced = subst (λ (xs : List Tree). All (λ t. IsReduced (tree_view t)) xs) (sym pushed) (All-push (λ t. IsReduced (tree_view t)) trees tree c.loop-clause.invariant.reduced c.in_ok-clause_tree.ensures.reduced);
+      truth = λ w x h.
+          let f = λ (s : ClauseFields). meets_clause s (plain (python_release true w)) in
+          ap (λ z. truths_of z w x ++ map f (drop (i + 1) items)) pushed
+          ∙ truths_more f trees tree items i c.clause-item.result w x c.loop-clause-test.true c.clause-item.is (c.in_ok-clause_tree.ensures.truth w x h) (c.loop-clause.invariant.truth w x h);
+    }
+
+pub returns-clause-truth : goal.returns-clause-truth
+returns-clause-truth c w x h =
+    let release = python_release true w in
+    let f = λ (s : ClauseFields). meets_clause s (plain release) in
+    c.in_ok-tree.ensures.truth w x
+    ∙ ap (λ z. joint true (truths_of z w x)) c.deref.ensures.value
+    ∙ ap (joint true) (truths_all f c.loop-clause.trees.items c.deref-clause-items.result.now c.loop-clause.clause-index w x c.loop-clause-test.false (c.loop-clause.invariant.truth w x h))
+    ∙ meets_joint c.deref-clause-items.result.now (plain release)
+    ∙ ap (λ z. meets_list z (plain release)) (c.deref-clause-items.ensures.value ∙ c.s.view_is)

@@ -1,0 +1,8 @@
+use Rattle.std.proofs.Common.{ap, ◌∙◌}
+use Rattle.ul_version.specs.Fields.{plain}
+use Rattle.ul_specifier.specs.Meaning.{meets_clause}
+use Rattle.ul_marker.specs.Truth.{equal_to, python_release}
+use Rattle.ul_tree.proofs.markers.version_tree.Goals as goal
+
+pub returns-clause-truth : goal.returns-clause-truth
+returns-clause-truth c w x h = c.in_ok-tree.ensures.truth w x h ∙ ap (λ V. meets_clause (equal_to V) (plain (python_release c.args.full w))) c.in_ok-copy.ensures

@@ -1,0 +1,12 @@
+use Rattle.std.proofs.Common.{◌≡◌, ◌++◌, true}
+use Rattle.std.specs.List.{All}
+use Rattle.ul_tree.specs.Apply.{keys}
+use Rattle.ul_tree.specs.Views.{tree_view}
+use Rattle.ul_tree.specs.Keys.{keys_view, branches_of, branches_from, is_key_of}
+use Rattle.ul_tree.proofs.part.all_keys.Given as goal
+
+abbrev pub invariant-loop-index : goal.invariant-loop-index
+invariant-loop-index l = record {
+  keys : keys_view l.made.items ++ keys (branches_from l.index (branches_of (tree_view l.tree))) ≡ keys (branches_of (tree_view l.tree));
+  kinds : All (λ k. is_key_of (tree_view l.tree) k ≡ true) l.made.items;
+}

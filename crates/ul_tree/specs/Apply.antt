@@ -1,0 +1,96 @@
+-- Trees made of trees, part by part.
+use Rattle.std.specs.Prelude.{ℕ, zero, suc, ◌+◌, List, [], ◌∷◌, Bool, true, false, Option, Some, None, if◌then◌else◌}
+use Rattle.std.specs.Str.{bytes_eq}
+use Rattle.ul_tree.specs.Plain.{Plain, truth, node, Branches, done, branch, text_cmp, carries, carried, by_order, pick}
+
+-- how much a tree has
+abbrev mutual
+  pub size : Plain → ℕ
+  size (truth b) = 1
+  size (node l d bs) = 1 + (size d + sizes bs)
+
+  pub sizes : Branches → ℕ
+  sizes done = 0
+  sizes (branch k c rest) = size c + sizes rest
+
+abbrev pub both : Bool → Bool → Bool
+both true b = b
+both false b = false
+
+abbrev pub either : Bool → Bool → Bool
+either true b = true
+either false b = b
+
+abbrev pub same_bool : Bool → Bool → Bool
+same_bool true b = b
+same_bool false true = false
+same_bool false false = true
+
+abbrev mutual
+  pub same : Plain → Plain → Bool
+  same (truth a) (truth b) = same_bool a b
+  same (truth a) (node k e cs) = false
+  same (node l d bs) (truth b) = false
+  same (node l d bs) (node k e cs) = both (bytes_eq l k) (both (same d e) (sames bs cs))
+
+  pub sames : Branches → Branches → Bool
+  sames done done = true
+  sames done (branch j e cs) = false
+  sames (branch k c bs) done = false
+  sames (branch k c bs) (branch j e cs) = both (bytes_eq k j) (both (same c e) (sames bs cs))
+
+-- the branches of keys, those left out that say what stands already
+abbrev pub outs : (List ℕ → Plain) → Bool → List (List ℕ) → Plain → Branches
+outs g m [] d = done
+outs g m (k ∷ ks) d = if same (g k) d then outs g m ks d else branch k (g k) (outs g m ks (carried m (g k) d))
+
+abbrev pub close : List ℕ → Plain → Branches → Plain
+close l d done = d
+close l d (branch k c rest) = node l d (branch k c rest)
+
+abbrev pub keys : Branches → List (List ℕ)
+keys done = []
+keys (branch k c rest) = k ∷ keys rest
+
+-- a tree seen from a level
+abbrev pub rest_at : List ℕ → Plain → Plain
+rest_at l (truth b) = truth b
+rest_at l (node k d bs) = by_order (text_cmp l k) (node k d bs) d (node k d bs)
+
+abbrev pub branches_at : List ℕ → Plain → Branches
+branches_at l (truth b) = done
+branches_at l (node k d bs) = by_order (text_cmp l k) done bs done
+
+abbrev pub part_at : List ℕ → List ℕ → Plain → Plain
+part_at l v t = pick (branches_at l t) (carries l) v (rest_at l t)
+
+abbrev pub merged_with : List ℕ → (List (List ℕ) → List (List ℕ)) → List (List ℕ) → List (List ℕ)
+merged_with x f [] = x ∷ f []
+merged_with x f (y ∷ ys) = by_order (text_cmp x y) (x ∷ f (y ∷ ys)) (x ∷ f ys) (y ∷ merged_with x f ys)
+
+abbrev pub merged : List (List ℕ) → List (List ℕ) → List (List ℕ)
+merged [] ys = ys
+merged (x ∷ xs) ys = merged_with x (merged xs) ys
+
+abbrev pub built : List ℕ → (List ℕ → Plain) → Plain → List (List ℕ) → Plain
+built l g d ks = close l d (outs g (carries l) ks d)
+
+-- the first level of two trees
+abbrev pub first_of : Plain → Plain → Option (List ℕ)
+first_of (truth x) (truth y) = None
+first_of (node l d bs) (truth y) = Some l
+first_of (truth x) (node k e cs) = Some k
+first_of (node l d bs) (node k e cs) = Some (by_order (text_cmp l k) l l k)
+
+abbrev pub known : Plain → Bool
+known (truth b) = b
+known (node l d bs) = false
+
+abbrev pub apply_at : (Bool → Bool → Bool) → (Plain → Plain → Plain) → Option (List ℕ) → Plain → Plain → Plain
+apply_at op rec None a b = truth (op (known a) (known b))
+apply_at op rec (Some l) a b =
+    built l (λ v. rec (part_at l v a) (part_at l v b)) (rec (rest_at l a) (rest_at l b)) (merged (keys (branches_at l a)) (keys (branches_at l b)))
+
+abbrev pub apply : (Bool → Bool → Bool) → ℕ → Plain → Plain → Plain
+apply op zero a b = truth false
+apply op (suc n) a b = apply_at op (apply op n) (first_of a b) a b

@@ -1,0 +1,143 @@
+//! Equal trees made, and trees compared.
+ghost use Rattle.std.specs.Prelude.{◌≡◌, ◌↔◌, IfOk, IsTrue, map};
+ghost use Rattle.ul_tree.specs.Reduced.{IsReduced};
+ghost use Rattle.ul_tree.specs.Apply.{same as same_plain};
+ghost use Rattle.ul_tree.specs.Views.{tree_view, points_view};
+ghost use Rattle.ul_tree.specs.Keys.{same_tops};
+
+use crate::Tree;
+use crate::part::{branch_at, branch_count, known, level_of, rest_of};
+use std::alloc::{AllocError, Global};
+
+impl Tree {
+    /// An equal tree.
+    ///
+    /// # Errors
+    ///
+    /// Only for want of memory.
+    pub fn copy(&self, alloc: Global) -> Result<Tree, AllocError>
+        ensures { IfOk result (λ t. tree_view t ≡ tree_view self.now) }
+    {
+        copy(alloc, self)
+    }
+
+    /// Whether two trees are equal.
+    pub fn same(&self, other: &Tree) -> bool
+        requires own_reduced { IsReduced (tree_view self.now) }
+        requires other_reduced { IsReduced (tree_view other.now) }
+        ensures { IsTrue result ↔ (tree_view self.now ≡ tree_view other.now) }
+    {
+        same(self, other)
+    }
+}
+
+/// An equal tree.
+#[cycle(copy)]
+pub(crate) fn copy(alloc: Global, tree: &Tree) -> Result<Tree, AllocError>
+    ensures { IfOk result (λ t. tree_view t ≡ tree_view tree.now) }
+{
+    match tree {
+        Tree::Truth(value) => Ok(Tree::Truth(*value)),
+        Tree::Extra { points, other } => {
+            let points = copy_points(alloc, points)?;
+            let other = Box::new(alloc, copy(alloc, other)?)?;
+            Ok(Tree::Extra { points, other })
+        }
+        Tree::Python { starts, parts } => {
+            let starts = Vec::from_slice(alloc, starts.as_slice())?;
+            let parts = copy_parts(alloc, parts)?;
+            Ok(Tree::Python { starts, parts })
+        }
+        Tree::Text {
+            variable,
+            points,
+            other,
+        } => {
+            let points = copy_points(alloc, points)?;
+            let other = Box::new(alloc, copy(alloc, other)?)?;
+            Ok(Tree::Text {
+                variable: *variable,
+                points,
+                other,
+            })
+        }
+        Tree::Opaque { atom, yes, no } => {
+            let atom = atom.copy(alloc)?;
+            let yes = Box::new(alloc, copy(alloc, yes)?)?;
+            let no = Box::new(alloc, copy(alloc, no)?)?;
+            Ok(Tree::Opaque { atom, yes, no })
+        }
+    }
+}
+
+// Equal points.
+#[cycle(copy)]
+fn copy_points(alloc: Global, points: &[(String, Tree)]) -> Result<Vec<(String, Tree)>, AllocError>
+    ensures { IfOk result (λ ps. points_view ps.items ≡ points_view points.now) }
+{
+    let mut copied = Vec::new(alloc);
+    for point in points {
+        let text = String::from_str(alloc, point.0.as_str())?;
+        copied.push((text, copy(alloc, &point.1)?))?;
+    }
+    Ok(copied)
+}
+
+// Equal parts.
+#[cycle(copy)]
+fn copy_parts(alloc: Global, parts: &[Tree]) -> Result<Vec<Tree>, AllocError>
+    ensures { IfOk result (λ ts. map tree_view ts.items ≡ map tree_view parts.now) }
+{
+    let mut copied = Vec::new(alloc);
+    for part in parts {
+        copied.push(copy(alloc, part)?)?;
+    }
+    Ok(copied)
+}
+
+/// Whether two trees are equal.
+pub(crate) fn same(a: &Tree, b: &Tree) -> bool
+    requires a_reduced { IsReduced (tree_view a.now) }
+    requires b_reduced { IsReduced (tree_view b.now) }
+    ensures { result ≡ same_plain (tree_view a.now) (tree_view b.now) }
+{
+    if !same_top(a, b) {
+        return false;
+    }
+    if level_of(a).is_none() {
+        return true;
+    }
+    if branch_count(a) != branch_count(b) {
+        return false;
+    }
+    if !same(rest_of(a), rest_of(b)) {
+        return false;
+    }
+    for index in 0..branch_count(a) {
+        let one = branch_at(a, index);
+        let other = branch_at(b, index);
+        if !one.key.cmp(other.key).is_eq() {
+            return false;
+        }
+        if !same(one.part, other.part) {
+            return false;
+        }
+    }
+    true
+}
+
+// Whether two trees have equal top levels, or are both truths and equal.
+fn same_top(a: &Tree, b: &Tree) -> bool
+    ensures { result ≡ same_tops (tree_view a.now) (tree_view b.now) }
+{
+    match level_of(a) {
+        None => match level_of(b) {
+            None => known(a) == known(b),
+            Some(_) => false,
+        },
+        Some(level) => match level_of(b) {
+            None => false,
+            Some(found) => level.cmp(found).is_eq(),
+        },
+    }
+}

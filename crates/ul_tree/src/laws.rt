@@ -1,0 +1,42 @@
+//! Laws of trees, and worked examples: each function's contract is proved, and its body does nothing.
+ghost use Rattle.ul_tree.specs.Laws.{OneTruthOneTree, Operations};
+ghost use Rattle.ul_tree.specs.Sample.{SampleHolds, HoldsSomewhere};
+ghost use Rattle.ul_tree.specs.SampleVectors.{SampleExamples};
+ghost use Rattle.ul_tree.specs.SimplifyLaws.{SimplifyExamples, SimplifyLaws};
+
+/// Two reduced trees that hold at the same worlds and extras are equal.
+pub fn one_truth()
+    ensures { OneTruthOneTree }
+{}
+
+/// Trees joined, and a tree at an extra, are reduced and have the truth that is asked for.
+pub fn tree_operations()
+    ensures { Operations }
+{}
+
+/// The sample of a reduced tree that isn't false and asks for no extra is a world, and the tree holds there with
+/// every extra.
+pub fn sample_holds()
+    ensures { SampleHolds }
+{}
+
+/// A reduced tree that isn't false holds at some world with some extra, and one that asks for no extra at some
+/// world with every extra.
+pub fn has_world()
+    ensures { HoldsSomewhere }
+{}
+
+/// Worked examples of samples.
+pub fn sample_examples()
+    ensures { SampleExamples }
+{}
+
+/// A tree made simpler under a region is reduced and has its truth wherever the region holds, and there is one.
+pub fn simplify_laws()
+    ensures { SimplifyLaws }
+{}
+
+/// Trees made simpler under a region.
+pub fn simplify_examples()
+    ensures { SimplifyExamples }
+{}

@@ -1,0 +1,91 @@
+//! Trees of single comparisons.
+ghost use Rattle.std.specs.Prelude.{◌≡◌, ◌||◌, ℕ, List, IfOk, true};
+ghost use Rattle.std.specs.Str.{bytes_eq};
+ghost use Rattle.ul_base.specs.Names.{is_name};
+ghost use Rattle.ul_marker.specs.Atoms.{IsAtom, has_atom, is_literal, is_text};
+ghost use Rattle.ul_marker.specs.Formulas.{IsExtraLiteral};
+ghost use Rattle.ul_marker.specs.Truth.{as_asked, equals_extra, is_empty};
+ghost use Rattle.ul_marker.specs.Worlds.{WorldFields, IsWorld, text_at};
+ghost use Rattle.ul_tree.specs.Reduced.{IsReduced};
+ghost use Rattle.ul_tree.specs.Values.{tree_holds};
+ghost use Rattle.ul_tree.specs.Views.{tree_view, points_view};
+ghost use Rattle.ul_tree.specs.Leaves.{point_of};
+
+use crate::Tree;
+use std::alloc::{AllocError, Global};
+use ul_base::{Name, NameFault};
+use ul_marker::{Atom, Variable};
+
+/// The tree of the extras that equal a literal, or don't. A literal that is neither empty nor a name equals
+/// none.
+pub(crate) fn extra_tree(alloc: Global, literal: &str, equal: bool) -> Result<Tree, AllocError>
+    requires { IsExtraLiteral literal.now }
+    ensures reduced { IfOk result (λ t. IsReduced (tree_view t)) }
+    ensures truth { IfOk result (λ t. (w : WorldFields) (x : List ℕ) → tree_holds (tree_view t) w x ≡ as_asked equal (equals_extra literal.now x)) }
+{
+    if !may_be_extra(alloc, literal)? {
+        return Ok(Tree::Truth(!equal));
+    }
+    let points = point(alloc, literal, equal)?;
+    let other = Box::new(alloc, Tree::Truth(!equal))?;
+    Ok(Tree::Extra { points, other })
+}
+
+// Whether a text is empty or a name.
+#[tactic(auto, using(crate::proofs::Leaves::name_may, crate::proofs::Leaves::no_name_may))]
+fn may_be_extra(alloc: Global, text: &str) -> Result<bool, AllocError>
+    ensures { IfOk result (λ b. b ≡ (is_empty text.now || is_name text.now)) }
+{
+    if text.is_empty() {
+        return Ok(true);
+    }
+    match Name::read(alloc, text) {
+        Ok(_) => Ok(true),
+        Err(fault) => match fault {
+            NameFault::NoReading => Ok(false),
+            NameFault::NoMemory => Err(AllocError),
+        },
+    }
+}
+
+/// The tree of the worlds at which a text variable equals a literal, or doesn't.
+pub(crate) fn text_tree(
+    alloc: Global,
+    variable: Variable,
+    literal: &str,
+    equal: bool,
+) -> Result<Tree, AllocError>
+    requires variable { is_text variable ≡ true }
+    requires literal { is_literal literal.now ≡ true }
+    ensures reduced { IfOk result (λ t. IsReduced (tree_view t)) }
+    ensures truth { IfOk result (λ t. (w : WorldFields) (x : List ℕ) → tree_holds (tree_view t) w x ≡ as_asked equal (bytes_eq (text_at w variable) literal.now)) }
+{
+    let points = point(alloc, literal, equal)?;
+    let other = Box::new(alloc, Tree::Truth(!equal))?;
+    Ok(Tree::Text {
+        variable,
+        points,
+        other,
+    })
+}
+
+/// The tree of the worlds at which an opaque comparison holds, or doesn't.
+pub(crate) fn opaque_tree(alloc: Global, atom: &Atom, positive: bool) -> Result<Tree, AllocError>
+    requires { IsAtom atom.now }
+    ensures reduced { IfOk result (λ t. IsReduced (tree_view t)) }
+    ensures truth { IfOk result (λ t. (w : WorldFields) (x : List ℕ) → tree_holds (tree_view t) w x ≡ as_asked positive (has_atom w.truths atom.now)) }
+{
+    let atom = atom.copy(alloc)?;
+    let yes = Box::new(alloc, Tree::Truth(positive))?;
+    let no = Box::new(alloc, Tree::Truth(!positive))?;
+    Ok(Tree::Opaque { atom, yes, no })
+}
+
+// The one point of a comparison.
+fn point(alloc: Global, literal: &str, equal: bool) -> Result<Vec<(String, Tree)>, AllocError>
+    ensures { IfOk result (λ ps. points_view ps.items ≡ point_of literal.now equal) }
+{
+    let mut points = Vec::new(alloc);
+    points.push((String::from_str(alloc, literal)?, Tree::Truth(equal)))?;
+    Ok(points)
+}

@@ -1,0 +1,129 @@
+//! Trees of the clauses that an interpreter's version has to meet.
+ghost use Rattle.std.specs.Prelude.{◌≡◌, ℕ, List, IfOk};
+ghost use Rattle.ul_version.specs.Fields.{plain};
+ghost use Rattle.ul_specifier.specs.Meaning.{meets_clause};
+ghost use Rattle.ul_marker.specs.Truth.{python_release};
+ghost use Rattle.ul_marker.specs.Worlds.{WorldFields, IsWorld};
+ghost use Rattle.ul_tree.specs.Pieces;
+ghost use Rattle.ul_tree.specs.Pieces.{major_of, minor_of, patch_of, starts_of, stepped_of};
+ghost use Rattle.ul_tree.specs.Reduced.{IsReduced};
+ghost use Rattle.ul_tree.specs.Values.{tree_holds};
+ghost use Rattle.ul_tree.specs.Views.{tree_view};
+
+use crate::Tree;
+use std::alloc::{AllocError, Global};
+use ul_marker::meets_python;
+use ul_specifier::Clause;
+
+// One above the greatest number that an interpreter may have.
+const WIDE: u128 = 1 << 32;
+
+// One above the greatest interpreter.
+const END: u128 = 1 << 96;
+
+/// The tree of the interpreters whose `python_full_version`, or else `python_version`, meets a clause.
+///
+/// The clause is evaluated at each interpreter where its truth may change, and the tree has those where it does.
+pub(crate) fn clause_tree(alloc: Global, clause: &Clause, full: bool) -> Result<Tree, AllocError>
+    ensures reduced { IfOk result (λ t. IsReduced (tree_view t)) }
+    ensures truth { IfOk result (λ t. (w : WorldFields) (x : List ℕ) → IsWorld w → tree_holds (tree_view t) w x ≡ meets_clause clause.now (plain (python_release full w))) }
+{
+    let starts = starts(alloc, clause, full)?;
+    let tree = stepped(alloc, meets_at(clause, full, 0), &starts)?;
+    Ok(tree)
+}
+
+// The three numbers of an interpreter, by its number.
+fn interpreter(number: u128) -> (u32, u32, u32)
+    ensures major { result.0 ≡ major_of number }
+    ensures minor { result.1 ≡ minor_of number }
+    ensures patch { result.2 ≡ patch_of number }
+{
+    (
+        (number / WIDE / WIDE % WIDE) as u32,
+        (number / WIDE % WIDE) as u32,
+        (number % WIDE) as u32,
+    )
+}
+
+// Whether the interpreter of a number meets a clause.
+#[tactic(auto, unfolding(crate::specs::Pieces::meets_at))]
+fn meets_at(clause: &Clause, full: bool, number: u128) -> bool
+    ensures { result ≡ Pieces.meets_at clause.now full number }
+{
+    meets_python(clause, full, interpreter(number))
+}
+
+// A number of a release, and at most the greatest that an interpreter may have.
+fn digit(release: &[u64], i: usize) -> u128
+    ensures { result ≡ Pieces.digit release.now i }
+{
+    match release.get(i) {
+        Some(number) => u128::from(*number).min(WIDE - 1),
+        None => 0,
+    }
+}
+
+// At most the last interpreter.
+fn capped(number: u128) -> u128
+    ensures { result ≡ Pieces.capped number }
+{
+    number.min(END - 1)
+}
+
+// The interpreters at which the truth of a clause with this release may change, in order.
+#[tactic(auto, unfolding(crate::specs::Pieces::cuts_of))]
+fn cuts(release: &[u64]) -> [u128; 6]
+    ensures { result ≡ Pieces.cuts_of release.now }
+{
+    let major = digit(release, 0) * WIDE * WIDE;
+    let minor = major + digit(release, 1) * WIDE;
+    let patch = minor + digit(release, 2);
+    [
+        major,
+        minor,
+        patch,
+        capped(patch + 1),
+        capped(minor + WIDE),
+        capped(major + WIDE * WIDE),
+    ]
+}
+
+// The interpreters at which the truth of a clause changes, in order.
+fn starts(alloc: Global, clause: &Clause, full: bool) -> Result<Vec<u128>, AllocError>
+    ensures { IfOk result (λ v. v.items ≡ starts_of clause.now full) }
+{
+    let mut starts = Vec::new(alloc);
+    let mut held = meets_at(clause, full, 0);
+    for cut in cuts(clause.version.release.as_slice()) {
+        let holds = meets_at(clause, full, cut);
+        if holds != held {
+            starts.push(cut)?;
+            held = holds;
+        }
+    }
+    Ok(starts)
+}
+
+// The tree of a truth that changes at each start.
+fn stepped(alloc: Global, first: bool, starts: &[u128]) -> Result<Tree, AllocError>
+    ensures { IfOk result (λ t. tree_view t ≡ stepped_of first starts.now) }
+{
+    if starts.is_empty() {
+        return Ok(Tree::Truth(first));
+    }
+    let mut pieces = Vec::new(alloc);
+    let mut parts = Vec::new(alloc);
+    pieces.push(0)?;
+    parts.push(Tree::Truth(first))?;
+    let mut held = first;
+    for start in starts {
+        held = !held;
+        pieces.push(*start)?;
+        parts.push(Tree::Truth(held))?;
+    }
+    Ok(Tree::Python {
+        starts: pieces,
+        parts,
+    })
+}

@@ -1,0 +1,185 @@
+//! Trees made simpler where only a region counts.
+ghost use Rattle.std.specs.Prelude.{◌≡◌, IfOk, All, List, ℕ, Some, option_map, true, false};
+ghost use Rattle.ul_marker.specs.Worlds.{WorldFields};
+ghost use Rattle.ul_tree.specs.Plain.{truth};
+ghost use Rattle.ul_tree.specs.Reduced.{IsReduced};
+ghost use Rattle.ul_tree.specs.Values.{tree_holds};
+ghost use Rattle.ul_tree.specs.Views.{tree_view};
+ghost use Rattle.ul_tree.specs.Keys.{level_view, keys_view, top_of, rest_of, branches_of, has_kind};
+ghost use Rattle.ul_tree.specs.Simplify.{union_in, Simplifies, Pieces, Piece};
+ghost use Rattle.ul_tree.specs.SimplifyViews.{is_above as is_above_plain, region_view, results_view, KeysOf, Lowered};
+
+use crate::Tree;
+use crate::copy::copy;
+use crate::join::{Join, joined, level_keys};
+use crate::level::{Key, Level};
+use crate::part::{branch_at, branch_count, is_false, known, level_of, part_at, rest_at, rest_of};
+use crate::settle::settled;
+use std::alloc::{AllocError, Global};
+
+/// A tree made simpler where only the region `c` counts, which isn't false: reduced, and with `f`'s truth
+/// wherever `c` holds. It also depends on `f` outside of `c`; the rule determines it:
+///
+/// - Where `f` is a truth value or `c` is true, the result is `f`.
+/// - Where `c`'s top level is above `f`'s, `c` is replaced by the union of its parts.
+/// - Where `f`'s top level is above `c`'s, each part of `f` is simplified by `c`.
+/// - At one level, both are cut by the pieces of both: intervals ascending; points ascending, then the other
+///   part; where an opaque comparison holds, then where it doesn't. A piece where `c` is false takes the result of
+///   the nearest earlier piece where it isn't, else of the nearest later one; every other piece is simplified.
+///
+/// What says the same twice is then left out.
+///
+/// # Errors
+///
+/// Only for want of memory.
+pub fn plain_simplify(alloc: Global, f: &Tree, c: &Tree) -> Result<Tree, AllocError>
+    requires f_reduced { IsReduced (tree_view f.now) }
+    requires c_reduced { IsReduced (tree_view c.now) }
+    requires not_false { tree_view c.now ≡ truth false → ⊥ }
+    ensures rule { IfOk result (λ t. Simplifies (tree_view f.now) (tree_view c.now) (tree_view t)) }
+    ensures reduced { IfOk result (λ t. IsReduced (tree_view t)) }
+    ensures agrees { IfOk result (λ t. (w : WorldFields) (x : List ℕ) → tree_holds (tree_view c.now) w x ≡ true → tree_holds (tree_view t) w x ≡ tree_holds (tree_view f.now) w x) }
+{
+    let simpler = simplified(alloc, f, c)?;
+    Ok(simpler)
+}
+
+// Whether a tree's top level is above another level.
+fn is_above(tree: &Tree, level: Level<'_>) -> bool
+    ensures { result ≡ is_above_plain (level_view level.entry) (tree_view tree.now) }
+{
+    match level_of(tree) {
+        None => false,
+        Some(own) => own.cmp(level).is_lt(),
+    }
+}
+
+// The union of a tree's parts.
+fn union(alloc: Global, tree: &Tree) -> Result<Tree, AllocError>
+    requires { IsReduced (tree_view tree.now) }
+    ensures { IfOk result (λ t. tree_view t ≡ union_in (branches_of (tree_view tree.now)) (rest_of (tree_view tree.now))) }
+{
+    let mut made = copy(alloc, rest_of(tree))?;
+    for index in 0..branch_count(tree) {
+        made = joined(alloc, Join::Either, &made, branch_at(tree, index).part)?;
+    }
+    Ok(made)
+}
+
+// A region without its levels above a tree's: each is taken away by the union of its parts. None where there is
+// no such level.
+fn lowered(alloc: Global, region: &Tree, level: Level<'_>) -> Result<Option<Tree>, AllocError>
+    requires reduced { IsReduced (tree_view region.now) }
+    requires not_false { tree_view region.now ≡ truth false → ⊥ }
+    ensures { IfOk result (λ r. Lowered (level_view level.entry) (tree_view region.now) (region_view r (tree_view region.now))) }
+{
+    if !is_above(region, level) {
+        return Ok(None);
+    }
+    let mut made = union(alloc, region)?;
+    for _ in 0..usize::MAX {
+        if !is_above(&made, level) {
+            return Ok(Some(made));
+        }
+        let next = union(alloc, &made)?;
+        made = next;
+    }
+    // Each turn takes a level away: no tree that fits in memory has so many.
+    Err(AllocError)
+}
+
+// A tree that was made, or else the one that stands.
+fn region<'a>(made: &'a Option<Tree>, stands: &'a Tree) -> &'a Tree
+    ensures { tree_view result.now ≡ region_view made.now (tree_view stands.now) }
+{
+    match made {
+        Some(tree) => tree,
+        None => stands,
+    }
+}
+
+// A tree made simpler under a region.
+#[cycle(simplify)]
+fn simplified(alloc: Global, f: &Tree, c: &Tree) -> Result<Tree, AllocError>
+    requires f_reduced { IsReduced (tree_view f.now) }
+    requires c_reduced { IsReduced (tree_view c.now) }
+    requires not_false { tree_view c.now ≡ truth false → ⊥ }
+    ensures { IfOk result (λ t. Simplifies (tree_view f.now) (tree_view c.now) (tree_view t)) }
+{
+    match level_of(f) {
+        None => {
+            let tree = copy(alloc, f)?;
+            Ok(tree)
+        }
+        Some(level) => {
+            let made = lowered(alloc, c, level)?;
+            let tree = simplified_at(alloc, f, region(&made, c), level)?;
+            Ok(tree)
+        }
+    }
+}
+
+// A node made simpler under a region without levels above the node's.
+#[cycle(simplify)]
+fn simplified_at<'x>(
+    alloc: Global,
+    f: &'x Tree,
+    region: &'x Tree,
+    level: Level<'_>,
+) -> Result<Tree, AllocError>
+    requires f_reduced { IsReduced (tree_view f.now) }
+    requires top { Some (level_view level) ≡ top_of (tree_view f.now) }
+    requires region_reduced { IsReduced (tree_view region.now) }
+    requires not_false { tree_view region.now ≡ truth false → ⊥ }
+    requires not_above { is_above_plain (level_view level) (tree_view region.now) ≡ false }
+    ensures { IfOk result (λ t. Simplifies (tree_view f.now) (tree_view region.now) (tree_view t)) }
+{
+    if known(region) {
+        let tree = copy(alloc, f)?;
+        return Ok(tree);
+    }
+    let keys = level_keys(alloc, level, f, region)?;
+    let results = results(alloc, f, region, level, &keys)?;
+    let rest = piece(alloc, rest_at(f, level), rest_at(region, level))?;
+    let tree = settled(alloc, level, results, rest, rest_at(f, level))?;
+    Ok(tree)
+}
+
+// The results of the pieces at keys of a level.
+#[cycle(simplify)]
+fn results<'x>(
+    alloc: Global,
+    f: &Tree,
+    region: &Tree,
+    level: Level<'_>,
+    keys: &[Key<'x>],
+) -> Result<Vec<(Key<'x>, Option<Tree>)>, AllocError>
+    requires f_reduced { IsReduced (tree_view f.now) }
+    requires top { Some (level_view level) ≡ top_of (tree_view f.now) }
+    requires region_reduced { IsReduced (tree_view region.now) }
+    requires not_above { is_above_plain (level_view level) (tree_view region.now) ≡ false }
+    requires kinds { All (λ k. has_kind (level_view level) k ≡ true) keys.now }
+    ensures pieces { IfOk result (λ rs. Pieces (level_view level.entry) (tree_view f.now) (tree_view region.now) (keys_view keys.now) (results_view rs.items)) }
+    ensures kinds { IfOk result (λ rs. KeysOf (level_view level.entry) rs.items) }
+{
+    let mut made = Vec::new(alloc);
+    for key in keys {
+        let result = piece(alloc, part_at(f, level, *key), part_at(region, level, *key))?;
+        made.push((*key, result))?;
+    }
+    Ok(made)
+}
+
+// A piece made simpler; none where the region is false.
+#[cycle(simplify)]
+fn piece(alloc: Global, f: &Tree, c: &Tree) -> Result<Option<Tree>, AllocError>
+    requires f_reduced { IsReduced (tree_view f.now) }
+    requires c_reduced { IsReduced (tree_view c.now) }
+    ensures { IfOk result (λ o. Piece (tree_view f.now) (tree_view c.now) (option_map tree_view o)) }
+{
+    if is_false(c) {
+        return Ok(None);
+    }
+    let tree = simplified(alloc, f, c)?;
+    Ok(Some(tree))
+}
