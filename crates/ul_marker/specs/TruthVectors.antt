@@ -16,13 +16,15 @@ abbrev pub linux : List (List ℕ)
 linux =
     codes "posix" ∷ codes "linux" ∷ codes "x86_64" ∷ codes "CPython" ∷ codes "6.1.0" ∷ codes "Linux" ∷ codes "#1 SMP" ∷ codes "cpython" ∷ []
 
--- `'inu' in sys_platform`, `implementation_version == '3.8.5'` and `os_name < 'z'`
+-- `'inu' in sys_platform`
 abbrev pub has_inu : AtomFields
 has_inu = record { variable = SysPlatform; kind = Contains; literal = codes "inu" }
 
+-- `implementation_version == '3.8.5'`
 abbrev pub same_version : AtomFields
 same_version = record { variable = ImplementationVersion; kind = Same; literal = codes "3.8.5" }
 
+-- `os_name < 'z'`
 abbrev pub below_z : AtomFields
 below_z = record { variable = OsName; kind = Below; literal = codes "z" }
 

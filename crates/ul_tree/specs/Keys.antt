@@ -23,13 +23,14 @@ key_view (Literal text) = text.now
 key_view (Number number) = number ∷ []
 key_view Holds = 1 ∷ []
 
--- the first number of a level, and those after it
+-- the first number of a level
 abbrev pub level_rank : Level → ℕ
 level_rank Extra = 0
 level_rank Python = 1
 level_rank (Text variable) = suc (suc (text_number variable))
 level_rank (Opaque atom) = 10
 
+-- the numbers of a level after its first
 abbrev pub level_rest : Level → List ℕ
 level_rest Extra = []
 level_rest Python = []
@@ -41,20 +42,22 @@ abbrev pub top_of : Plain → Option (List ℕ)
 top_of (truth b) = None
 top_of (node l d bs) = Some l
 
--- the part without a key, and the branches; a truth is its own part and has no branch
+-- the part without a key; a truth is its own part
 abbrev pub rest_of : Plain → Plain
 rest_of (truth b) = truth b
 rest_of (node l d bs) = d
 
+-- the branches of a tree; a truth has none
 abbrev pub branches_of : Plain → Branches
 branches_of (truth b) = done
 branches_of (node l d bs) = bs
 
--- how many branches there are, and those from a place on
+-- how many branches there are
 abbrev pub branch_count : Branches → ℕ
 branch_count done = 0
 branch_count (branch k c rest) = suc (branch_count rest)
 
+-- the branches from a place on
 abbrev pub branches_from : ℕ → Branches → Branches
 branches_from zero bs = bs
 branches_from (suc n) done = done
@@ -97,6 +100,7 @@ is_literal_key (Literal text) = true
 is_literal_key (Number number) = false
 is_literal_key Holds = false
 
+-- whether a key is a number
 abbrev pub is_number_key : Key → Bool
 is_number_key (Literal text) = false
 is_number_key (Number number) = true

@@ -23,12 +23,15 @@ OneTruthOneTree = (s t : Plain) → IsReduced s → IsReduced t
 abbrev pub joined_by : (Bool → Bool → Bool) → Plain → Plain → Plain
 joined_by op a b = apply op (suc (size a + size b)) a b
 
+-- the tree that is true where both are
 abbrev pub and_of : Plain → Plain → Plain
 and_of = joined_by both
 
+-- the tree that is true where one is
 abbrev pub or_of : Plain → Plain → Plain
 or_of = joined_by either
 
+-- the tree that is true where the other is not
 abbrev pub not_of : Plain → Plain
 not_of a = joined_by (λ x y. not x) a (truth false)
 

@@ -14,13 +14,15 @@ use Rattle.ul_tree.specs.Apply.{close, same_bool}
 abbrev pub numbered : ℕ → ℕ → ℕ → ℕ
 numbered major minor patch = major * 2 ^ 64 + minor * 2 ^ 32 + patch
 
--- the three numbers of an interpreter's number
+-- an interpreter's major number, by its number
 abbrev pub major_of : ℕ → ℕ
 major_of n = n / 2 ^ 32 / 2 ^ 32 % 2 ^ 32
 
+-- an interpreter's minor number, by its number
 abbrev pub minor_of : ℕ → ℕ
 minor_of n = n / 2 ^ 32 % 2 ^ 32
 
+-- an interpreter's patch number, by its number
 abbrev pub patch_of : ℕ → ℕ
 patch_of n = n % 2 ^ 32
 
@@ -44,6 +46,7 @@ abbrev pub cuts_at : ℕ → ℕ → ℕ → List ℕ
 cuts_at a b c =
     numbered a 0 0 ∷ numbered a b 0 ∷ numbered a b c ∷ capped (numbered a b c + 1) ∷ capped (numbered a b 0 + 2 ^ 32) ∷ capped (numbered a 0 0 + 2 ^ 64) ∷ []
 
+-- the interpreters at which the truth of a clause with this release may change, in order
 unfoldable pub cuts_of : List ℕ → List ℕ
 cuts_of release = cuts_at (digit release 0) (digit release 1) (digit release 2)
 

@@ -19,6 +19,7 @@ mutual
 abbrev pub text_cmp : List ℕ → List ℕ → Ordering
 text_cmp = slice_cmp nat_cmp
 
+-- one of three, by an order
 abbrev pub by_order : {A : Type 0} → Ordering → A → A → A → A
 by_order Less a b c = a
 by_order Equal a b c = b
@@ -30,6 +31,7 @@ abbrev pub carries : List ℕ → Bool
 carries (suc zero ∷ []) = true
 carries _ = false
 
+-- what stands after a branch: its own part where branches are carried, else what stood before
 abbrev pub carried : {A : Type 0} → Bool → A → A → A
 carried true c d = c
 carried false c d = d

@@ -9,10 +9,12 @@ abbrev pub IsAfter : Option (List ℕ) → List ℕ → Type 0
 IsAfter None v = Unit {0}
 IsAfter (Some k) v = text_cmp k v ≡ Less
 
+-- the first branch comes after a key
 abbrev pub StartsAfter : Option (List ℕ) → Branches → Type 0
 StartsAfter b done = Unit {0}
 StartsAfter b (branch k c rest) = IsAfter b k
 
+-- there is a branch
 abbrev pub HasBranch : Branches → Type 0
 HasBranch done = ⊥
 HasBranch (branch k c rest) = Unit {0}

@@ -44,6 +44,7 @@ beside [] bs = fresh bs
 beside (a ∷ []) bs = fresh bs
 beside (a ∷ b ∷ rest) bs = 0 ∷ []
 
+-- the first path that there is
 abbrev pub or_else : Option (List Step) → Option (List Step) → Option (List Step)
 or_else None q = q
 or_else (Some p) q = Some p
@@ -116,6 +117,7 @@ abbrev pub with_steps : WorldFields → List Step → WorldFields
 with_steps w [] = w
 with_steps w (s ∷ steps) = with_steps (with_level s.level s.value w) steps
 
+-- a world with the values of a path, where there is one
 abbrev pub with_path : WorldFields → Option (List Step) → WorldFields
 with_path w None = w
 with_path w (Some steps) = with_steps w steps

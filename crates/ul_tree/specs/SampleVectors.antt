@@ -14,17 +14,19 @@ use Rattle.ul_tree.specs.Sample.{empty_world, sample_of}
 abbrev pub three_eight : List ℕ
 three_eight = (3 * 2 ^ 64 + 8 * 2 ^ 32) ∷ []
 
--- from 3.8.0 on, below it, and from 3.8.0 on where a tree holds
+-- from 3.8.0 on, where a tree holds
 abbrev pub from_three_eight : Plain → Plain
 from_three_eight t = node python_level (truth false) (branch three_eight t done)
 
+-- interpreters below 3.8.0
 abbrev pub below_three_eight : Plain
 below_three_eight = node python_level (truth true) (branch three_eight (truth false) done)
 
--- a variable has a text, or another than some texts
+-- a variable has a text, and a tree holds
 abbrev pub has_text : Variable → List ℕ → Plain → Plain
 has_text v text t = node (text_level v) (truth false) (branch text t done)
 
+-- a text variable is none of its points
 abbrev pub other_text : Branches → Plain
 other_text bs = node (text_level OsName) (truth true) bs
 
@@ -36,12 +38,15 @@ windows_32_or_other = node (text_level OsName) (truth true) (branch (codes "nt")
 abbrev pub second_point : Plain
 second_point = node (text_level OsName) (truth false) (branch (codes "nt") (has_text SysPlatform (codes "win32") (truth true)) (branch (codes "posix") (truth true) done))
 
+-- the literal of the comparison below
 abbrev pub ubuntu : AtomFields
 ubuntu = record { variable = PlatformVersion; kind = Contains; literal = codes "Ubuntu" }
 
+-- an opaque comparison holds
 abbrev pub contains_ubuntu : Plain
 contains_ubuntu = node (atom_level ubuntu) (truth false) (branch (1 ∷ []) (truth true) done)
 
+-- an opaque comparison fails
 abbrev pub lacks_ubuntu : Plain
 lacks_ubuntu = node (atom_level ubuntu) (truth true) (branch (1 ∷ []) (truth false) done)
 
@@ -49,6 +54,7 @@ lacks_ubuntu = node (atom_level ubuntu) (truth true) (branch (1 ∷ []) (truth f
 abbrev pub world_with : List ℕ → List ℕ → WorldFields
 world_with os platform = record empty_world { texts = os ∷ platform ∷ [] ∷ [] ∷ [] ∷ [] ∷ [] ∷ [] ∷ [] }
 
+-- trees and their samples
 pub record SampleExamples : Type 0 where
   pub everywhere : sample_of (truth true) ≡ empty_world
   pub start : sample_of (from_three_eight (truth true)) ≡ record empty_world { major = 3; minor = 8 }

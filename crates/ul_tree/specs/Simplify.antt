@@ -51,11 +51,12 @@ abbrev pub reduced_branches : Bool → List (List ℕ × Plain) → Plain → Br
 reduced_branches m [] d = done
 reduced_branches m (p ∷ ps) d = if same p.1 d then reduced_branches m ps d else branch p.0 p.1 (reduced_branches m ps (carried m p.1 d))
 
--- a level put together from the results of its pieces: a piece without one takes that of the nearest earlier piece
--- with one, else of the nearest later; d where no piece has a result, as under a region that is false
+-- a level put together from the results of its pieces, where z serves those before the first result
 abbrev pub settled_from : List ℕ → Results → Option Plain → Plain → Plain
 settled_from l rs o z = let e = own_or o (latest (carries l) rs z) in close l e (reduced_branches (carries l) (filled rs z) e)
 
+-- a level put together from the results of its pieces: a piece without one takes that of the nearest earlier piece
+-- with one, else of the nearest later; d where no piece has a result, as under a region that is false
 abbrev pub settled : List ℕ → Results → Option Plain → Plain → Plain
 settled l rs o d = settled_from l rs o (earliest (carries l) rs o d)
 

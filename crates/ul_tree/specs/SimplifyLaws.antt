@@ -17,16 +17,19 @@ pub record SimplifyLaws : Type 0 where
 abbrev pub from_to : Plain
 from_to = node (1 ∷ []) (truth false) (branch (5 ∷ []) (truth true) (branch (9 ∷ []) (truth false) done))
 
+-- from interpreter 5 on
 abbrev pub from : Plain
 from = node (1 ∷ []) (truth false) (branch (5 ∷ []) (truth true) done)
 
+-- below interpreter 9
 abbrev pub below : Plain
 below = node (1 ∷ []) (truth true) (branch (9 ∷ []) (truth false) done)
 
--- a text variable is `w`, and a later one is `x`
+-- a text variable is `w`
 abbrev pub first_is_w : Plain
 first_is_w = node (3 ∷ []) (truth false) (branch (119 ∷ []) (truth true) done)
 
+-- a later text variable is `x`
 abbrev pub second_is_x : Plain
 second_is_x = node (4 ∷ []) (truth false) (branch (120 ∷ []) (truth true) done)
 
@@ -38,13 +41,15 @@ w_from = node (1 ∷ []) (truth false) (branch (5 ∷ []) first_is_w done)
 abbrev pub a_or_b : Plain
 a_or_b = node (3 ∷ []) (truth false) (branch (97 ∷ []) second_is_x (branch (98 ∷ []) (truth true) done))
 
--- a text variable is `a`, or is `b`
+-- a text variable is not `b`
 abbrev pub not_b : Plain
 not_b = node (3 ∷ []) (truth true) (branch (98 ∷ []) (truth false) done)
 
+-- a text variable is not `a`
 abbrev pub not_a : Plain
 not_a = node (3 ∷ []) (truth true) (branch (97 ∷ []) (truth false) done)
 
+-- trees, regions, and what the trees become
 pub record SimplifyExamples : Type 0 where
   -- a lower bound that the region gives is left out
   pub bound : Simplifies from_to from below

@@ -27,10 +27,12 @@ abbrev pub ResultFits : Option Plain → List ℕ → Type 0
 ResultFits None l = Unit {0}
 ResultFits (Some t) l = Fits t l
 
+-- what all pieces become is reduced, with every level after l
 abbrev pub ResultsFit : Results → List ℕ → Type 0
 ResultsFit [] l = Unit {0}
 ResultsFit (r ∷ rs) l = ResultFits r.1 l × ResultsFit rs l
 
+-- all parts are reduced, with every level after l
 abbrev pub PartsFit : List (List ℕ × Plain) → List ℕ → Type 0
 PartsFit [] l = Unit {0}
 PartsFit (p ∷ ps) l = Fits p.1 l × PartsFit ps l

@@ -15,6 +15,7 @@ number_of w = w.major * 2 ^ 64 + w.minor * 2 ^ 32 + w.patch
 abbrev pub has_level : List AtomFields → List ℕ → Bool
 has_level atoms l = list_any (λ a. is_eq (text_cmp (atom_level a) l)) atoms
 
+-- the value of an opaque comparison: 1 where it holds, 0 where it fails
 abbrev pub mark_of : Bool → List ℕ
 mark_of true = 1 ∷ []
 mark_of false = 0 ∷ []
