@@ -203,25 +203,47 @@ fn operations_join_truths(rt: HostRuntime) -> Result<(), Fail> {
     Ok(())
 }
 
-#[test]
-fn trees_are_compared_and_counted(rt: HostRuntime) -> Result<(), Fail> {
-    let alloc = rt.alloc();
+// `os_name == 'nt' or sys_platform == 'linux'`.
+fn either(alloc: Global) -> Result<Tree, AllocError>
+    ensures { IfOk result (λ t. IsReduced (tree_view t)) }
+{
     let windows = text_leaf(alloc, Variable::OsName, "nt")?;
     let linux = text_leaf(alloc, Variable::SysPlatform, "linux")?;
-    let either = plain_or(alloc, &windows, &linux)?;
-    let neither = plain_not(alloc, &either)?;
-    let again = plain_and(
-        alloc,
-        &plain_not(alloc, &windows)?,
-        &plain_not(alloc, &linux)?,
-    )?;
-    assert!(rt; neither.same(&again) && either.copy(alloc)?.same(&either));
-    assert!(rt; !either.same(&neither) && !either.same(&windows));
-    assert_eq!(rt; paths(&windows), 1);
-    assert_eq!(rt; paths(&either), 2);
-    assert_eq!(rt; paths(&neither), 1);
-    let nowhere = plain_and(alloc, &either, &neither)?;
-    assert!(rt; nowhere.same(&Tree::Truth(false)));
+    plain_or(alloc, &windows, &linux)
+}
+
+// The negation of that.
+fn neither(alloc: Global) -> Result<Tree, AllocError>
+    ensures { IfOk result (λ t. IsReduced (tree_view t)) }
+{
+    plain_not(alloc, &either(alloc)?)
+}
+
+// `os_name != 'nt' and sys_platform != 'linux'`.
+fn not_either(alloc: Global) -> Result<Tree, AllocError>
+    ensures { IfOk result (λ t. IsReduced (tree_view t)) }
+{
+    let windows = plain_not(alloc, &text_leaf(alloc, Variable::OsName, "nt")?)?;
+    let linux = plain_not(alloc, &text_leaf(alloc, Variable::SysPlatform, "linux")?)?;
+    plain_and(alloc, &windows, &linux)
+}
+
+#[test]
+fn paths_to_true_are_counted(rt: HostRuntime) -> Result<(), Fail> {
+    let either = either(rt.alloc())?;
+    let neither = neither(rt.alloc())?;
+    assert_eq!(rt; (paths(&either), paths(&neither)), (2, 1));
+    let nowhere = plain_and(rt.alloc(), &either, &neither)?;
     assert_eq!(rt; paths(&nowhere), 0);
+    Ok(())
+}
+
+#[test]
+fn one_truth_is_one_tree(rt: HostRuntime) -> Result<(), Fail> {
+    let either = either(rt.alloc())?;
+    let neither = neither(rt.alloc())?;
+    assert!(rt; neither.same(&not_either(rt.alloc())?));
+    assert!(rt; !either.same(&neither));
+    assert!(rt; either.copy(rt.alloc())?.same(&either));
     Ok(())
 }
