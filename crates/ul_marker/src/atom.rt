@@ -2,7 +2,7 @@
 ghost use Rattle.std.specs.Prelude.{◌≡◌, IfOk, IfSome, None, string_bytes};
 ghost use Rattle.std.specs.List.{list_all};
 ghost use Rattle.ul_marker.specs.Atoms;
-ghost use Rattle.ul_marker.specs.Atoms.{IsAtom, atom_cmp, is_literal_byte};
+ghost use Rattle.ul_marker.specs.Atoms.{IsAtom, atom_cmp};
 
 use crate::{AtomKind, Variable};
 use std::alloc::{AllocError, Global};
@@ -94,12 +94,19 @@ fn is_literal(text: &[u8]) -> bool
     has_literal_bytes(text) && !(has_byte(b'\'', text) && has_byte(b'"', text))
 }
 
+/// Whether a byte can stand in a literal: printable ASCII without the backslash.
+pub(crate) fn is_literal_byte(byte: u8) -> bool
+    ensures { result ≡ Atoms.is_literal_byte byte }
+{
+    32 <= byte && (byte <= 126 && byte != b'\\')
+}
+
 // Whether each byte of a text can stand in a literal.
 fn has_literal_bytes(text: &[u8]) -> bool
-    ensures { result ≡ list_all is_literal_byte text.now }
+    ensures { result ≡ list_all Atoms.is_literal_byte text.now }
 {
     for byte in text {
-        if !(32..=126).contains(byte) || *byte == b'\\' {
+        if !is_literal_byte(*byte) {
             return false;
         }
     }

@@ -8,6 +8,7 @@ ghost use Rattle.ul_marker.specs.Atoms.{is_literal};
 ghost use Rattle.ul_marker.specs.Readers.{front_view, optional_bytes, optional_front, tokens_view, Reads};
 ghost use Rattle.ul_marker.specs.Words as Grammar;
 
+use crate::atom::is_literal_byte;
 use crate::{MarkerFault, Variable};
 use std::alloc::{AllocError, Global};
 use std::marker::Model;
@@ -94,7 +95,7 @@ fn is_word_byte(byte: u8) -> bool
 fn is_quoted(quote: u8, byte: u8) -> bool
     ensures { result ≡ Grammar.is_quoted quote byte }
 {
-    (32 <= byte && (byte <= 126 && byte != b'\\')) && byte != quote
+    is_literal_byte(byte) && byte != quote
 }
 
 // How many bytes in front stand in a word.
