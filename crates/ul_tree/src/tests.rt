@@ -178,7 +178,7 @@ fn agrees(alloc: Global, seed: u64, tree: &Tree, of_test: &Tree) -> Result<bool,
     requires of_test_reduced { IsReduced (tree_view of_test.now) }
 {
     for turn in 0..20 {
-        let world = world(alloc, next(turn))?;
+        let world = world(alloc, next(seed.wrapping_add(turn)))?;
         let extra = extra(turn);
         if holds(tree, &world, extra) != grown_holds(seed, 4, &world, extra) {
             return Ok(false);
