@@ -1,3 +1,10 @@
-pub mod Memory
+pub mod ForCallers
 pub mod Names
+pub mod NameAbove
 pub mod Nodes
+pub mod Memory
+pub mod Lists
+pub mod Members
+pub mod KeptLists
+pub mod Increasing
+pub mod Reaching

@@ -1,7 +1,10 @@
+pub mod Names
+pub mod Nodes
 pub mod Causes
 pub mod Files
 pub mod MemFiles
-pub mod MemSink
-pub mod Names
-pub mod Nodes
 pub mod Sinks
+pub mod MemSink
+pub mod Kept
+pub mod Reached
+pub mod Increasing

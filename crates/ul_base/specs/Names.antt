@@ -56,6 +56,10 @@ is_normal_byte b = is_ascii_digit b || (is_ascii_lowercase b || b == 45)
 abbrev pub IsPlain : List ℕ → Type 0
 IsPlain name = (0 < length name) × (list_all is_normal_byte name ≡ true)
 
+-- a name that is greater than this one: a `0` behind it
+unfoldable pub name_above : List ℕ → List ℕ
+name_above name = name ++ 48 ∷ []
+
 -- the order of names: their bytes, the first that differ deciding
 abbrev pub name_cmp : List ℕ → List ℕ → Ordering
 name_cmp = slice_cmp nat_cmp

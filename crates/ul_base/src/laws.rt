@@ -3,8 +3,8 @@
 //! Each function has an empty body: its contract is the law.
 ghost use Rattle.std.specs.Prelude.{◌≡◌, ◌∷◌, [], ℕ, List, codes, true};
 ghost use Rattle.std.specs.Cmp.{IsTotalOrder};
-ghost use Rattle.std.specs.declared.cmp.Ordering.TheVariants.{Equal};
-ghost use Rattle.ul_base.specs.Names.{is_name, name_of, normal_form, IsPlain};
+ghost use Rattle.std.specs.declared.cmp.Ordering.TheVariants.{Equal, Less};
+ghost use Rattle.ul_base.specs.Names.{is_name, name_of, normal_form, name_above, name_cmp, IsNormalName, IsPlain};
 ghost use Rattle.ul_base.specs.Nodes.{node_cmp};
 ghost use Rattle.ul_base.specs.declared.node.Node.{Node};
 
@@ -16,6 +16,13 @@ pub fn normal_forms()
     ensures same { (text : List ℕ) → normal_form (normal_form text) ≡ normal_form text }
     ensures reads { (text name : List ℕ) → name_of text ≡ Some name → name_of name ≡ Some name }
     ensures plain { (name : List ℕ) → name_of name ≡ Some name → IsPlain name }
+{}
+
+/// Above each name there is a greater one.
+#[tactic(auto, using(crate::proofs::NameAbove::above_is_name, crate::proofs::NameAbove::name_below))]
+pub fn names_above()
+    ensures is_name { (name : List ℕ) → IsNormalName name → IsNormalName (name_above name) }
+    ensures greater { (name : List ℕ) → name_cmp name (name_above name) ≡ Less }
 {}
 
 /// The order of nodes is total, and nodes that are level in it are equal.

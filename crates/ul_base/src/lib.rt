@@ -20,6 +20,6 @@ pub use files::{Files, ReadRefused};
 pub use gate::{Gate, Open};
 pub use mem_files::{MemFiles, SureFiles};
 pub use mem_sink::MemSink;
-pub use name::{Name, NameFault};
+pub use name::{Name, NameFault, is_name};
 pub use node::Node;
 pub use sink::{Sink, SinkRefused};

@@ -7,6 +7,7 @@ ghost use Rattle.std.specs.Cmp.Rules.{hashing};
 ghost use Rattle.std.specs.Hash as fed;
 ghost use Rattle.std.specs.List.{list_all};
 ghost use Rattle.std.specs.Str.{bytes_eq};
+ghost use Rattle.ul_base.specs.Names;
 ghost use Rattle.ul_base.specs.Names.{AddsByte, IsNormalName, IsPlain, NameReading, has_ends, is_name_byte, is_separator, name_cmp, normal_form};
 
 use std::alloc::{AllocError, Global};
@@ -134,6 +135,29 @@ impl Hash for Name {
     fn hash<H: Hasher>(&self, state: &mut H) {
         self.text.as_str().hash(state);
     }
+}
+
+/// Whether a text is a name, in its normal form or not. It takes no memory.
+///
+/// `Name::read` answers `NoReading` exactly where it is none.
+#[tactic(auto, unfolding(crate::specs::Names::is_name))]
+pub fn is_name(text: &str) -> bool
+    ensures { result ≡ Names.is_name text.now }
+{
+    let bytes = text.as_bytes();
+    ends_well(bytes) && has_name_bytes(bytes)
+}
+
+// Each byte is a letter, a digit or a separator.
+fn has_name_bytes(bytes: &[u8]) -> bool
+    ensures { result ≡ list_all is_name_byte bytes.now }
+{
+    for byte in bytes {
+        if !byte.is_ascii_alphanumeric() && !separates(*byte) {
+            return false;
+        }
+    }
+    true
 }
 
 // The bytes begin and end with a letter or a digit.
