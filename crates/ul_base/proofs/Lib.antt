@@ -3,6 +3,7 @@ pub mod Names
 pub mod NameAbove
 pub mod Nodes
 pub mod Memory
+pub mod ListedFiles
 pub mod Lists
 pub mod Members
 pub mod KeptLists

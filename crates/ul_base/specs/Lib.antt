@@ -3,8 +3,10 @@ pub mod Nodes
 pub mod Causes
 pub mod Files
 pub mod MemFiles
+pub mod ListedFiles
 pub mod Sinks
 pub mod MemSink
 pub mod Kept
 pub mod Reached
 pub mod Increasing
+pub mod Examples

@@ -8,6 +8,7 @@
 mod files;
 mod gate;
 pub mod laws;
+mod listed_files;
 mod mem_files;
 mod mem_sink;
 mod name;

@@ -8,7 +8,7 @@ ghost use Rattle.std.specs.Hash as fed;
 ghost use Rattle.std.specs.List.{list_all};
 ghost use Rattle.std.specs.Str.{bytes_eq};
 ghost use Rattle.ul_base.specs.Names;
-ghost use Rattle.ul_base.specs.Names.{AddsByte, IsNormalName, IsPlain, NameReading, has_ends, is_name_byte, is_separator, name_cmp, normal_form};
+ghost use Rattle.ul_base.specs.Names.{AddsByte, IsFormOf, IsNormalName, IsPlain, NameReading, has_ends, is_name_byte, is_separator, name_cmp};
 
 use std::alloc::{AllocError, Global};
 use std::cmp::Ordering;
@@ -180,7 +180,7 @@ fn separates(byte: u8) -> bool
 
 // The normal form of letters, digits and separators; `NoReading` where another byte is among them.
 fn normalized(alloc: Global, bytes: &[u8]) -> Result<String, NameFault>
-    ensures value { IfOk result (λ t. (list_all is_name_byte bytes.now ≡ true) × (string_bytes t ≡ normal_form bytes.now)) }
+    ensures value { IfOk result (λ t. IsFormOf bytes.now (string_bytes t)) }
     ensures no_reading { IfErr result (λ e. e ≡ NameFault.NoReading → list_all is_name_byte bytes.now ≡ false) }
 {
     let mut text = String::new(alloc);
