@@ -14,8 +14,6 @@ mod mem_sink;
 mod name;
 mod node;
 mod sink;
-#[cfg(test)]
-mod tests;
 
 pub use files::{Files, ReadRefused};
 pub use gate::{Gate, Open};
