@@ -1,3 +1,4 @@
+pub mod ForCallers
 pub mod Orders
 pub mod OrderLaws
 pub mod Cuts
@@ -9,3 +10,4 @@ pub mod Complete
 pub mod Longest
 pub mod LawProofs
 pub mod Examples
+pub mod ByteRuns

@@ -1,6 +1,7 @@
 //! Versions as PEP 440 spells and orders them, with numbers of 64 bits.
 #![tactic(auto)]
 
+pub mod ascii;
 mod fault;
 mod fields;
 pub mod laws;
