@@ -1,6 +1,7 @@
 pub mod ForCallers
 pub mod Orders
 pub mod OrderLaws
+pub mod Fronts
 pub mod Cuts
 pub mod Faults
 pub mod Spelling

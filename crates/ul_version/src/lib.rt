@@ -2,15 +2,18 @@
 #![tactic(auto)]
 
 pub mod ascii;
+mod equality;
 mod fault;
 mod fields;
 pub mod laws;
 mod order;
+mod public;
 mod reading;
 mod texts;
 
 pub use fault::VersionFault;
 pub use fields::{Pre, PreKind, Segment, Text, Version};
+pub use public::{Public, cmp_releases, has_front};
 
 #[cfg(test)]
 mod tests;
