@@ -1,3 +1,4 @@
+pub mod Headline
 pub mod Fields
 pub mod Ascii
 pub mod Grammar
