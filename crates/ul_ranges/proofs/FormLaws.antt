@@ -1,20 +1,18 @@
 -- Laws of sets as they are kept.
-use Rattle.std.proofs.Common.{◌≡◌, ℕ, zero, suc, List, [], ◌∷◌, Bool, true, false, cond, refl, ap, ◌∙◌, sym, subst, get_or, ◌+◌, ◌-◌, ◌*◌, ◌/◌, ◌%◌, ◌^◌, ◌<◌, ◌≤◌, length, arith, eqb, ltb, inl, inr, w64, replicate, zero-add, Option, Some, None, nat_eq, nat_lt, lit<}
+use Rattle.std.proofs.Common.{◌≡◌, ℕ, List, [], Bool, true, false, cond, refl, ap, ◌∙◌, sym, subst, get_or, ◌+◌, ◌*◌, ◌<◌, ◌≤◌, length, arith, inl, inr, w64, replicate, zero-add, Option, Some, None, nat_eq, nat_lt}
 use Rattle.std.specs.Prelude.{bit_and, bit_or, map, zip, ◌↔◌, IsTrue, All}
-use Rattle.std.specs.Int.{bit_at, bit_not}
-use Rattle.std.specs.List.{range_with_len, list_all, list_any}
-use Rattle.std.proofs.lemmas.Bool.{cases_lt, cases_Bool, eqb-true, eq-eqb, cases_eq, ne_eqb, cond-true, cond-false, lt-ltb, le-ltb, true≢false, false≢true}
+use Rattle.std.specs.Int.{bit_not}
+use Rattle.std.proofs.lemmas.Bool.{cases_lt, eqb-true, ne_eqb, cond-true, cond-false, lt-ltb, le-ltb, true≢false, false≢true}
 use Rattle.std.proofs.lemmas.List.{get_or_past, get_or-replicate, length-replicate}
 use Rattle.std.proofs.lemmas.List.FromFn.{length-map-range_with_len, get_or-map-range_with_len}
 use Rattle.std.proofs.lemmas.Nat.{and_le_l, or_lt}
-use Rattle.std.proofs.lemmas.Nat.Bits.{bit_at_above}
 use Rattle.ul_ranges.specs.Flags.{has, both, either, less, is_apart, is_blank, is_within, set_of, IsNext}
-use Rattle.ul_ranges.specs.Blocks.{flag, flag_at, block_count, IsExact, AreBlocksOf}
-use Rattle.ul_ranges.specs.Forms.{bit_in, is_one, flag_in, flags_in, HasTwo, IsWord, IsBelow, IsFew, IsMany, IsForm, IsFewOf, IsSealed, HasBlocks, in_both, in_either, in_first, IsMade, only_in, only_out, AreForms, AreSame, AreWithin, AreApart, HasMembers, HasAll}
+use Rattle.ul_ranges.specs.Blocks.{flag, flag_at, block_count, AreBlocksOf}
+use Rattle.ul_ranges.specs.Forms.{bit_in, is_one, flag_in, flags_in, IsWord, IsBelow, IsFew, IsMany, IsForm, IsSealed, HasBlocks, in_both, in_either, in_first, IsMade, only_in, only_out, AreForms, AreSame, AreWithin, AreApart, HasMembers, HasAll}
 use Rattle.ul_ranges.specs.declared.forms.Form.{Form}
 use Rattle.ul_ranges.specs.declared.forms.Form.TheVariants.{Word, Few, Many}
-use Rattle.ul_ranges.proofs.FlagLaws.{has-both, has-either, has-less, length-both, length-either, length-less, blank_some, blank_none, none_blank, same_sets, cond_same, length-set_of, has-set_of}
-use Rattle.ul_ranges.proofs.BlockLaws.{flag-zero, flag-and, flag-or, flag-and_not, flag-true, flag_at-place, same_word, IsFlagwise, zip_flag}
+use Rattle.ul_ranges.proofs.FlagLaws.{has-both, has-either, has-less, length-both, length-either, length-less, blank_none, none_blank, same_sets, cond_same, length-set_of, has-set_of}
+use Rattle.ul_ranges.proofs.BlockLaws.{flag-and, flag-or, flag-and_not, flag-true, flag_at-place, IsFlagwise, zip_flag}
 
 -- ---- the flags of a form
 pub length-flags_in : (size : ℕ) (f : Form) → length (flags_in size f) ≡ size

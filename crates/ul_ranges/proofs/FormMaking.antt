@@ -1,5 +1,5 @@
 -- Laws of sets as they are made and written to.
-use Rattle.std.proofs.Common.{◌≡◌, ℕ, zero, suc, List, [], ◌∷◌, Bool, true, false, cond, refl, ap, ◌∙◌, sym, subst, get_or, ◌+◌, ◌-◌, ◌*◌, ◌/◌, ◌%◌, ◌^◌, ◌<◌, ◌≤◌, length, arith, eqb, inl, inr, w64, Option, Some, None, nat_eq, nat_lt, lit<, replicate, ◌++◌, Result, Ok, Err, ◌⊎◌}
+use Rattle.std.proofs.Common.{◌≡◌, ℕ, List, [], ◌∷◌, Bool, false, ap, ◌∙◌, sym, subst, get_or, ◌-◌, ◌*◌, ◌/◌, ◌%◌, ◌^◌, ◌<◌, ◌≤◌, length, arith, eqb, inl, inr, Some, None, lit<, replicate, ◌++◌, Result, Ok, Err, ◌⊎◌}
 use Rattle.std.specs.Prelude.{bit_or, map, zip, All, IfOk, ◌||◌}
 use Rattle.std.specs.List.{list_any}
 use Rattle.std.proofs.lemmas.Bool.{cases_lt, cases_eq, ne_eqb, eq-eqb, lt-ltb, le-ltb}
@@ -10,7 +10,7 @@ use Rattle.std.proofs.lemmas.Nat.Bits.{bit_at-pow_same, bit_at-pow_other}
 use Rattle.std.proofs.Math.Nat.{mod-lt}
 use Rattle.ul_ranges.specs.Blocks.{flag, flag_at, block_count, IsExact}
 use Rattle.ul_ranges.specs.Marks.{HasMarked, IsMarkedWord, IsFull}
-use Rattle.ul_ranges.specs.Forms.{bit_in, is_one, flag_in, IsWord, IsBelow, IsFew, IsMany, IsForm, IsSealed, HasBlocks, IsMade, AreLevel, IsZipped, IsOpen, IsResealed, HasMembers, HasAll}
+use Rattle.ul_ranges.specs.Forms.{bit_in, flag_in, IsWord, IsForm, IsSealed, HasBlocks, IsMade, IsZipped, IsOpen, IsResealed, HasMembers, HasAll}
 use Rattle.ul_ranges.specs.declared.forms.Form.{Form}
 use Rattle.ul_ranges.specs.declared.forms.Form.TheVariants.{Word, Few, Many}
 use Rattle.ul_ranges.proofs.BlockLaws.{flag-zero, flag-true, IsFlagwise, zip_exact, zip_flag, word_marked, or_false, ones_below, ones_above}

@@ -1,5 +1,5 @@
 -- Laws of the tests on sets as they are kept, and of how they are kept.
-use Rattle.std.proofs.Common.{◌≡◌, ℕ, zero, suc, List, [], ◌∷◌, Bool, true, false, cond, refl, ap, ◌∙◌, sym, subst, get_or, ◌+◌, ◌-◌, ◌*◌, ◌/◌, ◌%◌, ◌^◌, ◌<◌, ◌≤◌, length, arith, eqb, inl, inr, w64, Option, Some, None, nat_eq, lit<, ◌⊎◌}
+use Rattle.std.proofs.Common.{◌≡◌, ℕ, List, Bool, true, false, cond, refl, ap, ◌∙◌, sym, get_or, ◌+◌, ◌*◌, ◌<◌, ◌≤◌, arith, eqb, inl, inr, w64, Option, Some, None, nat_eq, lit<, ◌⊎◌}
 use Rattle.std.specs.Prelude.{bit_and, map, zip, ◌↔◌, IsTrue, not}
 use Rattle.std.specs.Option.{is_some}
 use Rattle.std.specs.Int.{bit_not}
@@ -9,13 +9,12 @@ use Rattle.std.proofs.lemmas.Slice.Eq.{slice_eq-Decides}
 use Rattle.std.proofs.lemmas.Bool.Decides.{Decides-eqb}
 use Rattle.std.proofs.lemmas.Bool.{cases_lt, eqb-true, eq-eqb, true≢false, false≢true}
 use Rattle.std.proofs.lemmas.List.{ext_get_or}
-use Rattle.ul_ranges.specs.Flags.{IsNext}
-use Rattle.ul_ranges.specs.Blocks.{flag, flag_at, block_count, IsExact}
-use Rattle.ul_ranges.specs.Forms.{bit_in, is_one, flag_in, HasTwo, IsWord, IsBelow, IsFew, IsMany, IsForm, IsFewOf, IsSealed, HasBlocks, in_both, in_either, in_first, IsMade, AreForms, AreSame, AreWithin, AreApart}
+use Rattle.ul_ranges.specs.Blocks.{flag, flag_at, IsExact}
+use Rattle.ul_ranges.specs.Forms.{bit_in, is_one, flag_in, HasTwo, IsWord, IsMany, in_both, in_first, AreForms, AreSame, AreWithin, AreApart}
 use Rattle.ul_ranges.specs.declared.forms.Form.{Form}
 use Rattle.ul_ranges.specs.declared.forms.Form.TheVariants.{Word, Few, Many}
 use Rattle.ul_ranges.proofs.BlockLaws.{flag-zero, same_word, flag_at-place, flag-and, flag-and_not, all_of_map, all_clear, clear_all, and_flagwise, less_flagwise, zip_exact, zip_flag}
-use Rattle.ul_ranges.proofs.FormLaws.{bit_within, beyond, flag_past}
+use Rattle.ul_ranges.proofs.FormLaws.{bit_within, beyond}
 
 -- two flags of one member are of one number
 pub one_only : (o : Option ℕ) (i j : ℕ) → is_one o i ≡ true → is_one o j ≡ true → i ≡ j

@@ -1,5 +1,5 @@
 -- Blocks in which the bits of some numbers are set.
-use Rattle.std.specs.Prelude.{◌≡◌, ℕ, ◌<◌, ◌≤◌, ◌^◌, List, length, Bool, true, false, nat_eq, get_or}
+use Rattle.std.specs.Prelude.{◌≡◌, ℕ, ◌<◌, ◌≤◌, ◌^◌, List, length, true, false, nat_eq, get_or}
 use Rattle.std.specs.List.{list_any}
 use Rattle.ul_ranges.specs.Blocks.{block_count, flag, flag_at}
 

@@ -1,4 +1,4 @@
-use Rattle.std.proofs.Common.{arith, subst, sym, ℕ, ◌^◌, ◌-◌, ◌%◌, ◌*◌}
+use Rattle.std.proofs.Common.{arith, subst, sym, ℕ}
 use Rattle.ul_ranges.specs.Forms.{HasAll}
 use Rattle.ul_ranges.specs.declared.forms.Form.TheVariants.{Word}
 use Rattle.ul_ranges.proofs.BlockLaws.{low_mask}

@@ -1,7 +1,6 @@
 use Rattle.std.proofs.Common.{◌≡◌, ◌<◌, arith, take, get_or, length}
 use Rattle.std.specs.Prelude.{All}
 use Rattle.std.proofs.lemmas.List.{take_more, take_all}
-use Rattle.ul_ranges.specs.Marks.{HasMarked}
 use Rattle.ul_ranges.proofs.BlockLaws.{unmarked, marked}
 use Rattle.ul_ranges.proofs.forms.blocks_of.Goals as goal
 

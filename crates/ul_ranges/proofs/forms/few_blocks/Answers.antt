@@ -1,5 +1,4 @@
 use Rattle.std.proofs.Common.{[], ◌∷◌, ◌<◌, List, arith, Vec, ℕ, Global, ap, subst, sym}
-use Rattle.ul_ranges.specs.Forms.{HasBlocks}
 use Rattle.ul_ranges.specs.Marks.{HasMarked}
 use Rattle.ul_ranges.proofs.BlockLaws.{unmarked, marked}
 use Rattle.ul_ranges.proofs.FormMaking.{some_blocks, no_blocks}

@@ -1,4 +1,4 @@
-use Rattle.ul_ranges.proofs.FormMaking.{ok_then, word_members, marked_exact}
+use Rattle.ul_ranges.proofs.FormMaking.{word_members, marked_exact}
 use Rattle.ul_ranges.proofs.forms.of_list.Goals as goal
 
 pub sealed-requires-clause-exact : goal.sealed-requires-clause-exact

@@ -1,5 +1,5 @@
-use Rattle.std.proofs.Common.{refl, arith, get_or, ◌<◌, ◌≤◌, ℕ, ◌*◌, ◌+◌, ◌/◌, ◌%◌}
-use Rattle.ul_ranges.proofs.WordLaws.{AreClear, past_end, block_found, block_clear}
+use Rattle.std.proofs.Common.{refl, arith, ◌/◌, ◌%◌}
+use Rattle.ul_ranges.proofs.WordLaws.{past_end, block_found, block_clear}
 use Rattle.ul_ranges.proofs.words.next_flag.Goals as goal
 
 pub returns-then-first-blocks : goal.returns-then-first-blocks
