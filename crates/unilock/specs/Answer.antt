@@ -1,5 +1,5 @@
 -- What the program answers, as a status and the bytes that are printed, from the words and the files.
-use Rattle.std.specs.Prelude.{◌≡◌, ℕ, List, [], ◌∷◌, ◌++◌, codes, Option, Some, Result, Ok, Err, ◌⊎◌}
+use Rattle.std.specs.Prelude.{◌≡◌, ℕ, List, [], ◌∷◌, ◌++◌, codes, Option, Some, None, Result, Ok, Err, ◌⊎◌}
 use Rattle.std.specs.Fmt.{decimal}
 use Rattle.ul_base.specs.Files.{FileMap}
 use Rattle.ul_lock.specs.Text.{lock_text}
@@ -67,6 +67,16 @@ abbrev pub IsAskedAnswer : FileMap → Asked → ℕ → List ℕ → Type 0
 IsAskedAnswer m usage status bytes = Prints (2, usage_text) status bytes
 IsAskedAnswer m (unbuilt form) status bytes = Prints (refused_answer (not_built form)) status bytes
 IsAskedAnswer m (lock project folder) status bytes = IsProjectAnswer m folder (project_at m project) status bytes
+
+-- the answer that is decided with no file: that the words aren't one of the commands, or a form that isn't built
+abbrev pub answer_of_asked : Asked → Option (ℕ × List ℕ)
+answer_of_asked usage = Some (2, usage_text)
+answer_of_asked (unbuilt form) = Some (refused_answer (not_built form))
+answer_of_asked (lock project folder) = None
+
+-- the answer that the words alone decide
+abbrev pub words_answer : List (List ℕ) → Option (ℕ × List ℕ)
+words_answer words = answer_of_asked (asked words)
 
 -- The answer of the program: at most one status and bytes are it.
 unfoldable pub IsAnswer : List (List ℕ) → FileMap → ℕ → List ℕ → Type 0
