@@ -3,7 +3,7 @@ use Rattle.std.proofs.Common.{◌≡◌, ◌≢◌, ℕ, List, IfOk, Option, Som
 use Rattle.ul_base.specs.Files.{FileMap}
 use Rattle.unilock.specs.Refused.{Refused}
 use Rattle.unilock.specs.Answer.{refused_answer, IsLocked, IsCatalogAnswer, IsProjectAnswer, IsProjectRead}
-use Rattle.unilock.specs.Jobs.{status_of, text_of, IsCatalogText, JobGives, printed, PrintedFor}
+use Rattle.unilock.specs.Jobs.{status_of, text_of, IsCatalogText, JobGives, status_and_text, PrintedFor}
 use Rattle.unilock.specs.Loaded.{LoadGives}
 use Rattle.unilock.specs.Loading.{project_at, Loads, IsLoaded}
 use Rattle.unilock.specs.Refusals.{refused_of, failed_path, FailedAt, Cause}

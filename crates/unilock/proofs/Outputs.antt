@@ -1,11 +1,11 @@
 -- What is printed is the output for the words.
 use Rattle.std.proofs.Common.{◌≡◌, ◌≢◌, ◌<◌, ◌≤◌, ℕ, List, IfOk, IfSome, Option, Some, None, Result, Ok, Err, Vec, Global, string_bytes, refl, ap, sym, ◌∙◌, subst, arith}
 use Rattle.ul_base.specs.Files.{Told}
-use Rattle.unilock.specs.Words.{Asked, usage, unbuilt, lock, asked}
+use Rattle.unilock.specs.Words.{Asked, usage, unbuilt, lock, question}
 use Rattle.unilock.specs.Refused.{not_built}
 use Rattle.unilock.specs.Answer.{Prints, usage_text, read_fault_text, refused_answer, answer_of_asked, IsAnswer, IsRead, IsAskedAnswer, IsAskedRead}
 use Rattle.unilock.specs.Headline.{FilesSeen, IsOutput}
-use Rattle.unilock.specs.Jobs.{JobGives, printed, PrintedFor}
+use Rattle.unilock.specs.Jobs.{JobGives, status_and_text, PrintedFor}
 use Rattle.unilock.specs.Refusals.{Cause}
 use Rattle.unilock.specs.declared.refusal.Output.{Output}
 use Rattle.unilock.specs.declared.refusal.Refusal.{Refusal}
@@ -20,7 +20,7 @@ if_ok (Ok x) P Q w h = w x h
 if_ok (Err e) P Q w h = tt
 
 -- an output that no failed read gave
-quiet : (words : List (List ℕ)) (q : Asked) (before now : FilesSeen) (s : ℕ) (t : List ℕ) → q ≡ asked words → s < 6 → s ≢ 5
+quiet : (words : List (List ℕ)) (q : Asked) (before now : FilesSeen) (s : ℕ) (t : List ℕ) → q ≡ question words → s < 6 → s ≢ 5
     → Told before.map (λ m. IsAskedAnswer m q s t) → IfSome (answer_of_asked q) (λ a. Prints a s t) → (s ≡ 2 → q ≡ usage)
     → now.faults ≡ before.faults → IsOutput words before now s t
 unfolding IsAnswer
@@ -36,30 +36,30 @@ quiet words q before now s t same range unfailed told alone plain still = record
 }
 
 -- the words aren't one of the commands
-usage_output : (words : List (List ℕ)) (files : FilesSeen) (o : Output) → usage ≡ asked words → printed o ≡ (2, usage_text) → IsOutput words files files o.status o.text.items
+usage_output : (words : List (List ℕ)) (files : FilesSeen) (o : Output) → usage ≡ question words → status_and_text o ≡ (2, usage_text) → IsOutput words files files o.status o.text.items
 usage_output words files o same h =
     let two : o.status ≡ 2 = ap (λ x. x.0) h in
     let line : o.text.items ≡ usage_text = ap (λ x. x.1) h in
     quiet words usage files files o.status o.text.items same (omega arith) (λ five. absurd (omega arith)) (λ m e. (two, line)) (two, line) (λ _. refl) refl
 
-pub ok_usage : {E : Type 0} (words : List (List ℕ)) (files : FilesSeen) (r : Result Output E) → usage ≡ asked words
-    → IfOk r (λ o. printed o ≡ (2, usage_text)) → IfOk r (λ o. IsOutput words files files o.status o.text.items)
+pub ok_usage : {E : Type 0} (words : List (List ℕ)) (files : FilesSeen) (r : Result Output E) → usage ≡ question words
+    → IfOk r (λ o. status_and_text o ≡ (2, usage_text)) → IfOk r (λ o. IsOutput words files files o.status o.text.items)
 ok_usage words files r same h = if_ok r _ _ (λ o. usage_output words files o same) h
 
 -- the words have a form that isn't built
-unbuilt_output : (words : List (List ℕ)) (form : List ℕ) (files : FilesSeen) (o : Output) → unbuilt form ≡ asked words → printed o ≡ refused_answer (not_built form)
+unbuilt_output : (words : List (List ℕ)) (form : List ℕ) (files : FilesSeen) (o : Output) → unbuilt form ≡ question words → status_and_text o ≡ refused_answer (not_built form)
     → IsOutput words files files o.status o.text.items
 unbuilt_output words form files o same h =
     let three : o.status ≡ 3 = ap (λ x. x.0) h in
     quiet words (unbuilt form) files files o.status o.text.items same (omega arith) (λ five. absurd (omega arith))
     (λ m e. (three, ap (λ x. x.1) h)) (three, ap (λ x. x.1) h) (λ two. absurd (omega arith)) refl
 
-pub ok_unbuilt : {E : Type 0} (words : List (List ℕ)) (form : List ℕ) (files : FilesSeen) (r : Result Output E) → unbuilt form ≡ asked words
-    → IfOk r (λ o. printed o ≡ refused_answer (not_built form)) → IfOk r (λ o. IsOutput words files files o.status o.text.items)
+pub ok_unbuilt : {E : Type 0} (words : List (List ℕ)) (form : List ℕ) (files : FilesSeen) (r : Result Output E) → unbuilt form ≡ question words
+    → IfOk r (λ o. status_and_text o ≡ refused_answer (not_built form)) → IfOk r (λ o. IsOutput words files files o.status o.text.items)
 ok_unbuilt words form files r same h = if_ok r _ _ (λ o. unbuilt_output words form files o same) h
 
 -- the words ask for a lock, and no read failed
-lock_quiet : (words : List (List ℕ)) (project folder : List ℕ) (before now : FilesSeen) (o : Output) (x : ℕ × List ℕ) → lock project folder ≡ asked words → printed o ≡ x
+lock_quiet : (words : List (List ℕ)) (project folder : List ℕ) (before now : FilesSeen) (o : Output) (x : ℕ × List ℕ) → lock project folder ≡ question words → status_and_text o ≡ x
     → x.0 < 6 → x.0 ≢ 5 → x.0 ≢ 2 → Told before.map (λ m. IsAskedAnswer m (lock project folder) x.0 x.1) → now.faults ≡ before.faults → IsOutput words before now o.status o.text.items
 lock_quiet words project folder before now o x same h range unfailed unusual told still =
     let status_is : o.status ≡ x.0 = ap (λ y. y.0) h in
@@ -69,7 +69,7 @@ lock_quiet words project folder before now o x same h range unfailed unusual tol
     (λ two. absurd (unusual (sym status_is ∙ two))) still
 
 -- the words ask for a lock: the output of the job's result
-lock_output : (words : List (List ℕ)) (project folder : List ℕ) (before now : FilesSeen) (r : Job) (o : Output) → lock project folder ≡ asked words
+lock_output : (words : List (List ℕ)) (project folder : List ℕ) (before now : FilesSeen) (r : Job) (o : Output) → lock project folder ≡ question words
     → Told before.map (λ m. JobGives m project folder r) → Cause before.faults now.faults now.last_failed r → PrintedFor r o → IsOutput words before now o.status o.text.items
 unfolding IsAnswer IsRead
 lock_output words project folder before now (Ok (Some text)) o same told cause h = lock_quiet words project folder before now o _ same h (omega arith) (λ e. absurd (omega arith)) (λ e. absurd (omega arith)) told cause
@@ -92,7 +92,7 @@ lock_output words project folder before now (Err (ReadFault path)) o same told c
     }
 lock_output words project folder before now (Err NoMemory) o same told cause h = absurd h
 
-pub ok_lock : {E : Type 0} (words : List (List ℕ)) (project folder : List ℕ) (before now : FilesSeen) (r : Job) (out : Result Output E) → lock project folder ≡ asked words
+pub ok_lock : {E : Type 0} (words : List (List ℕ)) (project folder : List ℕ) (before now : FilesSeen) (r : Job) (out : Result Output E) → lock project folder ≡ question words
     → Told before.map (λ m. JobGives m project folder r) → Cause before.faults now.faults now.last_failed r → IfOk out (λ o. PrintedFor r o)
     → IfOk out (λ o. IsOutput words before now o.status o.text.items)
 ok_lock words project folder before now r out same told cause h = if_ok out _ _ (λ o. lock_output words project folder before now r o same told cause) h

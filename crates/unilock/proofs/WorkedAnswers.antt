@@ -31,7 +31,7 @@ use Rattle.ul_pin_forms.specs.declared.project_form.Project.{Project}
 use Rattle.unilock.specs.Answer.{IsAnswer, IsProjectAnswer, IsLocked}
 use Rattle.unilock.specs.Examples.{lock_words, alone_files, alone_lock, pinned_files, pinned_lock}
 use Rattle.unilock.specs.Loading.{bytes_at, project_at, releases_at, load_from, project_package, package_of, Loads}
-use Rattle.unilock.specs.Words.{asked, is_number_in, lock}
+use Rattle.unilock.specs.Words.{question, is_number_in, lock}
 use Rattle.unilock.proofs.OneAnswers.{loaded_catalog}
 
 abbrev point_one : Fields
@@ -51,8 +51,8 @@ alone_release = record { version = point_one; pins = [] }
 abbrev alone_catalog : List Package
 alone_catalog = project_package alone ∷ []
 
-asked_lock_is : asked lock_words ≡ lock (codes "p.toml") (codes "ix")
-unfolding asked is_number_in
+asked_lock_is : question lock_words ≡ lock (codes "p.toml") (codes "ix")
+unfolding question is_number_in
 asked_lock_is = refl
 
 alone_read : project_at alone_files (codes "p.toml") ≡ Ok alone

@@ -5,7 +5,7 @@ use Rattle.ul_base.specs.Files.{FileMap}
 use Rattle.ul_lock.specs.Text.{lock_text}
 use Rattle.ul_lock.specs.declared.parts.Lock.{Lock}
 use Rattle.unilock.specs.Refused.{Refused, not_built, malformed, limit}
-use Rattle.unilock.specs.Words.{Asked, usage, unbuilt, lock, asked}
+use Rattle.unilock.specs.Words.{Asked, usage, unbuilt, lock, question}
 use Rattle.ul_pins.specs.Serving.{HasNone}
 use Rattle.ul_pins.specs.Best.{IsBest}
 use Rattle.ul_pins.specs.Locking.{IsLockOf}
@@ -76,11 +76,11 @@ answer_of_asked (lock project folder) = None
 
 -- the answer that the words alone decide
 abbrev pub words_answer : List (List ℕ) → Option (ℕ × List ℕ)
-words_answer words = answer_of_asked (asked words)
+words_answer words = answer_of_asked (question words)
 
 -- The answer of the program: at most one status and bytes are it.
 unfoldable pub IsAnswer : List (List ℕ) → FileMap → ℕ → List ℕ → Type 0
-IsAnswer words m status bytes = IsAskedAnswer m (asked words) status bytes
+IsAnswer words m status bytes = IsAskedAnswer m (question words) status bytes
 
 -- the path is read over a project
 abbrev pub IsProjectRead : FileMap → List ℕ → Result Project Refused → List ℕ → Type 0
@@ -95,11 +95,11 @@ IsAskedRead m (lock project folder) path = (path ≡ project) ⊎ IsProjectRead 
 
 -- the path is one of those that are read of the files for these words, up to the first refusal
 unfoldable pub IsRead : List (List ℕ) → FileMap → List ℕ → Type 0
-IsRead words m path = IsAskedRead m (asked words) path
+IsRead words m path = IsAskedRead m (question words) path
 
 -- the words aren't one of the commands
 abbrev pub IsUsage : List (List ℕ) → Type 0
-IsUsage words = asked words ≡ usage
+IsUsage words = question words ≡ usage
 
 -- The program's answer was printed after what was there; or there was no memory and nothing was printed.
 abbrev pub Answered : List (List ℕ) → FileMap → ℕ → List ℕ → Option (List ℕ) → Type 0

@@ -21,7 +21,9 @@ pub struct FolderFiles<'a, R: rt::Files> {
 impl<'a, R: rt::Files> FolderFiles<'a, R> {
     /// The file system, with no fault so far.
     pub fn new(rt: &'a R, alloc: Global) -> FolderFiles<'a, R>
-        ensures { result.faults ≡ 0 }
+    where
+        R::File: Read + Drop,
+        ensures { ⟦<FolderFiles<'a, R> as Files>⟧.faults result ≡ 0 }
     {
         FolderFiles {
             rt,

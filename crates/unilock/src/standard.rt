@@ -21,7 +21,8 @@ pub struct OutSink<W> {
 impl<W: Write> OutSink<W> {
     /// A writer as a sink, with no fault so far.
     pub fn new(writer: W) -> OutSink<W>
-        ensures { (result.writer ≡ writer) × (result.faults ≡ 0) }
+        ensures writer { result.writer ≡ writer }
+        ensures faults { ⟦<OutSink<W> as Sink>⟧.faults result ≡ 0 }
     {
         OutSink { writer, faults: 0 }
     }

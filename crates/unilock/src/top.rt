@@ -5,7 +5,7 @@ ghost use Rattle.ul_base.specs.Files.{Told};
 ghost use Rattle.ul_base.specs.Causes.{Rose};
 ghost use Rattle.unilock.specs.Answer.{no_selection_text, refused_answer, usage_text};
 ghost use Rattle.unilock.specs.Headline.{Headline, IsOutput, BytesTold, files_seen, sink_seen};
-ghost use Rattle.unilock.specs.Jobs.{IsCatalogText, JobGives, PrintedFor, printed};
+ghost use Rattle.unilock.specs.Jobs.{IsCatalogText, JobGives, PrintedFor, status_and_text};
 ghost use Rattle.unilock.specs.Refusals.{Cause, texts_of};
 ghost use Rattle.unilock.specs.Refused.{not_built};
 ghost use Rattle.ul_pins.specs.Serving.{IsCatalog};
@@ -71,7 +71,7 @@ fn limit(alloc: Global, name: &str, number: u64) -> Result<Vec<u8>, AllocError>
 }
 
 fn unbuilt(alloc: Global, form: &str) -> Result<Output, AllocError>
-    ensures { IfOk result (λ o. printed o ≡ refused_answer (not_built form.now)) }
+    ensures { IfOk result (λ o. status_and_text o ≡ refused_answer (not_built form.now)) }
 {
     let text = format!(in alloc; "not built: {form}\n")?;
     Ok(Output {
@@ -110,7 +110,7 @@ fn output(alloc: Global, job: Result<Option<Vec<u8>>, Refusal>) -> Result<Output
 // The four lines where no selection serves: the fork, which is the whole region, its marker, which is always true, and a
 // world in it.
 fn no_selection(alloc: Global) -> Result<Output, AllocError>
-    ensures { IfOk result (λ o. printed o ≡ (1, no_selection_text)) }
+    ensures { IfOk result (λ o. status_and_text o ≡ (1, no_selection_text)) }
 {
     let text = Vec::from_slice(
         alloc,
@@ -120,7 +120,7 @@ fn no_selection(alloc: Global) -> Result<Output, AllocError>
 }
 
 fn usage(alloc: Global) -> Result<Output, AllocError>
-    ensures { IfOk result (λ o. printed o ≡ (2, usage_text)) }
+    ensures { IfOk result (λ o. status_and_text o ≡ (2, usage_text)) }
 {
     let text = Vec::from_slice(
         alloc,
