@@ -7,10 +7,9 @@ use Rattle.ul_lock.specs.Text.{lock_text}
 use Rattle.unilock.specs.Refused.{Refused}
 use Rattle.unilock.specs.Words.{Asked, usage, unbuilt, lock, question}
 use Rattle.ul_pins.specs.Serving.{AreApart, IsCatalog}
-use Rattle.ul_pins.proofs.Bests.{best_one_from, best_not_none}
-use Rattle.ul_pins.proofs.Locks.{lock_one}
+use Rattle.ul_pins.proofs.ForCallers.{best_one_from, best_not_none, lock_one}
 use Rattle.ul_pins.specs.Best.{pinned_names}
-use Rattle.ul_pin_forms.proofs.UsableApart.{document_form_apart}
+use Rattle.ul_pin_forms.proofs.ForCallers.{document_form_apart}
 use Rattle.ul_pin_forms.specs.DocumentForm.{DocumentFormFault, not_json, document_not_built, document_form}
 use Rattle.unilock.specs.Answers.{◌>>=◌}
 use Rattle.ul_pins.specs.Locking.{IsLockOf}

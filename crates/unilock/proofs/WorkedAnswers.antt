@@ -20,7 +20,7 @@ use Rattle.ul_pins.specs.Locking.{IsLockOf, AreEdgesOf, edge_to, decision_in}
 use Rattle.ul_pins.specs.declared.catalog.Pin.{Pin}
 use Rattle.ul_pins.specs.declared.catalog.Release.{Release}
 use Rattle.ul_pins.specs.declared.catalog.Package.{Package}
-use Rattle.ul_pins.proofs.Steps.{first_forced, due_at, forced_more, walked_grown, walked_more, met_last, walked_best}
+use Rattle.ul_pins.proofs.ForCallers.{first_forced, due_at, forced_more, walked_grown, walked_more, met_last, walked_best}
 use Rattle.ul_pin_forms.specs.Pins.{pin_of}
 use Rattle.ul_pin_forms.specs.Plain.{number_of, plain_of}
 use Rattle.ul_pin_forms.specs.ProjectForm.{project_form, project_in}
