@@ -1,6 +1,6 @@
 -- Names that are met stay apart, and packages grow along them.
-use Rattle.std.proofs.Common.{◌≡◌, ◌≢◌, ℕ, ◌+◌, ◌<◌, ◌≤◌, suc, List, [], ◌∷◌, ◌++◌, map, take, length, get_or, Bool, true, false, refl, ap, sym, ◌∙◌, arith, rules, append_assoc, length-append, length-take, add-one, inl, inr, subst}
-use Rattle.std.specs.List.{list_any, All, AllPairs}
+use Rattle.std.proofs.Common.{◌≡◌, ◌≢◌, ℕ, ◌+◌, ◌<◌, ◌≤◌, List, [], ◌∷◌, ◌++◌, map, take, length, get_or, true, false, refl, ap, sym, ◌∙◌, arith, append_assoc, length-take, add-one, inl, inr}
+use Rattle.std.specs.List.{list_any, AllPairs}
 use Rattle.std.specs.Str.{bytes_eq}
 use Rattle.std.proofs.Math.Seq.{take-suc}
 use Rattle.std.proofs.lemmas.Bool.{cases_Bool}

@@ -1,5 +1,5 @@
 -- At most one status and bytes answer.
-use Rattle.std.proofs.Common.{◌≡◌, ◌≢◌, ℕ, zero, suc, ◌+◌, ◌<◌, ◌≤◌, List, [], ◌∷◌, ◌++◌, length, get_or, nat_lt, Bool, true, false, Option, Some, None, Result, Ok, Err, refl, ap, sym, ◌∙◌, subst, arith, inl, inr, ◌⊎◌}
+use Rattle.std.proofs.Common.{◌≡◌, ℕ, zero, suc, ◌+◌, ◌<◌, List, [], ◌∷◌, ◌++◌, length, get_or, nat_lt, true, Option, Some, None, Result, Ok, Err, refl, ap, sym, ◌∙◌, subst, arith, inl, inr}
 use Rattle.std.proofs.lemmas.Bool.{cases_Bool}
 use Rattle.std.proofs.lemmas.Bool.Decides.{nat_tests}
 use Rattle.ul_base.specs.Files.{FileMap}
@@ -15,7 +15,7 @@ use Rattle.unilock.specs.Answers.{◌>>=◌}
 use Rattle.ul_pins.specs.Locking.{IsLockOf}
 use Rattle.unilock.specs.Growing.{IsGrowing}
 use Rattle.unilock.specs.Loading.{bytes_at, document_path, document_answer, document_from, releases_at, names_with_all, names_in, package_of, turn_result, load_from, first_names, project_package, project_at, Loads}
-use Rattle.unilock.specs.Answer.{Prints, refused_answer, usage_text, IsLocked, IsRefused, IsCatalogAnswer, IsProjectAnswer, IsAskedAnswer, IsAnswer, OneAnswer}
+use Rattle.unilock.specs.Answer.{Prints, refused_answer, usage_text, IsLocked, IsCatalogAnswer, IsProjectAnswer, IsAskedAnswer, IsAnswer, OneAnswer}
 use Rattle.ul_pins.specs.declared.catalog.Package.{Package}
 use Rattle.ul_pins.specs.declared.catalog.Release.{Release}
 use Rattle.ul_pin_forms.specs.declared.project_form.Project.{Project}

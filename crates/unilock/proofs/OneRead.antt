@@ -1,9 +1,9 @@
 -- One read of a file, and what the definition says of it.
-use Rattle.std.proofs.Common.{◌≡◌, ℕ, ◌<◌, ◌≤◌, List, length, codes, Option, Some, None, option_map, Result, Ok, Err, Vec, Global, ap, ◌∙◌, arith}
+use Rattle.std.proofs.Common.{◌≡◌, ℕ, ◌<◌, ◌≤◌, List, length, codes, Option, Some, None, option_map, Ok, Err, Vec, Global, ap, ◌∙◌, arith}
 use Rattle.std.proofs.lemmas.Bool.Decides.{nat_tests}
-use Rattle.ul_base.specs.Files.{FileMap, content, Tells}
+use Rattle.ul_base.specs.Files.{FileMap, Tells}
 use Rattle.ul_base.specs.declared.files.ReadRefused.TheVariants.{TooLong}
-use Rattle.unilock.specs.Refused.{Refused, limit}
+use Rattle.unilock.specs.Refused.{limit}
 use Rattle.unilock.specs.Loading.{file_bytes, bounded_content, bytes_at}
 
 within_ok : (bytes : List ℕ) → length bytes ≤ file_bytes → bounded_content (Some bytes) ≡ Ok (Some bytes)

@@ -1,9 +1,9 @@
 -- One turn of loading, and the last.
-use Rattle.std.proofs.Common.{◌≡◌, ℕ, zero, suc, ◌+◌, ◌<◌, ◌≤◌, List, [], ◌∷◌, ◌++◌, length, get_or, nat_lt, Bool, true, false, cond, Option, Some, None, IfSome, Result, Ok, Err, refl, ap, ◌∙◌, sym, subst, arith, inl, inr}
+use Rattle.std.proofs.Common.{◌≡◌, ℕ, zero, suc, ◌+◌, ◌<◌, ◌≤◌, List, [], ◌∷◌, ◌++◌, length, get_or, nat_lt, true, false, Some, Result, Ok, Err, refl, ◌∙◌, arith, inl, inr}
 use Rattle.std.proofs.lemmas.Bool.Decides.{nat_tests}
 use Rattle.ul_base.specs.Files.{FileMap}
 use Rattle.unilock.specs.Refused.{Refused}
-use Rattle.unilock.specs.Loading.{releases_at, names_with_all, names_in, package_of, turn_result, load_from, read_on, paths_from, document_path, Loads, IsLoaded}
+use Rattle.unilock.specs.Loading.{releases_at, names_with_all, names_in, package_of, load_from, paths_from, document_path, Loads, IsLoaded}
 use Rattle.unilock.specs.Loaded.{IsLoading}
 use Rattle.ul_pins.specs.Serving.{IsOneOf}
 use Rattle.ul_pins.specs.declared.catalog.Package.{Package}

@@ -1,5 +1,5 @@
 -- What the program answers, as a status and the bytes that are printed, from the words and the files.
-use Rattle.std.specs.Prelude.{◌≡◌, ℕ, List, [], ◌∷◌, ◌++◌, codes, Option, Some, None, Result, Ok, Err, ◌⊎◌}
+use Rattle.std.specs.Prelude.{◌≡◌, ℕ, List, ◌++◌, codes, Option, Some, None, Result, Ok, Err, ◌⊎◌}
 use Rattle.std.specs.Fmt.{decimal}
 use Rattle.ul_base.specs.Files.{FileMap}
 use Rattle.ul_lock.specs.Text.{lock_text}

@@ -1,8 +1,8 @@
 -- What the parts of the program answer on the way to what is printed.
-use Rattle.std.specs.Prelude.{◌≡◌, ◌≢◌, ℕ, List, Option, Some, None, Result, Ok, Err, IfSome, Vec, string_bytes, ◌⊎◌}
+use Rattle.std.specs.Prelude.{◌≡◌, ℕ, List, Option, Some, None, Result, Ok, Err, IfSome, Vec, string_bytes, ◌⊎◌}
 use Rattle.std.specs.declared.alloc.Global.{Global}
 use Rattle.ul_base.specs.Files.{FileMap}
-use Rattle.unilock.specs.Answer.{no_selection_text, read_fault_text, refused_answer, IsLocked, IsRefused, IsCatalogAnswer, IsProjectAnswer, IsProjectRead}
+use Rattle.unilock.specs.Answer.{no_selection_text, read_fault_text, refused_answer, IsLocked, IsProjectAnswer, IsProjectRead}
 use Rattle.unilock.specs.Loading.{project_at}
 use Rattle.unilock.specs.Refusals.{refused_of, failed_path}
 use Rattle.unilock.specs.Refused.{not_built, malformed, limit}

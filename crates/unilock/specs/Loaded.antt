@@ -1,11 +1,10 @@
 -- What the loading of a project's catalog answers.
-use Rattle.std.specs.Prelude.{◌≡◌, ℕ, List, [], ◌∷◌, ◌++◌, get_or, Option, Some, None, Result, Ok, Err, IfSome}
+use Rattle.std.specs.Prelude.{◌≡◌, ℕ, List, [], ◌∷◌, ◌++◌, get_or, Some, Result, Ok, Err, IfSome}
 use Rattle.ul_base.specs.Files.{FileMap}
 use Rattle.unilock.specs.Refused.{Refused}
 use Rattle.unilock.specs.Refusals.{refused_of, failed_path}
 use Rattle.ul_pins.specs.Serving.{IsOneOf}
 use Rattle.unilock.specs.Loading.{load_from, paths_from, releases_at, names_with_all, names_in, package_of, Loads, IsLoaded}
-use Rattle.ul_pins.specs.declared.catalog.Catalog.{Catalog}
 use Rattle.ul_pins.specs.declared.catalog.Package.{Package}
 use Rattle.ul_pins.specs.declared.catalog.Release.{Release}
 use Rattle.ul_pin_forms.specs.declared.project_form.Project.{Project}

@@ -1,5 +1,5 @@
 -- The files that a lock reads, in their order, and the catalog that they give.
-use Rattle.std.specs.Prelude.{◌≡◌, ℕ, zero, suc, ◌+◌, List, [], ◌∷◌, ◌++◌, codes, length, Bool, nat_lt, nat_le, Option, Some, None, Result, Ok, Err, if◌then◌else◌, get_or}
+use Rattle.std.specs.Prelude.{◌≡◌, ℕ, zero, suc, ◌+◌, List, [], ◌∷◌, ◌++◌, codes, length, nat_lt, nat_le, Option, Some, None, Result, Ok, Err, if◌then◌else◌, get_or}
 use Rattle.std.specs.List.{list_any, flat_map}
 use Rattle.std.specs.Str.{bytes_eq}
 use Rattle.ul_base.specs.Files.{FileMap, content}

@@ -1,9 +1,7 @@
-use Rattle.std.proofs.Common.{◌≡◌, ◌∙◌, ap, sym, get_or, [], ◌++◌, ◌∷◌, Err}
+use Rattle.std.proofs.Common.{◌≡◌, ◌∙◌, ap, sym, get_or, [], ◌++◌, ◌∷◌}
 use Rattle.std.proofs.lemmas.Option.{get_or_from_slice_get}
 use Rattle.std.proofs.lemmas.Result.{err_from_is_err_and}
-use Rattle.unilock.specs.Loading.{document_path, names_with_all, names_in, package_of, releases_at}
-use Rattle.unilock.specs.Loaded.{FollowGives}
-use Rattle.unilock.specs.Refusals.{FailedAt}
+use Rattle.unilock.specs.Loading.{names_with_all, names_in, package_of}
 use Rattle.unilock.proofs.loading.follow.Goals as goal
 
 pub returns-in_err-releases-clause-told : goal.returns-in_err-releases-clause-told

@@ -1,8 +1,7 @@
-use Rattle.std.proofs.Common.{◌≡◌, ◌∙◌, ap, sym, refl, suc, zero, Some, Ok, Err, [], ◌∷◌, ◌++◌, length, get_or, ◌<◌, arith}
+use Rattle.std.proofs.Common.{◌≡◌, ◌∙◌, ap, refl, suc, zero, [], ◌∷◌, ◌++◌, length, ◌<◌, arith}
 use Rattle.std.proofs.lemmas.Result.{err_from_is_err_and}
 use Rattle.ul_pins.specs.Best.{pinned_names}
-use Rattle.unilock.specs.Growing.{IsGrowing}
-use Rattle.unilock.specs.Loading.{names_with, names_with_all, first_names, project_package, releases_at, load_from, paths_from, IsLoaded}
+use Rattle.unilock.specs.Loading.{names_with, names_with_all, first_names, project_package}
 use Rattle.unilock.specs.Refusals.{refused_of, failed_path}
 use Rattle.unilock.proofs.Steps.{some_fault}
 use Rattle.unilock.proofs.Growth.{sown, grows, grown}
