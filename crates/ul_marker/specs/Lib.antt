@@ -3,8 +3,16 @@ pub mod Worlds
 pub mod Formulas
 pub mod Truth
 pub mod Views
+pub mod Parts
+pub mod PartLaws
+pub mod Codes
 pub mod Rising
 pub mod TruthVectors
+pub mod Json
+pub mod Machines
+pub mod Triples
+pub mod MachineLaws
+pub mod MachineFiles
 pub mod Words
 pub mod Comparisons
 pub mod Reading

@@ -87,8 +87,8 @@ fn may_compare(kind: AtomKind, variable: Variable) -> bool
     }
 }
 
-// Whether a text can stand in a literal.
-fn is_literal(text: &[u8]) -> bool
+/// Whether a text can stand in a literal: printable ASCII without the backslash, and not with both quotes.
+pub fn is_literal(text: &[u8]) -> bool
     ensures { result ≡ Atoms.is_literal text.now }
 {
     has_literal_bytes(text) && !(has_byte(b'\'', text) && has_byte(b'"', text))

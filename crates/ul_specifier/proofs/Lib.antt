@@ -6,3 +6,5 @@ pub mod Texts
 pub mod Faults
 pub mod Examples
 pub mod LawProofs
+pub mod Spelled
+pub mod EachRead

@@ -208,12 +208,14 @@ split-more xs n lt comma none =
 
 -- ---- lists
 
-listed_more : (piece : List ℕ) (pieces : List (List ℕ)) → 0 < length pieces → listed (piece ∷ pieces) ≡ piece ∷ listed pieces
+-- a piece before others counts
+pub listed_more : (piece : List ℕ) (pieces : List (List ℕ)) → 0 < length pieces → listed (piece ∷ pieces) ≡ piece ∷ listed pieces
 listed_more piece [] h = absurd (omega arith)
 listed_more [] (next ∷ pieces) h = refl
 listed_more (b ∷ piece) (next ∷ pieces) h = refl
 
-listed_last : (piece : List ℕ) → 0 < length piece → listed (piece ∷ []) ≡ piece ∷ []
+-- a last piece that isn't empty counts
+pub listed_last : (piece : List ℕ) → 0 < length piece → listed (piece ∷ []) ≡ piece ∷ []
 listed_last [] h = absurd (omega arith)
 listed_last (b ∷ piece) h = refl
 
