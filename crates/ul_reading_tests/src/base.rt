@@ -1,12 +1,13 @@
-// What no clause says: that the calls succeed, and that the definitions mean what PEP 503 and PEP 508 do.
-use crate::{
-    Files, Gate, MemFiles, MemSink, Name, NameFault, Node, Open, ReadRefused, Sink, SinkRefused,
-    SureFiles,
-};
+//! Names, nodes, files and sinks: that the calls succeed, at size too, and that the definitions mean what PEP 503 and
+//! PEP 508 do.
 use std::alloc::{AllocError, Global};
 use std::collections::{BTreeSet, HashSet};
 use std::process::Abort;
 use std::test::Fail;
+use ul_base::{
+    Files, Gate, MemFiles, MemSink, Name, NameFault, Node, Open, ReadRefused, Sink, SinkRefused,
+    SureFiles, is_name,
+};
 
 #[test]
 fn texts_read_as_names_in_normal_form(rt: HostRuntime) -> Result<(), Fail> {
@@ -21,6 +22,7 @@ fn texts_read_as_names_in_normal_form(rt: HostRuntime) -> Result<(), Fail> {
         ("X", "x"),
     ] {
         let name = Name::read(rt.alloc(), text)?;
+        assert!(rt; is_name(text), "at {text}");
         assert_eq!(rt; name.text(), form, "at {text}");
         assert!(rt; name.copy(rt.alloc())? == name, "at {text}");
     }
@@ -32,12 +34,41 @@ fn other_texts_are_no_names(rt: HostRuntime) {
     for text in [
         "", "-a", "a-", "a b", "_", ".", "a.", "é", "aéb", "a\nb", "a]",
     ] {
+        assert!(rt; !is_name(text), "at {text}");
         assert_eq!(rt;
             Name::read(rt.alloc(), text).err(),
             Some(NameFault::NoReading),
             "at {text}"
         );
     }
+}
+
+// A text of 10,000 letters, with separators between them.
+fn long_text(alloc: Global, separator: &str) -> Result<String, AllocError> {
+    let mut text = String::from_str(alloc, "A")?;
+    for _ in 0..9_999 {
+        text.push_str(separator)?;
+        text.push('b')?;
+    }
+    Ok(text)
+}
+
+#[test]
+fn long_names_are_read(rt: HostRuntime) -> Result<(), Fail> {
+    for (separator, length) in [("", 10_000), (".", 19_999), ("_.-", 19_999)] {
+        let text = long_text(rt.alloc(), separator)?;
+        let name = Name::read(rt.alloc(), text.as_str())?;
+        assert_eq!(rt; name.text().len(), length, "between {separator}");
+        assert!(rt; name.copy(rt.alloc())? == name, "between {separator}");
+        assert!(rt; is_name(text.as_str()), "between {separator}");
+    }
+    let spaced = long_text(rt.alloc(), " ")?;
+    assert!(rt; !is_name(spaced.as_str()));
+    assert_eq!(rt;
+        Name::read(rt.alloc(), spaced.as_str()).err(),
+        Some(NameFault::NoReading)
+    );
+    Ok(())
 }
 
 fn node(alloc: Global, name: &str, extra: Option<&str>) -> Result<Node, NameFault> {
@@ -137,6 +168,50 @@ fn sure_files_never_fail(rt: HostRuntime) -> Result<(), Fail> {
         ("r", 9, Ok(None)),
     ];
     answers(&rt, &mut files, &wanted);
+    Ok(())
+}
+
+// So many files, each path twice: first with a text of its own, then with another.
+fn many_files(alloc: Global, count: u32) -> Result<Vec<(String, Vec<u8>)>, AllocError> {
+    let mut list = Vec::new(alloc);
+    for number in 0..count {
+        let path = format!(in alloc; "index/{number}")?;
+        let text = format!(in alloc; "first {number}")?;
+        list.push((path, Vec::from_slice(alloc, text.as_bytes())?))?;
+    }
+    for number in 0..count {
+        let path = format!(in alloc; "index/{number}")?;
+        list.push((path, Vec::from_slice(alloc, b"second")?))?;
+    }
+    Ok(list)
+}
+
+fn reads_all<F: Files>(
+    rt: &impl Abort,
+    alloc: Global,
+    files: &mut F,
+    count: u32,
+) -> Result<(), AllocError> {
+    for number in 0..count {
+        let path = format!(in alloc; "index/{number}")?;
+        let text = format!(in alloc; "first {number}")?;
+        let wanted = [(path.as_str(), 99, Ok(Some(text.as_str())))];
+        answers(rt, files, &wanted);
+    }
+    answers(rt, files, &[("index", 99, Ok(None))]);
+    Ok(())
+}
+
+// Where each read walks the list, this takes 25 billion steps.
+#[test]
+fn all_of_many_files_are_read(rt: HostRuntime) -> Result<(), Fail> {
+    let count = 50_000;
+    let list = many_files(rt.alloc(), count)?;
+    let mut files = MemFiles::of(rt.alloc(), list, Vec::new(rt.alloc()));
+    reads_all(&rt, rt.alloc(), &mut files, count)?;
+    let list = many_files(rt.alloc(), count)?;
+    let mut files = SureFiles::of(rt.alloc(), list);
+    reads_all(&rt, rt.alloc(), &mut files, count)?;
     Ok(())
 }
 
