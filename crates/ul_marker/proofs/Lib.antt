@@ -1,5 +1,8 @@
 pub mod JsonReading
 pub mod PartProofs
+pub mod Lexed
+pub mod PrintedBack
+pub mod Depths
 pub mod AtomNumbers
 pub mod AtomOrder
 pub mod Placed

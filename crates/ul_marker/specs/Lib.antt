@@ -5,6 +5,8 @@ pub mod Truth
 pub mod Views
 pub mod Parts
 pub mod PartLaws
+pub mod Printed
+pub mod PrintedPaths
 pub mod Codes
 pub mod Rising
 pub mod TruthVectors

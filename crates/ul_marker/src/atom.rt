@@ -113,7 +113,8 @@ fn has_literal_bytes(text: &[u8]) -> bool
     true
 }
 
-fn has_byte(byte: u8, text: &[u8]) -> bool
+/// Whether a byte stands in a text.
+pub(crate) fn has_byte(byte: u8, text: &[u8]) -> bool
     ensures { result ≡ Atoms.has_byte byte text.now }
 {
     for other in text {

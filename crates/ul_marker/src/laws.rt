@@ -2,6 +2,7 @@
 
 ghost use Rattle.ul_marker.specs.MachineLaws.{PartIsBetween, TruthsIncrease, TruthsOfMachine};
 ghost use Rattle.ul_marker.specs.PartLaws.{NamesAreLiterals, TruthIsPlain};
+ghost use Rattle.ul_marker.specs.PrintedPaths.{ComparisonReads, PathsRead};
 ghost use Rattle.ul_marker.specs.ReadingLaws.{GroupingIsFree, MirroredIsSame, NegatedRelations, NotInIsNegation, OrderIsFree, ReadingIsGrammar, ReadIsFormula, SpelledOnce};
 ghost use Rattle.ul_marker.specs.ReadingVectors.{NoReadings, Readings};
 ghost use Rattle.ul_marker.specs.TruthVectors.{Truths};
@@ -40,6 +41,12 @@ pub fn machine_truths()
     ensures truths { TruthsOfMachine }
     ensures increase { TruthsIncrease }
     ensures part { PartIsBetween }
+{}
+
+/// Printed comparisons, alone or joined by ` and ` and by ` or `, are read as what they say.
+pub fn printed_is_read()
+    ensures one { ComparisonReads }
+    ensures joined { PathsRead }
 {}
 
 /// Worked examples of readings, and of texts without one.

@@ -9,6 +9,7 @@ pub mod laws;
 mod machine;
 mod machine_truth;
 mod marker;
+pub mod printed;
 mod reading;
 mod truth;
 mod variable;

@@ -1,11 +1,12 @@
 //! The tokens of a marker's text.
 
-ghost use Rattle.std.specs.Prelude.{◌≡◌, ◌≤◌, Some, true, length};
+ghost use Rattle.std.specs.Prelude.{◌≡◌, ◌≤◌, ◌<◌, ◌+◌, ◌^◌, Some, true, length};
 ghost use Rattle.std.specs.List.{list_all};
 ghost use Rattle.std.specs.Str.{bytes_eq};
 ghost use Rattle.ul_version.specs.Reading as Versions;
 ghost use Rattle.ul_marker.specs.Atoms.{is_literal};
-ghost use Rattle.ul_marker.specs.Readers.{front_view, optional_bytes, optional_front, tokens_view, Reads};
+ghost use Rattle.ul_marker.specs.Readers.{front_view, optional_bytes, optional_front, Reads, ReadsTokens};
+ghost use Rattle.ul_marker.specs.Reading;
 ghost use Rattle.ul_marker.specs.Words as Grammar;
 
 use crate::atom::is_literal_byte;
@@ -13,6 +14,9 @@ use crate::{MarkerFault, Variable};
 use std::alloc::{AllocError, Global};
 use std::marker::Model;
 use ul_specifier::{Op, after_space, operator};
+
+/// How many parentheses may be open at one place.
+pub const MAX_DEPTH: u8 = 64;
 
 /// The text of a literal: printable ASCII without the backslash, and not with both quotes.
 ///
@@ -308,14 +312,41 @@ fn front_token(alloc: Global, input: &[u8]) -> Result<(Token, &[u8]), MarkerFaul
     front_word(input).ok_or(MarkerFault::NoReading)
 }
 
-/// The tokens of a text without blanks in front.
+/// How many parentheses are open after a token.
+pub fn opened(token: &Token, count: usize) -> usize
+    requires { count + 1 < 2 ^ 64 }
+    ensures { result ≡ Reading.opened token.now count }
+{
+    match token {
+        Token::Open => count + 1,
+        Token::Close => count.saturating_sub(1),
+        Token::And
+        | Token::Or
+        | Token::In
+        | Token::Not
+        | Token::Extra
+        | Token::Named(_)
+        | Token::Sign(_)
+        | Token::Literal(_) => count,
+    }
+}
+
+/// The tokens of a marker's text without blanks in front.
+///
+/// It stops where more parentheses are open than a marker may have, so a text that nests too deep costs no more
+/// tokens than these.
 pub fn tokens(alloc: Global, input: &[u8]) -> Result<Vec<Token>, MarkerFault>
-    ensures { Reads tokens_view result (Grammar.tokens_of input.now) }
+    ensures { ReadsTokens result (Grammar.tokens_of input.now) }
 {
     let mut list = Vec::new(alloc);
+    let mut depth = 0;
     let mut rest = input;
     'tokens: while !rest.is_empty() {
         let (token, after) = front_token(alloc, rest)?;
+        depth = opened(&token, depth);
+        if depth > usize::from(MAX_DEPTH) {
+            return Err(MarkerFault::NoReading);
+        }
         list.push(token)?;
         rest = after_space(after, true);
     }

@@ -8,3 +8,4 @@ pub mod Examples
 pub mod LawProofs
 pub mod Spelled
 pub mod EachRead
+pub mod ForCallers

@@ -222,7 +222,7 @@ operator-found text o e =
     ]
 
 -- `=`
-abbrev is_equals : ℕ → Bool
+abbrev pub is_equals : ℕ → Bool
 is_equals b = b == 61
 
 other-way : (b : ℕ) → is_equals b ≡ false → nat_eq 61 b ≡ false
@@ -231,7 +231,8 @@ other-way b h = elim (cases_Bool (nat_eq 61 b)) [
   | inr other ↦ other
 ]
 
-operator-read : (op : Op) (rest : List ℕ) → begins is_equals rest ≡ false → operator (operator_text op ++ rest) ≡ Some (op, rest)
+-- an operator in front is read
+pub operator-read : (op : Op) (rest : List ℕ) → begins is_equals rest ≡ false → operator (operator_text op ++ rest) ≡ Some (op, rest)
 unfolding operator
 operator-read Equal rest h = refl
 operator-read Unequal rest h = refl

@@ -41,7 +41,8 @@ unfolding before_all
 before_all-push test [] b w = rw w refl
 before_all-push test (x ∷ xs) b w = ap (unless_last test x) (before_all-push test xs b w)
 
-before_all-kept : (test : ℕ → Bool) (xs : List ℕ) (b : ℕ) → test b ≡ false → before_all test (xs ++ b ∷ []) ≡ xs ++ b ∷ []
+-- a last byte that isn't dropped keeps the text whole
+pub before_all-kept : (test : ℕ → Bool) (xs : List ℕ) (b : ℕ) → test b ≡ false → before_all test (xs ++ b ∷ []) ≡ xs ++ b ∷ []
 unfolding before_all
 before_all-kept test [] b w = rw w refl
 before_all-kept test (x ∷ []) b w = rw w refl
