@@ -1,5 +1,7 @@
+pub mod ForCallers
 pub mod Orders
 pub mod OrderLaws
+pub mod Fronts
 pub mod Cuts
 pub mod Faults
 pub mod Spelling
@@ -9,3 +11,4 @@ pub mod Complete
 pub mod Longest
 pub mod LawProofs
 pub mod Examples
+pub mod ByteRuns

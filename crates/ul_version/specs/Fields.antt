@@ -59,3 +59,8 @@ without_local f = record f { local = [] }
 -- the version that has a release alone
 abbrev pub plain : List ℕ → Fields
 plain numbers = record { epoch = 0; release = numbers; pre = None; post = None; dev = None; local = [] }
+
+-- the version of these parts, without a local part
+abbrev pub public_fields : ℕ → List ℕ → Option Pre → Option ℕ → Option ℕ → Fields
+public_fields epoch release pre post dev =
+    record { epoch = epoch; release = release; pre = pre; post = post; dev = dev; local = [] }

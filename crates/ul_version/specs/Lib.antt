@@ -1,3 +1,4 @@
+pub mod Ascii
 pub mod Fields
 pub mod Order
 pub mod Reading

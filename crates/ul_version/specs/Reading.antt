@@ -2,10 +2,12 @@
 -- that tools read, cut from the front of a text part by part. A version is
 --     ["v"] [num "!"] num *("." num) [pre] [post] [dev] ["+" local]
 -- and each part takes as much of the text as it can.
-use Rattle.std.specs.Prelude.{ℕ, zero, suc, ◌+◌, ◌-◌, ◌*◌, ◌^◌, ◌==◌, ◌&&◌, ◌||◌, Bool, false, not, nat_lt, nat_le, List, [], ◌∷◌, length, map, codes, Option, Some, None, if◌then◌else◌, ◌++◌}
+use Rattle.std.specs.Prelude.{ℕ, zero, suc, ◌+◌, ◌-◌, ◌*◌, ◌^◌, ◌==◌, ◌||◌, Bool, not, nat_lt, List, [], ◌∷◌, length, map, codes, Option, Some, None, if◌then◌else◌, ◌++◌}
 use Rattle.std.specs.Char.{is_ascii_digit, to_ascii_lowercase}
 use Rattle.std.specs.List.{list_all, slice_split}
 use Rattle.std.specs.Option.{option_map_or}
+pub use Rattle.ul_version.specs.Ascii.{begins, is_separator, is_white}
+use Rattle.ul_version.specs.Ascii.{after_all, before_all, letter_v, plus}
 use Rattle.ul_version.specs.Fields.{Fields, is_word_byte}
 use Rattle.ul_version.specs.declared.fields.Pre.{Pre}
 use Rattle.ul_version.specs.declared.fields.PreKind.{PreKind}
@@ -15,24 +17,13 @@ use Rattle.ul_version.specs.declared.fields.Segment.TheVariants.{Number, Word}
 
 -- ---- white space and case
 
--- space, tab, line feed, vertical tab, form feed and carriage return
-abbrev pub is_white : ℕ → Bool
-is_white b = b == 32 || (nat_le 9 b && nat_le b 13)
-
 -- a text without the white space in front of it
 unfoldable pub after_white : List ℕ → List ℕ
-after_white [] = []
-after_white (b ∷ rest) = if is_white b then after_white rest else b ∷ rest
-
--- a byte before a text whose white space at the end was dropped
-abbrev pub unless_white : ℕ → List ℕ → List ℕ
-unless_white b [] = if is_white b then [] else b ∷ []
-unless_white b (c ∷ rest) = b ∷ c ∷ rest
+after_white text = after_all is_white text
 
 -- a text without the white space at its end
 unfoldable pub before_white : List ℕ → List ℕ
-before_white [] = []
-before_white (b ∷ rest) = unless_white b (before_white rest)
+before_white text = before_all is_white text
 
 -- a text in which ASCII letters are lower case
 abbrev pub lowered : List ℕ → List ℕ
@@ -46,19 +37,10 @@ abbrev pub ◌>>=◌ : {X Y : Type 0} → Option X → (X → Option Y) → Opti
 None >>= f = None
 Some x >>= f = f x
 
--- whether a byte that passes the test stands in front
-abbrev pub begins : (ℕ → Bool) → List ℕ → Bool
-begins test [] = false
-begins test (b ∷ rest) = test b
-
 -- the text after one byte that passes the test, where such a byte stands in front
 abbrev pub after_optional : (ℕ → Bool) → List ℕ → List ℕ
 after_optional test [] = []
 after_optional test (b ∷ rest) = if test b then rest else b ∷ rest
-
--- sep: "." | "-" | "_"
-abbrev pub is_separator : ℕ → Bool
-is_separator b = b == 46 || (b == 45 || b == 95)
 
 -- the text after the word, where the word stands in front
 unfoldable pub after_word : List ℕ → List ℕ → Option (List ℕ)
@@ -195,6 +177,10 @@ segment piece =
     else if list_all is_ascii_digit piece then (number piece >>= λ n. Some (Number n.0))
     else Some (Word piece)
 
+-- the pieces of a text between its separators
+abbrev pub pieces_of : List ℕ → List (List ℕ)
+pieces_of text = slice_split is_separator text
+
 -- a segment for each piece
 unfoldable pub segments : List (List ℕ) → Option (List Segment)
 segments [] = Some []
@@ -203,14 +189,14 @@ segments (piece ∷ pieces) = segment piece >>= λ s. segments pieces >>= λ ss.
 -- the local part, which is the text's end: its mark, and segments with one separator between each two
 unfoldable pub local : List ℕ → Option (List Segment)
 local [] = Some []
-local (b ∷ rest) = if b == 43 then segments (slice_split is_separator rest) else None
+local (b ∷ rest) = if b == plus then segments (pieces_of rest) else None
 
 -- ---- the whole text
 
 -- the fields that a text in lower case spells, part by part from the front
 unfoldable pub fields_of : List ℕ → Option Fields
 fields_of text =
-    epoch (after_optional (λ b. b == 118) text) >>= λ e.
+    epoch (after_optional (λ b. b == letter_v) text) >>= λ e.
     release e.1 >>= λ r.
     pre r.1 >>= λ p.
     post p.1 >>= λ q.
