@@ -96,7 +96,6 @@ Lexes text ts = tokens_of text ≡ Some ts
 
 -- a token in front, one space, and a text
 pub lexes-next : (text : List ℕ) (t : Token) (rest : List ℕ) (ts : List Token) → front_token text ≡ Some (t, 32 ∷ rest) → begins is_blank rest ≡ false → Lexes rest ts → Lexes text (t ∷ ts)
-unfolding after_all
 lexes-next text t rest ts front e more = tokens-next text t (32 ∷ rest) front ∙ ap (λ r. onto (t ∷ []) (tokens_of r)) (kept rest e) ∙ rw more refl
   where
     kept : (rest : List ℕ) → begins is_blank rest ≡ false → after_all is_blank (32 ∷ rest) ≡ rest
@@ -105,7 +104,7 @@ lexes-next text t rest ts front e more = tokens-next text t (32 ∷ rest) front 
 
 -- a token that ends a text
 pub lexes-last : (text : List ℕ) (t : Token) → front_token text ≡ Some (t, []) → Lexes text (t ∷ [])
-unfolding after_all tokens_of tokens_in
+unfolding tokens_of tokens_in
 lexes-last text t front = tokens-next text t [] front
 
 -- a token in front of a text that goes on, or ends

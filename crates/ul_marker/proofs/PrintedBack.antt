@@ -345,7 +345,6 @@ path-ends c (d ∷ path) all =
 
 path-lexes : (c : Comparison) (path : List Comparison) → All IsComparison (c ∷ path) → (rest : List ℕ) (ts : List Token) → begins is_word_byte rest ≡ false
     → Lexes (after_all is_blank rest) ts → Lexes (path_text (c ∷ path) ++ rest) (path_tokens (c ∷ path) ++ ts)
-unfolding after_all
 path-lexes c [] all rest ts e more = comparison-lexes c (All-head IsComparison c [] all) rest ts e more
 path-lexes c (d ∷ path) all rest ts e more =
     let others = All-tail IsComparison c (d ∷ path) all in
@@ -405,7 +404,6 @@ paths-end path (next ∷ paths) all =
 
 paths-lex : (path : List Comparison) (paths : List (List Comparison)) → All IsPath (path ∷ paths) → (rest : List ℕ) (ts : List Token) → begins is_word_byte rest ≡ false
     → Lexes (after_all is_blank rest) ts → Lexes (paths_text (path ∷ paths) ++ rest) (paths_tokens (path ∷ paths) ++ ts)
-unfolding after_all
 paths-lex path [] all rest ts e more = one-lexes path (All-head IsPath path [] all) rest ts e more
 paths-lex path (next ∷ paths) all rest ts e more =
     let others = All-tail IsPath path (next ∷ paths) all in
@@ -430,7 +428,6 @@ paths-joined Inside path (next ∷ paths) all =
 -- ---- whole texts
 
 front-kept : (text : List ℕ) → begins is_white text ≡ false → after_all is_white text ≡ text
-unfolding after_all
 front-kept [] e = refl
 front-kept (b ∷ text) e = rw e refl
 
@@ -439,7 +436,7 @@ kept-whole text e (front, b, ends, h) =
     ap (before_all is_white) (front-kept text e) ∙ ap (before_all is_white) ends ∙ before_all-kept is_white front b h ∙ sym ends
 
 paths-spelled : (path : List Comparison) (paths : List (List Comparison)) → All IsPath (path ∷ paths) → Spells (paths_text (path ∷ paths)) (paths_formula (path ∷ paths))
-unfolding IsMarker after_all tokens_of tokens_in
+unfolding IsMarker tokens_of tokens_in
 paths-spelled path paths all =
     let text = paths_text (path ∷ paths) in
     let begin : begins is_white text ≡ false = ap (begins is_white) (sym (append-nil text)) ∙ paths-begin path paths (All-head IsPath path paths all) [] in

@@ -105,7 +105,6 @@ literal-utf8 xs h = IsUtf8-from_ascii xs (IsAscii-from_all xs (λ k d lt. ascii_
 -- ---- what stands in front is shorter
 
 pub after_all-le : (test : ℕ → Bool) (xs : List ℕ) → length (after_all test xs) ≤ length xs
-unfolding after_all
 after_all-le test [] = omega arith
 after_all-le test (x ∷ xs) = elim (cases_Bool (test x)) [
   | inl passes ↦ rw passes (let r = after_all-le test xs in omega arith)

@@ -1,5 +1,4 @@
 pub mod Lists
-pub mod Fronts
 pub mod Public
 pub mod LowerBounds
 pub mod Texts

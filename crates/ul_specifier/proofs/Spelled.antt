@@ -51,7 +51,6 @@ none-pass (x ∷ xs) h (suc k) d l = none-pass xs (and_parts (no_comma x) (list_
 
 -- what was dropped in front
 pub front-dropped : (test : ℕ → Bool) (text : List ℕ) → (front : List ℕ) × (list_all test front ≡ true) × (text ≡ front ++ after_all test text)
-unfolding after_all
 front-dropped test [] = ([], refl, refl)
 front-dropped test (b ∷ text) = elim (cases_Bool (test b)) [
   | inl passes ↦
@@ -70,7 +69,6 @@ end-dropped_at test b (c ∷ kept) back h = (back, h, refl)
 
 -- what was dropped at the end
 pub end-dropped : (test : ℕ → Bool) (text : List ℕ) → (end : List ℕ) × (list_all test end ≡ true) × (text ≡ before_all test text ++ end)
-unfolding before_all
 end-dropped test [] = ([], refl, refl)
 end-dropped test (b ∷ text) =
     let more = end-dropped test text in
@@ -79,7 +77,6 @@ end-dropped test (b ∷ text) =
 
 -- a text that has none of these bytes is left as it is
 pub nothing-dropped : (test : ℕ → Bool) (text : List ℕ) → list_all (λ b. not (test b)) text ≡ true → stripped test text ≡ text
-unfolding after_all before_all
 nothing-dropped test text h = ap (before_all test) (front-kept test text h) ∙ end-kept test text h
   where
     fails : (b : Bool) → not b ≡ true → b ≡ false
@@ -102,7 +99,6 @@ nothing-dropped test text h = ap (before_all test) (front-kept test text h) ∙ 
 
 -- what stands after blanks and begins with another byte is what is left of it
 blanks-skipped : (test : ℕ → Bool) (blanks text : List ℕ) → list_all test blanks ≡ true → begins test text ≡ false → after_all test (blanks ++ text) ≡ text
-unfolding after_all
 blanks-skipped test [] [] h e = refl
 blanks-skipped test [] (b ∷ text) h e = rw e refl
 blanks-skipped test (b ∷ blanks) text h e =
@@ -318,7 +314,6 @@ piece-no-comma text c (blanks, operand, h, (run, is), whole) =
 
 -- a clause's text isn't empty
 piece-filled : (text : List ℕ) (c : ClauseFields) → IsPiece text c → 0 < length text
-unfolding before_all after_all
 piece-filled [] c (blanks, operand, h, is, whole) = absurd (empty-operator c.op (blanks ++ operand) whole)
   where
     empty-operator : (op : Op) (rest : List ℕ) → [] ≡ operator_text op ++ rest → ⊥

@@ -25,25 +25,20 @@ use Rattle.ul_specifier.proofs.Public.{bare_no_local}
 -- ---- white space
 
 pub after_all-skip : (test : ℕ → Bool) (xs : List ℕ) (i : ℕ) → i < length xs → test (get_or xs i 0) ≡ true → after_all test (drop i xs) ≡ after_all test (drop (i + 1) xs)
-unfolding after_all
 after_all-skip test xs i h w = rw (drop_more xs i 0 h, w) refl
 
 pub after_all-stop : (test : ℕ → Bool) (xs : List ℕ) (i : ℕ) → i < length xs → test (get_or xs i 0) ≡ false → after_all test (drop i xs) ≡ drop i xs
-unfolding after_all
 after_all-stop test xs i h w = rw (drop_more xs i 0 h, w) refl
 
 pub after_all-end : (test : ℕ → Bool) (xs : List ℕ) (i : ℕ) → length xs ≤ i → after_all test (drop i xs) ≡ drop i xs
-unfolding after_all
 after_all-end test xs i h = rw (drop_all i xs h) refl
 
 before_all-push : (test : ℕ → Bool) (xs : List ℕ) (b : ℕ) → test b ≡ true → before_all test (xs ++ b ∷ []) ≡ before_all test xs
-unfolding before_all
 before_all-push test [] b w = rw w refl
 before_all-push test (x ∷ xs) b w = ap (unless_last test x) (before_all-push test xs b w)
 
 -- a last byte that isn't dropped keeps the text whole
 pub before_all-kept : (test : ℕ → Bool) (xs : List ℕ) (b : ℕ) → test b ≡ false → before_all test (xs ++ b ∷ []) ≡ xs ++ b ∷ []
-unfolding before_all
 before_all-kept test [] b w = rw w refl
 before_all-kept test (x ∷ []) b w = rw w refl
 before_all-kept test (x ∷ y ∷ xs) b w = rw (before_all-kept test (y ∷ xs) b w) refl
@@ -58,7 +53,6 @@ pub before_all-stop : (test : ℕ → Bool) (xs : List ℕ) (n k : ℕ) → n �
 before_all-stop test xs n k e h w = rw e (rw (take_more xs k 0 (omega arith)) (before_all-kept test (take k xs) (get_or xs k 0) w))
 
 pub before_all-none : (test : ℕ → Bool) (xs : List ℕ) (n : ℕ) → n ≡ 0 → before_all test (take n xs) ≡ take n xs
-unfolding before_all
 before_all-none test xs n e = rw e refl
 
 -- ---- runs

@@ -4,9 +4,9 @@
 mod clause;
 mod fault;
 pub mod laws;
+mod local;
 mod lower;
 mod meets;
-mod order;
 mod reading;
 
 pub use clause::{Clause, Op, Specifiers};
