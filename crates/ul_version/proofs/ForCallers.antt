@@ -15,3 +15,5 @@ pub use Rattle.ul_version.proofs.Orders.{get_or-padded, length-padded, numbers_c
 pub use Rattle.ul_version.proofs.OrderLaws.{version_total, version_ties}
 -- what a text is read as is a version
 pub use Rattle.ul_version.proofs.LawProofs.{versions}
+-- above each version there is a greater one, and the release 0 is a version
+pub use Rattle.ul_version.proofs.VersionAbove.{above_is_version, version_below, zero_is_version}

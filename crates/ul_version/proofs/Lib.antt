@@ -9,6 +9,8 @@ pub mod Bounds
 pub mod RoundTrip
 pub mod Complete
 pub mod Longest
+pub mod OneSpelling
+pub mod VersionAbove
 pub mod LawProofs
 pub mod Examples
 pub mod ByteRuns

@@ -2,11 +2,13 @@
 -- that tools read, cut from the front of a text part by part. A version is
 --     ["v"] [num "!"] num *("." num) [pre] [post] [dev] ["+" local]
 -- and each part takes as much of the text as it can.
-use Rattle.std.specs.Prelude.{ℕ, zero, suc, ◌+◌, ◌-◌, ◌*◌, ◌^◌, ◌==◌, ◌||◌, Bool, not, nat_lt, List, [], ◌∷◌, length, map, codes, Option, Some, None, if◌then◌else◌, ◌++◌}
+use Rattle.std.specs.Prelude.{ℕ, zero, suc, ◌^◌, ◌==◌, ◌||◌, Bool, not, nat_lt, List, [], ◌∷◌, length, map, codes, Option, Some, None, if◌then◌else◌, ◌++◌}
 use Rattle.std.specs.Char.{is_ascii_digit, to_ascii_lowercase}
 use Rattle.std.specs.List.{list_all, slice_split}
 use Rattle.std.specs.Option.{option_map_or}
 pub use Rattle.ul_version.specs.Ascii.{begins, is_separator, is_white}
+pub use Rattle.ul_version.specs.Grammar.{kind_words, post_words}
+unfoldable pub use Rattle.ul_version.specs.Grammar.{value_after}
 use Rattle.ul_version.specs.Ascii.{after_all, before_all, letter_v, plus}
 use Rattle.ul_version.specs.Fields.{Fields, is_word_byte}
 use Rattle.ul_version.specs.declared.fields.Pre.{Pre}
@@ -70,11 +72,6 @@ unfoldable pub after_digits : List ℕ → List ℕ
 after_digits [] = []
 after_digits (b ∷ rest) = if is_ascii_digit b then after_digits rest else b ∷ rest
 
--- the number that digits write after those of n
-unfoldable pub value_after : ℕ → List ℕ → ℕ
-value_after n [] = n
-value_after n (b ∷ rest) = value_after (n * 10 + (b - 48)) rest
-
 -- what a part says, and the text after it; there is none where a number is 2^64 or more
 abbrev pub Cut : Type 0 → Type 0
 Cut X = Option (X × List ℕ)
@@ -126,12 +123,6 @@ release text = needed text >>= λ n. onto (n.0 ∷ []) (points (length text) n.1
 abbrev pub suffix_number : List ℕ → Cut ℕ
 suffix_number text = number (after_optional is_separator text)
 
--- the words of a kind of pre-release
-abbrev pub kind_words : PreKind → List (List ℕ)
-kind_words A = codes "alpha" ∷ codes "a" ∷ []
-kind_words B = codes "beta" ∷ codes "b" ∷ []
-kind_words Rc = codes "preview" ∷ codes "pre" ∷ codes "rc" ∷ codes "c" ∷ []
-
 -- the kind whose word stands in front, and the text after the word
 abbrev pub kind_in_front : PreKind → List ℕ → Cut PreKind
 kind_in_front kind text = after_any (kind_words kind) text >>= λ rest. Some (kind, rest)
@@ -153,10 +144,6 @@ pre text = pre_from text (any_kind (after_optional is_separator text))
 abbrev pub suffix_from : List ℕ → Option (List ℕ) → Cut (Option ℕ)
 suffix_from text None = Some (None, text)
 suffix_from text (Some rest) = suffix_number rest >>= λ n. Some (Some n.0, n.1)
-
--- the words of a post-release
-abbrev pub post_words : List (List ℕ)
-post_words = codes "post" ∷ codes "rev" ∷ codes "r" ∷ []
 
 -- the post part in front: "-" num, or a word with its number
 unfoldable pub post : List ℕ → Cut (Option ℕ)

@@ -14,6 +14,3 @@ mod texts;
 pub use fault::VersionFault;
 pub use fields::{Pre, PreKind, Segment, Text, Version};
 pub use public::{Public, cmp_releases, has_front};
-
-#[cfg(test)]
-mod tests;
