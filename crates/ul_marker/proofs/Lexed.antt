@@ -26,7 +26,6 @@ use Rattle.ul_marker.proofs.Tokens.{onto, tokens-next}
 
 -- a run that ends where another byte stands
 run-front : (test : ℕ → Bool) (word rest : List ℕ) → list_all test word ≡ true → begins test rest ≡ false → run_length test (word ++ rest) ≡ length word
-unfolding run_length
 run-front test [] [] h e = refl
 run-front test [] (b ∷ rest) h e = rw e refl
 run-front test (w ∷ word) rest h e =
@@ -232,7 +231,7 @@ pub signed-lexes : (name : List ℕ) (t : Token) (op : Op) (literal rest : List 
 signed-lexes name t op literal rest ts subject h more =
     let last = lexes-then (quoted literal ++ rest) (Literal literal) rest ts (quoted-front literal rest h) more in
     let middle = lexes-next (operator_text op ++ (32 ∷ (quoted literal ++ rest))) (Sign op) (quoted literal ++ rest) (Literal literal ∷ ts)
-        (sign-front op (32 ∷ (quoted literal ++ rest)) refl) (quoted-begins literal rest h) last in
+    (sign-front op (32 ∷ (quoted literal ++ rest)) refl) (quoted-begins literal rest h) last in
     lexes-next (name ++ (32 ∷ (operator_text op ++ (32 ∷ (quoted literal ++ rest))))) t (operator_text op ++ (32 ∷ (quoted literal ++ rest))) (Sign op ∷ Literal literal ∷ ts)
     (subject (32 ∷ (operator_text op ++ (32 ∷ (quoted literal ++ rest)))) refl) (operator-begins op (32 ∷ (quoted literal ++ rest))) middle
 

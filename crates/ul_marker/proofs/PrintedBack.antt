@@ -350,22 +350,25 @@ path-lexes c (d ∷ path) all rest ts e more =
     let others = All-tail IsComparison c (d ∷ path) all in
     let next : Lexes (path_text (d ∷ path) ++ rest) (path_tokens (d ∷ path) ++ ts) = path-lexes d path others rest ts e more in
     let begin : begins is_blank (path_text (d ∷ path) ++ rest) ≡ false =
-        white-blank (path_text (d ∷ path) ++ rest) (path-begins d path (All-head IsComparison d path others) rest) in
+    white-blank (path_text (d ∷ path) ++ rest) (path-begins d path (All-head IsComparison d path others) rest) in
     let joined_on : Lexes (codes "and" ++ (32 ∷ (path_text (d ∷ path) ++ rest))) (And ∷ (path_tokens (d ∷ path) ++ ts)) =
-        lexes-next (codes "and" ++ (32 ∷ (path_text (d ∷ path) ++ rest))) And (path_text (d ∷ path) ++ rest) (path_tokens (d ∷ path) ++ ts)
-            (and-front (path_text (d ∷ path) ++ rest)) begin next in
+    lexes-next (codes "and" ++ (32 ∷ (path_text (d ∷ path) ++ rest))) And (path_text (d ∷ path) ++ rest) (path_tokens (d ∷ path) ++ ts)
+    (and-front (path_text (d ∷ path) ++ rest)) begin next in
     let whole : Lexes (comparison_text c ++ (codes " and " ++ (path_text (d ∷ path) ++ rest))) (printed_tokens c ++ (And ∷ (path_tokens (d ∷ path) ++ ts))) =
-        comparison-lexes c (All-head IsComparison c (d ∷ path) all) (codes " and " ++ (path_text (d ∷ path) ++ rest)) (And ∷ (path_tokens (d ∷ path) ++ ts)) refl joined_on in
+    comparison-lexes c (All-head IsComparison c (d ∷ path) all) (codes " and " ++ (path_text (d ∷ path) ++ rest)) (And ∷ (path_tokens (d ∷ path) ++ ts)) refl joined_on in
     ap tokens_of (three-parts (comparison_text c) (codes " and ") (path_text (d ∷ path)) rest) ∙ whole
     ∙ ap Some (sym (append_assoc (printed_tokens c) (And ∷ path_tokens (d ∷ path)) ts))
 
 path-joined : (Inside : List Token → Formula → Type 0) (c : Comparison) (path : List Comparison) → All IsComparison (c ∷ path)
     → AreJoined (IsAtomOf Inside) And (path_tokens (c ∷ path)) (map comparison_formula (c ∷ path))
 path-joined Inside c [] all = IsAtomOf.comparison (comparison-spelled (printed_tokens c) (comparison_formula c) (says c (All-head IsComparison c [] all)))
-path-joined Inside c (d ∷ path) all =
-    (printed_tokens c, path_tokens (d ∷ path),
-        IsAtomOf.comparison (comparison-spelled (printed_tokens c) (comparison_formula c) (says c (All-head IsComparison c (d ∷ path) all))),
-        path-joined Inside d path (All-tail IsComparison c (d ∷ path) all), refl)
+path-joined Inside c (d ∷ path) all = (
+  printed_tokens c,
+  path_tokens (d ∷ path),
+  IsAtomOf.comparison (comparison-spelled (printed_tokens c) (comparison_formula c) (says c (All-head IsComparison c (d ∷ path) all))),
+  path-joined Inside d path (All-tail IsComparison c (d ∷ path) all),
+  refl,
+)
 
 -- ---- paths joined by `or`
 
@@ -409,21 +412,25 @@ paths-lex path (next ∷ paths) all rest ts e more =
     let others = All-tail IsPath path (next ∷ paths) all in
     let after : Lexes (paths_text (next ∷ paths) ++ rest) (paths_tokens (next ∷ paths) ++ ts) = paths-lex next paths others rest ts e more in
     let begin : begins is_blank (paths_text (next ∷ paths) ++ rest) ≡ false =
-        white-blank (paths_text (next ∷ paths) ++ rest) (paths-begin next paths (All-head IsPath next paths others) rest) in
+    white-blank (paths_text (next ∷ paths) ++ rest) (paths-begin next paths (All-head IsPath next paths others) rest) in
     let joined_on : Lexes (codes "or" ++ (32 ∷ (paths_text (next ∷ paths) ++ rest))) (Or ∷ (paths_tokens (next ∷ paths) ++ ts)) =
-        lexes-next (codes "or" ++ (32 ∷ (paths_text (next ∷ paths) ++ rest))) Or (paths_text (next ∷ paths) ++ rest) (paths_tokens (next ∷ paths) ++ ts)
-            (or-front (paths_text (next ∷ paths) ++ rest)) begin after in
+    lexes-next (codes "or" ++ (32 ∷ (paths_text (next ∷ paths) ++ rest))) Or (paths_text (next ∷ paths) ++ rest) (paths_tokens (next ∷ paths) ++ ts)
+    (or-front (paths_text (next ∷ paths) ++ rest)) begin after in
     let whole : Lexes (path_text path ++ (codes " or " ++ (paths_text (next ∷ paths) ++ rest))) (path_tokens path ++ (Or ∷ (paths_tokens (next ∷ paths) ++ ts))) =
-        one-lexes path (All-head IsPath path (next ∷ paths) all) (codes " or " ++ (paths_text (next ∷ paths) ++ rest)) (Or ∷ (paths_tokens (next ∷ paths) ++ ts)) refl joined_on in
+    one-lexes path (All-head IsPath path (next ∷ paths) all) (codes " or " ++ (paths_text (next ∷ paths) ++ rest)) (Or ∷ (paths_tokens (next ∷ paths) ++ ts)) refl joined_on in
     ap tokens_of (three-parts (path_text path) (codes " or ") (paths_text (next ∷ paths)) rest) ∙ whole
     ∙ ap Some (sym (append_assoc (path_tokens path) (Or ∷ paths_tokens (next ∷ paths)) ts))
 
 paths-joined : (Inside : List Token → Formula → Type 0) (path : List Comparison) (paths : List (List Comparison)) → All IsPath (path ∷ paths)
     → AreJoined (IsConjunction Inside) Or (paths_tokens (path ∷ paths)) (map path_formula (path ∷ paths))
 paths-joined Inside path [] all = one-joined Inside path (All-head IsPath path [] all)
-paths-joined Inside path (next ∷ paths) all =
-    (path_tokens path, paths_tokens (next ∷ paths), one-joined Inside path (All-head IsPath path (next ∷ paths) all),
-        paths-joined Inside next paths (All-tail IsPath path (next ∷ paths) all), refl)
+paths-joined Inside path (next ∷ paths) all = (
+  path_tokens path,
+  paths_tokens (next ∷ paths),
+  one-joined Inside path (All-head IsPath path (next ∷ paths) all),
+  paths-joined Inside next paths (All-tail IsPath path (next ∷ paths) all),
+  refl,
+)
 
 -- ---- whole texts
 
@@ -441,9 +448,11 @@ paths-spelled path paths all =
     let text = paths_text (path ∷ paths) in
     let begin : begins is_white text ≡ false = ap (begins is_white) (sym (append-nil text)) ∙ paths-begin path paths (All-head IsPath path paths all) [] in
     let whole : tokens_of text ≡ Some (paths_tokens (path ∷ paths)) =
-        ap tokens_of (sym (append-nil text)) ∙ paths-lex path paths all [] [] refl refl ∙ ap Some (append-nil (paths_tokens (path ∷ paths))) in
-    (paths_tokens (path ∷ paths), ap tokens_of (kept-whole text begin (paths-end path paths all)) ∙ whole,
-        (map path_formula (path ∷ paths), paths-joined (IsMarker 63) path paths all, refl))
+    ap tokens_of (sym (append-nil text)) ∙ paths-lex path paths all [] [] refl refl ∙ ap Some (append-nil (paths_tokens (path ∷ paths))) in (
+      paths_tokens (path ∷ paths),
+      ap tokens_of (kept-whole text begin (paths-end path paths all)) ∙ whole,
+      (map path_formula (path ∷ paths), paths-joined (IsMarker 63) path paths all, refl),
+    )
 
 -- printed comparisons joined by ` and ` and by ` or ` are read as what they say
 pub paths-read : PathsRead

@@ -25,10 +25,3 @@ pub use marker::Marker;
 pub use truth::meets_python;
 pub use variable::{AtomKind, Variable};
 pub use world::{World, put_atom};
-
-#[cfg(test)]
-mod package_tests;
-#[cfg(test)]
-mod reading_tests;
-#[cfg(test)]
-mod tests;

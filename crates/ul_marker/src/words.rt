@@ -3,7 +3,6 @@
 ghost use Rattle.std.specs.Prelude.{◌≡◌, ◌≤◌, ◌<◌, ◌+◌, ◌^◌, Some, true, length};
 ghost use Rattle.std.specs.List.{list_all};
 ghost use Rattle.std.specs.Str.{bytes_eq};
-ghost use Rattle.ul_version.specs.Reading as Versions;
 ghost use Rattle.ul_marker.specs.Atoms.{is_literal};
 ghost use Rattle.ul_marker.specs.Readers.{front_view, optional_bytes, optional_front, Reads, ReadsTokens};
 ghost use Rattle.ul_marker.specs.Reading;
@@ -14,6 +13,7 @@ use crate::{MarkerFault, Variable};
 use std::alloc::{AllocError, Global};
 use std::marker::Model;
 use ul_specifier::{Op, after_space, operator};
+use ul_version::ascii::{ByteClass, White, run_len};
 
 /// How many parentheses may be open at one place.
 pub const MAX_DEPTH: u8 = 64;
@@ -72,12 +72,6 @@ pub enum Token {
     Literal(Literal),
 }
 
-fn is_white(byte: u8) -> bool
-    ensures { result ≡ Versions.is_white byte }
-{
-    byte == b' ' || (9 <= byte && byte <= 13)
-}
-
 fn is_quote(byte: u8) -> bool
     ensures { result ≡ Grammar.is_quote byte }
 {
@@ -90,42 +84,35 @@ fn is_sign_byte(byte: u8) -> bool
     byte == b'<' || (byte == b'>' || (byte == b'=' || (byte == b'!' || byte == b'~')))
 }
 
-fn is_word_byte(byte: u8) -> bool
-    ensures { result ≡ Grammar.is_word_byte byte }
-{
-    !(is_white(byte) || (byte == b'(' || (byte == b')' || (is_quote(byte) || is_sign_byte(byte)))))
-}
+/// The bytes of words.
+#[derive(Clone, Copy, Drop)]
+struct WordByte;
 
-fn is_quoted(quote: u8, byte: u8) -> bool
-    ensures { result ≡ Grammar.is_quoted quote byte }
-{
-    is_literal_byte(byte) && byte != quote
-}
+impl ByteClass for WordByte {
+    ghost use Rattle.ul_marker.specs.Words.{is_word_byte};
 
-// How many bytes in front stand in a word.
-fn word_len(input: &[u8]) -> usize
-    ensures length { result ≡ Grammar.run_length Grammar.is_word_byte input.now }
-    ensures fits { result ≤ length input.now }
-{
-    for i in 0..input.len() {
-        if !is_word_byte(input[i]) {
-            return i;
-        }
+    ghost has = { λ _ byte. is_word_byte byte };
+
+    fn has(&self, byte: u8) -> bool {
+        !(White.has(byte)
+            || (byte == b'(' || (byte == b')' || (is_quote(byte) || is_sign_byte(byte)))))
     }
-    input.len()
 }
 
-// How many bytes in front stand in a literal with this quote.
-fn literal_len(quote: u8, input: &[u8]) -> usize
-    ensures length { result ≡ Grammar.run_length (Grammar.is_quoted quote) input.now }
-    ensures fits { result ≤ length input.now }
-{
-    for i in 0..input.len() {
-        if !is_quoted(quote, input[i]) {
-            return i;
-        }
+/// The bytes that stand in a literal with this quote.
+#[derive(Clone, Copy, Drop)]
+struct Quoted {
+    quote: u8,
+}
+
+impl ByteClass for Quoted {
+    ghost use Rattle.ul_marker.specs.Words.{is_quoted};
+
+    ghost has = { λ class byte. is_quoted class.quote byte };
+
+    fn has(&self, byte: u8) -> bool {
+        is_literal_byte(byte) && byte != self.quote
     }
-    input.len()
 }
 
 fn is_same(word: &[u8], other: &[u8]) -> bool
@@ -237,7 +224,7 @@ fn word_token(word: &[u8]) -> Option<Token>
 fn front_word(input: &[u8]) -> Option<(Token, &[u8])>
     ensures { optional_front result ≡ Grammar.front_word input.now }
 {
-    let n = word_len(input);
+    let n = run_len(&WordByte, input);
     let token = word_token(&input[..n])?;
     Some((token, &input[n..]))
 }
@@ -270,7 +257,7 @@ fn front_literal(alloc: Global, quote: u8, input: &[u8]) -> Result<(Token, &[u8]
     requires { Grammar.is_quote quote ≡ true }
     ensures { Reads front_view result (Grammar.front_literal quote input.now) }
 {
-    let n = literal_len(quote, input);
+    let n = run_len(&Quoted { quote }, input);
     let Some(rest) = after_quote(quote, &input[n..]) else {
         return Err(MarkerFault::NoReading);
     };

@@ -13,8 +13,7 @@ use Rattle.std.proofs.lemmas.List.Prefix.{end_rest}
 use Rattle.std.proofs.lemmas.List.Splits.{join_with_byte-slice_split, length-slice_split, slice_split_at, slice_split_none}
 use Rattle.ul_version.specs.Fields.{Fields}
 use Rattle.ul_version.specs.Reading.{◌>>=◌, begins, is_white, or_else, version_of}
-use Rattle.ul_version.proofs.Cuts.{bind_some}
-use Rattle.ul_version.proofs.Spelling.{cond_some}
+use Rattle.ul_version.proofs.ForCallers.{bind_some, cond_some}
 use Rattle.ul_specifier.specs.Clauses.{ClauseFields, is_bare}
 use Rattle.ul_specifier.specs.Grammar.{AreClauses, EndsInStar, IsOneClause, IsOperand, IsPiece, IsRunOperand, operator_text, Spells, SpellsClause}
 use Rattle.ul_specifier.specs.Reading.{after_all, after_front, after_operator, before_all, before_end, clause_after, clause_of, clause_with, clauses_of, is_blank, is_comma, is_version_byte, listed, may_stand, operator, specifiers_of, star_of, starred, stripped, unless_last, unstarred, version_clause}

@@ -13,6 +13,3 @@ pub use clause::{Clause, Op, Specifiers};
 pub use fault::SpecFault;
 pub use meets::equals_plain;
 pub use reading::{after_space, before_space, operator};
-
-#[cfg(test)]
-mod tests;

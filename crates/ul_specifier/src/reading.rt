@@ -11,7 +11,10 @@ ghost use Rattle.ul_specifier.specs.Views.{clauses_view, operator_view, rest_vie
 use crate::local::has_local;
 use crate::{Clause, Op, SpecFault, Specifiers};
 use std::alloc::Global;
-use ul_version::ascii::{Blank, ByteClass, Only, White, after_run, after_word, before_run, before_word, is_run, piece_len};
+use ul_version::ascii::{
+    Blank, ByteClass, Only, White, after_run, after_word, before_run, before_word, is_run,
+    piece_len,
+};
 use ul_version::{Version, VersionFault};
 
 // Stands between two clauses.
@@ -88,15 +91,11 @@ impl ByteClass for VersionByte {
     }
 }
 
-// The version that a run spells.
+// The version that bytes spell.
 fn version(alloc: Global, text: &[u8]) -> Result<Version, SpecFault>
-    requires { IsTrue (list_all Grammar.is_version_byte text.now) }
     ensures { Reads (λ v. v) result (Versions.version_of text.now) }
 {
-    let Ok(text) = str::from_utf8(text) else {
-        return Err(SpecFault::NoReading);
-    };
-    match Version::read(alloc, text) {
+    match Version::read_bytes(alloc, text) {
         Ok(version) => Ok(version),
         Err(VersionFault::NoReading) => Err(SpecFault::NoReading),
         Err(VersionFault::NoMemory) => Err(SpecFault::NoMemory),

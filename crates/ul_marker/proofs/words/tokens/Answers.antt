@@ -25,7 +25,7 @@ returns-then-depth-from c =
     let token = c.in_ok-token.token in
     let seen = c.tokens.list.items ++ token ∷ [] in
     let level : level_after 0 seen ≡ c.opened-depth.result =
-        level-push 0 c.tokens.list.items token ∙ ap (opened token) (sym c.tokens.invariant.depth) ∙ sym c.opened-depth.ensures in
+    level-push 0 c.tokens.list.items token ∙ ap (opened token) (sym c.tokens.invariant.depth) ∙ sym c.opened-depth.ensures in
     ap marker_in (c.tokens.invariant.found ∙ onto-next c.tokens.rest.now token c.in_ok-token.after.now c.tokens.list.items seen c.in_ok-token.ensures refl)
     ∙ deep-none seen (tokens_of (after_all is_blank c.in_ok-token.after.now)) (omega arith)
 

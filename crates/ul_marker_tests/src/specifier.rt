@@ -1,7 +1,7 @@
 //! Meanings and readings of PEP 440, as tables.
 
-use crate::{Clause, Op, SpecFault, Specifiers, equals_plain};
 use std::test::Fail;
+use ul_specifier::{Clause, Op, SpecFault, Specifiers, equals_plain};
 use ul_version::Version;
 
 // Versions with and without each of the parts, and with zeros at the end of the release.
@@ -94,22 +94,26 @@ const EXAMPLES: &str = "==1.0 1.0+cpu 1\n\
     ==1.1.* 1.1a1 1\n\
     ==1.1.* 1.10 0\n\
     !=1.0 1.0+x 0\n\
-    >=1.5.* 1.5 1\n\
-    <1.5.* 1.4.9 1\n\
     >=1, 1 1\n\
-    ==1.0+CPU-1 1.0+cpu.1 1";
+    ==1.0+CPU-1 1.0+cpu.1 1\n\
+    ==1.0.0.0.* 1.0a1 1\n\
+    ==1.0.0.0.* 1.0.post1 1\n\
+    !=1.0.0.0.* 1.0.dev1 0\n\
+    ~=1.0 1!1.5 0\n\
+    <1.0 1!0.9 0\n\
+    >1!1.0 1.0.post1 0\n\
+    ~=1!1.0 1!1.0.1 1";
 
-// The same, with the reason why `packaging` 21.3 answers otherwise.
-const OWN_EXAMPLES: &str = "==1.0.0.0.* 1.0a1 1 a release is padded before its front is compared\n\
-    ==1.0.0.0.* 1.0.post1 1 a release is padded before its front is compared\n\
-    !=1.0.0.0.* 1.0.dev1 0 a release is padded before its front is compared\n\
-    >=1.5.* 1.5rc1 0 the clause is >=1.5, and 1.5rc1 comes before 1.5";
+// The same, with the reason why `packaging` 24 answers otherwise.
+const OWN_EXAMPLES: &str = ">=1.5.* 1.5 1 `.*` is dropped, where `packaging` refuses it\n\
+    >=1.5.* 1.5rc1 0 the clause is >=1.5, and 1.5rc1 comes before 1.5\n\
+    <1.5.* 1.4.9 1 `.*` is dropped, where `packaging` refuses it";
 
 // Texts without a reading.
 const REFUSED: &str =
     "~=1;>=1+local;~=1.0+local;>1.*;<=1.*;~=1.0.*;==1.0a1.*;>=1.0.post1.*;==1.0+x.*;,>=1;1.0;>=;== 1 .*;>=1 2;==*";
 
-// Texts without a reading that `packaging` 21.3 reads, and why.
+// Texts without a reading that `packaging` 24 reads, and why.
 const OWN_REFUSED: &str = "===1.0|this operator is left out;\
     ,|a comma follows a clause;\
     >=1,,|one comma follows the last clause;\
@@ -225,6 +229,41 @@ fn lists_are_summed_up(rt: HostRuntime) -> Result<(), Fail> {
         let version = Version::read(rt.alloc(), "1")?;
         assert_eq!(rt; specifiers.names_pre(), names_pre, "{text}");
         assert_eq!(rt; specifiers.pins(&version), pinned, "{text}");
+    }
+    Ok(())
+}
+
+// A list of so many clauses that all ask for what 2 is.
+fn long_list(rt: HostRuntime, clauses: usize) -> Result<String, Fail> {
+    let mut text = String::new(rt.alloc());
+    for _ in 0..clauses {
+        text.push_str(">=1 , ")?;
+    }
+    text.push_str("<3")?;
+    Ok(text)
+}
+
+#[test]
+fn lists_are_long(rt: HostRuntime) -> Result<(), Fail> {
+    for clauses in [8, 299, 2000] {
+        let list = Specifiers::read(rt.alloc(), long_list(rt, clauses)?.as_str())?;
+        assert_eq!(rt; list.clauses.len(), clauses + 1);
+        let version = Version::read(rt.alloc(), "2")?;
+        assert!(rt; list.meets(&version), "{clauses}");
+        assert_eq!(rt; list.lower_part(rt.alloc())?.clauses.len(), clauses);
+    }
+    Ok(())
+}
+
+#[test]
+fn clauses_are_copied(rt: HostRuntime) -> Result<(), Fail> {
+    let list = Specifiers::read(rt.alloc(), "==1!2.3.4.5.6.7.8.9.10+a.b")?;
+    for clause in &list.clauses {
+        let copy = clause.copy(rt.alloc())?;
+        assert_eq!(rt;
+            copy.version.text(rt.alloc())?.as_str(),
+            "1!2.3.4.5.6.7.8.9.10+a.b"
+        );
     }
     Ok(())
 }

@@ -1,8 +1,8 @@
 //! Readings of markers, as tables.
 
-use crate::{Marker, MarkerFault};
 use std::fmt::Write;
 use std::test::Fail;
+use ul_marker::{Marker, MarkerFault};
 
 // The relations of the table below, in order.
 const RELATIONS: &str = "==,!=,<=,>=,<,>,~=,in,not in";

@@ -1,8 +1,8 @@
 //! Markers, some from the metadata of published packages, evaluated at three machines.
 
-use crate::{Atom, Marker, MarkerFault, World};
 use std::alloc::Global;
 use std::test::Fail;
+use ul_marker::{Atom, Marker, MarkerFault, World};
 
 // The interpreters of three machines, and their texts in the order of the text variables.
 const INTERPRETERS: [(u32, u32, u32); 3] = [(3, 12, 3), (3, 8, 10), (3, 9, 18)];

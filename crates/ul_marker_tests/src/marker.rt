@@ -1,8 +1,8 @@
 //! Truths of markers at worlds, the order of atoms, and the texts of a world, as tables.
 
-use crate::{Atom, AtomKind, Marker, Variable, World, meets_python};
 use std::alloc::Global;
 use std::test::Fail;
+use ul_marker::{Atom, AtomKind, Marker, Variable, World, meets_python};
 use ul_specifier::{Clause, Op};
 use ul_version::Version;
 
