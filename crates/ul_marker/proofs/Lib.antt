@@ -22,3 +22,4 @@ pub mod ReadingExamples
 pub mod Joining
 pub mod Related
 pub mod Spelled
+pub mod ForCallers

@@ -145,7 +145,7 @@ const COMPARISONS: &str =
     1 '3.10' in python_version|1 '.10' in python_version|0 '.4' in python_version|1 '10.4' in python_full_version|\
     0 '3.10.4.' in python_full_version|1 implementation_version < '3.10.4'|0 implementation_version < '3.9'|\
     1 implementation_version == '3.10.4.RC.1'|0 implementation_version == '3.10.4'|1 implementation_version <= '3.10.4c1'|\
-    0 implementation_version < 'x'|0 implementation_version < '3 or later'|1 'rc' in implementation_version|\
+    1 implementation_version < 'x'|0 implementation_version < '3 or later'|1 'rc' in implementation_version|\
     1 implementation_version in '3.10.4rc1 x'|1 sys_platform in 'sys_platform'|0 'q' in platform_version";
 
 fn atom_of(alloc: Global, text: &str) -> Result<Option<Atom>, Fail> {

@@ -1,8 +1,9 @@
 //! Truths of markers at worlds, the order of atoms, and the texts of a world, as tables.
 
 use std::alloc::Global;
+use std::fmt::Write;
 use std::test::Fail;
-use ul_marker::{Atom, AtomKind, Marker, Variable, World, meets_python};
+use ul_marker::{Atom, AtomKind, Marker, Variable, World, meets_python, put_atom};
 use ul_specifier::{Clause, Op};
 use ul_version::Version;
 
@@ -250,5 +251,57 @@ fn texts_stand_in_the_order_of_their_variables(rt: HostRuntime) -> Result<(), Fa
     assert!(rt;
         meets_python(&clause, false, (3, 10, 0)) && !meets_python(&clause, true, (4, 0, 0))
     );
+    Ok(())
+}
+
+// Markers, how many opaque comparisons stand in each, and whether it asks for an extra.
+const PARTS: &str =
+    "0 0 python_version >= '3.8' and os_name == 'a'|0 1 extra == 'a'|1 1 'a' in os_name or extra != 'b'|\
+    3 0 ('a' in os_name or os_name < 'b') and ('a' in os_name or python_full_version in '3.8.1, 3.9')|\
+    1 1 implementation_version == '3' and (python_version in '3.8 2' or (extra == '' and sys_platform == 'b'))";
+
+#[test]
+fn parts_are_told_and_copied(rt: HostRuntime) -> Result<(), Fail> {
+    let alloc = rt.alloc();
+    for line in PARTS.split('|') {
+        let (count, rest) = line.split_once(' ').unwrap_or((line, ""));
+        let (asks, text) = rest.split_once(' ').unwrap_or((rest, ""));
+        let marker = Marker::read(alloc, text)?;
+        let copy = marker.copy(alloc)?;
+        for one in [&marker, &copy] {
+            let found = format!(in alloc; "{}", one.atoms(alloc)?.len() as u64)?;
+            assert_eq!(rt; found.as_str(), count, "{text}");
+            assert_eq!(rt; if one.asks_extra() { "1" } else { "0" }, asks, "{text}");
+        }
+        assert_eq!(rt;
+            truths(alloc, &copy)?.as_str(),
+            truths(alloc, &marker)?.as_str(),
+            "{text}"
+        );
+    }
+    Ok(())
+}
+
+#[test]
+fn long_markers_are_copied(rt: HostRuntime) -> Result<(), Fail> {
+    let alloc = rt.alloc();
+    let mut text = String::from_str(alloc, "python_version in '2")?;
+    for number in 0..300u32 {
+        write!(text, ",3.{number}")?;
+    }
+    text.push_str("'")?;
+    for number in 0..300u32 {
+        write!(text, " or ('a{number}' in os_name and extra == 'x')")?;
+    }
+    let marker = Marker::read(alloc, text.as_str())?.copy(alloc)?;
+    let atoms = marker.atoms(alloc)?;
+    assert_eq!(rt; atoms.len(), 300);
+    assert_eq!(rt; truths(alloc, &marker)?.as_str(), "111100");
+    let mut sorted = Vec::new(alloc);
+    for atom in &atoms {
+        put_atom(alloc, &mut sorted, atom)?;
+        put_atom(alloc, &mut sorted, atom)?;
+    }
+    assert_eq!(rt; sorted.len(), 300);
     Ok(())
 }

@@ -40,7 +40,7 @@ const TEXTS: &str =
     0 os_name == 'a\"|0 os_name == 'a\\'|0 os_name == 'é'|0 os_name == '\t'|0 os_name =! 'a'|0 os_name === 'a'|0 os_name = 'a'|\
     0 os_name\n== 'a'|0 os_nameor|0 os_name == 'a' Or os_name == 'b'|0 python_version == 'x'|0 python_version in '3.9, x'|\
     0 python_version == '3.8' or python_version == 'x'|0 python_version ~= '3'|0 python_version > '3.*'|0 'a' == 'b'|\
-    0 os_name == sys_platform|0 os_name == posix|0 os_name == 'a' && os_name == 'b'";
+    0 os_name == sys_platform|0 os_name == posix|0 posix == 'a'|0 os_name == 'a' xor os_name == 'b'|0 os_name == 'a' && os_name == 'b'";
 
 fn is_read(rt: HostRuntime, text: &str) -> Result<bool, MarkerFault> {
     match Marker::read(rt.alloc(), text) {
@@ -107,5 +107,24 @@ fn parentheses_nest_and_lists_are_long(rt: HostRuntime) -> Result<(), Fail> {
         Marker::Any(parts) => assert_eq!(rt; parts.len(), 20001),
         _ => assert!(rt; false, "no list"),
     }
+    Ok(())
+}
+
+#[test]
+fn deep_texts_are_refused_at_once(rt: HostRuntime) -> Result<(), Fail> {
+    let mut text = String::new(rt.alloc());
+    for _ in 0..1_000_000 {
+        text.push_str("(")?;
+    }
+    assert!(rt; !is_read(rt, text.as_str())?, "a million parentheses");
+    let mut text = String::new(rt.alloc());
+    for _ in 0..10_000 {
+        text.push_str("((os_name == 'a') and extra == 'b') or ")?;
+    }
+    text.push_str("os_name != 'c'")?;
+    assert!(rt;
+        is_read(rt, text.as_str())?,
+        "many parentheses, one behind the other"
+    );
     Ok(())
 }
