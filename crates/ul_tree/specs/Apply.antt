@@ -97,6 +97,11 @@ abbrev pub known : Plain → Bool
 known (truth b) = b
 known (node l d bs) = false
 
+-- the truth that a tree is, if it is one
+abbrev pub truth_value : Plain → Option Bool
+truth_value (truth b) = Some b
+truth_value (node l d bs) = None
+
 -- two trees joined at their first level: their parts at the keys of both are joined in turn
 abbrev pub apply_at : (Bool → Bool → Bool) → (Plain → Plain → Plain) → Option (List ℕ) → Plain → Plain → Plain
 apply_at op rec None a b = truth (op (known a) (known b))

@@ -1,9 +1,12 @@
 -- How two truths are joined, and the branches of a tree that is being made.
-use Rattle.std.specs.Prelude.{ℕ, ◌+◌, ◌<◌, List, [], ◌∷◌, Bool, true, false, not, ◌≡◌}
-use Rattle.ul_tree.specs.Plain.{Plain, Branches, done, branch, carried}
-use Rattle.ul_tree.specs.Apply.{size, apply, both, either}
+use Rattle.std.specs.Prelude.{ℕ, ◌+◌, ◌<◌, List, [], ◌∷◌, Bool, true, false, not, ◌≡◌, if◌then◌else◌}
+use Rattle.ul_tree.specs.Plain.{Plain, truth, Branches, done, branch, carried}
+use Rattle.ul_tree.specs.Apply.{size, apply, both, either, same_bool}
+use Rattle.ul_tree.specs.Views.{tree_view}
 use Rattle.ul_tree.specs.Keys.{key_view, then_branches}
 use Rattle.ul_tree.specs.declared.level.Key.{Key}
+use Rattle.ul_tree.specs.declared.join.AtOnce.{AtOnce}
+use Rattle.ul_tree.specs.declared.join.AtOnce.TheVariants.{Truth, Side}
 use Rattle.ul_tree.specs.declared.join.Join.{Join}
 use Rattle.ul_tree.specs.declared.join.Join.TheVariants.{Both, Either, NotFirst}
 
@@ -31,3 +34,12 @@ stands m (branch k c rest) d = stands m rest (carried m c d)
 abbrev pub added : Bool → Branches → List ℕ → Plain → Branches
 added true bs k next = bs
 added false bs k next = then_branches bs (branch k next done)
+
+-- the tree that a join is at once
+abbrev pub at_once_view : AtOnce → Plain
+at_once_view (Truth b) = truth b
+at_once_view (Side tree) = tree_view tree.now
+
+-- the join of a truth and another tree: the other where the truth is neutral, else the truth
+abbrev pub past_truth : Bool → Bool → Plain → Plain
+past_truth neutral value other = if same_bool value neutral then other else truth value

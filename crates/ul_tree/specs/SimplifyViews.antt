@@ -1,9 +1,10 @@
 -- What the code of simplifying sees of pieces and regions, as plain data.
-use Rattle.std.specs.Prelude.{ℕ, List, [], ◌∷◌, map, Bool, true, false, Option, Some, None, option_map, All, ◌≡◌}
+use Rattle.std.specs.Prelude.{ℕ, List, [], ◌∷◌, map, Bool, true, false, Option, Some, None, option_map, All, ◌≡◌, zero, suc}
 use Rattle.std.specs.Ordering.{is_lt}
-use Rattle.ul_tree.specs.Plain.{Plain, truth, node, Branches, text_cmp}
+use Rattle.ul_tree.specs.Plain.{Plain, truth, node, Branches, done, branch, text_cmp, holds_of}
+use Rattle.ul_tree.specs.Apply.{either}
 use Rattle.ul_tree.specs.Reduced.{IsReduced, Fits}
-use Rattle.ul_tree.specs.Keys.{key_view, has_kind}
+use Rattle.ul_tree.specs.Keys.{key_view, has_kind, branches_from}
 use Rattle.ul_tree.specs.Simplify.{Results, Simplifies}
 use Rattle.ul_tree.specs.declared.level.Key.{Key}
 
@@ -53,6 +54,16 @@ KeysOf l xs = All (λ x. has_kind l x.0 ≡ true) xs
 abbrev pub is_above : List ℕ → Plain → Bool
 is_above l (truth b) = false
 is_above l (node k e cs) = is_lt (text_cmp k l)
+
+-- whether the part of one of the first so many branches holds
+abbrev pub some_part_holds : ℕ → Branches → (List ℕ → List ℕ) → Bool
+some_part_holds zero bs f = false
+some_part_holds (suc n) done f = false
+some_part_holds (suc n) (branch k c rest) f = either (holds_of c f) (some_part_holds n rest f)
+
+-- a tree that holds where a part of so many branches from a place on does
+abbrev pub HoldsParts : Branches → ℕ → ℕ → Plain → Type 0
+HoldsParts bs low count t = (f : List ℕ → List ℕ) → holds_of t f ≡ some_part_holds count (branches_from low bs) f
 
 -- a tree that was made, or else the one that stands
 abbrev pub region_view : {A : Type 0} → (A → Plain) → Option A → Plain → Plain

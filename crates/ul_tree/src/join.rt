@@ -1,19 +1,22 @@
 //! A tree made of two, part by part.
 ghost use Rattle.std.specs.Prelude.{◌≡◌, ℕ, List, IfOk, All, true, false, option_map};
-ghost use Rattle.ul_tree.specs.Plain.{node};
+ghost use Rattle.ul_tree.specs.Plain.{node, truth};
 ghost use Rattle.ul_tree.specs.Levels.{python_level, atom_level};
 ghost use Rattle.ul_tree.specs.Reduced.{IsReduced};
 ghost use Rattle.ul_tree.specs.Apply.{first_of, branches_at, merged, keys, close, same as same_plain};
 ghost use Rattle.ul_tree.specs.Views.{tree_view, points_view};
 ghost use Rattle.ul_tree.specs.Keys.{level_view, key_view, keys_view, has_kind, is_literal_key, is_number_key};
-ghost use Rattle.ul_tree.specs.Joins.{truth_of, IsJoined, made_view, stands, added};
+ghost use Rattle.ul_tree.specs.Joins.{truth_of, IsJoined, made_view, stands, added, at_once_view, past_truth};
+ghost use Rattle.ul_tree.specs.JoinSteps.{JoinsTo};
+ghost use Rattle.ul_tree.specs.SimplifyViews.{IfSome};
 
 use crate::Tree;
-use crate::copy::same;
+use crate::copy::{copy_within, same};
 use crate::level::{Key, Level};
 use crate::nodes::{first_level, level_keys, part_at, rest_at};
-use crate::part::{Trees, known};
+use crate::part::{Trees, known, truth_value};
 use crate::results::standing;
+use crate::tree::{DEEPEST, deeper};
 use std::alloc::{AllocError, Global};
 use ul_marker::Atom;
 
@@ -151,6 +154,73 @@ pub fn closed(
     }
 }
 
+/// What the join of two trees is at once: a truth, or one of its sides.
+#[derive(Clone, Copy)]
+pub enum AtOnce<'a> {
+    Truth(bool),
+    Side(&'a Tree),
+}
+
+// The join of a truth and another tree: the other where the truth is neutral, else the truth.
+fn past_truth<'a>(neutral: bool, value: bool, other: &'a Tree) -> AtOnce<'a>
+    ensures { at_once_view result ≡ past_truth neutral value (tree_view other.now) }
+{
+    if value == neutral {
+        return AtOnce::Side(other);
+    }
+    AtOnce::Truth(value)
+}
+
+// The join of a truth and a tree after it.
+fn after_truth<'a>(op: Join, value: bool, b: &'a Tree) -> AtOnce<'a>
+    requires { IsReduced (tree_view b.now) }
+    ensures { JoinsTo (truth_of op) (truth value) (tree_view b.now) (at_once_view result) }
+{
+    match op {
+        Join::Both => past_truth(true, value, b),
+        Join::Either => past_truth(false, value, b),
+        Join::NotFirst => AtOnce::Truth(!value),
+    }
+}
+
+// The join of a tree and a truth after it, where it is known at once.
+fn before_truth<'a>(op: Join, a: &'a Tree, value: bool) -> Option<AtOnce<'a>>
+    requires { IsReduced (tree_view a.now) }
+    ensures { IfSome (λ k. JoinsTo (truth_of op) (tree_view a.now) (truth value) (at_once_view k)) result }
+{
+    match op {
+        Join::Both => Some(past_truth(true, value, a)),
+        Join::Either => Some(past_truth(false, value, a)),
+        Join::NotFirst => None,
+    }
+}
+
+/// The join of two trees, one of which is a truth, where it is known at once: a truth that settles the joined
+/// truth is the answer, and one that doesn't count leaves it to the other side.
+pub fn at_once<'a>(op: Join, a: &'a Tree, b: &'a Tree) -> Option<AtOnce<'a>>
+    requires a_reduced { IsReduced (tree_view a.now) }
+    requires b_reduced { IsReduced (tree_view b.now) }
+    ensures { IfSome (λ k. JoinsTo (truth_of op) (tree_view a.now) (tree_view b.now) (at_once_view k)) result }
+{
+    match truth_value(a) {
+        Some(value) => Some(after_truth(op, value, b)),
+        None => match truth_value(b) {
+            Some(value) => before_truth(op, a, value),
+            None => None,
+        },
+    }
+}
+
+// The tree that a join is at once; want of memory where a path has more levels than `room`.
+fn made(alloc: Global, known: AtOnce<'_>, room: usize) -> Result<Tree, AllocError>
+    ensures { IfOk result (λ t. tree_view t ≡ at_once_view known.entry) }
+{
+    match known {
+        AtOnce::Truth(value) => Ok(Tree::Truth(value)),
+        AtOnce::Side(tree) => copy_within(alloc, tree, room),
+    }
+}
+
 /// The tree that has the joined truth of two.
 pub fn joined(alloc: Global, op: Join, a: &Tree, b: &Tree) -> Result<Tree, AllocError>
     requires a_reduced { IsReduced (tree_view a.now) }
@@ -158,24 +228,65 @@ pub fn joined(alloc: Global, op: Join, a: &Tree, b: &Tree) -> Result<Tree, Alloc
     ensures joined { IfOk result (λ t. IsJoined op (tree_view a.now) (tree_view b.now) (tree_view t)) }
     ensures reduced { IfOk result (λ t. IsReduced (tree_view t)) }
 {
+    joined_within(alloc, op, a, b, DEEPEST)
+}
+
+/// The tree that has the joined truth of two; want of memory where a path has more levels than `room`.
+#[cycle(joined)]
+pub fn joined_within(
+    alloc: Global,
+    op: Join,
+    a: &Tree,
+    b: &Tree,
+    room: usize,
+) -> Result<Tree, AllocError>
+    requires a_reduced { IsReduced (tree_view a.now) }
+    requires b_reduced { IsReduced (tree_view b.now) }
+    ensures joined { IfOk result (λ t. IsJoined op (tree_view a.now) (tree_view b.now) (tree_view t)) }
+    ensures reduced { IfOk result (λ t. IsReduced (tree_view t)) }
+{
+    if let Some(known) = at_once(op, a, b) {
+        let tree = made(alloc, known, room)?;
+        return Ok(tree);
+    }
+    joined_parts(alloc, op, a, b, room)
+}
+
+// The same, part by part.
+#[cycle(joined)]
+fn joined_parts(
+    alloc: Global,
+    op: Join,
+    a: &Tree,
+    b: &Tree,
+    room: usize,
+) -> Result<Tree, AllocError>
+    requires a_reduced { IsReduced (tree_view a.now) }
+    requires b_reduced { IsReduced (tree_view b.now) }
+    ensures joined { IfOk result (λ t. IsJoined op (tree_view a.now) (tree_view b.now) (tree_view t)) }
+    ensures reduced { IfOk result (λ t. IsReduced (tree_view t)) }
+{
+    let room = deeper(room)?;
     match first_level::<Trees>(a, b) {
         None => Ok(Tree::Truth(op.truth(known(a), known(b)))),
         Some(level) => {
             let keys = level_keys::<Trees>(alloc, level, a, b)?;
-            let other = joined(
+            let other = joined_within(
                 alloc,
                 op,
                 rest_at::<Trees>(a, level),
                 rest_at::<Trees>(b, level),
+                room,
             )?;
             let carried = level.is_carried();
             let mut made: Vec<(Key<'_>, Tree)> = Vec::new(alloc);
             for key in &keys {
-                let next = joined(
+                let next = joined_within(
                     alloc,
                     op,
                     part_at::<Trees>(a, level, *key),
                     part_at::<Trees>(b, level, *key),
+                    room,
                 )?;
                 add(&mut made, &other, carried, *key, next)?;
             }

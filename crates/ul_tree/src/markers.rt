@@ -1,5 +1,7 @@
 //! Trees of markers and of specifiers.
-ghost use Rattle.std.specs.Prelude.{◌≡◌, ◌∷◌, [], ℕ, List, IfOk, All, map, true};
+ghost use Rattle.std.specs.Prelude.{◌≡◌, ◌<◌, ◌≤◌, ◌-◌, ◌∷◌, [], ℕ, List, IfOk, All, map, take, drop, length, true, if◌then◌else◌, false};
+ghost use Rattle.ul_tree.specs.Sample.{asks_extra};
+ghost use Rattle.ul_tree.specs.Apply.{same_bool};
 ghost use Rattle.ul_version.specs.Fields.{IsVersion, plain};
 ghost use Rattle.ul_specifier.specs.Meaning.{meets_clause, meets_list};
 ghost use Rattle.ul_marker.specs.Formulas.{AreFormulas, IsFormula};
@@ -12,9 +14,9 @@ ghost use Rattle.ul_tree.specs.Values.{tree_holds};
 ghost use Rattle.ul_tree.specs.Views.{tree_view};
 
 use crate::Tree;
-use crate::copy::copy;
 use crate::leaf::{extra_tree, opaque_tree, text_tree};
 use crate::operations::{plain_and, plain_not, plain_or};
+use crate::part::truth_value;
 use crate::python::clause_tree;
 use std::alloc::{AllocError, Global};
 use ul_marker::Marker;
@@ -47,12 +49,12 @@ pub fn of_marker(alloc: Global, m: &Marker) -> Result<Tree, AllocError>
         Marker::Opaque { atom, positive } => opaque_tree(alloc, atom, *positive),
         Marker::All(parts) => {
             let trees = of_markers(alloc, parts)?;
-            let tree = joined(alloc, true, &trees)?;
+            let tree = joined(alloc, true, trees)?;
             Ok(tree)
         }
         Marker::Any(parts) => {
             let trees = of_markers(alloc, parts)?;
-            let tree = joined(alloc, false, &trees)?;
+            let tree = joined(alloc, false, trees)?;
             Ok(tree)
         }
     }
@@ -79,12 +81,13 @@ fn of_markers(alloc: Global, parts: &[Marker]) -> Result<Vec<Tree>, AllocError>
 pub fn of_python(alloc: Global, s: &Specifiers) -> Result<Tree, AllocError>
     ensures reduced { IfOk result (λ t. IsReduced (tree_view t)) }
     ensures truth { IfOk result (λ t. (w : WorldFields) (x : List ℕ) → IsWorld w → tree_holds (tree_view t) w x ≡ meets_list s.now (plain (python_release true w))) }
+    ensures no_extra { IfOk result (λ t. asks_extra (tree_view t) ≡ false) }
 {
     let mut trees = Vec::new(alloc);
     for clause in &s.clauses {
         trees.push(clause_tree(alloc, clause, true)?)?;
     }
-    let tree = joined(alloc, true, &trees)?;
+    let tree = joined(alloc, true, trees)?;
     Ok(tree)
 }
 
@@ -103,7 +106,7 @@ fn list_tree(
     for version in versions {
         trees.push(version_tree(alloc, version, full)?)?;
     }
-    let tree = joined(alloc, false, &trees)?;
+    let tree = joined(alloc, false, trees)?;
     if within {
         return Ok(tree);
     }
@@ -126,37 +129,76 @@ fn version_tree(alloc: Global, version: &Version, full: bool) -> Result<Tree, Al
     Ok(tree)
 }
 
-// The tree that is true where all trees are, or where some tree is.
-pub fn joined(alloc: Global, all: bool, trees: &[Tree]) -> Result<Tree, AllocError>
-    requires { All (λ t. IsReduced (tree_view t)) trees.now }
+/// The tree that is true where all trees are, or where some tree is, joined by halves. The trees are moved.
+pub fn joined(alloc: Global, all: bool, trees: Vec<Tree>) -> Result<Tree, AllocError>
+    requires { All (λ t. IsReduced (tree_view t)) trees.items }
     ensures reduced { IfOk result (λ t. IsReduced (tree_view t)) }
-    ensures truth { IfOk result (λ t. (w : WorldFields) (x : List ℕ) → tree_holds (tree_view t) w x ≡ joint all (truths_of trees.now w x)) }
+    ensures truth { IfOk result (λ t. (w : WorldFields) (x : List ℕ) → tree_holds (tree_view t) w x ≡ joint all (truths_of trees.items w x)) }
 {
-    if trees.is_empty() {
+    let mut trees = trees;
+    let count = trees.len();
+    if count == 0 {
         return Ok(Tree::Truth(all));
     }
-    if trees.len() == 1 {
-        let tree = copy(alloc, &trees[0])?;
-        return Ok(tree);
-    }
-    let half = trees.len() / 2;
-    let front = joined(alloc, all, &trees[..half])?;
-    let back = joined(alloc, all, &trees[half..])?;
-    let tree = pair(alloc, all, &front, &back)?;
+    let tree = joined_last(alloc, all, &mut trees, count)?;
     Ok(tree)
 }
 
-// The tree that is true where both trees are, or where one of them is.
-fn pair(alloc: Global, all: bool, a: &Tree, b: &Tree) -> Result<Tree, AllocError>
-    requires a_reduced { IsReduced (tree_view a.now) }
-    requires b_reduced { IsReduced (tree_view b.now) }
+// The last so many trees of a row, taken away and joined.
+fn joined_last(
+    alloc: Global,
+    all: bool,
+    trees: &mut Vec<Tree>,
+    count: usize,
+) -> Result<Tree, AllocError>
+    requires some { 0 < count }
+    requires within { count ≤ length trees.old.items }
+    requires reduced { All (λ t. IsReduced (tree_view t)) trees.old.items }
+    ensures left { IfOk result (λ t. trees.new.items ≡ take (length trees.old.items - count) trees.old.items) }
     ensures reduced { IfOk result (λ t. IsReduced (tree_view t)) }
-    ensures truth { IfOk result (λ t. (w : WorldFields) (x : List ℕ) → tree_holds (tree_view t) w x ≡ joint all (tree_holds (tree_view a.now) w x ∷ tree_holds (tree_view b.now) w x ∷ [])) }
+    ensures truth { IfOk result (λ t. (w : WorldFields) (x : List ℕ) → tree_holds (tree_view t) w x ≡ joint all (truths_of (drop (length trees.old.items - count) trees.old.items) w x)) }
 {
+    if count == 1 {
+        return match trees.pop() {
+            Some(tree) => Ok(tree),
+            None => unreachable!(),
+        };
+    }
+    let half = count / 2;
+    let back = joined_last(alloc, all, trees, half)?;
+    let front = joined_last(alloc, all, trees, count - half)?;
+    let tree = pair(alloc, all, front, back)?;
+    Ok(tree)
+}
+
+// The tree that is true where both trees are, or where one of them is. A truth that settles the joined truth is the
+// answer, and one that doesn't count leaves it to the other tree.
+fn pair(alloc: Global, all: bool, front: Tree, back: Tree) -> Result<Tree, AllocError>
+    requires front_reduced { IsReduced (tree_view front) }
+    requires back_reduced { IsReduced (tree_view back) }
+    ensures reduced { IfOk result (λ t. IsReduced (tree_view t)) }
+    ensures truth { IfOk result (λ t. (w : WorldFields) (x : List ℕ) → tree_holds (tree_view t) w x ≡ joint all (tree_holds (tree_view front) w x ∷ tree_holds (tree_view back) w x ∷ [])) }
+{
+    if let Some(value) = truth_value(&front) {
+        return Ok(past_neutral(all, value, front, back));
+    }
+    if let Some(value) = truth_value(&back) {
+        return Ok(past_neutral(all, value, back, front));
+    }
     if all {
-        let tree = plain_and(alloc, a, b)?;
+        let tree = plain_and(alloc, &front, &back)?;
         return Ok(tree);
     }
-    let tree = plain_or(alloc, a, b)?;
+    let tree = plain_or(alloc, &front, &back)?;
     Ok(tree)
+}
+
+// The other tree where a truth is neutral, else the tree of the truth, which settles the joined one.
+fn past_neutral(neutral: bool, value: bool, settles: Tree, other: Tree) -> Tree
+    ensures { tree_view result ≡ (if same_bool value neutral then tree_view other else tree_view settles) }
+{
+    if value == neutral {
+        return other;
+    }
+    settles
 }

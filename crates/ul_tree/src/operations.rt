@@ -1,5 +1,6 @@
 //! The truth of trees joined: `and`, `or`, `not`, and a tree at an extra.
-ghost use Rattle.std.specs.Prelude.{◌≡◌, ℕ, List, IfOk, not};
+ghost use Rattle.std.specs.Prelude.{◌≡◌, ℕ, List, IfOk, not, false};
+ghost use Rattle.ul_tree.specs.Sample.{asks_extra};
 ghost use Rattle.ul_marker.specs.Worlds.{WorldFields};
 ghost use Rattle.ul_tree.specs.Reduced.{IsReduced};
 ghost use Rattle.ul_tree.specs.Apply.{both, either};
@@ -58,7 +59,7 @@ pub fn plain_not(alloc: Global, a: &Tree) -> Result<Tree, AllocError>
     Ok(tree)
 }
 
-/// The tree of one extra, which may be empty: its truth no longer depends on the extra.
+/// The tree of one extra, which may be empty: it asks for no extra.
 ///
 /// # Errors
 ///
@@ -67,6 +68,7 @@ pub fn plain_at_extra(alloc: Global, a: &Tree, extra: &str) -> Result<Tree, Allo
     requires { IsReduced (tree_view a.now) }
     ensures reduced { IfOk result (λ t. IsReduced (tree_view t)) }
     ensures truth { IfOk result (λ t. (w : WorldFields) (y : List ℕ) → tree_holds (tree_view t) w y ≡ tree_holds (tree_view a.now) w extra.now) }
+    ensures no_extra { IfOk result (λ t. asks_extra (tree_view t) ≡ false) }
 {
     let tree = copy(
         alloc,

@@ -2,7 +2,7 @@
 ghost use Rattle.std.specs.Prelude.{◌≡◌, ◌<◌, suc, length, option_map, true};
 ghost use Rattle.ul_tree.specs.Plain.{branch};
 ghost use Rattle.ul_tree.specs.Reduced.{IsReduced};
-ghost use Rattle.ul_tree.specs.Apply.{known as known_plain};
+ghost use Rattle.ul_tree.specs.Apply.{known as known_plain, truth_value as truth_value_plain};
 ghost use Rattle.ul_tree.specs.FirstParts.{is_false as is_false_plain};
 ghost use Rattle.ul_tree.specs.Sample.{asks_extra as asks_extra_plain};
 ghost use Rattle.ul_tree.specs.Views.{tree_view, points_view};
@@ -53,6 +53,19 @@ pub fn known(tree: &Tree) -> bool
         Tree::Python { .. } => false,
         Tree::Text { .. } => false,
         Tree::Opaque { .. } => false,
+    }
+}
+
+/// The truth that a tree is, if it is one.
+pub fn truth_value(tree: &Tree) -> Option<bool>
+    ensures { result ≡ truth_value_plain (tree_view tree.now) }
+{
+    match tree {
+        Tree::Truth(value) => Some(*value),
+        Tree::Extra { .. } => None,
+        Tree::Python { .. } => None,
+        Tree::Text { .. } => None,
+        Tree::Opaque { .. } => None,
     }
 }
 

@@ -1,13 +1,13 @@
 //! Trees made simpler where only a region counts.
-ghost use Rattle.std.specs.Prelude.{◌≡◌, IfOk, All, List, ℕ, Some, option_map, true, false};
+ghost use Rattle.std.specs.Prelude.{◌≡◌, ◌<◌, ◌≤◌, ◌-◌, IfOk, All, List, ℕ, Some, option_map, true, false};
 ghost use Rattle.ul_marker.specs.Worlds.{WorldFields};
 ghost use Rattle.ul_tree.specs.Plain.{truth};
 ghost use Rattle.ul_tree.specs.Reduced.{IsReduced};
 ghost use Rattle.ul_tree.specs.Values.{tree_holds};
 ghost use Rattle.ul_tree.specs.Views.{tree_view};
-ghost use Rattle.ul_tree.specs.Keys.{level_view, keys_view, top_of, rest_of, branches_of, has_kind};
+ghost use Rattle.ul_tree.specs.Keys.{level_view, keys_view, top_of, rest_of, branches_of, branch_count, has_kind};
 ghost use Rattle.ul_tree.specs.Simplify.{union_in, Simplifies, Pieces, Piece};
-ghost use Rattle.ul_tree.specs.SimplifyViews.{is_above as is_above_plain, region_view, results_view, KeysOf, Lowered};
+ghost use Rattle.ul_tree.specs.SimplifyViews.{HoldsParts, is_above as is_above_plain, region_view, results_view, KeysOf, Lowered};
 
 use crate::Tree;
 use crate::copy::copy;
@@ -16,6 +16,7 @@ use crate::level::{Key, Level};
 use crate::nodes::{level_keys, part_at, rest_at};
 use crate::part::{Trees, branch_at, branch_count, is_false, known, level_of, rest_of};
 use crate::settle::settled;
+use crate::tree::{DEEPEST, deeper};
 use std::alloc::{AllocError, Global};
 
 /// A tree made simpler where only the region `c` counts, which isn't false: reduced, and with `f`'s truth
@@ -41,7 +42,7 @@ pub fn plain_simplify(alloc: Global, f: &Tree, c: &Tree) -> Result<Tree, AllocEr
     ensures reduced { IfOk result (λ t. IsReduced (tree_view t)) }
     ensures agrees { IfOk result (λ t. (w : WorldFields) (x : List ℕ) → tree_holds (tree_view c.now) w x ≡ true → tree_holds (tree_view t) w x ≡ tree_holds (tree_view f.now) w x) }
 {
-    let simpler = simplified(alloc, f, c)?;
+    let simpler = simplified(alloc, f, c, DEEPEST)?;
     Ok(simpler)
 }
 
@@ -60,11 +61,34 @@ fn union(alloc: Global, tree: &Tree) -> Result<Tree, AllocError>
     requires { IsReduced (tree_view tree.now) }
     ensures { IfOk result (λ t. tree_view t ≡ union_in (branches_of (tree_view tree.now)) (rest_of (tree_view tree.now))) }
 {
-    let mut made = copy(alloc, rest_of(tree))?;
-    for index in 0..branch_count(tree) {
-        made = joined(alloc, Join::Either, &made, branch_at(tree, index).part)?;
+    let count = branch_count(tree);
+    if count == 0 {
+        let rest = copy(alloc, rest_of(tree))?;
+        return Ok(rest);
     }
-    Ok(made)
+    let parts = union_of(alloc, tree, 0, count)?;
+    let union = joined(alloc, Join::Either, rest_of(tree), &parts)?;
+    Ok(union)
+}
+
+// The union of the parts of the branches from one place up to another, by halves.
+fn union_of(alloc: Global, tree: &Tree, low: usize, high: usize) -> Result<Tree, AllocError>
+    requires reduced { IsReduced (tree_view tree.now) }
+    requires some { low < high }
+    requires within { high ≤ branch_count (branches_of (tree_view tree.now)) }
+    ensures reduced { IfOk result (λ t. IsReduced (tree_view t)) }
+    ensures truth { IfOk result (λ t. HoldsParts (branches_of (tree_view tree.now)) low (high - low) (tree_view t)) }
+{
+    let count = high - low;
+    if count == 1 {
+        let part = copy(alloc, branch_at(tree, low).part)?;
+        return Ok(part);
+    }
+    let middle = low + count / 2;
+    let front = union_of(alloc, tree, low, middle)?;
+    let back = union_of(alloc, tree, middle, high)?;
+    let union = joined(alloc, Join::Either, &front, &back)?;
+    Ok(union)
 }
 
 // A region without its levels above a tree's: each is taken away by the union of its parts. None where there is
@@ -99,9 +123,9 @@ fn region<'a>(made: &'a Option<Tree>, stands: &'a Tree) -> &'a Tree
     }
 }
 
-// A tree made simpler under a region.
+// A tree made simpler under a region; want of memory where a path has more levels than `room`.
 #[cycle(simplify)]
-fn simplified(alloc: Global, f: &Tree, c: &Tree) -> Result<Tree, AllocError>
+fn simplified(alloc: Global, f: &Tree, c: &Tree, room: usize) -> Result<Tree, AllocError>
     requires f_reduced { IsReduced (tree_view f.now) }
     requires c_reduced { IsReduced (tree_view c.now) }
     requires not_false { tree_view c.now ≡ truth false → ⊥ }
@@ -113,8 +137,9 @@ fn simplified(alloc: Global, f: &Tree, c: &Tree) -> Result<Tree, AllocError>
             Ok(tree)
         }
         Some(level) => {
+            let room = deeper(room)?;
             let made = lowered(alloc, c, level)?;
-            let tree = simplified_at(alloc, f, region(&made, c), level)?;
+            let tree = simplified_at(alloc, f, region(&made, c), level, room)?;
             Ok(tree)
         }
     }
@@ -127,6 +152,7 @@ fn simplified_at<'x>(
     f: &'x Tree,
     region: &'x Tree,
     level: Level<'_>,
+    room: usize,
 ) -> Result<Tree, AllocError>
     requires f_reduced { IsReduced (tree_view f.now) }
     requires top { Some (level_view level) ≡ top_of (tree_view f.now) }
@@ -140,11 +166,12 @@ fn simplified_at<'x>(
         return Ok(tree);
     }
     let keys = level_keys::<Trees>(alloc, level, f, region)?;
-    let results = results(alloc, f, region, level, &keys)?;
+    let results = results(alloc, f, region, level, &keys, room)?;
     let rest = piece(
         alloc,
         rest_at::<Trees>(f, level),
         rest_at::<Trees>(region, level),
+        room,
     )?;
     let tree = settled(alloc, level, results, rest, rest_at::<Trees>(f, level))?;
     Ok(tree)
@@ -158,6 +185,7 @@ fn results<'x>(
     region: &Tree,
     level: Level<'_>,
     keys: &[Key<'x>],
+    room: usize,
 ) -> Result<Vec<(Key<'x>, Option<Tree>)>, AllocError>
     requires f_reduced { IsReduced (tree_view f.now) }
     requires top { Some (level_view level) ≡ top_of (tree_view f.now) }
@@ -173,6 +201,7 @@ fn results<'x>(
             alloc,
             part_at::<Trees>(f, level, *key),
             part_at::<Trees>(region, level, *key),
+            room,
         )?;
         made.push((*key, result))?;
     }
@@ -181,7 +210,7 @@ fn results<'x>(
 
 // A piece made simpler; none where the region is false.
 #[cycle(simplify)]
-fn piece(alloc: Global, f: &Tree, c: &Tree) -> Result<Option<Tree>, AllocError>
+fn piece(alloc: Global, f: &Tree, c: &Tree, room: usize) -> Result<Option<Tree>, AllocError>
     requires f_reduced { IsReduced (tree_view f.now) }
     requires c_reduced { IsReduced (tree_view c.now) }
     ensures { IfOk result (λ o. Piece (tree_view f.now) (tree_view c.now) (option_map tree_view o)) }
@@ -189,6 +218,6 @@ fn piece(alloc: Global, f: &Tree, c: &Tree) -> Result<Option<Tree>, AllocError>
     if is_false(c) {
         return Ok(None);
     }
-    let tree = simplified(alloc, f, c)?;
+    let tree = simplified(alloc, f, c, room)?;
     Ok(Some(tree))
 }
