@@ -81,6 +81,14 @@ abbrev pub merged : List (List ℕ) → List (List ℕ) → List (List ℕ)
 merged [] ys = ys
 merged (x ∷ xs) ys = merged_with x (merged xs) ys
 
+-- the keys of a tree at a level
+abbrev pub keys_at : List ℕ → Plain → List (List ℕ)
+keys_at l t = keys (branches_at l t)
+
+-- the keys of two trees at a level, each once
+abbrev pub both_keys : List ℕ → Plain → Plain → List (List ℕ)
+both_keys l a b = merged (keys_at l a) (keys_at l b)
+
 -- a node made of the parts at keys, reduced
 abbrev pub built : List ℕ → (List ℕ → Plain) → Plain → List (List ℕ) → Plain
 built l g d ks = close l d (outs g (carries l) ks d)

@@ -4,8 +4,11 @@ use Rattle.std.specs.Ordering.{is_lt}
 use Rattle.ul_tree.specs.Plain.{Plain, truth, node, Branches, done, branch, text_cmp, holds_of}
 use Rattle.ul_tree.specs.Apply.{either}
 use Rattle.ul_tree.specs.Reduced.{IsReduced, Fits}
-use Rattle.ul_tree.specs.Keys.{key_view, has_kind, branches_from}
-use Rattle.ul_tree.specs.Simplify.{Results, Simplifies}
+use Rattle.ul_tree.specs.Keys.{key_view, keys_view, level_view, has_kind, branches_from, branches_of, rest_of, KeysOf}
+use Rattle.ul_tree.specs.Simplify.{Results, Simplifies, Pieces, reduced_branches, settled, union_in}
+use Rattle.ul_tree.specs.Views.{tree_view}
+use Rattle.ul_tree.specs.declared.level.Level.{Level}
+use Rattle.ul_tree.specs.declared.tree.Tree.{Tree}
 use Rattle.ul_tree.specs.declared.level.Key.{Key}
 
 -- pieces in a row, each with its key and its result
@@ -46,10 +49,6 @@ abbrev pub PartsFit : List (List ℕ × Plain) → List ℕ → Type 0
 PartsFit [] l = Unit {0}
 PartsFit (p ∷ ps) l = Fits p.1 l × PartsFit ps l
 
--- the keys of a level
-abbrev pub KeysOf : {A : Type 0} → List ℕ → List (Key × A) → Type 0
-KeysOf l xs = All (λ x. has_kind l x.0 ≡ true) xs
-
 -- whether a tree's top level is above l
 abbrev pub is_above : List ℕ → Plain → Bool
 is_above l (truth b) = false
@@ -80,3 +79,33 @@ pub record Lowers (l : List ℕ) (c r : Plain) : Type 0 where
 pub record Lowered (l : List ℕ) (c r : Plain) : Type 0 where
   pub lowers : Lowers l c r
   pub not_above : is_above l r ≡ false
+
+-- ---- as the code has them
+
+-- pieces and their results, of trees
+abbrev pub result_trees : List (Key × Option Tree) → Results
+result_trees = results_view tree_view
+
+-- parts of keys, of trees
+abbrev pub part_trees : List (Key × Tree) → List (List ℕ × Plain)
+part_trees = parts_view tree_view
+
+-- the branches of parts, those left out that say what stands already
+abbrev pub reduced_parts : Bool → List (Key × Tree) → Tree → Branches
+reduced_parts carried parts other = reduced_branches carried (part_trees parts) (tree_view other)
+
+-- a level put together from the results of its pieces
+abbrev pub settled_tree : Level → List (Key × Option Tree) → Option Tree → Tree → Plain
+settled_tree level results rest otherwise = settled (level_view level) (result_trees results) (option_map tree_view rest) (tree_view otherwise)
+
+-- the union of all parts of a tree
+abbrev pub union_parts : Plain → Plain
+union_parts t = union_in (branches_of t) (rest_of t)
+
+-- what stays of a region when its levels above another are taken away, if any is
+abbrev pub IsLowered : Level → Tree → Option Tree → Type 0
+IsLowered level region made = Lowered (level_view level) (tree_view region) (region_view tree_view made (tree_view region))
+
+-- the results of pieces at keys of a level
+abbrev pub PiecesAre : Level → Tree → Tree → List Key → List (Key × Option Tree) → Type 0
+PiecesAre level tree region keys results = Pieces (level_view level) (tree_view tree) (tree_view region) (keys_view keys) (result_trees results)

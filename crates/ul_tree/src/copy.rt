@@ -1,6 +1,6 @@
 //! Equal trees made, and trees compared.
 ghost use Rattle.std.specs.Prelude.{◌≡◌, ◌↔◌, IfOk, IsTrue, map};
-ghost use Rattle.ul_tree.specs.Reduced.{IsReduced};
+ghost use Rattle.ul_tree.specs.TreeFacts.{IsTree};
 ghost use Rattle.ul_tree.specs.Apply.{same as same_plain};
 ghost use Rattle.ul_tree.specs.Views.{tree_view, points_view};
 ghost use Rattle.ul_tree.specs.Keys.{same_tops};
@@ -24,8 +24,8 @@ impl Tree {
 
     /// Whether two trees are equal.
     pub fn same(&self, other: &Tree) -> bool
-        requires own_reduced { IsReduced (tree_view self.now) }
-        requires other_reduced { IsReduced (tree_view other.now) }
+        requires own_reduced { IsTree self.now }
+        requires other_reduced { IsTree other.now }
         ensures { IsTrue result ↔ (tree_view self.now ≡ tree_view other.now) }
     {
         same(self, other)
@@ -113,8 +113,8 @@ fn copy_parts(alloc: Global, parts: &[Tree], room: usize) -> Result<Vec<Tree>, A
 
 /// Whether two trees are equal.
 pub fn same(a: &Tree, b: &Tree) -> bool
-    requires a_reduced { IsReduced (tree_view a.now) }
-    requires b_reduced { IsReduced (tree_view b.now) }
+    requires a_reduced { IsTree a.now }
+    requires b_reduced { IsTree b.now }
     ensures { result ≡ same_plain (tree_view a.now) (tree_view b.now) }
 {
     if !same_top(a, b) {

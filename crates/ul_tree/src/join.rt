@@ -1,12 +1,13 @@
 //! A tree made of two, part by part.
 ghost use Rattle.std.specs.Prelude.{◌≡◌, ℕ, List, IfOk, All, true, false, option_map};
+ghost use Rattle.ul_tree.specs.TreeFacts.{IsTree};
 ghost use Rattle.ul_tree.specs.Plain.{node, truth};
 ghost use Rattle.ul_tree.specs.Levels.{python_level, atom_level};
 ghost use Rattle.ul_tree.specs.Reduced.{IsReduced};
-ghost use Rattle.ul_tree.specs.Apply.{first_of, branches_at, merged, keys, close, same as same_plain};
+ghost use Rattle.ul_tree.specs.Apply.{close};
 ghost use Rattle.ul_tree.specs.Views.{tree_view, points_view};
-ghost use Rattle.ul_tree.specs.Keys.{level_view, key_view, keys_view, has_kind, is_literal_key, is_number_key};
-ghost use Rattle.ul_tree.specs.Joins.{truth_of, IsJoined, made_view, stands, added, at_once_view, past_truth};
+ghost use Rattle.ul_tree.specs.Keys.{level_view, is_literal_key, is_number_key, KeysOf};
+ghost use Rattle.ul_tree.specs.Joins.{truth_of, IsJoined, stands, at_once_view, past_truth, trees_made, IsAdded, KeepsKeys};
 ghost use Rattle.ul_tree.specs.JoinSteps.{JoinsTo};
 ghost use Rattle.ul_tree.specs.SimplifyViews.{IfSome};
 
@@ -48,10 +49,10 @@ pub fn add<'a>(
     key: Key<'a>,
     next: Tree,
 ) -> Result<(), AllocError>
-    requires next_reduced { IsReduced (tree_view next) }
-    requires stands_reduced { IsReduced (stands carried (made_view tree_view made.old.items) (tree_view other.now)) }
-    ensures made { IfOk result (λ u. made_view tree_view made.new.items ≡ added (same_plain (tree_view next) (stands carried (made_view tree_view made.old.items) (tree_view other.now))) (made_view tree_view made.old.items) (key_view key.entry) (tree_view next)) }
-    ensures kinds { IfOk result (λ u. (l : List ℕ) → All (λ e. has_kind l e.0 ≡ true) made.old.items → has_kind l key.entry ≡ true → All (λ e. has_kind l e.0 ≡ true) made.new.items) }
+    requires next_reduced { IsTree next }
+    requires stands_reduced { IsReduced (stands carried (trees_made made.old.items) (tree_view other.now)) }
+    ensures made { IfOk result (λ u. IsAdded carried other.now key.entry next made.old.items made.new.items) }
+    ensures kinds { IfOk result (λ u. KeepsKeys key.entry made.old.items made.new.items) }
 {
     if same(&next, standing(made, other, carried)) {
         return Ok(());
@@ -63,7 +64,7 @@ pub fn add<'a>(
 // Points of branches.
 fn points_of(alloc: Global, made: Vec<(Key<'_>, Tree)>) -> Result<Vec<(String, Tree)>, AllocError>
     requires { All (λ e. is_literal_key e.0 ≡ true) made.items }
-    ensures { IfOk result (λ ps. points_view ps.items ≡ made_view tree_view made.entry.items) }
+    ensures { IfOk result (λ ps. points_view ps.items ≡ trees_made made.entry.items) }
 {
     let mut points = Vec::new(alloc);
     for (key, part) in made {
@@ -79,7 +80,7 @@ fn points_of(alloc: Global, made: Vec<(Key<'_>, Tree)>) -> Result<Vec<(String, T
 // The node of the interpreter that has these branches.
 fn pieces_of(alloc: Global, other: Tree, made: Vec<(Key<'_>, Tree)>) -> Result<Tree, AllocError>
     requires { All (λ e. is_number_key e.0 ≡ true) made.items }
-    ensures { IfOk result (λ t. tree_view t ≡ node python_level (tree_view other) (made_view tree_view made.entry.items)) }
+    ensures { IfOk result (λ t. tree_view t ≡ node python_level (tree_view other) (trees_made made.entry.items)) }
 {
     let mut starts = Vec::new(alloc);
     let mut parts = Vec::new(alloc);
@@ -105,8 +106,8 @@ fn marked(
     other: Tree,
     made: Vec<(Key<'_>, Tree)>,
 ) -> Result<Tree, AllocError>
-    requires { IsReduced (node (atom_level atom.now) (tree_view other) (made_view tree_view made.items)) }
-    ensures { IfOk result (λ t. tree_view t ≡ node (atom_level atom.now) (tree_view other) (made_view tree_view made.entry.items)) }
+    requires { IsReduced (node (atom_level atom.now) (tree_view other) (trees_made made.items)) }
+    ensures { IfOk result (λ t. tree_view t ≡ node (atom_level atom.now) (tree_view other) (trees_made made.entry.items)) }
 {
     let mut made = made;
     match made.pop() {
@@ -127,9 +128,9 @@ pub fn closed(
     other: Tree,
     made: Vec<(Key<'_>, Tree)>,
 ) -> Result<Tree, AllocError>
-    requires kinds { All (λ e. has_kind (level_view level) e.0 ≡ true) made.items }
-    requires reduced { IsReduced (close (level_view level) (tree_view other) (made_view tree_view made.items)) }
-    ensures { IfOk result (λ t. tree_view t ≡ close (level_view level.entry) (tree_view other) (made_view tree_view made.entry.items)) }
+    requires kinds { KeysOf (level_view level) made.items }
+    requires reduced { IsReduced (close (level_view level) (tree_view other) (trees_made made.items)) }
+    ensures { IfOk result (λ t. tree_view t ≡ close (level_view level.entry) (tree_view other) (trees_made made.entry.items)) }
 {
     if made.is_empty() {
         return Ok(other);
@@ -173,7 +174,7 @@ fn past_truth<'a>(neutral: bool, value: bool, other: &'a Tree) -> AtOnce<'a>
 
 // The join of a truth and a tree after it.
 fn after_truth<'a>(op: Join, value: bool, b: &'a Tree) -> AtOnce<'a>
-    requires { IsReduced (tree_view b.now) }
+    requires { IsTree b.now }
     ensures { JoinsTo (truth_of op) (truth value) (tree_view b.now) (at_once_view result) }
 {
     match op {
@@ -185,7 +186,7 @@ fn after_truth<'a>(op: Join, value: bool, b: &'a Tree) -> AtOnce<'a>
 
 // The join of a tree and a truth after it, where it is known at once.
 fn before_truth<'a>(op: Join, a: &'a Tree, value: bool) -> Option<AtOnce<'a>>
-    requires { IsReduced (tree_view a.now) }
+    requires { IsTree a.now }
     ensures { IfSome (λ k. JoinsTo (truth_of op) (tree_view a.now) (truth value) (at_once_view k)) result }
 {
     match op {
@@ -198,8 +199,8 @@ fn before_truth<'a>(op: Join, a: &'a Tree, value: bool) -> Option<AtOnce<'a>>
 /// The join of two trees, one of which is a truth, where it is known at once: a truth that settles the joined
 /// truth is the answer, and one that doesn't count leaves it to the other side.
 pub fn at_once<'a>(op: Join, a: &'a Tree, b: &'a Tree) -> Option<AtOnce<'a>>
-    requires a_reduced { IsReduced (tree_view a.now) }
-    requires b_reduced { IsReduced (tree_view b.now) }
+    requires a_reduced { IsTree a.now }
+    requires b_reduced { IsTree b.now }
     ensures { IfSome (λ k. JoinsTo (truth_of op) (tree_view a.now) (tree_view b.now) (at_once_view k)) result }
 {
     match truth_value(a) {
@@ -223,10 +224,10 @@ fn made(alloc: Global, known: AtOnce<'_>, room: usize) -> Result<Tree, AllocErro
 
 /// The tree that has the joined truth of two.
 pub fn joined(alloc: Global, op: Join, a: &Tree, b: &Tree) -> Result<Tree, AllocError>
-    requires a_reduced { IsReduced (tree_view a.now) }
-    requires b_reduced { IsReduced (tree_view b.now) }
+    requires a_reduced { IsTree a.now }
+    requires b_reduced { IsTree b.now }
     ensures joined { IfOk result (λ t. IsJoined op (tree_view a.now) (tree_view b.now) (tree_view t)) }
-    ensures reduced { IfOk result (λ t. IsReduced (tree_view t)) }
+    ensures reduced { IfOk result IsTree }
 {
     joined_within(alloc, op, a, b, DEEPEST)
 }
@@ -240,10 +241,10 @@ pub fn joined_within(
     b: &Tree,
     room: usize,
 ) -> Result<Tree, AllocError>
-    requires a_reduced { IsReduced (tree_view a.now) }
-    requires b_reduced { IsReduced (tree_view b.now) }
+    requires a_reduced { IsTree a.now }
+    requires b_reduced { IsTree b.now }
     ensures joined { IfOk result (λ t. IsJoined op (tree_view a.now) (tree_view b.now) (tree_view t)) }
-    ensures reduced { IfOk result (λ t. IsReduced (tree_view t)) }
+    ensures reduced { IfOk result IsTree }
 {
     if let Some(known) = at_once(op, a, b) {
         let tree = made(alloc, known, room)?;
@@ -261,10 +262,10 @@ fn joined_parts(
     b: &Tree,
     room: usize,
 ) -> Result<Tree, AllocError>
-    requires a_reduced { IsReduced (tree_view a.now) }
-    requires b_reduced { IsReduced (tree_view b.now) }
+    requires a_reduced { IsTree a.now }
+    requires b_reduced { IsTree b.now }
     ensures joined { IfOk result (λ t. IsJoined op (tree_view a.now) (tree_view b.now) (tree_view t)) }
-    ensures reduced { IfOk result (λ t. IsReduced (tree_view t)) }
+    ensures reduced { IfOk result IsTree }
 {
     let room = deeper(room)?;
     match first_level::<Trees>(a, b) {

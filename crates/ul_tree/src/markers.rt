@@ -1,16 +1,14 @@
 //! Trees of markers and of specifiers.
 ghost use Rattle.std.specs.Prelude.{◌≡◌, ◌<◌, ◌≤◌, ◌-◌, ◌∷◌, [], ℕ, List, IfOk, All, map, take, drop, length, true, if◌then◌else◌, false};
+ghost use Rattle.ul_tree.specs.TreeFacts.{IsTree, HoldsAs, HoldsAtWorlds, HoldsByPython, HoldAsMarkers};
 ghost use Rattle.ul_tree.specs.Sample.{asks_extra};
 ghost use Rattle.ul_tree.specs.Apply.{same_bool};
 ghost use Rattle.ul_version.specs.Fields.{IsVersion, plain};
 ghost use Rattle.ul_specifier.specs.Meaning.{meets_clause, meets_list};
 ghost use Rattle.ul_marker.specs.Formulas.{AreFormulas, IsFormula};
-ghost use Rattle.ul_marker.specs.Truth.{as_asked, equal_to, is_listed, marker_holds, python_release};
+ghost use Rattle.ul_marker.specs.Truth.{as_asked, equal_to, is_listed, marker_holds};
 ghost use Rattle.ul_marker.specs.Views.{marker_view, markers_view};
-ghost use Rattle.ul_marker.specs.Worlds.{WorldFields, IsWorld};
-ghost use Rattle.ul_tree.specs.Joining.{joint, truths_of};
-ghost use Rattle.ul_tree.specs.Reduced.{IsReduced};
-ghost use Rattle.ul_tree.specs.Values.{tree_holds};
+ghost use Rattle.ul_tree.specs.Joining.{joint, truths_of, first_trees, last_trees};
 ghost use Rattle.ul_tree.specs.Views.{tree_view};
 
 use crate::Tree;
@@ -28,12 +26,12 @@ use ul_version::Version;
 /// Each comparison gives a tree by itself, and parts are joined in halves. The marker is one that a text can
 /// spell. The only error is want of memory.
 #[cycle(of_marker)]
-pub fn of_marker(alloc: Global, m: &Marker) -> Result<Tree, AllocError>
-    requires { IsFormula (marker_view m.now) }
-    ensures reduced { IfOk result (λ t. IsReduced (tree_view t)) }
-    ensures truth { IfOk result (λ t. (w : WorldFields) (x : List ℕ) → IsWorld w → tree_holds (tree_view t) w x ≡ marker_holds (marker_view m.now) w x) }
+pub fn of_marker(alloc: Global, marker: &Marker) -> Result<Tree, AllocError>
+    requires { IsFormula (marker_view marker.now) }
+    ensures reduced { IfOk result IsTree }
+    ensures truth { IfOk result (λ t. HoldsAtWorlds t (marker_holds (marker_view marker.now))) }
 {
-    match m {
+    match marker {
         Marker::Extra { literal, equal } => extra_tree(alloc, literal.as_str(), *equal),
         Marker::Python { full, clause } => clause_tree(alloc, clause, *full),
         Marker::PythonList {
@@ -64,8 +62,8 @@ pub fn of_marker(alloc: Global, m: &Marker) -> Result<Tree, AllocError>
 #[cycle(of_marker)]
 fn of_markers(alloc: Global, parts: &[Marker]) -> Result<Vec<Tree>, AllocError>
     requires { AreFormulas (markers_view parts.now) }
-    ensures reduced { IfOk result (λ ts. All (λ t. IsReduced (tree_view t)) ts.items) }
-    ensures truth { IfOk result (λ ts. (w : WorldFields) (x : List ℕ) → IsWorld w → truths_of ts.items w x ≡ map (λ m. marker_holds (marker_view m) w x) parts.now) }
+    ensures reduced { IfOk result (λ ts. All IsTree ts.items) }
+    ensures truth { IfOk result (λ ts. HoldAsMarkers ts.items parts.now) }
 {
     let mut trees = Vec::new(alloc);
     for part in parts {
@@ -78,13 +76,13 @@ fn of_markers(alloc: Global, parts: &[Marker]) -> Result<Vec<Tree>, AllocError>
 ///
 /// An interpreter's version is `python_full_version`, which has all three of its numbers. The only error is want
 /// of memory.
-pub fn of_python(alloc: Global, s: &Specifiers) -> Result<Tree, AllocError>
-    ensures reduced { IfOk result (λ t. IsReduced (tree_view t)) }
-    ensures truth { IfOk result (λ t. (w : WorldFields) (x : List ℕ) → IsWorld w → tree_holds (tree_view t) w x ≡ meets_list s.now (plain (python_release true w))) }
+pub fn of_python(alloc: Global, specifiers: &Specifiers) -> Result<Tree, AllocError>
+    ensures reduced { IfOk result IsTree }
+    ensures truth { IfOk result (λ t. HoldsByPython t true (λ release. meets_list specifiers.now (plain release))) }
     ensures no_extra { IfOk result (λ t. asks_extra (tree_view t) ≡ false) }
 {
     let mut trees = Vec::new(alloc);
-    for clause in &s.clauses {
+    for clause in &specifiers.clauses {
         trees.push(clause_tree(alloc, clause, true)?)?;
     }
     let tree = joined(alloc, true, trees)?;
@@ -99,8 +97,8 @@ fn list_tree(
     within: bool,
 ) -> Result<Tree, AllocError>
     requires { All IsVersion versions.now }
-    ensures reduced { IfOk result (λ t. IsReduced (tree_view t)) }
-    ensures truth { IfOk result (λ t. (w : WorldFields) (x : List ℕ) → IsWorld w → tree_holds (tree_view t) w x ≡ as_asked within (is_listed versions.now (python_release full w))) }
+    ensures reduced { IfOk result IsTree }
+    ensures truth { IfOk result (λ t. HoldsByPython t full (λ release. as_asked within (is_listed versions.now release))) }
 {
     let mut trees = Vec::new(alloc);
     for version in versions {
@@ -117,8 +115,8 @@ fn list_tree(
 // The tree of the interpreters whose version equals another.
 fn version_tree(alloc: Global, version: &Version, full: bool) -> Result<Tree, AllocError>
     requires { IsVersion version.now }
-    ensures reduced { IfOk result (λ t. IsReduced (tree_view t)) }
-    ensures truth { IfOk result (λ t. (w : WorldFields) (x : List ℕ) → IsWorld w → tree_holds (tree_view t) w x ≡ meets_clause (equal_to version.now) (plain (python_release full w))) }
+    ensures reduced { IfOk result IsTree }
+    ensures truth { IfOk result (λ t. HoldsByPython t full (λ release. meets_clause (equal_to version.now) (plain release))) }
 {
     let clause = Clause {
         op: Op::Equal,
@@ -131,9 +129,9 @@ fn version_tree(alloc: Global, version: &Version, full: bool) -> Result<Tree, Al
 
 /// The tree that is true where all trees are, or where some tree is, joined by halves. The trees are moved.
 pub fn joined(alloc: Global, all: bool, trees: Vec<Tree>) -> Result<Tree, AllocError>
-    requires { All (λ t. IsReduced (tree_view t)) trees.items }
-    ensures reduced { IfOk result (λ t. IsReduced (tree_view t)) }
-    ensures truth { IfOk result (λ t. (w : WorldFields) (x : List ℕ) → tree_holds (tree_view t) w x ≡ joint all (truths_of trees.items w x)) }
+    requires { All IsTree trees.items }
+    ensures reduced { IfOk result IsTree }
+    ensures truth { IfOk result (λ t. HoldsAs t (λ w x. joint all (truths_of trees.items w x))) }
 {
     let mut trees = trees;
     let count = trees.len();
@@ -153,10 +151,10 @@ fn joined_last(
 ) -> Result<Tree, AllocError>
     requires some { 0 < count }
     requires within { count ≤ length trees.old.items }
-    requires reduced { All (λ t. IsReduced (tree_view t)) trees.old.items }
-    ensures left { IfOk result (λ t. trees.new.items ≡ take (length trees.old.items - count) trees.old.items) }
-    ensures reduced { IfOk result (λ t. IsReduced (tree_view t)) }
-    ensures truth { IfOk result (λ t. (w : WorldFields) (x : List ℕ) → tree_holds (tree_view t) w x ≡ joint all (truths_of (drop (length trees.old.items - count) trees.old.items) w x)) }
+    requires reduced { All IsTree trees.old.items }
+    ensures left { IfOk result (λ t. trees.new.items ≡ first_trees count trees.old.items) }
+    ensures reduced { IfOk result IsTree }
+    ensures truth { IfOk result (λ t. HoldsAs t (λ w x. joint all (truths_of (last_trees count trees.old.items) w x))) }
 {
     if count == 1 {
         return match trees.pop() {
@@ -174,10 +172,10 @@ fn joined_last(
 // The tree that is true where both trees are, or where one of them is. A truth that settles the joined truth is the
 // answer, and one that doesn't count leaves it to the other tree.
 fn pair(alloc: Global, all: bool, front: Tree, back: Tree) -> Result<Tree, AllocError>
-    requires front_reduced { IsReduced (tree_view front) }
-    requires back_reduced { IsReduced (tree_view back) }
-    ensures reduced { IfOk result (λ t. IsReduced (tree_view t)) }
-    ensures truth { IfOk result (λ t. (w : WorldFields) (x : List ℕ) → tree_holds (tree_view t) w x ≡ joint all (tree_holds (tree_view front) w x ∷ tree_holds (tree_view back) w x ∷ [])) }
+    requires front_reduced { IsTree front }
+    requires back_reduced { IsTree back }
+    ensures reduced { IfOk result IsTree }
+    ensures truth { IfOk result (λ t. HoldsAs t (λ w x. joint all (truths_of (front ∷ back ∷ []) w x))) }
 {
     if let Some(value) = truth_value(&front) {
         return Ok(past_neutral(all, value, front, back));

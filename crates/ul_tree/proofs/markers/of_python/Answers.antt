@@ -35,7 +35,7 @@ returns-clause-truth c w x h =
     c.in_ok-tree.ensures.truth w x
     ∙ ap (joint true) (truths_all f c.loop-clause.trees.items c.deref-clause-items.result.now c.loop-clause.clause-index w x c.loop-clause-test.false (c.loop-clause.invariant.truth w x h))
     ∙ meets_joint c.deref-clause-items.result.now (plain release)
-    ∙ ap (λ z. meets_list z (plain release)) (c.deref-clause-items.ensures.value ∙ c.s.view_is)
+    ∙ ap (λ z. meets_list z (plain release)) (c.deref-clause-items.ensures.value ∙ c.specifiers.view_is)
 
 pub returns-clause-no_extra : goal.returns-clause-no_extra
 returns-clause-no_extra c =

@@ -13,31 +13,31 @@ abbrev pub Rise : List ℕ → Option (List ℕ) → List (List ℕ) → Type 0
 Rise l b [] = Unit {0}
 Rise l b (k ∷ ks) = IsAfter b k × IsKey l k × Rise l (Some k) ks
 
-abbrev pub stair : (List ℕ → Plain) → Bool → List (List ℕ) → List ℕ → Plain → Plain
-stair g m [] v d = d
-stair g m (k ∷ ks) v d = by_order (text_cmp v k) d (g k) (stair g m ks v (carried m (g k) d))
+abbrev pub part_among : (List ℕ → Plain) → Bool → List (List ℕ) → List ℕ → Plain → Plain
+part_among g m [] v d = d
+part_among g m (k ∷ ks) v d = by_order (text_cmp v k) d (g k) (part_among g m ks v (carried m (g k) d))
 
 carried_same : {A : Type 0} (m : Bool) (d : A) → carried m d d ≡ d
 carried_same true d = refl
 carried_same false d = refl
 
-pub stair_before : (g : List ℕ → Plain) (m : Bool) (l : List ℕ) (ks : List (List ℕ)) (v k : List ℕ) (d : Plain) → Rise l (Some k) ks → (text_cmp v k ≡ Less) ⊎ (v ≡ k) → stair g m ks v d ≡ d
-stair_before g m l [] v k d h x = refl
-stair_before g m l (j ∷ ks) v k d h (inl e) = ap (λ o. by_order o d (g j) (stair g m ks v (carried m (g j) d))) (cmp_trans v k j e h.0)
-stair_before g m l (j ∷ ks) v k d h (inr e) = ap (λ o. by_order o d (g j) (stair g m ks v (carried m (g j) d))) (ap (λ z. text_cmp z j) e ∙ h.0)
+pub among_before : (g : List ℕ → Plain) (m : Bool) (l : List ℕ) (ks : List (List ℕ)) (v k : List ℕ) (d : Plain) → Rise l (Some k) ks → (text_cmp v k ≡ Less) ⊎ (v ≡ k) → part_among g m ks v d ≡ d
+among_before g m l [] v k d h x = refl
+among_before g m l (j ∷ ks) v k d h (inl e) = ap (λ o. by_order o d (g j) (part_among g m ks v (carried m (g j) d))) (cmp_trans v k j e h.0)
+among_before g m l (j ∷ ks) v k d h (inr e) = ap (λ o. by_order o d (g j) (part_among g m ks v (carried m (g j) d))) (ap (λ z. text_cmp z j) e ∙ h.0)
 
-pub stair_alike : (g h : List ℕ → Plain) (m : Bool) (l : List ℕ) (ks : List (List ℕ)) (b : Option (List ℕ)) (v : List ℕ) (d : Plain) → Rise l b ks → ((k : List ℕ) → IsAfter b k → g k ≡ h k) → stair g m ks v d ≡ stair h m ks v d
-stair_alike g h m l [] b v d r e = refl
-stair_alike g h m l (k ∷ ks) b v d r e =
-    ap (λ z. by_order (text_cmp v k) d z (stair g m ks v (carried m z d))) (e k r.0)
-    ∙ ap (by_order (text_cmp v k) d (h k)) (stair_alike g h m l ks (Some k) v (carried m (h k) d) r.2 (λ j a. e j (after b k j r.0 a)))
+pub among_alike : (g h : List ℕ → Plain) (m : Bool) (l : List ℕ) (ks : List (List ℕ)) (b : Option (List ℕ)) (v : List ℕ) (d : Plain) → Rise l b ks → ((k : List ℕ) → IsAfter b k → g k ≡ h k) → part_among g m ks v d ≡ part_among h m ks v d
+among_alike g h m l [] b v d r e = refl
+among_alike g h m l (k ∷ ks) b v d r e =
+    ap (λ z. by_order (text_cmp v k) d z (part_among g m ks v (carried m z d))) (e k r.0)
+    ∙ ap (by_order (text_cmp v k) d (h k)) (among_alike g h m l ks (Some k) v (carried m (h k) d) r.2 (λ j a. e j (after b k j r.0 a)))
 
-pub stair_const : (g : List ℕ → Plain) (m : Bool) (ks : List (List ℕ)) (v : List ℕ) (d : Plain) → ((k : List ℕ) → g k ≡ d) → stair g m ks v d ≡ d
-stair_const g m [] v d e = refl
-stair_const g m (k ∷ ks) v d e =
-    ap (λ z. by_order (text_cmp v k) d z (stair g m ks v (carried m z d))) (e k)
-    ∙ ap (λ z. by_order (text_cmp v k) d d (stair g m ks v z)) (carried_same m d)
-    ∙ ap (by_order (text_cmp v k) d d) (stair_const g m ks v d e)
+pub among_const : (g : List ℕ → Plain) (m : Bool) (ks : List (List ℕ)) (v : List ℕ) (d : Plain) → ((k : List ℕ) → g k ≡ d) → part_among g m ks v d ≡ d
+among_const g m [] v d e = refl
+among_const g m (k ∷ ks) v d e =
+    ap (λ z. by_order (text_cmp v k) d z (part_among g m ks v (carried m z d))) (e k)
+    ∙ ap (λ z. by_order (text_cmp v k) d d (part_among g m ks v z)) (carried_same m d)
+    ∙ ap (by_order (text_cmp v k) d d) (among_const g m ks v d e)
     ∙ flat (text_cmp v k)
   where
     flat : (o : Ordering) → by_order o d d d ≡ d
@@ -45,13 +45,13 @@ stair_const g m (k ∷ ks) v d e =
     flat Equal = refl
     flat Greater = refl
 
--- two stairs at once
-pub stair_both : (f : Plain → Plain → Plain) (g h : List ℕ → Plain) (m : Bool) (ks : List (List ℕ)) (v : List ℕ) (d e : Plain)
-    → stair (λ k. f (g k) (h k)) m ks v (f d e) ≡ f (stair g m ks v d) (stair h m ks v e)
-stair_both f g h m [] v d e = refl
-stair_both f g h m (k ∷ ks) v d e =
-    ap (λ z. by_order (text_cmp v k) (f d e) (f (g k) (h k)) (stair (λ j. f (g j) (h j)) m ks v z)) (step m)
-    ∙ ap (by_order (text_cmp v k) (f d e) (f (g k) (h k))) (stair_both f g h m ks v (carried m (g k) d) (carried m (h k) e))
+-- two such parts at once
+pub among_both : (f : Plain → Plain → Plain) (g h : List ℕ → Plain) (m : Bool) (ks : List (List ℕ)) (v : List ℕ) (d e : Plain)
+    → part_among (λ k. f (g k) (h k)) m ks v (f d e) ≡ f (part_among g m ks v d) (part_among h m ks v e)
+among_both f g h m [] v d e = refl
+among_both f g h m (k ∷ ks) v d e =
+    ap (λ z. by_order (text_cmp v k) (f d e) (f (g k) (h k)) (part_among (λ j. f (g j) (h j)) m ks v z)) (step m)
+    ∙ ap (by_order (text_cmp v k) (f d e) (f (g k) (h k))) (among_both f g h m ks v (carried m (g k) d) (carried m (h k) e))
     ∙ go (text_cmp v k) _ _
   where
     step : (m : Bool) → carried m (f (g k) (h k)) (f d e) ≡ f (carried m (g k) d) (carried m (h k) e)
@@ -63,20 +63,20 @@ stair_both f g h m (k ∷ ks) v d e =
     go Equal x y = refl
     go Greater x y = refl
 
-pub outs_pick : (g : List ℕ → Plain) (m : Bool) (l : List ℕ) (ks : List (List ℕ)) (b : Option (List ℕ)) (v : List ℕ) (d : Plain) → Rise l b ks → pick (outs g m ks d) m v d ≡ stair g m ks v d
+pub outs_pick : (g : List ℕ → Plain) (m : Bool) (l : List ℕ) (ks : List (List ℕ)) (b : Option (List ℕ)) (v : List ℕ) (d : Plain) → Rise l b ks → pick (outs g m ks d) m v d ≡ part_among g m ks v d
 outs_pick g m l [] b v d r = refl
 outs_pick g m l (k ∷ ks) b v d r = go (same (g k) d) refl (outs_pick g m l ks (Some k) v d r.2) (outs_pick g m l ks (Some k) v (carried m (g k) d) r.2)
   where
-    split : (o : Ordering) → text_cmp v k ≡ o → stair g m ks v d ≡ by_order o d d (stair g m ks v d)
-    split Less e = stair_before g m l ks v k d r.2 (inl e)
-    split Equal e = stair_before g m l ks v k d r.2 (inr (cmp_equal v k e))
+    split : (o : Ordering) → text_cmp v k ≡ o → part_among g m ks v d ≡ by_order o d d (part_among g m ks v d)
+    split Less e = among_before g m l ks v k d r.2 (inl e)
+    split Equal e = among_before g m l ks v k d r.2 (inr (cmp_equal v k e))
     split Greater e = refl
 
-    go : (t : Bool) → same (g k) d ≡ t → pick (outs g m ks d) m v d ≡ stair g m ks v d → pick (outs g m ks (carried m (g k) d)) m v (carried m (g k) d) ≡ stair g m ks v (carried m (g k) d)
-        → pick (cond t (outs g m ks d) (branch k (g k) (outs g m ks (carried m (g k) d)))) m v d ≡ by_order (text_cmp v k) d (g k) (stair g m ks v (carried m (g k) d))
+    go : (t : Bool) → same (g k) d ≡ t → pick (outs g m ks d) m v d ≡ part_among g m ks v d → pick (outs g m ks (carried m (g k) d)) m v (carried m (g k) d) ≡ part_among g m ks v (carried m (g k) d)
+        → pick (cond t (outs g m ks d) (branch k (g k) (outs g m ks (carried m (g k) d)))) m v d ≡ by_order (text_cmp v k) d (g k) (part_among g m ks v (carried m (g k) d))
     go true e x y =
         let p = same_true (g k) d e in
-        x ∙ split (text_cmp v k) refl ∙ ap (λ z. by_order (text_cmp v k) d d (stair g m ks v z)) (sym (carried_same m d)) ∙ sym (ap (λ z. by_order (text_cmp v k) d z (stair g m ks v (carried m z d))) p)
+        x ∙ split (text_cmp v k) refl ∙ ap (λ z. by_order (text_cmp v k) d d (part_among g m ks v z)) (sym (carried_same m d)) ∙ sym (ap (λ z. by_order (text_cmp v k) d z (part_among g m ks v (carried m z d))) p)
     go false e x y = ap (by_order (text_cmp v k) d (g k)) y
 
 pub starts_weaker : (bs : Branches) (b : Option (List ℕ)) (k : List ℕ) → IsAfter b k → StartsAfter (Some k) bs → StartsAfter b bs
@@ -106,20 +106,20 @@ Within done ks = Unit {0}
 Within (branch k c rest) [] = ⊥
 Within (branch k c rest) (j ∷ js) = ((k ≡ j) × Within rest js) ⊎ ((text_cmp j k ≡ Less) × Within (branch k c rest) js)
 
-pub pick_stair : (m : Bool) (l : List ℕ) (ks : List (List ℕ)) (bs : Branches) (b : Option (List ℕ)) (v : List ℕ) (d : Plain) → Rise l b ks → Within bs ks → pick bs m v d ≡ stair (λ k. pick bs m k d) m ks v d
-pick_stair m l ks done b v d r w = sym (stair_const (λ k. d) m ks v d (λ k. refl))
-pick_stair m l [] (branch k c rest) b v d r w = absurd w
-pick_stair m l (j ∷ js) (branch k c rest) b v d r (inl w) =
-    ap (by_order (text_cmp v k) d c) (pick_stair m l js rest (Some j) v (carried m c d) r.2 w.1
-    ∙ stair_alike (λ i. pick rest m i (carried m c d)) (λ i. pick (branch k c rest) m i d) m l js (Some j) v (carried m c d) r.2
+pub pick_among : (m : Bool) (l : List ℕ) (ks : List (List ℕ)) (bs : Branches) (b : Option (List ℕ)) (v : List ℕ) (d : Plain) → Rise l b ks → Within bs ks → pick bs m v d ≡ part_among (λ k. pick bs m k d) m ks v d
+pick_among m l ks done b v d r w = sym (among_const (λ k. d) m ks v d (λ k. refl))
+pick_among m l [] (branch k c rest) b v d r w = absurd w
+pick_among m l (j ∷ js) (branch k c rest) b v d r (inl w) =
+    ap (by_order (text_cmp v k) d c) (pick_among m l js rest (Some j) v (carried m c d) r.2 w.1
+    ∙ among_alike (λ i. pick rest m i (carried m c d)) (λ i. pick (branch k c rest) m i d) m l js (Some j) v (carried m c d) r.2
     (λ i a. sym (past_key i k c d rest m (subst (λ (z : List ℕ). text_cmp z i ≡ Less) (sym w.0) a))))
-    ∙ ap (λ z. by_order (text_cmp v k) d z (stair (λ i. pick (branch k c rest) m i d) m js v (carried m z d))) (sym (at_key k c d rest m) ∙ ap (λ i. pick (branch k c rest) m i d) w.0)
-    ∙ ap (λ i. by_order (text_cmp v i) d (pick (branch k c rest) m j d) (stair (λ i. pick (branch k c rest) m i d) m js v (carried m (pick (branch k c rest) m j d) d))) w.0
-pick_stair m l (j ∷ js) (branch k c rest) b v d r (inr w) =
+    ∙ ap (λ z. by_order (text_cmp v k) d z (part_among (λ i. pick (branch k c rest) m i d) m js v (carried m z d))) (sym (at_key k c d rest m) ∙ ap (λ i. pick (branch k c rest) m i d) w.0)
+    ∙ ap (λ i. by_order (text_cmp v i) d (pick (branch k c rest) m j d) (part_among (λ i. pick (branch k c rest) m i d) m js v (carried m (pick (branch k c rest) m j d) d))) w.0
+pick_among m l (j ∷ js) (branch k c rest) b v d r (inr w) =
     split (text_cmp v j) refl
-    ∙ ap (by_order (text_cmp v j) d d) (pick_stair m l js (branch k c rest) (Some j) v d r.2 w.1)
-    ∙ ap (λ z. by_order (text_cmp v j) d d (stair (λ i. pick (branch k c rest) m i d) m js v z)) (sym (carried_same m d))
-    ∙ ap (λ z. by_order (text_cmp v j) d z (stair (λ i. pick (branch k c rest) m i d) m js v (carried m z d))) (sym (before_key j k c d rest m w.0))
+    ∙ ap (by_order (text_cmp v j) d d) (pick_among m l js (branch k c rest) (Some j) v d r.2 w.1)
+    ∙ ap (λ z. by_order (text_cmp v j) d d (part_among (λ i. pick (branch k c rest) m i d) m js v z)) (sym (carried_same m d))
+    ∙ ap (λ z. by_order (text_cmp v j) d z (part_among (λ i. pick (branch k c rest) m i d) m js v (carried m z d))) (sym (before_key j k c d rest m w.0))
   where
     split : (o : Ordering) → text_cmp v j ≡ o → pick (branch k c rest) m v d ≡ by_order o d d (pick (branch k c rest) m v d)
     split Less e = before_key v k c d rest m (cmp_trans v j k e w.0)

@@ -22,7 +22,7 @@ is_false_false : (c : Plain) → is_false c ≡ false → c ≢ truth false
 is_false_false c h e = let p : true ≡ false = sym (ap is_false e) ∙ h in cc
 
 -- a part of a tree into which its first path goes, by a value of the tree's level
-pub record Onward (t : Plain) (l v : List ℕ) (c : Plain) : Type 0 where
+pub record GoesOn (t : Plain) (l v : List ℕ) (c : Plain) : Type 0 where
   pub fits : Fits c l
   pub not_false : c ≢ truth false
   pub smaller : size c < size t
@@ -71,8 +71,8 @@ chosen l (branch k c rest) d h = go (is_false c) refl (chosen l rest (carried (c
 points_path : (l : List ℕ) (d : Plain) (bs : Branches) → carries l ≡ false → first_path (node l d bs) ≡ or_else (first_in l bs) (stepped l (beside l bs) (first_path d))
 points_path l d bs m = ap (λ t. cond t (or_else (stepped l (0 ∷ []) (first_path d)) (first_in l bs)) (or_else (first_in l bs) (stepped l (beside l bs) (first_path d)))) m
 
-pub point_onward : (l b : List ℕ) (d : Plain) (bs : Branches) → carries l ≡ false → Fits (node l d bs) b → (k : List ℕ) (c : Plain) → Some (k, c) ≡ first_branch bs → Onward (node l d bs) l k c
-point_onward l b d bs m h k c e =
+pub point_goes_on : (l b : List ℕ) (d : Plain) (bs : Branches) → carries l ≡ false → Fits (node l d bs) b → (k : List ℕ) (c : Plain) → Some (k, c) ≡ first_branch bs → GoesOn (node l d bs) l k c
+point_goes_on l b d bs m h k c e =
     let p : Chosen l bs (Some (k, c)) = subst (λ (o : Option (List ℕ × Plain)). Chosen l bs o) (sym e) (chosen l bs d h.3) in
     record {
       fits = p.0;
@@ -81,8 +81,8 @@ point_onward l b d bs m h k c e =
       sample = λ w. ap (with_path w) (points_path l d bs m) ∙ p.3 w (stepped l (beside l bs) (first_path d));
     }
 
-pub other_onward : (l b : List ℕ) (d : Plain) (bs : Branches) → carries l ≡ false → Fits (node l d bs) b → None ≡ first_branch bs → Onward (node l d bs) l (beside l bs) d
-other_onward l b d bs m h e =
+pub other_goes_on : (l b : List ℕ) (d : Plain) (bs : Branches) → carries l ≡ false → Fits (node l d bs) b → None ≡ first_branch bs → GoesOn (node l d bs) l (beside l bs) d
+other_goes_on l b d bs m h e =
     let p : Chosen l bs None = subst (λ (o : Option (List ℕ × Plain)). Chosen l bs o) (sym e) (chosen l bs d h.3) in
     let n : d ≢ truth false = p.1 d h.1 h.3 in
     record {
@@ -96,7 +96,7 @@ other_onward l b d bs m h e =
 -- the level of the interpreter
 abbrev Piece : List ℕ → Plain → Branches → Option (List ℕ × Plain) → Type 0
 Piece b d bs None = ⊥
-Piece b d bs (Some p) = Onward (node python_level d bs) python_level p.0 p.1
+Piece b d bs (Some p) = GoesOn (node python_level d bs) python_level p.0 p.1
 
 later_piece : (b : List ℕ) (d : Plain) (bs : Branches) (o : Option (List ℕ × Plain)) → Fits (node python_level d bs) b → d ≡ truth false → Chosen python_level bs o → Piece b d bs o
 later_piece b d bs None h e p = p.1 d h.1 h.3 e
@@ -144,15 +144,15 @@ shaped (zero ∷ ss) (p ∷ ps) b h = record { level = ap suc (pieces_level ss p
 pub pieces_even : (starts : List ℕ) (parts : List Tree) (b : List ℕ) → Fits (python_of starts (map tree_view parts)) b → length starts ≡ length parts
 pieces_even starts parts b h = (shaped starts (map tree_view parts) b h).level ∙ length-map parts tree_view
 
-pub piece_onward : (starts : List ℕ) (parts : List Plain) (b : List ℕ) → Fits (python_of starts parts) b → (k : List ℕ) (c : Plain) → Some (k, c) ≡ first_branch (pieces_of starts parts)
-    → Onward (python_of starts parts) python_level k c
-piece_onward starts parts b h k c e =
+pub piece_goes_on : (starts : List ℕ) (parts : List Plain) (b : List ℕ) → Fits (python_of starts parts) b → (k : List ℕ) (c : Plain) → Some (k, c) ≡ first_branch (pieces_of starts parts)
+    → GoesOn (python_of starts parts) python_level k c
+piece_goes_on starts parts b h k c e =
     let s = (shaped starts parts b h).node_is in
     let d : Plain = s.0 in
     let bs : Branches = s.1 in
     let f : Fits (node python_level d bs) b = subst (λ (z : Plain). Fits z b) s.2 h in
     let p : Piece b d bs (Some (k, c)) = subst (λ (o : Option (List ℕ × Plain)). Piece b d bs o) (sym (e ∙ ap first_branch s.3)) (piece b d bs f) in
-    subst (λ (z : Plain). Onward z python_level k c) (sym s.2) p
+    subst (λ (z : Plain). GoesOn z python_level k c) (sym s.2) p
 
 pub piece_found : (starts : List ℕ) (parts : List Plain) (b : List ℕ) → Fits (python_of starts parts) b → None ≡ first_branch (pieces_of starts parts) → ⊥
 piece_found starts parts b h e =
@@ -163,12 +163,12 @@ piece_found starts parts b h e =
     subst (λ (o : Option (List ℕ × Plain)). Piece b d bs o) (sym (e ∙ ap first_branch s.3)) (piece b d bs f)
 
 -- an opaque comparison
-pub holds_onward : (l b : List ℕ) (c d : Plain) → carries l ≡ false → Fits (node l d (branch (1 ∷ []) c done)) b → is_false c ≡ false → Onward (node l d (branch (1 ∷ []) c done)) l (1 ∷ []) c
-holds_onward l b c d m h e =
-    point_onward l b d (branch (1 ∷ []) c done) m h (1 ∷ []) c (sym (ap (λ t. cond t None (Some (1 ∷ [], c))) e))
+pub holds_goes_on : (l b : List ℕ) (c d : Plain) → carries l ≡ false → Fits (node l d (branch (1 ∷ []) c done)) b → is_false c ≡ false → GoesOn (node l d (branch (1 ∷ []) c done)) l (1 ∷ []) c
+holds_goes_on l b c d m h e =
+    point_goes_on l b d (branch (1 ∷ []) c done) m h (1 ∷ []) c (sym (ap (λ t. cond t None (Some (1 ∷ [], c))) e))
 
-pub fails_onward : (l b : List ℕ) (c d : Plain) → carries l ≡ false → Fits (node l d (branch (1 ∷ []) c done)) b → is_false c ≡ true → Onward (node l d (branch (1 ∷ []) c done)) l (beside l (branch (1 ∷ []) c done)) d
-fails_onward l b c d m h e = other_onward l b d (branch (1 ∷ []) c done) m h (sym (ap (λ t. cond t None (Some (1 ∷ [], c))) e))
+pub fails_goes_on : (l b : List ℕ) (c d : Plain) → carries l ≡ false → Fits (node l d (branch (1 ∷ []) c done)) b → is_false c ≡ true → GoesOn (node l d (branch (1 ∷ []) c done)) l (beside l (branch (1 ∷ []) c done)) d
+fails_goes_on l b c d m h e = other_goes_on l b d (branch (1 ∷ []) c done) m h (sym (ap (λ t. cond t None (Some (1 ∷ [], c))) e))
 
 pub atom_fails : (a : AtomFields) (bs : Branches) (w : WorldFields) → with_level (atom_level a) (beside (atom_level a) bs) w ≡ w
 atom_fails a bs w = let u : WorldFields = record w { truths = w.truths ++ [] } in let e : u ≡ w = ap (λ t. record w { truths = t }) (append-nil w.truths) in e
