@@ -1,0 +1,4 @@
+mod Places
+mod Runs
+mod Names
+mod Faults

@@ -1,0 +1,13 @@
+//! Requirements, releases and packages, and what a run wishes for.
+#![tactic(auto)]
+
+mod fault;
+mod package;
+mod reading;
+mod requirement;
+mod wish;
+
+pub use fault::ReqFault;
+pub use package::{FileEntry, Package, Release};
+pub use requirement::Requirement;
+pub use wish::{Mode, Strategy, Wish};
