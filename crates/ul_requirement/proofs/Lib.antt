@@ -2,3 +2,4 @@ mod Places
 mod Runs
 mod Names
 mod Faults
+mod Examples

@@ -1,5 +1,5 @@
 -- Bytes of ASCII are a text.
-use Rattle.std.proofs.Common.{◌≡◌, ℕ, zero, suc, ◌<◌, List, [], ◌∷◌, length, get_or, take, refl, sym, ap, ◌∙◌, arith, Bool, true, false, Option, Some, None, inl, inr}
+use Rattle.std.proofs.Common.{◌≡◌, ℕ, zero, suc, ◌<◌, List, [], ◌∷◌, length, get_or, take, refl, arith, Bool, true, Option, Some, None, inl, inr}
 use Rattle.std.specs.Prelude.{◌&&◌, ◌==◌, ◌+◌, IfSome, drop}
 use Rattle.std.specs.Borrow.{Bor}
 use Rattle.std.proofs.lemmas.Bool.{and_parts, and_from, cases_Bool}

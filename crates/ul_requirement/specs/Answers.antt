@@ -1,5 +1,5 @@
 -- What a reader's answer says.
-use Rattle.std.specs.Prelude.{◌≡◌, ◌++◌, ℕ, List, Option, Some, None, Result, Ok, Err, Vec, option_map}
+use Rattle.std.specs.Prelude.{◌≡◌, ℕ, List, Option, Some, None, Result, Ok, Err, Vec, option_map}
 use Rattle.std.specs.Borrow.{Bor}
 use Rattle.ul_base.specs.declared.name.NameFault.{NameFault}
 use Rattle.ul_base.specs.declared.name.NameFault.TheVariants as name

@@ -2,7 +2,7 @@
 --     requirement = name ["[" [name *("," name)] "]"] [specifiers | "(" specifiers ")"] [";" marker]
 -- Space and tab may stand between all parts, and white space of any kind at the ends of the text. Empty
 -- parentheses are beyond PEP 508. Where `@` follows the name or the extras, the requirement is one by a URL.
-use Rattle.std.specs.Prelude.{◌≡◌, ℕ, ◌+◌, ◌==◌, ◌&&◌, ◌||◌, nat_le, Bool, true, false, not, List, [], ◌∷◌, fold, take, drop, codes, Option, Some, None, if◌then◌else◌}
+use Rattle.std.specs.Prelude.{ℕ, ◌+◌, ◌==◌, ◌&&◌, ◌||◌, nat_le, Bool, false, not, List, [], ◌∷◌, fold, take, drop, codes, Option, Some, None, if◌then◌else◌}
 use Rattle.std.specs.BTreeSet.{insert_key}
 use Rattle.std.specs.List.{list_all, position, position_or_len, slice_split}
 use Rattle.ul_base.specs.Names.{is_name_byte, name_cmp, name_of}

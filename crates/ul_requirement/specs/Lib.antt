@@ -3,3 +3,4 @@ pub mod Truth
 pub mod Grammar
 pub mod Answers
 pub mod Codes
+pub mod Vectors

@@ -2,9 +2,11 @@
 #![tactic(auto)]
 
 mod fault;
+pub mod laws;
 mod package;
 mod reading;
 mod requirement;
+mod truth;
 mod wish;
 
 pub use fault::ReqFault;
