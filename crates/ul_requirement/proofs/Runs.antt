@@ -12,7 +12,7 @@ use Rattle.ul_base.specs.Names.{is_name, is_name_byte, has_ends, name_of}
 use Rattle.ul_version.specs.Reading.{◌>>=◌}
 use Rattle.ul_specifier.specs.Reading.{after_all, before_all, stripped, unless_last}
 use Rattle.ul_requirement.specs.Answers.{text_view}
-use Rattle.ul_requirement.specs.Grammar.{is_inner_byte, parted, parts_of}
+use Rattle.ul_requirement.specs.Grammar.{is_inner_byte, parts_at, parts_of}
 
 run_at : (p : ℕ → Bool) → ((b : ℕ) → p b ≡ true → b < 128) → (xs : List ℕ) (k d : ℕ) → list_all p xs ≡ true → k < length xs → get_or xs k d < 128
 run_at p small [] k d h lt = absurd (omega arith)
@@ -85,7 +85,7 @@ abbrev cut_parts : List ℕ → Option ℕ → List ℕ × Option (List ℕ)
 cut_parts text None = (text, None)
 cut_parts text (Some n) = (take n text, Some (drop (n + 1) text))
 
-cut_parts-is : (text : List ℕ) (o : Option ℕ) → cut_parts text o ≡ parted text (o >>= λ n. Some (take n text, drop (n + 1) text))
+cut_parts-is : (text : List ℕ) (o : Option ℕ) → cut_parts text o ≡ parts_at text (o >>= λ n. Some (take n text, drop (n + 1) text))
 cut_parts-is text None = refl
 cut_parts-is text (Some n) = refl
 

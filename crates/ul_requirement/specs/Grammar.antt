@@ -94,13 +94,13 @@ marker_in None = Some None
 marker_in (Some text) = marker_of text >>= λ m. Some (Some m)
 
 -- a text that was cut, or the whole text where it was not
-abbrev pub parted : List ℕ → Option (List ℕ × List ℕ) → List ℕ × Option (List ℕ)
-parted text None = (text, None)
-parted text (Some p) = (p.0, Some p.1)
+abbrev pub parts_at : List ℕ → Option (List ℕ × List ℕ) → List ℕ × Option (List ℕ)
+parts_at text None = (text, None)
+parts_at text (Some p) = (p.0, Some p.1)
 
 -- the text before the first semicolon, and the text after it where there is one
 abbrev pub parts_of : List ℕ → List ℕ × Option (List ℕ)
-parts_of text = parted text (cut_at 59 text)
+parts_of text = parts_at text (cut_at 59 text)
 
 -- the specifiers and the marker of two parts
 abbrev pub parts_read : List ℕ × Option (List ℕ) → Option (List ClauseFields × Option Formula)
