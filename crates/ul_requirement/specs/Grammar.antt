@@ -138,5 +138,5 @@ read_requirement by_url = None
 read_requirement unread = None
 
 -- the requirement that a text spells
-unfoldable pub requirement_of : List ℕ → Option RequirementFields
+abbrev pub requirement_of : List ℕ → Option RequirementFields
 requirement_of text = read_requirement (reading_of text)

@@ -1,0 +1,12 @@
+mod JsonReading
+mod EachRead
+mod FileOrder
+mod FilesRead
+mod Packages
+mod Values
+mod Faults
+mod UsableReleases
+mod Ordered
+mod Orders
+mod Rising
+mod Serving

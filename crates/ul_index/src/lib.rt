@@ -1,0 +1,18 @@
+//! The packages that a run knows, and what its releases ask for in a region.
+#![tactic(auto)]
+
+mod catalog;
+mod documents;
+mod entries;
+mod fault;
+mod file_set;
+mod files;
+pub mod laws;
+mod place;
+mod seen;
+mod shapes;
+
+pub use catalog::Catalog;
+pub use documents::document;
+pub use fault::IndexFault;
+pub use place::{EntryKey, Place};
