@@ -13,7 +13,14 @@ pub use Rattle.ul_version.proofs.Spelling.{cond_some, inside}
 pub use Rattle.ul_version.proofs.Orders.{get_or-padded, length-padded, numbers_cmp-next, numbers_cmp-ended, nat_cmp-decided}
 -- the order of versions is total, and its ties differ in zeros
 pub use Rattle.ul_version.proofs.OrderLaws.{version_total, version_ties}
--- what a text is read as is a version
+-- the numbers with which a padded release begins
+pub use Rattle.ul_version.proofs.Fronts.{front-all, front-differs}
+-- what a text is read as is a version, and a version's normal text reads as it
 pub use Rattle.ul_version.proofs.LawProofs.{versions}
+pub use Rattle.ul_version.proofs.RoundTrip.{version-read}
+-- a normal text is plain, and tells versions apart
+pub use Rattle.ul_version.proofs.LawProofs.{plain, tells}
+-- the laws of the order
+pub use Rattle.ul_version.proofs.LawProofs.{order, ties}
 -- above each version there is a greater one, and the release 0 is a version
 pub use Rattle.ul_version.proofs.VersionAbove.{above_is_version, version_below, zero_is_version}

@@ -1,11 +1,11 @@
-use Rattle.std.proofs.Common.{rules, arith, ◌≡◌, ◌<◌, ◌≤◌, ◌+◌, ◌-◌, vec_len, ◌∙◌, ◌++◌, ◌∷◌, ℕ, [], length, ap, sym, refl, subst, true, false, None, Some}
+use Rattle.std.proofs.Common.{arith, ◌≡◌, ◌<◌, ◌≤◌, ◌+◌, ◌-◌, vec_len, ◌∙◌, ◌++◌, ◌∷◌, ℕ, [], length, ap, sym, refl, subst}
 use Rattle.ul_interner.proofs.ForCallers.{knows_then, knows_itself}
 use Rattle.ul_generations.specs.Rows.{open_regions, leaves_of, expand}
-use Rattle.ul_generations.specs.Generations.{too_many, leaves_are, refused_at, GivesFrom, AreOutcomes}
+use Rattle.ul_generations.specs.Generations.{too_many, leaves_are, GivesFrom}
 use Rattle.ul_generations.specs.Steps.{IsStep}
 use Rattle.ul_generations.specs.Known.{RowsKnown, StepKnown}
 use Rattle.ul_generations.proofs.Stepping.{some_left}
-use Rattle.ul_generations.proofs.Coming.{Came, came_first, came_next, told_more, gives_many, gives_refused, gives_leaves, grows, leaves_known}
+use Rattle.ul_generations.proofs.Coming.{came_first, came_next, told_more, gives_many, gives_refused, gives_leaves, grows, leaves_known}
 use Rattle.std.specs.List.{AllByRecursion}
 use Rattle.ul_generations.proofs.turns.fork_all.Goals as goal
 

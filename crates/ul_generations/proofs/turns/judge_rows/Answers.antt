@@ -1,4 +1,4 @@
-use Rattle.std.proofs.Common.{rules, arith, ◌≡◌, ◌∙◌, length, ap, sym, subst, Some}
+use Rattle.std.proofs.Common.{arith, ◌≡◌, length, sym, subst, Some}
 use Rattle.std.specs.List.{slice_get}
 use Rattle.ul_generations.specs.Rows.{open_regions}
 use Rattle.ul_generations.proofs.Stepping.{open_few, count_of}
