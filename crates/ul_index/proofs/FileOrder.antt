@@ -13,6 +13,7 @@ use Rattle.ul_requirement.specs.Fields.{FileFields, FilesRise}
 use Rattle.ul_index.specs.Documents.{by_name, differ_after, files_in_order, has_file, ordered_files}
 use Rattle.ul_index.specs.FileSets.{files_in, has_name}
 use Rattle.ul_index.specs.declared.file_set.ByName.{ByName}
+use Rattle.ul_index.proofs.Inserted.{insert_mapped}
 
 ties : (a b : List ℕ) → is_eq (slice_cmp nat_cmp a b) ≡ bytes_eq b a
 ties a b = sym (texts_ties a b) ∙ nat_list_eq_equiv.symm a b
@@ -40,16 +41,9 @@ unfolding IsStrictlySortedBy
 files_rise [] h = tt
 files_rise (k ∷ ks) h = (all_map k ks h.0, files_rise ks h.1)
 
-match_map : (o : Ordering) (a b c : List ByName) → map (λ k. k.file) (match_ordering o a b c) ≡ match_ordering o (map (λ k. k.file) a) (map (λ k. k.file) b) (map (λ k. k.file) c)
-match_map Less a b c = refl
-match_map Equal a b c = refl
-match_map Greater a b c = refl
-
 -- a key is put where its file is
 pub insert_map : (ks : List ByName) (k : ByName) → map (λ x. x.file) (insert_key (on (λ x. x.file) by_name) ks k) ≡ insert_key by_name (map (λ x. x.file) ks) k.file
-insert_map [] k = refl
-insert_map (x ∷ xs) k = match_map (by_name k.file x.file) (k ∷ x ∷ xs) (x ∷ xs) (x ∷ insert_key (on (λ y. y.file) by_name) xs k)
-    ∙ ap (λ l. match_ordering (by_name k.file x.file) (k.file ∷ x.file ∷ map (λ y. y.file) xs) (x.file ∷ map (λ y. y.file) xs) (x.file ∷ l)) (insert_map xs k)
+insert_map ks k = insert_mapped (λ x. x.file) by_name ks k
 
 -- ---- files that are added one after another
 

@@ -10,3 +10,8 @@ mod Ordered
 mod Orders
 mod Rising
 mod Serving
+mod Inserted
+mod OrderedPlaces
+mod Finding
+mod ReleaseExamples
+mod DocumentExamples

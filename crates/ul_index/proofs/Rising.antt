@@ -7,7 +7,7 @@ use Rattle.std.specs.declared.cmp.Ordering.{Ordering}
 use Rattle.std.specs.declared.cmp.Ordering.TheVariants.{Less, Equal, Greater}
 use Rattle.ul_version.specs.Fields.{Fields}
 use Rattle.ul_version.specs.Order.{version_cmp}
-use Rattle.ul_version.proofs.OrderLaws.{version_total}
+use Rattle.ul_version.proofs.ForCallers.{version_total}
 use Rattle.ul_requirement.specs.Fields.{ReleaseFields, IsOtherVersion, VersionsDiffer}
 use Rattle.ul_index.specs.Catalogs.{releases_of}
 use Rattle.ul_index.specs.Eligible.{placed, in_order, passes, takes_pre, directs_on, passing, eligible}
@@ -18,7 +18,7 @@ use Rattle.ul_index.proofs.Orders.{filter_in}
 use Rattle.ul_index.proofs.Ordered.{order_from}
 
 -- none of the versions ties with this one
-abbrev Differs : Fields → List Fields → Type 0
+abbrev pub Differs : Fields → List Fields → Type 0
 Differs v xs = (x : Fields) → Contains xs x → version_cmp v x ≡ Equal → ⊥
 
 abbrev AllDiffer : List Fields → Type 0
@@ -52,7 +52,7 @@ order_rises (v ∷ vs) h = placed_rises v (in_order vs) None tt (order_rises vs 
 version_in : ReleaseFields → Fields
 version_in r = r.version
 
-differs_all : (test : ReleaseFields → Bool) (r : ReleaseFields) (rs : List ReleaseFields) → All (IsOtherVersion r) rs → Differs r.version (map (λ (s : ReleaseFields). s.version) (filter test rs))
+pub differs_all : (test : ReleaseFields → Bool) (r : ReleaseFields) (rs : List ReleaseFields) → All (IsOtherVersion r) rs → Differs r.version (map (λ (s : ReleaseFields). s.version) (filter test rs))
 differs_all test r rs h x m e = let s = contains_from_map (λ (s : ReleaseFields). s.version) (filter test rs) x m in
     All-contains (IsOtherVersion r) rs s.0 h (filter_in test rs s.0 s.1) (ap (version_cmp r.version) (sym s.2) ∙ e)
 

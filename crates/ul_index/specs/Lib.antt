@@ -13,3 +13,5 @@ pub mod Documents
 pub mod Answers
 pub mod FileSets
 pub mod Seen
+pub mod VersionOrders
+pub mod Vectors

@@ -3,6 +3,7 @@
 
 mod catalog;
 mod documents;
+mod eligibility;
 mod entries;
 mod fault;
 mod file_set;
@@ -11,8 +12,10 @@ pub mod laws;
 mod place;
 mod seen;
 mod shapes;
+mod version_order;
 
 pub use catalog::Catalog;
 pub use documents::document;
+pub use eligibility::eligible;
 pub use fault::IndexFault;
 pub use place::{EntryKey, Place};

@@ -6,7 +6,7 @@ ghost use Rattle.std.specs.Ordering.{as_partial_cmp, eq_by_cmp, is_eq, on};
 ghost use Rattle.std.proofs.Common.{refl};
 ghost use Rattle.ul_version.specs.Fields.{Fields};
 ghost use Rattle.ul_version.specs.Order.{version_cmp};
-ghost use Rattle.ul_version.proofs.OrderLaws.{version_total};
+ghost use Rattle.ul_version.proofs.ForCallers.{version_total};
 ghost use Rattle.ul_index.specs.Seen.{was_seen};
 
 use std::alloc::{AllocError, Global};

@@ -10,7 +10,7 @@ use Rattle.std.specs.Str.{IsUtf8}
 use Rattle.std.specs.List.{list_all, position}
 use Rattle.ul_base.specs.Names.{is_name, is_name_byte, has_ends, name_of}
 use Rattle.ul_version.specs.Reading.{◌>>=◌}
-use Rattle.ul_specifier.specs.Reading.{after_all, before_all, stripped, unless_last}
+use Rattle.ul_version.specs.Ascii.{after_all, before_all, semicolon, text_between, unless_last}
 use Rattle.ul_requirement.specs.Answers.{text_view}
 use Rattle.ul_requirement.specs.Grammar.{is_inner_byte, parts_at, parts_of}
 
@@ -54,7 +54,6 @@ all-drop p (suc n) [] h = refl
 all-drop p (suc n) (x ∷ xs) h = all-drop p n xs (and_parts (p x) (list_all p xs) h).1
 
 all-after : (p test : ℕ → Bool) (xs : List ℕ) → list_all p xs ≡ true → list_all p (after_all test xs) ≡ true
-unfolding after_all
 all-after p test [] h = refl
 all-after p test (x ∷ xs) h = elim (cases_Bool (test x)) [
   | inl skipped ↦ rw skipped (all-after p test xs (and_parts (p x) (list_all p xs) h).1)
@@ -69,13 +68,12 @@ all-unless p test x [] here h = elim (cases_Bool (test x)) [
 all-unless p test x (y ∷ xs) here h = and_from (p x) (list_all p (y ∷ xs)) here h
 
 all-before : (p test : ℕ → Bool) (xs : List ℕ) → list_all p xs ≡ true → list_all p (before_all test xs) ≡ true
-unfolding before_all
 all-before p test [] h = refl
 all-before p test (x ∷ xs) h =
     let q = and_parts (p x) (list_all p xs) h in all-unless p test x (before_all test xs) q.0 (all-before p test xs q.1)
 
-pub all-stripped : (p test : ℕ → Bool) (xs : List ℕ) → list_all p xs ≡ true → list_all p (stripped test xs) ≡ true
-all-stripped p test xs h = all-before p test (after_all test xs) (all-after p test xs h)
+pub all-between : (p test : ℕ → Bool) (xs : List ℕ) → list_all p xs ≡ true → list_all p (text_between test xs) ≡ true
+all-between p test xs h = all-before p test (after_all test xs) (all-after p test xs h)
 
 -- the text that may stand behind the semicolon passes too
 abbrev pub MayPass : (ℕ → Bool) → Option (List ℕ) → Type 0
@@ -94,7 +92,7 @@ all-cut p text None h = (h, tt)
 all-cut p text (Some n) h = (all-take p n text h, all-drop p (n + 1) text h)
 
 pub all-parts : (p : ℕ → Bool) (text : List ℕ) → list_all p text ≡ true → (list_all p (parts_of text).0 ≡ true) × MayPass p (parts_of text).1
-all-parts p text h = rw (← cut_parts-is text (position (λ b. b == 59) text)) (all-cut p text (position (λ b. b == 59) text) h)
+all-parts p text h = rw (← cut_parts-is text (position (λ b. b == semicolon) text)) (all-cut p text (position (λ b. b == semicolon) text) h)
 
 pub pass-viewed : (p : ℕ → Bool) (o : Option (Bor (List ℕ))) → MayPass p (text_view o) → IfSome o (λ text. list_all p text.now ≡ true)
 pass-viewed p None h = tt

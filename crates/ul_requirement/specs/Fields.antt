@@ -7,6 +7,7 @@ use Rattle.std.specs.Cmp.Lexicographic.{slice_cmp}
 use Rattle.std.specs.Ordering.{nat_cmp, on}
 use Rattle.std.specs.declared.cmp.Ordering.TheVariants.{Equal}
 use Rattle.ul_base.specs.Names.{name_cmp}
+use Rattle.ul_version.specs.Ascii.{backslash, double_quote, space, tilde}
 use Rattle.ul_version.specs.Fields.{Fields}
 use Rattle.ul_version.specs.Order.{version_cmp}
 use Rattle.ul_specifier.specs.Clauses.{ClauseFields}
@@ -38,7 +39,7 @@ pub record FileFields : Type 0 where
 
 -- a byte of a file's name: printable ASCII, but no space, `"` or `\`
 abbrev pub is_file_byte : ℕ → Bool
-is_file_byte b = nat_le 33 b && (nat_le b 126 && not (b == 34 || b == 92))
+is_file_byte b = nat_lt space b && (nat_le b tilde && not (b == double_quote || b == backslash))
 
 -- one or more such bytes
 abbrev pub is_file_name : List ℕ → Bool

@@ -2,5 +2,4 @@ pub mod Fields
 pub mod Truth
 pub mod Grammar
 pub mod Answers
-pub mod Codes
 pub mod Vectors

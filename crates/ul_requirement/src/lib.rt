@@ -1,6 +1,7 @@
 //! Requirements, releases and packages, and what a run wishes for.
 #![tactic(auto)]
 
+mod copy;
 mod fault;
 pub mod laws;
 mod package;

@@ -4,11 +4,12 @@ ghost use Rattle.std.specs.Prelude.{◌≡◌, ◌≤◌, ◌<◌, ◌+◌, ◌=
 ghost use Rattle.std.specs.List.{list_all, position_or_len, slice_split};
 ghost use Rattle.std.specs.List.Sorted.{IsStrictlySortedBy};
 ghost use Rattle.ul_base.specs.Names as Names;
-ghost use Rattle.ul_specifier.specs.Reading.{is_blank, is_comma, specifiers_of, stripped};
+ghost use Rattle.ul_version.specs.Ascii.{comma, is_blank, text_between};
+ghost use Rattle.ul_specifier.specs.Reading.{specifiers_of};
 ghost use Rattle.ul_marker.specs.Reading.{marker_of};
 ghost use Rattle.ul_requirement.specs.Answers.{IsReading, Reads, extras_view, front_view, names_view, optional_marker, pair_view, parts_view, tail_view, text_view};
 ghost use Rattle.ul_requirement.specs.Fields.{MayBeFormula};
-ghost use Rattle.ul_requirement.specs.Grammar as Grammar;
+ghost use Rattle.ul_requirement.specs.Grammar as spec;
 
 use crate::fault::PartFault;
 use crate::{ReqFault, Requirement};
@@ -16,26 +17,37 @@ use std::alloc::{AllocError, Global};
 use std::collections::BTreeSet;
 use ul_base::Name;
 use ul_marker::Marker;
-use ul_specifier::{Specifiers, after_space, before_space};
+use ul_specifier::Specifiers;
+use ul_version::ascii::{
+    Blank, ByteClass, Only, White, after_run, begins, front_run, is_run, piece_len, trimmed,
+};
 
-// A letter, a digit or one of `-`, `.` and `_`.
-fn is_name_byte(byte: u8) -> bool
-    ensures { result ≡ Names.is_name_byte byte }
-{
-    byte.is_ascii_alphanumeric() || (byte == b'-' || (byte == b'.' || byte == b'_'))
+/// The bytes of a name: letters, digits, `-`, `.` and `_`.
+#[derive(Clone, Copy, Drop)]
+struct NameByte;
+
+impl ByteClass for NameByte {
+    ghost use Rattle.ul_base.specs.Names.{is_name_byte};
+
+    ghost has = { λ _ byte. is_name_byte byte };
+
+    fn has(&self, byte: u8) -> bool {
+        byte.is_ascii_alphanumeric() || (byte == b'-' || (byte == b'.' || byte == b'_'))
+    }
 }
 
-// How many bytes of a name stand in front.
-fn name_len(input: &[u8]) -> usize
-    ensures length { result ≡ position_or_len Grammar.ends_name input.now }
-    ensures fits { result ≤ length input.now }
-{
-    for i in 0..input.len() {
-        if !is_name_byte(input[i]) {
-            return i;
-        }
+/// The bytes that may stand behind the extras: printable ASCII, and tab.
+#[derive(Clone, Copy, Drop)]
+struct InnerByte;
+
+impl ByteClass for InnerByte {
+    ghost use Rattle.ul_requirement.specs.Grammar.{is_inner_byte};
+
+    ghost has = { λ _ byte. is_inner_byte byte };
+
+    fn has(&self, byte: u8) -> bool {
+        (b' ' <= byte && byte <= b'~') || byte == b'\t'
     }
-    input.len()
 }
 
 // How many bytes stand before the first such byte, or in the whole text.
@@ -53,20 +65,13 @@ fn place_of(input: &[u8], byte: u8) -> usize
 
 // What stands before the first such byte and what after it.
 fn cut_at(input: &[u8], byte: u8) -> Option<(&[u8], &[u8])>
-    ensures { pair_view result ≡ Grammar.cut_at byte input.now }
+    ensures { pair_view result ≡ spec.cut_at byte input.now }
 {
     let n = place_of(input, byte);
     if n >= input.len() {
         return None;
     }
     Some((&input[..n], &input[n..][1..]))
-}
-
-// The text without the blanks at both ends.
-fn without_blanks(input: &[u8]) -> &[u8]
-    ensures { result.now ≡ stripped is_blank input.now }
-{
-    before_space(after_space(input, true), true)
 }
 
 // The name that bytes are.
@@ -82,19 +87,19 @@ fn name(alloc: Global, input: &[u8]) -> Result<Name, PartFault>
 
 // The name that a piece is, without the blanks at its ends.
 fn piece_name(alloc: Global, piece: &[u8]) -> Result<Name, PartFault>
-    ensures { Reads (λ n. n) result (Names.name_of (stripped is_blank piece.now)) }
+    ensures { Reads (λ n. n) result (Names.name_of (text_between is_blank piece.now)) }
 {
-    name(alloc, without_blanks(piece))
+    name(alloc, trimmed(&Blank, piece))
 }
 
 // The names between commas.
 fn names(alloc: Global, input: &[u8]) -> Result<Vec<Name>, PartFault>
-    ensures { Reads names_view result (Grammar.names_of (slice_split is_comma input.now)) }
+    ensures { Reads names_view result (spec.names_of (slice_split (λ b. b == comma) input.now)) }
 {
     let mut list = Vec::new(alloc);
     let mut rest = input;
     'pieces: loop {
-        let n = place_of(rest, b',');
+        let n = piece_len(&Only { byte: b',' }, rest);
         let name = piece_name(alloc, &rest[..n])?;
         list.push(name)?;
         if n >= rest.len() {
@@ -106,7 +111,7 @@ fn names(alloc: Global, input: &[u8]) -> Result<Vec<Name>, PartFault>
 
 // Names in their order, each once.
 fn name_set(alloc: Global, names: Vec<Name>) -> Result<Vec<Name>, AllocError>
-    ensures set { IfOk result (λ v. v.items ≡ Grammar.name_set names.items) }
+    ensures set { IfOk result (λ v. v.items ≡ spec.name_set names.items) }
     ensures rises { IfOk result (λ v. IsStrictlySortedBy Names.name_cmp v.items) }
 {
     let mut set = BTreeSet::new(alloc);
@@ -119,10 +124,10 @@ fn name_set(alloc: Global, names: Vec<Name>) -> Result<Vec<Name>, AllocError>
 // The extras between brackets.
 #[tactic(auto, unfolding(crate::specs::Grammar::extras_in))]
 fn extras_in(alloc: Global, input: &[u8]) -> Result<Vec<Name>, PartFault>
-    ensures extras { Reads names_view result (Grammar.extras_in input.now) }
+    ensures extras { Reads names_view result (spec.extras_in input.now) }
     ensures rises { IfOk result (λ v. IsStrictlySortedBy Names.name_cmp v.items) }
 {
-    let inside = without_blanks(input);
+    let inside = trimmed(&Blank, input);
     if inside.is_empty() {
         return Ok(Vec::new(alloc));
     }
@@ -134,7 +139,7 @@ fn extras_in(alloc: Global, input: &[u8]) -> Result<Vec<Name>, PartFault>
 // The extras in front, and the text after them.
 #[tactic(auto, unfolding(crate::specs::Grammar::extras_front))]
 fn extras_front(alloc: Global, input: &[u8]) -> Result<(Vec<Name>, &[u8]), PartFault>
-    ensures extras { Reads extras_view result (Grammar.extras_front input.now) }
+    ensures extras { Reads extras_view result (spec.extras_front input.now) }
     ensures rises { IfOk result (λ p. IsStrictlySortedBy Names.name_cmp p.0.items) }
 {
     let [byte, text @ ..] = input else {
@@ -153,37 +158,18 @@ fn extras_front(alloc: Global, input: &[u8]) -> Result<(Vec<Name>, &[u8]), PartF
 // The name and the extras in front, and the text behind them.
 #[tactic(auto, unfolding(crate::specs::Grammar::front_of))]
 fn front(alloc: Global, input: &[u8]) -> Result<(Name, Vec<Name>, &[u8]), PartFault>
-    ensures front { Reads front_view result (Grammar.front_of input.now) }
+    ensures front { Reads front_view result (spec.front_of input.now) }
     ensures rises { IfOk result (λ p. IsStrictlySortedBy Names.name_cmp p.1.items) }
 {
-    let n = name_len(input);
-    let name = name(alloc, &input[..n])?;
-    let (extras, rest) = extras_front(alloc, after_space(&input[n..], true))?;
-    Ok((name, extras, after_space(rest, true)))
-}
-
-// Whether a byte may stand behind the extras.
-fn is_inner_byte(byte: u8) -> bool
-    ensures { result ≡ Grammar.is_inner_byte byte }
-{
-    (32 <= byte && byte <= 126) || byte == b'\t'
-}
-
-// Whether each byte may stand behind the extras.
-fn are_inner(text: &[u8]) -> bool
-    ensures { result ≡ list_all Grammar.is_inner_byte text.now }
-{
-    for i in 0..text.len() {
-        if !is_inner_byte(text[i]) {
-            return false;
-        }
-    }
-    true
+    let (text, behind) = front_run(&NameByte, input);
+    let name = name(alloc, text)?;
+    let (extras, rest) = extras_front(alloc, after_run(&Blank, behind))?;
+    Ok((name, extras, after_run(&Blank, rest)))
 }
 
 // The specifiers of a text.
 fn clauses(alloc: Global, text: &[u8]) -> Result<Specifiers, PartFault>
-    requires { IsTrue (list_all Grammar.is_inner_byte text.now) }
+    requires { IsTrue (list_all spec.is_inner_byte text.now) }
     ensures { Reads (λ s. s) result (specifiers_of text.now) }
 {
     let Ok(text) = str::from_utf8(text) else {
@@ -196,8 +182,8 @@ fn clauses(alloc: Global, text: &[u8]) -> Result<Specifiers, PartFault>
 // The specifiers of a text, which may stand in parentheses.
 #[tactic(auto, unfolding(crate::specs::Grammar::specifiers_in))]
 fn specifiers_in(alloc: Global, input: &[u8]) -> Result<Specifiers, PartFault>
-    requires { IsTrue (list_all Grammar.is_inner_byte input.now) }
-    ensures { Reads (λ s. s) result (Grammar.specifiers_in input.now) }
+    requires { IsTrue (list_all spec.is_inner_byte input.now) }
+    ensures { Reads (λ s. s) result (spec.specifiers_in input.now) }
 {
     let [byte, text @ ..] = input else {
         return Ok(Specifiers {
@@ -216,8 +202,8 @@ fn specifiers_in(alloc: Global, input: &[u8]) -> Result<Specifiers, PartFault>
 // The marker of a text, where there is one.
 #[tactic(auto, unfolding(crate::specs::Grammar::marker_in))]
 fn marker_in(alloc: Global, input: Option<&[u8]>) -> Result<Option<Marker>, PartFault>
-    requires { IfSome input (λ text. IsTrue (list_all Grammar.is_inner_byte text.now)) }
-    ensures marker { Reads optional_marker result (Grammar.marker_in (text_view input.entry)) }
+    requires { IfSome input (λ text. IsTrue (list_all spec.is_inner_byte text.now)) }
+    ensures marker { Reads optional_marker result (spec.marker_in (text_view input.entry)) }
     ensures valid { IfOk result (λ m. MayBeFormula (optional_marker m)) }
 {
     let Some(text) = input else {
@@ -232,7 +218,7 @@ fn marker_in(alloc: Global, input: Option<&[u8]>) -> Result<Option<Marker>, Part
 
 // The text before the first semicolon, and the text after it.
 fn parts(input: &[u8]) -> (&[u8], Option<&[u8]>)
-    ensures { parts_view result ≡ Grammar.parts_of input.now }
+    ensures { parts_view result ≡ spec.parts_of input.now }
 {
     match cut_at(input, b';') {
         Some((front, marker)) => (front, Some(marker)),
@@ -243,26 +229,16 @@ fn parts(input: &[u8]) -> (&[u8], Option<&[u8]>)
 // The specifiers and the marker behind a name and its extras.
 #[tactic(auto, unfolding(crate::specs::Grammar::tail_of))]
 fn tail(alloc: Global, input: &[u8]) -> Result<(Specifiers, Option<Marker>), PartFault>
-    ensures tail { Reads tail_view result (Grammar.tail_of input.now) }
+    ensures tail { Reads tail_view result (spec.tail_of input.now) }
     ensures valid { IfOk result (λ p. MayBeFormula (optional_marker p.1)) }
 {
-    if !are_inner(input) {
+    if !is_run(&InnerByte, input) {
         return Err(PartFault::NoReading);
     }
     let (front, marker) = parts(input);
-    let specifiers = specifiers_in(alloc, without_blanks(front))?;
+    let specifiers = specifiers_in(alloc, trimmed(&Blank, front))?;
     let marker = marker_in(alloc, marker)?;
     Ok((specifiers, marker))
-}
-
-// Whether the text begins with `@`.
-fn is_address(input: &[u8]) -> bool
-    ensures { result ≡ Grammar.is_address input.now }
-{
-    match input {
-        [byte, ..] => *byte == b'@',
-        [] => false,
-    }
 }
 
 impl Requirement {
@@ -275,11 +251,11 @@ impl Requirement {
     /// has no other reading.
     #[tactic(auto, unfolding(crate::specs::Grammar::reading_of))]
     pub fn read(alloc: Global, text: &str) -> Result<Requirement, ReqFault>
-        ensures { IsReading result (Grammar.reading_of text.now) }
+        ensures { IsReading result (spec.reading_of text.now) }
     {
-        let input = before_space(after_space(text.as_bytes(), false), false);
+        let input = trimmed(&White, text.as_bytes());
         let (name, extras, rest) = front(alloc, input)?;
-        if is_address(rest) {
+        if begins(&Only { byte: b'@' }, rest) {
             return Err(ReqFault::Url);
         }
         let (specifiers, marker) = tail(alloc, rest)?;

@@ -2,12 +2,12 @@
 
 ghost use Rattle.std.specs.Prelude.{◌≡◌, IfOk, option_map};
 ghost use Rattle.ul_marker.specs.Views.{marker_view};
-ghost use Rattle.ul_requirement.specs.Truth.{applies_at, may_hold, targets, with_extra};
+ghost use Rattle.ul_requirement.specs.Truth.{applies_at, atoms_in, atoms_of_requirement, may_hold, targets, with_extra};
 
 use crate::Requirement;
 use std::alloc::{AllocError, Global};
 use ul_base::{Name, Node};
-use ul_marker::{Marker, World};
+use ul_marker::{Atom, Marker, World};
 
 // Whether a marker holds, where there is one.
 fn may_hold(marker: &Option<Marker>, world: &World, extra: &str) -> bool
@@ -47,6 +47,27 @@ impl Requirement {
             nodes.push(with_extra(alloc, &self.name, extra)?)?;
         }
         Ok(nodes)
+    }
+}
+
+// The opaque comparisons of a marker, where there is one.
+fn atoms_in(alloc: Global, marker: &Option<Marker>) -> Result<Vec<Atom>, AllocError>
+    ensures { IfOk result (λ v. v.items ≡ atoms_in (option_map marker_view marker.now)) }
+{
+    match marker {
+        Some(marker) => marker.atoms(alloc),
+        None => Ok(Vec::new(alloc)),
+    }
+}
+
+impl Requirement {
+    /// The opaque comparisons of its marker, in the order of its text, each as often as it stands there.
+    pub fn atoms(&self, alloc: Global) -> Result<Vec<Atom>, AllocError>
+        ensures { IfOk result (λ v. v.items ≡ atoms_of_requirement self.now) }
+    {
+        let marker: &Option<Marker> = &self.marker;
+        let atoms = atoms_in(alloc, marker)?;
+        Ok(atoms)
     }
 }
 
