@@ -69,7 +69,8 @@ fn catalog(alloc: Global, text: &str) -> Result<Catalog, Fail> {
 // No later package has the name of this one.
 fn is_new(packages: &[Package], i: usize) -> bool
     requires { i < length packages.now }
-    ensures { IsTrue result → (k : ℕ) (d : Package) → i < k → k < length packages.now → (slice_index_or packages.now i d).name ≢ (slice_index_or packages.now k d).name }
+    ensures { IsTrue result → (k : ℕ) (d : Package) → i < k → k < length packages.now
+        → (slice_index_or packages.now i d).name ≢ (slice_index_or packages.now k d).name }
 {
     for k in i + 1..packages.len() {
         let (one, other) = (&packages[i], &packages[k]);
@@ -94,7 +95,9 @@ fn names_differ(packages: &[Package]) -> bool
 // No later release has a version equal to that of this one.
 fn is_other(releases: &[Release], i: usize) -> bool
     requires { i < length releases.now }
-    ensures { IsTrue result → (k : ℕ) (d : Release) → i < k → k < length releases.now → version_cmp (slice_index_or releases.now i d).version (slice_index_or releases.now k d).version ≢ Equal }
+    ensures { IsTrue result → (k : ℕ) (d : Release) → i < k → k < length releases.now
+        → version_cmp (slice_index_or releases.now i d).version (slice_index_or releases.now k d).version
+        ≢ Equal }
 {
     for k in i + 1..releases.len() {
         let (one, other) = (&releases[i], &releases[k]);
