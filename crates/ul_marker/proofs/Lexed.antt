@@ -14,7 +14,7 @@ use Rattle.ul_specifier.specs.declared.clause.Op.{Op}
 use Rattle.ul_specifier.specs.declared.clause.Op.TheVariants.{Equal, Unequal, AtLeast, AtMost, More, Less, Compatible}
 use Rattle.ul_specifier.proofs.ForCallers.{is_equals, operator-read}
 use Rattle.ul_marker.specs.Atoms.{AtomFields, IsAtom, has_byte, is_literal, is_literal_byte}
-use Rattle.ul_marker.specs.Printed.{quote_of, quoted, variable_name}
+use Rattle.ul_marker.specs.Printed.{quote_of, quoted_text, variable_name}
 use Rattle.ul_marker.specs.Words.{after_quote, front_literal, front_sign, front_token, front_word, is_quote, is_quoted, is_sign_byte, is_word_byte, run_length, tokens_in, tokens_of, word_token}
 use Rattle.ul_marker.specs.declared.variable.Variable.{Variable}
 use Rattle.ul_marker.specs.declared.variable.Variable.TheVariants.{OsName, SysPlatform, PlatformMachine, PlatformPythonImplementation, PlatformRelease, PlatformSystem, PlatformVersion, PythonVersion, PythonFullVersion, ImplementationName, ImplementationVersion}
@@ -148,13 +148,13 @@ quote-is literal h =
     ]
 
 -- a literal in its quotes in front
-pub quoted-front : (literal rest : List ℕ) → is_literal literal ≡ true → front_token (quoted literal ++ rest) ≡ Some (Literal literal, rest)
+pub quoted-front : (literal rest : List ℕ) → is_literal literal ≡ true → front_token (quoted_text literal ++ rest) ≡ Some (Literal literal, rest)
 quoted-front literal rest h =
     let is = quote-is literal h in
     let q = quote_of literal in
     ap (λ t. front_token (q ∷ t)) (append_assoc literal (q ∷ []) rest) ∙ literal-front q literal rest is.quote is.opens is.closes is.quoted
 
-quoted-begins : (literal rest : List ℕ) → is_literal literal ≡ true → begins is_blank (quoted literal ++ rest) ≡ false
+quoted-begins : (literal rest : List ℕ) → is_literal literal ≡ true → begins is_blank (quoted_text literal ++ rest) ≡ false
 quoted-begins literal rest h = (quote-is literal h).blank
 
 -- ---- words
@@ -227,13 +227,13 @@ IsSubject name t = (rest : List ℕ) → begins is_word_byte rest ≡ false → 
 
 -- a subject, a sign and a literal
 pub signed-lexes : (name : List ℕ) (t : Token) (op : Op) (literal rest : List ℕ) (ts : List Token) → IsSubject name t → is_literal literal ≡ true
-    → Lexes (after_all is_blank rest) ts → Lexes (name ++ (32 ∷ (operator_text op ++ (32 ∷ (quoted literal ++ rest))))) (t ∷ Sign op ∷ Literal literal ∷ ts)
+    → Lexes (after_all is_blank rest) ts → Lexes (name ++ (32 ∷ (operator_text op ++ (32 ∷ (quoted_text literal ++ rest))))) (t ∷ Sign op ∷ Literal literal ∷ ts)
 signed-lexes name t op literal rest ts subject h more =
-    let last = lexes-then (quoted literal ++ rest) (Literal literal) rest ts (quoted-front literal rest h) more in
-    let middle = lexes-next (operator_text op ++ (32 ∷ (quoted literal ++ rest))) (Sign op) (quoted literal ++ rest) (Literal literal ∷ ts)
-    (sign-front op (32 ∷ (quoted literal ++ rest)) refl) (quoted-begins literal rest h) last in
-    lexes-next (name ++ (32 ∷ (operator_text op ++ (32 ∷ (quoted literal ++ rest))))) t (operator_text op ++ (32 ∷ (quoted literal ++ rest))) (Sign op ∷ Literal literal ∷ ts)
-    (subject (32 ∷ (operator_text op ++ (32 ∷ (quoted literal ++ rest)))) refl) (operator-begins op (32 ∷ (quoted literal ++ rest))) middle
+    let last = lexes-then (quoted_text literal ++ rest) (Literal literal) rest ts (quoted-front literal rest h) more in
+    let middle = lexes-next (operator_text op ++ (32 ∷ (quoted_text literal ++ rest))) (Sign op) (quoted_text literal ++ rest) (Literal literal ∷ ts)
+    (sign-front op (32 ∷ (quoted_text literal ++ rest)) refl) (quoted-begins literal rest h) last in
+    lexes-next (name ++ (32 ∷ (operator_text op ++ (32 ∷ (quoted_text literal ++ rest))))) t (operator_text op ++ (32 ∷ (quoted_text literal ++ rest))) (Sign op ∷ Literal literal ∷ ts)
+    (subject (32 ∷ (operator_text op ++ (32 ∷ (quoted_text literal ++ rest)))) refl) (operator-begins op (32 ∷ (quoted_text literal ++ rest))) middle
 
 -- `in`, or `not in`
 abbrev pub in_tokens : Bool → List Token
@@ -256,19 +256,19 @@ in-begins false rest = refl
 
 -- a variable in a literal
 pub within-lexes : (name : List ℕ) (t : Token) (holds : Bool) (literal rest : List ℕ) (ts : List Token) → IsSubject name t → is_literal literal ≡ true
-    → Lexes (after_all is_blank rest) ts → Lexes (name ++ (32 ∷ (in_words holds ++ (32 ∷ (quoted literal ++ rest))))) (t ∷ (in_tokens holds ++ (Literal literal ∷ ts)))
+    → Lexes (after_all is_blank rest) ts → Lexes (name ++ (32 ∷ (in_words holds ++ (32 ∷ (quoted_text literal ++ rest))))) (t ∷ (in_tokens holds ++ (Literal literal ∷ ts)))
 within-lexes name t holds literal rest ts subject h more =
-    let last = lexes-then (quoted literal ++ rest) (Literal literal) rest ts (quoted-front literal rest h) more in
-    let middle = in-lexes holds (quoted literal ++ rest) (Literal literal ∷ ts) (quoted-begins literal rest h) last in
-    lexes-next (name ++ (32 ∷ (in_words holds ++ (32 ∷ (quoted literal ++ rest))))) t (in_words holds ++ (32 ∷ (quoted literal ++ rest))) (in_tokens holds ++ (Literal literal ∷ ts))
-    (subject (32 ∷ (in_words holds ++ (32 ∷ (quoted literal ++ rest)))) refl) (in-begins holds (32 ∷ (quoted literal ++ rest))) middle
+    let last = lexes-then (quoted_text literal ++ rest) (Literal literal) rest ts (quoted-front literal rest h) more in
+    let middle = in-lexes holds (quoted_text literal ++ rest) (Literal literal ∷ ts) (quoted-begins literal rest h) last in
+    lexes-next (name ++ (32 ∷ (in_words holds ++ (32 ∷ (quoted_text literal ++ rest))))) t (in_words holds ++ (32 ∷ (quoted_text literal ++ rest))) (in_tokens holds ++ (Literal literal ∷ ts))
+    (subject (32 ∷ (in_words holds ++ (32 ∷ (quoted_text literal ++ rest)))) refl) (in-begins holds (32 ∷ (quoted_text literal ++ rest))) middle
 
 -- a literal in a variable
 pub contains-lexes : (v : Variable) (holds : Bool) (literal rest : List ℕ) (ts : List Token) → is_literal literal ≡ true → begins is_word_byte rest ≡ false
-    → Lexes (after_all is_blank rest) ts → Lexes (quoted literal ++ (32 ∷ (in_words holds ++ (32 ∷ (variable_name v ++ rest))))) (Literal literal ∷ (in_tokens holds ++ (Named v ∷ ts)))
+    → Lexes (after_all is_blank rest) ts → Lexes (quoted_text literal ++ (32 ∷ (in_words holds ++ (32 ∷ (variable_name v ++ rest))))) (Literal literal ∷ (in_tokens holds ++ (Named v ∷ ts)))
 contains-lexes v holds literal rest ts h e more =
     let last = lexes-then (variable_name v ++ rest) (Named v) rest ts (name-front v rest e) more in
     let middle = in-lexes holds (variable_name v ++ rest) (Named v ∷ ts) (name-begins v rest) last in
-    lexes-next (quoted literal ++ (32 ∷ (in_words holds ++ (32 ∷ (variable_name v ++ rest))))) (Literal literal) (in_words holds ++ (32 ∷ (variable_name v ++ rest)))
+    lexes-next (quoted_text literal ++ (32 ∷ (in_words holds ++ (32 ∷ (variable_name v ++ rest))))) (Literal literal) (in_words holds ++ (32 ∷ (variable_name v ++ rest)))
     (in_tokens holds ++ (Named v ∷ ts)) (quoted-front literal (32 ∷ (in_words holds ++ (32 ∷ (variable_name v ++ rest)))) h)
     (in-begins holds (32 ∷ (variable_name v ++ rest))) middle

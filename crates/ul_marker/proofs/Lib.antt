@@ -23,3 +23,4 @@ pub mod Joining
 pub mod Related
 pub mod Spelled
 pub mod ForCallers
+pub mod Told

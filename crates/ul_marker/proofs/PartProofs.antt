@@ -4,7 +4,7 @@ use Rattle.std.specs.List.{list_all, list_any}
 use Rattle.std.proofs.lemmas.Bool.{and_from, and_parts}
 use Rattle.std.proofs.lemmas.Bool.Decides.{nat_tests}
 use Rattle.ul_base.specs.Names.{is_normal_byte, name_of}
-use Rattle.ul_base.proofs.Names.{name_is_plain, name_reads_itself}
+use Rattle.ul_base.proofs.ForCallers.{name_is_plain, name_reads_itself}
 use Rattle.ul_marker.specs.Atoms.{has_byte, is_literal, is_literal_byte}
 use Rattle.ul_marker.specs.Formulas.{Formula, extra, python, python_list, text, opaque, all, any, Formulas, none, more}
 use Rattle.ul_marker.specs.Parts.{asks_extra, some_asks_extra}

@@ -23,7 +23,7 @@ use Rattle.ul_marker.specs.Atoms.{AtomFields, IsAtom, has_byte, is_implementatio
 use Rattle.ul_marker.specs.Comparisons.{comparison_of, contained, extra_literal, python_full, signed, text_sign, within}
 use Rattle.ul_marker.specs.Formulas.{Formula, IsExtraLiteral, extra, python, opaque}
 use Rattle.ul_marker.specs.Grammar.{AreJoined, IsAtomOf, IsChain, IsConjunction, IsDisjunction, IsMarker, Spells}
-use Rattle.ul_marker.specs.Printed.{Comparison, IsComparison, atom_text, bound, bound_clause, bound_op, bound_sign, comparison_formula, comparison_text, equality_sign, extra_is, interpreter_text, kind_sign, atom_is, quote_of, quoted, sides, text_is, variable_name}
+use Rattle.ul_marker.specs.Printed.{Comparison, IsComparison, atom_text, bound, bound_clause, bound_op, bound_sign, comparison_formula, comparison_text, equality_sign, extra_is, interpreter_text, kind_sign, atom_is, quote_of, quoted_text, sides, text_is, variable_name}
 use Rattle.ul_marker.specs.PrintedPaths.{ComparisonReads, IsPath, PathsRead, path_formula, path_text, paths_formula, paths_text}
 use Rattle.ul_marker.specs.Reading.{joined, marker_of}
 use Rattle.ul_marker.specs.Words.{is_word_byte, tokens_in, tokens_of}
@@ -102,7 +102,7 @@ interpreter-literal major minor patch a b c =
 
 -- the quote of an interpreter's text is `'`
 pub interpreter_quoted : (major minor patch : ℕ) → major < 2 ^ 32 → minor < 2 ^ 32 → patch < 2 ^ 32
-    → quoted (interpreter_text major minor patch) ≡ 39 ∷ (interpreter_text major minor patch ++ 39 ∷ [])
+    → quoted_text (interpreter_text major minor patch) ≡ 39 ∷ (interpreter_text major minor patch ++ 39 ∷ [])
 interpreter_quoted major minor patch a b c =
     let release = major ∷ minor ∷ patch ∷ [] in
     let bytes = (plain_text (plain release) (interpreter-is major minor patch a b c)).0 in
@@ -202,25 +202,25 @@ spaced name word q rest =
     three-parts name (32 ∷ (word ++ (32 ∷ []))) q rest ∙ ap (λ t. name ++ (32 ∷ t)) (append_assoc word (32 ∷ []) (q ++ rest))
 
 signed-text : (name : List ℕ) (t : Token) (op : Op) (literal rest : List ℕ) (ts : List Token) → IsSubject name t → is_literal literal ≡ true
-    → Lexes (after_all is_blank rest) ts → Lexes ((name ++ ((32 ∷ (operator_text op ++ (32 ∷ []))) ++ quoted literal)) ++ rest) (t ∷ Sign op ∷ Literal literal ∷ ts)
+    → Lexes (after_all is_blank rest) ts → Lexes ((name ++ ((32 ∷ (operator_text op ++ (32 ∷ []))) ++ quoted_text literal)) ++ rest) (t ∷ Sign op ∷ Literal literal ∷ ts)
 signed-text name t op literal rest ts subject h more =
-    subst (λ text. Lexes text (t ∷ Sign op ∷ Literal literal ∷ ts)) (sym (spaced name (operator_text op) (quoted literal) rest))
+    subst (λ text. Lexes text (t ∷ Sign op ∷ Literal literal ∷ ts)) (sym (spaced name (operator_text op) (quoted_text literal) rest))
     (signed-lexes name t op literal rest ts subject h more)
 
 atom-lexes : (kind : AtomKind) (v : Variable) (literal : List ℕ) (holds : Bool) (rest : List ℕ) (ts : List Token) → is_literal literal ≡ true
     → begins is_word_byte rest ≡ false → Lexes (after_all is_blank rest) ts
-    → Lexes (sides kind (variable_name v) (kind_sign kind holds) (quoted literal) ++ rest) (atom_tokens kind v literal holds ++ ts)
+    → Lexes (sides kind (variable_name v) (kind_sign kind holds) (quoted_text literal) ++ rest) (atom_tokens kind v literal holds ++ ts)
 atom-lexes Contains v literal true rest ts h e more =
-    subst (λ text. Lexes text (atom_tokens Contains v literal true ++ ts)) (sym (spaced (quoted literal) (codes "in") (variable_name v) rest))
+    subst (λ text. Lexes text (atom_tokens Contains v literal true ++ ts)) (sym (spaced (quoted_text literal) (codes "in") (variable_name v) rest))
     (contains-lexes v true literal rest ts h e more)
 atom-lexes Contains v literal false rest ts h e more =
-    subst (λ text. Lexes text (atom_tokens Contains v literal false ++ ts)) (sym (spaced (quoted literal) (codes "not in") (variable_name v) rest))
+    subst (λ text. Lexes text (atom_tokens Contains v literal false ++ ts)) (sym (spaced (quoted_text literal) (codes "not in") (variable_name v) rest))
     (contains-lexes v false literal rest ts h e more)
 atom-lexes Within v literal true rest ts h e more =
-    subst (λ text. Lexes text (atom_tokens Within v literal true ++ ts)) (sym (spaced (variable_name v) (codes "in") (quoted literal) rest))
+    subst (λ text. Lexes text (atom_tokens Within v literal true ++ ts)) (sym (spaced (variable_name v) (codes "in") (quoted_text literal) rest))
     (within-lexes (variable_name v) (Named v) true literal rest ts (name-front v) h more)
 atom-lexes Within v literal false rest ts h e more =
-    subst (λ text. Lexes text (atom_tokens Within v literal false ++ ts)) (sym (spaced (variable_name v) (codes "not in") (quoted literal) rest))
+    subst (λ text. Lexes text (atom_tokens Within v literal false ++ ts)) (sym (spaced (variable_name v) (codes "not in") (quoted_text literal) rest))
     (within-lexes (variable_name v) (Named v) false literal rest ts (name-front v) h more)
 atom-lexes Below v literal true rest ts h e more = signed-text (variable_name v) (Named v) Less literal rest ts (name-front v) h more
 atom-lexes Below v literal false rest ts h e more = signed-text (variable_name v) (Named v) AtLeast literal rest ts (name-front v) h more
@@ -266,18 +266,18 @@ BeginsWell text = (rest : List ℕ) → begins is_white (text ++ rest) ≡ false
 named-begins : (v : Variable) (more : List ℕ) → BeginsWell (variable_name v ++ more)
 named-begins v more rest = ap (begins is_white) (append_assoc (variable_name v) more rest) ∙ name-white v (more ++ rest)
 
-atom-begins : (kind : AtomKind) (v : Variable) (sign literal : List ℕ) → is_literal literal ≡ true → BeginsWell (sides kind (variable_name v) sign (quoted literal))
+atom-begins : (kind : AtomKind) (v : Variable) (sign literal : List ℕ) → is_literal literal ≡ true → BeginsWell (sides kind (variable_name v) sign (quoted_text literal))
 atom-begins Contains v sign literal h rest = (quote-is literal h).white
-atom-begins Within v sign literal h rest = named-begins v (sign ++ quoted literal) rest
-atom-begins Below v sign literal h rest = named-begins v (sign ++ quoted literal) rest
-atom-begins AtMostKind v sign literal h rest = named-begins v (sign ++ quoted literal) rest
-atom-begins Same v sign literal h rest = named-begins v (sign ++ quoted literal) rest
+atom-begins Within v sign literal h rest = named-begins v (sign ++ quoted_text literal) rest
+atom-begins Below v sign literal h rest = named-begins v (sign ++ quoted_text literal) rest
+atom-begins AtMostKind v sign literal h rest = named-begins v (sign ++ quoted_text literal) rest
+atom-begins Same v sign literal h rest = named-begins v (sign ++ quoted_text literal) rest
 
 comparison-begins : (c : Comparison) → IsComparison c → BeginsWell (comparison_text c)
 unfolding comparison_text atom_text
 comparison-begins (bound lower major minor patch) is rest = refl
 comparison-begins (extra_is literal equal) is rest = refl
-comparison-begins (text_is v literal equal) is rest = named-begins v (equality_sign equal ++ quoted literal) rest
+comparison-begins (text_is v literal equal) is rest = named-begins v (equality_sign equal ++ quoted_text literal) rest
 comparison-begins (atom_is a holds) is rest = atom-begins a.kind a.variable (kind_sign a.kind holds) a.literal is.literal rest
 
 white-blank : (text : List ℕ) → begins is_white text ≡ false → begins is_blank text ≡ false
@@ -291,7 +291,7 @@ EndsWell text = (front : List ℕ) × (b : ℕ) × (text ≡ front ++ (b ∷ [])
 ends-behind : (front text : List ℕ) → EndsWell text → EndsWell (front ++ text)
 ends-behind front text (before, b, e, h) = (front ++ before, b, ap (λ t. front ++ t) e ∙ sym (append_assoc front before (b ∷ [])), h)
 
-quoted-ends : (literal : List ℕ) → is_literal literal ≡ true → EndsWell (quoted literal)
+quoted-ends : (literal : List ℕ) → is_literal literal ≡ true → EndsWell (quoted_text literal)
 quoted-ends literal h = (quote_of literal ∷ literal, quote_of literal, refl, (quote-is literal h).white)
 
 name-ends : (v : Variable) → EndsWell (variable_name v)
@@ -307,11 +307,11 @@ name-ends PythonFullVersion = (codes "python_full_versio", 110, refl, refl)
 name-ends ImplementationName = (codes "implementation_nam", 101, refl, refl)
 name-ends ImplementationVersion = (codes "implementation_versio", 110, refl, refl)
 
-sided-ends : (name sign literal : List ℕ) → is_literal literal ≡ true → EndsWell (name ++ (sign ++ quoted literal))
-sided-ends name sign literal h = ends-behind name (sign ++ quoted literal) (ends-behind sign (quoted literal) (quoted-ends literal h))
+sided-ends : (name sign literal : List ℕ) → is_literal literal ≡ true → EndsWell (name ++ (sign ++ quoted_text literal))
+sided-ends name sign literal h = ends-behind name (sign ++ quoted_text literal) (ends-behind sign (quoted_text literal) (quoted-ends literal h))
 
-atom-ends : (kind : AtomKind) (v : Variable) (sign literal : List ℕ) → is_literal literal ≡ true → EndsWell (sides kind (variable_name v) sign (quoted literal))
-atom-ends Contains v sign literal h = ends-behind (quoted literal) (sign ++ variable_name v) (ends-behind sign (variable_name v) (name-ends v))
+atom-ends : (kind : AtomKind) (v : Variable) (sign literal : List ℕ) → is_literal literal ≡ true → EndsWell (sides kind (variable_name v) sign (quoted_text literal))
+atom-ends Contains v sign literal h = ends-behind (quoted_text literal) (sign ++ variable_name v) (ends-behind sign (variable_name v) (name-ends v))
 atom-ends Within v sign literal h = sided-ends (variable_name v) sign literal h
 atom-ends Below v sign literal h = sided-ends (variable_name v) sign literal h
 atom-ends AtMostKind v sign literal h = sided-ends (variable_name v) sign literal h

@@ -4,13 +4,13 @@ use Rattle.std.specs.Prelude.{not, codes, if◌then◌else◌}
 use Rattle.std.specs.List.{list_all, slice_split}
 use Rattle.ul_version.specs.Fields.{Fields, plain}
 use Rattle.ul_version.specs.Reading.{◌>>=◌, is_white, version_of}
-use Rattle.ul_version.proofs.Spelling.{inside}
+use Rattle.ul_version.proofs.ForCallers.{inside}
 use Rattle.ul_specifier.specs.Clauses.{ClauseFields, is_bare}
 use Rattle.ul_specifier.specs.Laws.{meets_with}
 use Rattle.ul_specifier.specs.Reading.{before_end, clause_after, clause_with, is_version_byte, may_stand, star_of, starred, stripped, unstarred, version_clause}
 use Rattle.ul_specifier.specs.declared.clause.Op.{Op}
 use Rattle.ul_specifier.specs.declared.clause.Op.TheVariants.{Equal, Unequal, AtLeast, AtMost, More, Less}
-use Rattle.ul_specifier.proofs.LawProofs as Clauses
+use Rattle.ul_specifier.proofs.ForCallers as Clauses
 use Rattle.ul_marker.specs.Atoms.{is_text}
 use Rattle.ul_marker.specs.Comparisons.{comparison_of, contained, mirrored, opaquely, parts_versions, python_full, python_sign, python_within, signed, text_sign, versions_of, within}
 use Rattle.ul_marker.specs.Formulas.{Formula, python, python_list, text}

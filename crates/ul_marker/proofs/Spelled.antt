@@ -5,8 +5,8 @@ use Rattle.std.specs.Option.{option_map_or}
 use Rattle.std.proofs.lemmas.Bool.{and_parts, cases_Bool, ne_eqb}
 use Rattle.std.proofs.lemmas.List.{append-nil, append_assoc}
 use Rattle.ul_version.specs.Reading.{is_white}
-use Rattle.ul_version.proofs.Cuts.{bind_some}
-use Rattle.ul_version.proofs.Spelling.{cond_some, inside}
+use Rattle.ul_version.proofs.ForCallers.{bind_some}
+use Rattle.ul_version.proofs.ForCallers.{cond_some, inside}
 use Rattle.ul_specifier.specs.Reading.{stripped}
 use Rattle.ul_specifier.specs.declared.clause.Op.{Op}
 use Rattle.ul_marker.specs.Comparisons.{comparison_of, contained, in_sides, is_not_in, literal_of, mirrored, signed, signed_sides, three, within}

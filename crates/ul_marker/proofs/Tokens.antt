@@ -9,8 +9,8 @@ use Rattle.std.proofs.lemmas.Bool.Decides.{nat_tests}
 use Rattle.std.proofs.lemmas.Str.{IsUtf8-from_ascii}
 use Rattle.std.proofs.lemmas.Str.Ascii.{IsAscii-from_all}
 use Rattle.ul_version.specs.Reading.{◌>>=◌, or_else}
-use Rattle.ul_version.proofs.Cuts.{bind_some}
-use Rattle.ul_version.proofs.Spelling.{cond_some, inside}
+use Rattle.ul_version.proofs.ForCallers.{bind_some}
+use Rattle.ul_version.proofs.ForCallers.{cond_some, inside}
 use Rattle.ul_specifier.specs.Reading.{after_all, after_front, after_operator, is_blank, operator}
 use Rattle.ul_specifier.specs.declared.clause.Op.{Op}
 use Rattle.ul_specifier.specs.declared.clause.Op.TheVariants.{Equal, Unequal, AtLeast, AtMost, More, Less, Compatible}

@@ -8,16 +8,16 @@ use Rattle.std.proofs.lemmas.Bool.{and_parts, and_from, cases_Bool}
 use Rattle.std.proofs.lemmas.Bool.Decides.{nat_tests}
 use Rattle.std.proofs.lemmas.List.Elements.{All-cons, All-nil}
 use Rattle.ul_base.specs.Names.{name_of, is_normal_byte}
-use Rattle.ul_base.proofs.Names.{name_is_plain, name_reads_itself}
+use Rattle.ul_base.proofs.ForCallers.{name_is_plain, name_reads_itself}
 use Rattle.ul_version.specs.Fields.{Fields, IsVersion}
 use Rattle.ul_version.specs.Reading.{is_white, or_else, version_of}
-use Rattle.ul_version.proofs.Cuts.{bind_some}
-use Rattle.ul_version.proofs.LawProofs.{versions}
-use Rattle.ul_version.proofs.Spelling.{cond_some, inside}
+use Rattle.ul_version.proofs.ForCallers.{bind_some}
+use Rattle.ul_version.proofs.ForCallers.{versions}
+use Rattle.ul_version.proofs.ForCallers.{cond_some, inside}
 use Rattle.ul_specifier.specs.Reading.{after_all, clause_with, is_blank, operator, stripped}
 use Rattle.ul_specifier.specs.declared.clause.Op.{Op}
 use Rattle.ul_specifier.specs.declared.clause.Op.TheVariants.{Equal, Unequal, AtLeast, AtMost, More, Less, Compatible}
-use Rattle.ul_specifier.proofs.Texts.{clause_with-clause}
+use Rattle.ul_specifier.proofs.ForCallers.{clause_with-clause}
 use Rattle.ul_marker.specs.Atoms.{is_implementation_version, is_literal, is_literal_byte, is_text, has_byte, may_compare}
 use Rattle.ul_marker.specs.Comparisons.{comparison_of, contained, equality, extra_literal, extra_sign, in_sides, is_not_in, literal_of, mirrored, opaquely, parts_versions, python_full, python_sign, python_within, signed, signed_sides, text_sign, three, versions_of, within}
 use Rattle.ul_marker.specs.Formulas.{AreFormulas, Formula, Formulas, IsExtraLiteral, IsFormula, extra, formulas_of, none, python, python_list}

@@ -89,6 +89,10 @@ pub record AtomFields : Type 0 where
   pub kind : AtomKind
   pub literal : List ℕ
 
+-- the atom of these
+abbrev pub atom_fields : Variable → AtomKind → List ℕ → AtomFields
+atom_fields variable kind literal = record { variable = variable; kind = kind; literal = literal }
+
 -- the place of a kind in the order of kinds
 abbrev pub kind_number : AtomKind → ℕ
 kind_number Contains = 0

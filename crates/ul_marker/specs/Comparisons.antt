@@ -105,6 +105,10 @@ abbrev pub python_within : Variable → List ℕ → Bool → Option Bool → Op
 python_within variable literal positive (Some full) = version_list literal >>= λ versions. Some (python_list full versions positive)
 python_within variable literal positive None = Some (opaquely variable Kind.Within literal positive)
 
+-- a variable in a literal
+abbrev pub variable_within : Variable → List ℕ → Bool → Option Formula
+variable_within variable literal positive = python_within variable literal positive (python_full variable)
+
 -- a variable `in` a literal, or `not in` it
 unfoldable pub within : Bool → Token → List ℕ → Option Formula
 within positive (Named variable) literal = python_within variable literal positive (python_full variable)

@@ -7,6 +7,7 @@ pub mod Parts
 pub mod PartLaws
 pub mod Printed
 pub mod PrintedPaths
+pub mod PrintedViews
 pub mod Codes
 pub mod Rising
 pub mod TruthVectors

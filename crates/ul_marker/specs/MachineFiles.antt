@@ -1,10 +1,11 @@
 -- Machine files: an object of JSON with a text for each variable of PEP 508 ("Environment Markers") but
 -- `python_version`, which `python_full_version` says.
-use Rattle.std.specs.Prelude.{◌≡◌, IfSome, MatchResult, ℕ, List, [], ◌∷◌, codes, Option, Some, None, Result, Ok, Err, string_bytes}
+use Rattle.std.specs.Prelude.{◌≡◌, IfSome, MatchResult, ℕ, List, [], ◌∷◌, codes, map, Option, Some, None, Result, Ok, Err, string_bytes}
+use Rattle.std.specs.Borrow.{Bor}
 use Rattle.std.specs.Option.{ok_or}
 use Rattle.serde_json.specs.Data.{Data}
 use Rattle.ul_marker.specs.Json.{object_of_bytes, text_at}
-use Rattle.ul_marker.specs.Machines.{MachineFields}
+use Rattle.ul_marker.specs.Machines.{MachineFields, machine_fields}
 use Rattle.ul_marker.specs.Triples.{triple_of}
 use Rattle.ul_marker.specs.declared.env_fault.EnvFault.{EnvFault}
 use Rattle.ul_marker.specs.declared.env_fault.EnvFault.TheVariants.{NotJson, Missing, PythonForm, NoMemory}
@@ -32,6 +33,10 @@ abbrev pub texts_in : List (List ℕ) → Data → Result (List (List ℕ)) Mach
 texts_in [] file = Ok []
 texts_in (key ∷ keys) file = text_in key file >>= λ text. texts_in keys file >>= λ texts. Ok (text ∷ texts)
 
+-- keys, which stand behind references
+abbrev pub keys_view : List (Bor (List ℕ)) → List (List ℕ)
+keys_view keys = map (λ key. key.now) keys
+
 -- the keys of the text variables, in their order
 abbrev pub text_keys : List (List ℕ)
 text_keys =
@@ -45,7 +50,7 @@ machine_in file =
     text_in (codes "implementation_version") file >>= λ implementation.
     text_in (codes "python_full_version") file >>= λ version.
     ok_or (triple_of version) python_form >>= λ python.
-    Ok (record { major = python.0; minor = python.1; patch = python.2; texts = texts; implementation = implementation })
+    Ok (machine_fields python texts implementation)
 
 -- the object that the bytes are
 unfoldable pub object_of : List ℕ → Result Data MachineRefusal

@@ -24,6 +24,11 @@ pub record MachineFields : Type 0 where
   pub texts : List (List ℕ)
   pub implementation : List ℕ
 
+-- the machine of these
+abbrev pub machine_fields : ℕ × ℕ × ℕ → List (List ℕ) → List ℕ → MachineFields
+machine_fields python texts implementation =
+    record { major = python.0; minor = python.1; patch = python.2; texts = texts; implementation = implementation }
+
 -- a machine: numbers below 2^32 and eight texts
 pub record IsMachine (m : MachineFields) : Type 0 where
   pub major : m.major < 2 ^ 32
@@ -34,13 +39,13 @@ pub record IsMachine (m : MachineFields) : Type 0 where
 -- ---- the texts of variables
 
 -- a number, a point and a text
-abbrev pub pointed : ℕ → List ℕ → List ℕ
-pointed n text = decimal n ++ (codes "." ++ text)
+abbrev pub before_point : ℕ → List ℕ → List ℕ
+before_point n text = decimal n ++ (codes "." ++ text)
 
 -- the text of a variable on a machine; those of Python's versions are its numbers joined by points
 abbrev pub machine_text : MachineFields → Variable → List ℕ
-machine_text m PythonVersion = pointed m.major (decimal m.minor)
-machine_text m PythonFullVersion = pointed m.major (pointed m.minor (decimal m.patch))
+machine_text m PythonVersion = before_point m.major (decimal m.minor)
+machine_text m PythonFullVersion = before_point m.major (before_point m.minor (decimal m.patch))
 machine_text m ImplementationVersion = m.implementation
 machine_text m variable = slice_index_or m.texts (text_number variable) []
 

@@ -20,8 +20,8 @@ abbrev pub quote_of : List ℕ → ℕ
 quote_of literal = if has_byte 39 literal then 34 else 39
 
 -- a literal between quotes
-abbrev pub quoted : List ℕ → List ℕ
-quoted literal = quote_of literal ∷ (literal ++ quote_of literal ∷ [])
+abbrev pub quoted_text : List ℕ → List ℕ
+quoted_text literal = quote_of literal ∷ (literal ++ quote_of literal ∷ [])
 
 -- the name of a variable
 abbrev pub variable_name : Variable → List ℕ
@@ -40,6 +40,10 @@ variable_name ImplementationVersion = codes "implementation_version"
 -- an interpreter: its three numbers joined by points
 unfoldable pub interpreter_text : ℕ → ℕ → ℕ → List ℕ
 interpreter_text major minor patch = decimal major ++ (codes "." ++ (decimal minor ++ (codes "." ++ decimal patch)))
+
+-- the same of a triple
+abbrev pub triple_text : ℕ × ℕ × ℕ → List ℕ
+triple_text triple = interpreter_text triple.0 triple.1 triple.2
 
 -- ---- signs
 
@@ -80,7 +84,7 @@ sides Same variable sign literal = variable ++ (sign ++ literal)
 
 -- an opaque comparison that holds, or that fails
 unfoldable pub atom_text : AtomFields → Bool → List ℕ
-atom_text a holds = sides a.kind (variable_name a.variable) (kind_sign a.kind holds) (quoted a.literal)
+atom_text a holds = sides a.kind (variable_name a.variable) (kind_sign a.kind holds) (quoted_text a.literal)
 
 -- a comparison that is printed: the interpreter is at least one, or below one; the extra, or a text variable, equals a
 -- literal, or doesn't; an opaque comparison holds, or fails
@@ -93,10 +97,14 @@ pub data Comparison : Type 0 where
 -- its text
 unfoldable pub comparison_text : Comparison → List ℕ
 comparison_text (bound lower major minor patch) =
-    variable_name PythonFullVersion ++ (bound_sign lower ++ quoted (interpreter_text major minor patch))
-comparison_text (extra_is literal equal) = codes "extra" ++ (equality_sign equal ++ quoted literal)
-comparison_text (text_is variable literal equal) = variable_name variable ++ (equality_sign equal ++ quoted literal)
+    variable_name PythonFullVersion ++ (bound_sign lower ++ quoted_text (interpreter_text major minor patch))
+comparison_text (extra_is literal equal) = codes "extra" ++ (equality_sign equal ++ quoted_text literal)
+comparison_text (text_is variable literal equal) = variable_name variable ++ (equality_sign equal ++ quoted_text literal)
 comparison_text (atom_is atom holds) = atom_text atom holds
+
+-- a text with a comparison written behind it
+abbrev pub IsWritten : List ℕ → Comparison → List ℕ → Type 0
+IsWritten before c after = after ≡ before ++ comparison_text c
 
 -- a comparison that a marker can have
 abbrev pub IsComparison : Comparison → Type 0

@@ -36,3 +36,7 @@ ComparisonReads = (c : Comparison) → IsComparison c → marker_of (comparison_
 -- so are printed comparisons joined by ` and ` and by ` or `
 abbrev pub PathsRead : Type 0
 PathsRead = (paths : List (List Comparison)) → 0 < length paths → All IsPath paths → marker_of (paths_text paths) ≡ Some (paths_formula paths)
+
+-- comparisons that say the same are one
+abbrev pub ComparisonsAreTold : Type 0
+ComparisonsAreTold = (c d : Comparison) → comparison_formula c ≡ comparison_formula d → c ≡ d

@@ -1,8 +1,9 @@
 -- What a reader's answer says.
-use Rattle.std.specs.Prelude.{◌≡◌, ◌++◌, ℕ, List, Option, Some, None, Result, Ok, Err, Vec}
+use Rattle.std.specs.Prelude.{◌≡◌, ◌++◌, ℕ, List, [], ◌∷◌, Option, Some, None, Result, Ok, Err, Vec}
 use Rattle.std.specs.Borrow.{Bor}
 use Rattle.ul_version.specs.Fields.{Fields}
 use Rattle.ul_version.specs.Reading.{◌>>=◌}
+use Rattle.ul_marker.specs.Comparisons.{versions_of}
 use Rattle.ul_marker.specs.Formulas.{Formula}
 use Rattle.ul_marker.specs.Reading.{marker_in}
 use Rattle.ul_marker.specs.Words.{Front}
@@ -53,6 +54,10 @@ versions_view v = v.items
 -- versions before those of a part
 abbrev pub added_versions : List Fields → Option (List Fields) → Option (List Fields)
 added_versions vs part = part >>= λ us. Some (vs ++ us)
+
+-- versions before the one of a piece, which an empty piece hasn't
+abbrev pub added_piece : List Fields → List ℕ → Option (List Fields)
+added_piece vs piece = added_versions vs (versions_of (piece ∷ []))
 
 -- formulas before those of a part
 abbrev pub added_formulas : List Formula → Option (List Formula) → Option (List Formula)

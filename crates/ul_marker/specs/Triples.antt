@@ -1,5 +1,5 @@
 -- `python_full_version` as three numbers (PEP 508, "Environment Markers").
-use Rattle.std.specs.Prelude.{ℕ, ◌^◌, ◌==◌, ◌&&◌, Bool, List, length, nat_lt, Option, Some, None, if◌then◌else◌}
+use Rattle.std.specs.Prelude.{◌≡◌, ℕ, ◌^◌, ◌==◌, ◌&&◌, Bool, List, length, nat_lt, Option, Some, None, if◌then◌else◌}
 use Rattle.std.specs.List.{before_first, after_first}
 use Rattle.std.specs.Str.{all_ascii_digits}
 use Rattle.std.specs.Str.Parse.{digits_value}
@@ -14,6 +14,10 @@ number_of digits =
 -- `.`
 abbrev pub is_point : ℕ → Bool
 is_point b = b == 46
+
+-- what stands before the first point of a text, and behind it
+abbrev pub IsPointCut : List ℕ → List ℕ → List ℕ → Type 0
+IsPointCut text before after = (before ≡ before_first is_point text) × (after ≡ after_first is_point text)
 
 -- the three numbers between the points of a text
 unfoldable pub triple_of : List ℕ → Option (ℕ × ℕ × ℕ)

@@ -2,7 +2,7 @@
 --
 -- Where PEP 508 compares texts by PEP 440 if both sides are versions, text variables are compared as texts
 -- here; and `in` with a Python variable on the left asks for a version of a list.
-use Rattle.std.specs.Prelude.{ℕ, ◌&&◌, ◌||◌, Bool, true, false, not, List, [], ◌∷◌}
+use Rattle.std.specs.Prelude.{ℕ, ◌&&◌, ◌||◌, Bool, true, false, not, List, [], ◌∷◌, slice_index}
 use Rattle.std.specs.List.{list_any}
 use Rattle.std.specs.Str.{bytes_eq}
 use Rattle.ul_base.specs.Names.{is_name}
@@ -32,6 +32,10 @@ equals_extra literal x = (is_empty literal || is_name literal) && bytes_eq liter
 abbrev pub python_numbers : Bool → ℕ → ℕ → ℕ → List ℕ
 python_numbers true major minor patch = major ∷ minor ∷ patch ∷ []
 python_numbers false major minor patch = major ∷ minor ∷ []
+
+-- of an interpreter's numbers in a list, those that `python_full_version` or `python_version` has
+abbrev pub numbers_in : Bool → List ℕ → List ℕ
+numbers_in full numbers = python_numbers full (slice_index numbers 0) (slice_index numbers 1) (slice_index numbers 2)
 
 -- the release that `python_full_version` or `python_version` is
 abbrev pub python_release : Bool → WorldFields → List ℕ

@@ -13,6 +13,10 @@ pub record WorldFields : Type 0 where
   pub texts : List (List ℕ)
   pub truths : List AtomFields
 
+-- the world of these
+abbrev pub world_fields : ℕ × ℕ × ℕ → List (List ℕ) → List AtomFields → WorldFields
+world_fields python texts truths = record { major = python.0; minor = python.1; patch = python.2; texts = texts; truths = truths }
+
 -- an atom comes after another, if there is another
 abbrev pub IsAfter : Option AtomFields → AtomFields → Type 0
 IsAfter None a = Unit {0}

@@ -2,7 +2,7 @@
 ghost use Rattle.std.specs.Prelude.{◌≡◌, IfOk, IfSome, None, string_bytes};
 ghost use Rattle.std.specs.List.{list_all};
 ghost use Rattle.ul_marker.specs.Atoms;
-ghost use Rattle.ul_marker.specs.Atoms.{IsAtom, atom_cmp};
+ghost use Rattle.ul_marker.specs.Atoms.{IsAtom, atom_cmp, atom_fields};
 
 use crate::{AtomKind, Variable};
 use std::alloc::{AllocError, Global};
@@ -23,13 +23,13 @@ pub struct Atom {
 
 impl Model for Atom {
     ghost use Rattle.std.specs.Prelude.{string_bytes};
-    ghost use Rattle.ul_marker.specs.Atoms.{AtomFields, IsAtom};
+    ghost use Rattle.ul_marker.specs.Atoms.{AtomFields, IsAtom, atom_fields};
 
     ghost Value = { AtomFields };
 
-    ghost view = { λ a. record { variable = a.variable; kind = a.kind; literal = string_bytes a.literal } };
+    ghost view = { λ a. atom_fields a.variable a.kind (string_bytes a.literal) };
 
-    ghost invariant = { λ a. IsAtom (record { variable = a.variable; kind = a.kind; literal = string_bytes a.literal }) };
+    ghost invariant = { λ a. IsAtom (atom_fields a.variable a.kind (string_bytes a.literal)) };
 }
 
 impl Atom {
@@ -38,8 +38,8 @@ impl Atom {
     /// `None` exactly where the kind doesn't stand with the variable, or the literal has another byte than those
     /// of printable ASCII without the backslash, or both quotes. It takes no memory.
     pub fn of(variable: Variable, kind: AtomKind, literal: String) -> Option<Atom>
-        ensures given { IfSome result (λ a. a ≡ record { variable = variable; kind = kind; literal = string_bytes literal }) }
-        ensures refused { result ≡ None → ¬ IsAtom (record { variable = variable; kind = kind; literal = string_bytes literal }) }
+        ensures given { IfSome result (λ a. a ≡ atom_fields variable kind (string_bytes literal)) }
+        ensures refused { result ≡ None → ¬ IsAtom (atom_fields variable kind (string_bytes literal)) }
     {
         if !may_compare(kind, variable) || !is_literal(literal.as_bytes()) {
             return None;

@@ -6,7 +6,7 @@ ghost use Rattle.ul_version.specs.Reading.{version_of};
 ghost use Rattle.ul_specifier.specs.Reading as Clauses;
 ghost use Rattle.ul_marker.specs.Atoms;
 ghost use Rattle.ul_marker.specs.Comparisons as Grammar;
-ghost use Rattle.ul_marker.specs.Readers.{added_versions, optional_bytes, versions_view, Reads};
+ghost use Rattle.ul_marker.specs.Readers.{added_piece, optional_bytes, versions_view, Reads};
 ghost use Rattle.ul_marker.specs.Views.{marker_view};
 
 use crate::words::{Literal, Token};
@@ -210,7 +210,7 @@ fn version(alloc: Global, piece: &[u8]) -> Result<Version, MarkerFault>
 
 // The version of a piece of a list, which an empty piece hasn't.
 fn add_version(alloc: Global, list: &mut Vec<Version>, piece: &[u8]) -> Result<(), MarkerFault>
-    ensures added { IfOk result (λ u. added_versions list.old.items (Grammar.versions_of (piece.now ∷ [])) ≡ Some list.new.items) }
+    ensures added { IfOk result (λ u. added_piece list.old.items piece.now ≡ Some list.new.items) }
     ensures no_reading { IfErr result (λ e. e ≡ MarkerFault.NoReading → Grammar.versions_of (piece.now ∷ []) ≡ None) }
 {
     if piece.is_empty() {
@@ -260,7 +260,7 @@ fn python_within(
     literal: &Literal,
     positive: bool,
 ) -> Result<Marker, MarkerFault>
-    ensures { Reads marker_view result (Grammar.python_within variable literal.now positive (Grammar.python_full variable)) }
+    ensures { Reads marker_view result (Grammar.variable_within variable literal.now positive) }
 {
     match python_full(variable) {
         None => opaque(alloc, variable, AtomKind::Within, literal, positive),

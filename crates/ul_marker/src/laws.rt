@@ -2,7 +2,7 @@
 
 ghost use Rattle.ul_marker.specs.MachineLaws.{PartIsBetween, TruthsIncrease, TruthsOfMachine};
 ghost use Rattle.ul_marker.specs.PartLaws.{NamesAreLiterals, TruthIsPlain};
-ghost use Rattle.ul_marker.specs.PrintedPaths.{ComparisonReads, PathsRead};
+ghost use Rattle.ul_marker.specs.PrintedPaths.{ComparisonReads, ComparisonsAreTold, PathsRead};
 ghost use Rattle.ul_marker.specs.ReadingLaws.{GroupingIsFree, MirroredIsSame, NegatedRelations, NotInIsNegation, OrderIsFree, ReadingIsGrammar, ReadIsFormula, SpelledOnce};
 ghost use Rattle.ul_marker.specs.ReadingVectors.{NoReadings, Readings};
 ghost use Rattle.ul_marker.specs.TruthVectors.{Truths};
@@ -43,10 +43,12 @@ pub fn machine_truths()
     ensures part { PartIsBetween }
 {}
 
-/// Printed comparisons, alone or joined by ` and ` and by ` or `, are read as what they say.
+/// Printed comparisons, alone or joined by ` and ` and by ` or `, are read as what they say, and those that say the
+/// same are one.
 pub fn printed_is_read()
     ensures one { ComparisonReads }
     ensures joined { PathsRead }
+    ensures told { ComparisonsAreTold }
 {}
 
 /// Worked examples of readings, and of texts without one.

@@ -6,7 +6,7 @@ ghost use Rattle.serde_json.specs.View.{view};
 ghost use Rattle.ul_marker.specs.Json.{json_of, text_at};
 ghost use Rattle.ul_marker.specs.MachineFiles as Files;
 ghost use Rattle.ul_marker.specs.MachineFiles.{machine_of, machine_in, object_of, Tells};
-ghost use Rattle.ul_marker.specs.Triples.{is_point, number_of, triple_of};
+ghost use Rattle.ul_marker.specs.Triples.{IsPointCut, is_point, number_of, triple_of};
 
 use crate::EnvFault;
 use serde_json::Value;
@@ -28,13 +28,13 @@ pub struct Machine {
 
 impl Model for Machine {
     ghost use Rattle.std.specs.Prelude.{map, string_bytes};
-    ghost use Rattle.ul_marker.specs.Machines.{MachineFields, IsMachine};
+    ghost use Rattle.ul_marker.specs.Machines.{MachineFields, IsMachine, machine_fields};
 
     ghost Value = { MachineFields };
 
-    ghost view = { λ m. record { major = m.python.0; minor = m.python.1; patch = m.python.2; texts = map string_bytes m.texts.items; implementation = string_bytes m.implementation_version } };
+    ghost view = { λ m. machine_fields m.python (map string_bytes m.texts.items) (string_bytes m.implementation_version) };
 
-    ghost invariant = { λ m. IsMachine (record { major = m.python.0; minor = m.python.1; patch = m.python.2; texts = map string_bytes m.texts.items; implementation = string_bytes m.implementation_version }) };
+    ghost invariant = { λ m. IsMachine (machine_fields m.python (map string_bytes m.texts.items) (string_bytes m.implementation_version)) };
 }
 
 impl Machine {
@@ -124,7 +124,7 @@ fn machine_texts(alloc: Global, file: &Value) -> Result<Vec<String>, EnvFault>
 
 // The texts at keys of an object, in their order.
 fn texts_in(alloc: Global, file: &Value, keys: &[&str]) -> Result<Vec<String>, EnvFault>
-    ensures texts { Tells (λ v. map string_bytes v.items) result (Files.texts_in (map (λ k. k.now) keys.now) (view file.now)) }
+    ensures texts { Tells (λ v. map string_bytes v.items) result (Files.texts_in (Files.keys_view keys.now) (view file.now)) }
     ensures each { IfOk result (λ v. length v.items ≡ length keys.now) }
 {
     let mut texts = Vec::with_capacity(alloc, keys.len())?;
@@ -164,7 +164,7 @@ fn triple(text: &str) -> Option<(u32, u32, u32)>
 
 // What stands before and after the first point of a text.
 fn at_point(text: &str) -> Option<(&str, &str)>
-    ensures parts { IfSome result (λ p. (p.0.now ≡ before_first is_point text.now) × (p.1.now ≡ after_first is_point text.now)) }
+    ensures parts { IfSome result (λ p. IsPointCut text.now p.0.now p.1.now) }
     ensures none { result ≡ None → after_first is_point text.now ≡ [] }
 {
     text.split_once('.')

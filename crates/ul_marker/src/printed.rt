@@ -1,20 +1,136 @@
 //! Comparisons as they are printed: a variable, a sign and a literal in quotes, with one space on each side of the sign
 //! (PEP 508, "Environment Markers").
-ghost use Rattle.std.specs.Prelude.{◌≡◌, ◌++◌, ◌∷◌, [], OnOk, string_bytes};
+ghost use Rattle.std.specs.Prelude.{◌≡◌, ◌≢◌, ◌++◌, ◌∷◌, [], Bool, IfSome, None, OnOk, string_bytes};
 ghost use Rattle.std.specs.Fmt.{decimal};
 ghost use Rattle.ul_marker.specs.Atoms;
+ghost use Rattle.ul_marker.specs.Formulas.{python};
 ghost use Rattle.ul_marker.specs.Printed as spec;
-ghost use Rattle.ul_marker.specs.Printed.{atom_is, atom_text, bound, comparison_text, extra_is, interpreter_text, quoted, text_is};
+ghost use Rattle.ul_marker.specs.PrintedViews.{IsNoComparison, IsNoInterpreter, comparison_view, is_plain};
+ghost use Rattle.ul_marker.specs.Views.{marker_view};
+ghost use Rattle.ul_version.specs.Fields.{plain};
+ghost use Rattle.ul_marker.specs.Printed.{IsWritten, atom_is, atom_text, bound, comparison_formula, comparison_text, extra_is, interpreter_text, quoted_text, text_is};
 
 use crate::atom::has_byte;
-use crate::{Atom, AtomKind, Variable};
+use crate::{Atom, AtomKind, Marker, Variable};
 use std::alloc::AllocError;
 use std::fmt::Write;
+use ul_specifier::{Clause, Op};
+use ul_version::Version;
+
+/// A comparison as it is printed.
+#[derive(Clone, Copy)]
+pub enum Comparison<'a> {
+    /// `python_full_version` is at least an interpreter, or else below it.
+    Bound {
+        lower: bool,
+        python: (u32, u32, u32),
+    },
+    /// The extra equals a literal, or doesn't.
+    Extra {
+        literal: &'a str,
+        equal: bool,
+    },
+    /// A text variable equals a literal, or doesn't.
+    Text {
+        variable: Variable,
+        literal: &'a str,
+        equal: bool,
+    },
+    /// An opaque comparison holds, or fails.
+    Opaque {
+        atom: &'a Atom,
+        holds: bool,
+    },
+}
+
+/// The printed comparison that says what a marker says.
+///
+/// `None` exactly where there is none: where the marker is joined of others or a list of versions, or compares a
+/// version of Python otherwise than `python_full_version` with three numbers by `>=` or `<`. It takes no memory.
+pub fn printed_comparison(marker: &Marker) -> Option<Comparison<'_>>
+    ensures found { IfSome result (λ c. comparison_formula (comparison_view c) ≡ marker_view marker.now) }
+    ensures none { result ≡ None → IsNoComparison (marker_view marker.now) }
+{
+    match marker {
+        Marker::Extra { literal, equal } => Some(Comparison::Extra {
+            literal: literal.as_str(),
+            equal: *equal,
+        }),
+        Marker::Text {
+            variable,
+            literal,
+            equal,
+        } => Some(Comparison::Text {
+            variable: *variable,
+            literal: literal.as_str(),
+            equal: *equal,
+        }),
+        Marker::Opaque { atom, positive } => Some(Comparison::Opaque {
+            atom,
+            holds: *positive,
+        }),
+        Marker::Python { full, clause } => python_comparison(*full, clause),
+        Marker::PythonList { .. } | Marker::All(_) | Marker::Any(_) => None,
+    }
+}
+
+// The printed comparison that says what a clause says of a version of Python.
+fn python_comparison(full: bool, clause: &Clause) -> Option<Comparison<'static>>
+    ensures found { IfSome result (λ c. comparison_formula (comparison_view c) ≡ python full clause.now) }
+    ensures none { result ≡ None → IsNoComparison (python full clause.now) }
+{
+    if !full || clause.prefix {
+        return None;
+    }
+    let lower = is_lower(clause.op)?;
+    let python = interpreter(&clause.version)?;
+    Some(Comparison::Bound { lower, python })
+}
+
+// Whether an operator is `>=`, or else `<`.
+fn is_lower(op: Op) -> Option<bool>
+    ensures found { IfSome result (λ lower. spec.bound_op lower ≡ op) }
+    ensures none { result ≡ None → (lower : Bool) → spec.bound_op lower ≢ op }
+{
+    match op {
+        Op::AtLeast => Some(true),
+        Op::Less => Some(false),
+        Op::Equal | Op::Unequal | Op::AtMost | Op::More | Op::Compatible => None,
+    }
+}
+
+// The interpreter that a version is: three numbers below 2^32 and nothing else.
+fn interpreter(version: &Version) -> Option<(u32, u32, u32)>
+    ensures found { IfSome result (λ p. version.now ≡ plain (p.0 ∷ p.1 ∷ p.2 ∷ [])) }
+    ensures none { result ≡ None → IsNoInterpreter version.now }
+{
+    if !is_plain(version) {
+        return None;
+    }
+    let [major, minor, patch] = version.release.as_slice() else {
+        return None;
+    };
+    let major = u32::try_from(*major).ok()?;
+    let minor = u32::try_from(*minor).ok()?;
+    let patch = u32::try_from(*patch).ok()?;
+    Some((major, minor, patch))
+}
+
+// Whether a version has a release alone.
+fn is_plain(version: &Version) -> bool
+    ensures { result ≡ is_plain version.now }
+{
+    version.epoch == 0
+        && version.pre.is_none()
+        && version.post.is_none()
+        && version.dev.is_none()
+        && version.local.as_slice().is_empty()
+}
 
 /// Writes that `python_full_version` is at least an interpreter, or below it.
 #[tactic(auto, unfolding(crate::specs::Printed::comparison_text))]
 pub fn push_bound(out: &mut String, lower: bool, python: (u32, u32, u32)) -> Result<(), AllocError>
-    ensures { OnOk result (string_bytes out.new ≡ string_bytes out.old ++ comparison_text (bound lower python.0 python.1 python.2)) }
+    ensures { OnOk result (IsWritten (string_bytes out.old) (bound lower python.0 python.1 python.2) (string_bytes out.new)) }
 {
     out.push_str(Variable::PythonFullVersion.name())?;
     out.push_str(bound_sign(lower))?;
@@ -24,7 +140,7 @@ pub fn push_bound(out: &mut String, lower: bool, python: (u32, u32, u32)) -> Res
 /// Writes that the extra equals a literal, or doesn't.
 #[tactic(auto, unfolding(crate::specs::Printed::comparison_text))]
 pub fn push_extra(out: &mut String, literal: &str, equal: bool) -> Result<(), AllocError>
-    ensures { OnOk result (string_bytes out.new ≡ string_bytes out.old ++ comparison_text (extra_is literal.now equal)) }
+    ensures { OnOk result (IsWritten (string_bytes out.old) (extra_is literal.now equal) (string_bytes out.new)) }
 {
     out.push_str("extra")?;
     out.push_str(equality_sign(equal))?;
@@ -39,7 +155,7 @@ pub fn push_text(
     literal: &str,
     equal: bool,
 ) -> Result<(), AllocError>
-    ensures { OnOk result (string_bytes out.new ≡ string_bytes out.old ++ comparison_text (text_is variable literal.now equal)) }
+    ensures { OnOk result (IsWritten (string_bytes out.old) (text_is variable literal.now equal) (string_bytes out.new)) }
 {
     out.push_str(variable.name())?;
     out.push_str(equality_sign(equal))?;
@@ -49,7 +165,7 @@ pub fn push_text(
 /// Writes that an opaque comparison holds, or fails.
 #[tactic(auto, unfolding(crate::specs::Printed::comparison_text, crate::specs::Printed::atom_text))]
 pub fn push_atom(out: &mut String, atom: &Atom, holds: bool) -> Result<(), AllocError>
-    ensures { OnOk result (string_bytes out.new ≡ string_bytes out.old ++ comparison_text (atom_is atom.now holds)) }
+    ensures { OnOk result (IsWritten (string_bytes out.old) (atom_is atom.now holds) (string_bytes out.new)) }
 {
     let literal = atom.literal.as_str();
     let name = atom.variable.name();
@@ -70,7 +186,7 @@ pub fn push_atom(out: &mut String, atom: &Atom, holds: bool) -> Result<(), Alloc
 
 /// Writes a literal between quotes: `"` where it holds `'`, else `'`.
 pub fn push_quoted(out: &mut String, literal: &str) -> Result<(), AllocError>
-    ensures { OnOk result (string_bytes out.new ≡ string_bytes out.old ++ quoted literal.now) }
+    ensures { OnOk result (string_bytes out.new ≡ string_bytes out.old ++ quoted_text literal.now) }
 {
     let quote = quote_of(literal.as_bytes());
     out.push_str(quote)?;
@@ -88,7 +204,7 @@ fn quote_of(literal: &[u8]) -> &'static str
 
 // Writes an interpreter's three numbers, joined by points, between quotes.
 fn push_quoted_interpreter(out: &mut String, python: (u32, u32, u32)) -> Result<(), AllocError>
-    ensures { OnOk result (string_bytes out.new ≡ string_bytes out.old ++ quoted (interpreter_text python.0 python.1 python.2)) }
+    ensures { OnOk result (string_bytes out.new ≡ string_bytes out.old ++ quoted_text (spec.triple_text python)) }
 {
     out.push_str("'")?;
     push_interpreter(out, python)?;
@@ -99,7 +215,7 @@ fn push_quoted_interpreter(out: &mut String, python: (u32, u32, u32)) -> Result<
 // Writes an interpreter's three numbers, joined by points.
 #[tactic(auto, unfolding(crate::specs::Printed::interpreter_text))]
 fn push_interpreter(out: &mut String, python: (u32, u32, u32)) -> Result<(), AllocError>
-    ensures { OnOk result (string_bytes out.new ≡ string_bytes out.old ++ interpreter_text python.0 python.1 python.2) }
+    ensures { OnOk result (string_bytes out.new ≡ string_bytes out.old ++ spec.triple_text python) }
 {
     push_number(out, python.0)?;
     out.push_str(".")?;

@@ -2,7 +2,7 @@
 
 ghost use Rattle.std.specs.Prelude.{◌≡◌, ◌≤◌, ◌<◌, ◌+◌, ◌^◌, [], ◌∷◌, Some, None, IfErr, IfOk, length, map, take, drop};
 ghost use Rattle.ul_marker.specs.Formulas.{IsFormula};
-ghost use Rattle.ul_marker.specs.Reading as Grammar;
+ghost use Rattle.ul_marker.specs.Reading as spec;
 ghost use Rattle.ul_marker.specs.Readers.{optional_tokens, Reads};
 ghost use Rattle.ul_marker.specs.Views.{marker_view};
 
@@ -21,7 +21,7 @@ pub enum Chain {
 
 // Whether a token stands between two parts.
 fn joins(token: &Token, kind: Chain) -> bool
-    ensures { result ≡ Grammar.joins kind token.now }
+    ensures { result ≡ spec.joins kind token.now }
 {
     match kind {
         Chain::Conjunction => matches!(token, Token::And),
@@ -32,9 +32,9 @@ fn joins(token: &Token, kind: Chain) -> bool
 // How many tokens stand before the first joining one that stands in no parentheses, or in all.
 fn part_len(tokens: &[Token], kind: Chain) -> usize
     ensures fits { result ≤ length tokens.now }
-    ensures last { length tokens.now ≤ result → Grammar.pieces_from kind 0 tokens.now ≡ tokens.now ∷ [] }
-    ensures more { result < length tokens.now → Grammar.pieces_from kind 0 tokens.now
-        ≡ take result tokens.now ∷ Grammar.pieces_from kind 0 (drop (result + 1) tokens.now) }
+    ensures last { length tokens.now ≤ result → spec.pieces_from kind 0 tokens.now ≡ tokens.now ∷ [] }
+    ensures more { result < length tokens.now → spec.pieces_from kind 0 tokens.now
+        ≡ take result tokens.now ∷ spec.pieces_from kind 0 (drop (result + 1) tokens.now) }
 {
     let mut count: usize = 0;
     for i in 0..tokens.len() {
@@ -49,26 +49,26 @@ fn part_len(tokens: &[Token], kind: Chain) -> usize
 
 // Whether a token stands between two parts, where so many parentheses are open.
 fn cuts(token: &Token, count: usize, kind: Chain) -> bool
-    ensures { result ≡ Grammar.cuts kind count token.now }
+    ensures { result ≡ spec.cuts kind count token.now }
 {
     count == 0 && joins(token, kind)
 }
 
 fn is_open(token: &Token) -> bool
-    ensures { result ≡ Grammar.is_open token.now }
+    ensures { result ≡ spec.is_open token.now }
 {
     matches!(token, Token::Open)
 }
 
 fn is_close(token: &Token) -> bool
-    ensures { result ≡ Grammar.is_close token.now }
+    ensures { result ≡ spec.is_close token.now }
 {
     matches!(token, Token::Close)
 }
 
 // The tokens between a parenthesis in front and one at the end.
 fn enclosed(tokens: &[Token]) -> Option<&[Token]>
-    ensures { optional_tokens result ≡ Grammar.enclosed tokens.now }
+    ensures { optional_tokens result ≡ spec.enclosed tokens.now }
 {
     match tokens {
         [first, inner @ .., last] => {
@@ -87,7 +87,7 @@ fn enclosed(tokens: &[Token]) -> Option<&[Token]>
 // One part is itself, two or more are joined.
 fn joined(mut parts: Vec<Marker>, kind: Chain) -> Marker
     requires { 0 < length parts.items }
-    ensures { marker_view result ≡ Grammar.joined kind (map marker_view parts.items) }
+    ensures { marker_view result ≡ spec.joined kind (map marker_view parts.items) }
 {
     if parts.len() == 1 {
         if let Some(only) = parts.pop() {
@@ -108,7 +108,7 @@ fn read_chain(
     depth: u8,
     kind: Chain,
 ) -> Result<Marker, MarkerFault>
-    ensures { Reads marker_view result (Grammar.chain_at kind depth tokens.now) }
+    ensures { Reads marker_view result (spec.chain_at kind depth tokens.now) }
 {
     let mut parts = Vec::new(alloc);
     let mut rest = tokens;
@@ -127,7 +127,7 @@ fn read_chain(
 #[cycle(reading)]
 #[tactic(auto, unfolding(crate::specs::Reading::part_at, crate::specs::Reading::chain_at))]
 fn read_part(alloc: Global, tokens: &[Token], depth: u8, kind: Chain) -> Result<Marker, MarkerFault>
-    ensures { Reads marker_view result (Grammar.part_at kind depth tokens.now) }
+    ensures { Reads marker_view result (spec.part_at kind depth tokens.now) }
 {
     match kind {
         Chain::Conjunction => read_atom(alloc, tokens, depth),
@@ -138,7 +138,7 @@ fn read_part(alloc: Global, tokens: &[Token], depth: u8, kind: Chain) -> Result<
 // A marker in parentheses, or a comparison.
 #[cycle(reading)]
 fn read_atom(alloc: Global, tokens: &[Token], depth: u8) -> Result<Marker, MarkerFault>
-    ensures { Reads marker_view result (Grammar.atom_at depth tokens.now) }
+    ensures { Reads marker_view result (spec.atom_at depth tokens.now) }
 {
     let Some(inner) = enclosed(tokens) else {
         return comparison(alloc, tokens);
@@ -166,9 +166,9 @@ impl Marker {
     /// answer exactly where the text has no reading.
     #[tactic(auto, unfolding(crate::specs::Reading::marker_of))]
     pub fn read(alloc: Global, text: &str) -> Result<Marker, MarkerFault>
-        ensures read { IfOk result (λ m. Grammar.marker_of text.now ≡ Some (marker_view m)) }
+        ensures read { IfOk result (λ m. spec.marker_of text.now ≡ Some (marker_view m)) }
         ensures valid { IfOk result (λ m. IsFormula (marker_view m)) }
-        ensures no_reading { IfErr result (λ e. e ≡ MarkerFault.NoReading → Grammar.marker_of text.now ≡ None) }
+        ensures no_reading { IfErr result (λ e. e ≡ MarkerFault.NoReading → spec.marker_of text.now ≡ None) }
     {
         let tokens = tokens(
             alloc,

@@ -1,5 +1,5 @@
 //! The truth of markers at worlds.
-ghost use Rattle.std.specs.Prelude.{◌≡◌, ◌∷◌, [], slice_index};
+ghost use Rattle.std.specs.Prelude.{◌≡◌, ◌∷◌, []};
 ghost use Rattle.ul_version.specs.Fields.{plain};
 ghost use Rattle.ul_specifier.specs.Meaning.{meets_clause};
 ghost use Rattle.ul_marker.specs.Truth;
@@ -89,7 +89,7 @@ fn numbers_of(python: (u32, u32, u32)) -> [u64; 3]
 
 // The release that `python_full_version`, or else `python_version`, is.
 fn release_of(full: bool, numbers: &[u64; 3]) -> &[u64]
-    ensures { result.now ≡ python_numbers full (slice_index numbers.now 0) (slice_index numbers.now 1) (slice_index numbers.now 2) }
+    ensures { result.now ≡ Truth.numbers_in full numbers.now }
 {
     if full { numbers } else { &numbers[..2] }
 }

@@ -6,7 +6,7 @@ ghost use Rattle.ul_marker.specs.Atoms.{IsAtom, atom_cmp, has_atom};
 ghost use Rattle.ul_marker.specs.Machines.{put_atom};
 ghost use Rattle.ul_marker.specs.Rising;
 ghost use Rattle.ul_marker.specs.Rising.{IsPlace};
-ghost use Rattle.ul_marker.specs.Worlds.{Rise, text_at};
+ghost use Rattle.ul_marker.specs.Worlds.{Rise, text_at, world_fields};
 
 use crate::{Atom, Variable};
 use std::alloc::{AllocError, Global};
@@ -27,13 +27,13 @@ pub struct World {
 
 impl Model for World {
     ghost use Rattle.std.specs.Prelude.{map, string_bytes};
-    ghost use Rattle.ul_marker.specs.Worlds.{WorldFields, IsWorld};
+    ghost use Rattle.ul_marker.specs.Worlds.{WorldFields, IsWorld, world_fields};
 
     ghost Value = { WorldFields };
 
-    ghost view = { λ w. record { major = w.python.0; minor = w.python.1; patch = w.python.2; texts = map string_bytes w.texts.items; truths = w.truths.items } };
+    ghost view = { λ w. world_fields w.python (map string_bytes w.texts.items) w.truths.items };
 
-    ghost invariant = { λ w. IsWorld (record { major = w.python.0; minor = w.python.1; patch = w.python.2; texts = map string_bytes w.texts.items; truths = w.truths.items }) };
+    ghost invariant = { λ w. IsWorld (world_fields w.python (map string_bytes w.texts.items) w.truths.items) };
 }
 
 impl World {
@@ -43,7 +43,7 @@ impl World {
     /// `None` exactly where there aren't eight texts, or the comparisons don't stand in increasing order, each
     /// once. It takes no memory.
     pub fn of(python: (u32, u32, u32), texts: Vec<String>, truths: Vec<Atom>) -> Option<World>
-        ensures given { IfSome result (λ w. w ≡ record { major = python.0; minor = python.1; patch = python.2; texts = map string_bytes texts.items; truths = truths.items }) }
+        ensures given { IfSome result (λ w. w ≡ world_fields python (map string_bytes texts.items) truths.items) }
         ensures refused { result ≡ None → vec_len texts ≡ 8 → ¬ Rise None truths.items }
     {
         if texts.len() != 8 || !rises(&truths) {

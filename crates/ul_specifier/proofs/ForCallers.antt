@@ -7,3 +7,7 @@ pub use Rattle.ul_specifier.proofs.Spelled.{all-joined, all-weaker, end-dropped,
 pub use Rattle.ul_specifier.proofs.Texts.{before_all-kept}
 -- each clause is read from its text
 pub use Rattle.ul_specifier.proofs.EachRead.{clause-read, clause_operand, clauses-read, clauses_text, operand_text}
+-- what is read is a clause, and a length that isn't 0 is more
+pub use Rattle.ul_specifier.proofs.Texts.{clause_with-clause, not_empty}
+-- `!=`, `<` and `>` beside `==`, `>=` and `<=`
+pub use Rattle.ul_specifier.proofs.LawProofs.{unequal, less, more}

@@ -48,6 +48,10 @@ abbrev pub matches : Fields → Bool → Fields → Bool
 matches V true c = begins_as V c
 matches V false c = equals V c
 
+-- the clause `==V`, without `.*`
+abbrev pub equal_clause : Fields → ClauseFields
+equal_clause V = record { op = Equal; version = V; prefix = false }
+
 -- the table of PEP 440: for each operator, which c it admits beside V, with and without `.*`
 abbrev pub meets_op : Op → Fields → Bool → Fields → Bool
 meets_op Equal V prefix c = matches V prefix c

@@ -2,8 +2,9 @@
 -- part, and whether it has a local part.
 use Rattle.std.specs.Prelude.{◌&&◌, ◌||◌, Bool, true, false, not}
 use Rattle.std.specs.Ordering.{is_lt, is_gt, is_eq}
-use Rattle.ul_version.specs.Fields.{Fields, is_pre_of, is_post_of}
+use Rattle.ul_version.specs.Fields.{Fields, is_pre_of, is_post_of, without_local}
 use Rattle.ul_version.specs.Order.{version_cmp}
+use Rattle.ul_specifier.specs.Clauses.{ClauseFields}
 use Rattle.ul_specifier.specs.Meaning.{begins_as, is_of_release, series}
 use Rattle.ul_specifier.specs.declared.clause.Op.{Op}
 use Rattle.ul_specifier.specs.declared.clause.Op.TheVariants.{Equal, Unequal, AtLeast, AtMost, More, Less, Compatible}
@@ -30,6 +31,10 @@ public_op AtMost prefix V p local = not (is_gt (version_cmp p V))
 public_op More prefix V p local = public_more V p local
 public_op Less prefix V p local = public_less V p
 public_op Compatible prefix V p local = not (is_lt (version_cmp p V)) && begins_as (series V) p
+
+-- the same of a clause whose version has no local part
+abbrev pub public_meets : ClauseFields → Fields → Bool → Bool
+public_meets s p local = public_op s.op s.prefix (without_local s.version) p local
 
 -- a clause whose version has a local part asks with `!=` whether a version isn't its own, and else whether
 -- it is

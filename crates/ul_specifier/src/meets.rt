@@ -1,10 +1,10 @@
 //! Which versions meet a clause.
 
 ghost use Rattle.std.specs.Prelude.{◌≡◌, ◌<◌, false, length};
-ghost use Rattle.ul_version.specs.Fields.{plain, without_local};
+ghost use Rattle.ul_version.specs.Fields.{plain};
 ghost use Rattle.ul_specifier.specs.Meaning;
-ghost use Rattle.ul_specifier.specs.Meaning.{begins_as, meets_clause, meets_list, names_pre_of, pins_clause, pins_of, series};
-ghost use Rattle.ul_specifier.specs.Public.{own_op, public_less, public_matches, public_more, public_op};
+ghost use Rattle.ul_specifier.specs.Meaning.{begins_as, equal_clause, meets_clause, meets_list, names_pre_of, pins_clause, pins_of, series};
+ghost use Rattle.ul_specifier.specs.Public.{own_op, public_less, public_matches, public_meets, public_more};
 
 use crate::local::has_local;
 use crate::{Clause, Op, Specifiers};
@@ -25,13 +25,13 @@ impl Clause {
     }
 
     /// Whether a version meets the clause.
-    pub fn meets(&self, v: &Version) -> bool
-        ensures { result ≡ meets_clause self.now v.now }
+    pub fn meets(&self, version: &Version) -> bool
+        ensures { result ≡ meets_clause self.now version.now }
     {
         if has_local(&self.version) {
-            return self.meets_own(v.cmp(&self.version).is_eq());
+            return self.meets_own(version.cmp(&self.version).is_eq());
         }
-        meets_public(self, &Public::of(v), has_local(v))
+        meets_public(self, &Public::of(version), has_local(version))
     }
 
     // Whether a clause with a local part is met by a version that is the clause's own, or isn't.
@@ -45,10 +45,10 @@ impl Clause {
     }
 
     // Whether this is `==V` without `.*`, with V equal to the version.
-    fn is_pin(&self, v: &Version) -> bool
-        ensures { result ≡ pins_clause v.now self.now }
+    fn is_pin(&self, version: &Version) -> bool
+        ensures { result ≡ pins_clause version.now self.now }
     {
-        matches!(self.op, Op::Equal) && !self.prefix && self.version.cmp(v).is_eq()
+        matches!(self.op, Op::Equal) && !self.prefix && self.version.cmp(version).is_eq()
     }
 }
 
@@ -56,7 +56,7 @@ impl Clause {
 ///
 /// It takes no memory. No such version equals a V with a local part.
 pub fn equals_plain(version: &Version, release: &[u64]) -> bool
-    ensures { result ≡ meets_clause (record { op = Op.Equal; version = version.now; prefix = false }) (plain release.now) }
+    ensures { result ≡ meets_clause (equal_clause version.now) (plain release.now) }
 {
     !has_local(version) && Public::plain(release).cmp(&Public::of(version)).is_eq()
 }
@@ -64,7 +64,7 @@ pub fn equals_plain(version: &Version, release: &[u64]) -> bool
 // Whether a version meets a clause whose version has no local part, by the candidate's public part and
 // whether it has a local part.
 fn meets_public(clause: &Clause, candidate: &Public, local: bool) -> bool
-    ensures { result ≡ public_op clause.now.op clause.now.prefix (without_local clause.now.version) candidate.now local }
+    ensures { result ≡ public_meets clause.now candidate.now local }
 {
     let version = Public::of(&clause.version);
     match clause.op {
@@ -122,11 +122,11 @@ fn is_of_series(version: &Public, candidate: &Public) -> bool
 
 impl Specifiers {
     /// Whether a version meets every clause.
-    pub fn meets(&self, v: &Version) -> bool
-        ensures { result ≡ meets_list self.now v.now }
+    pub fn meets(&self, version: &Version) -> bool
+        ensures { result ≡ meets_list self.now version.now }
     {
         for clause in &self.clauses {
-            if !clause.meets(v) {
+            if !clause.meets(version) {
                 return false;
             }
         }
@@ -146,11 +146,11 @@ impl Specifiers {
     }
 
     /// Whether some clause is `==V` without `.*`, with V equal to the version.
-    pub fn pins(&self, v: &Version) -> bool
-        ensures { result ≡ pins_of self.now v.now }
+    pub fn pins(&self, version: &Version) -> bool
+        ensures { result ≡ pins_of self.now version.now }
     {
         for clause in &self.clauses {
-            if clause.is_pin(v) {
+            if clause.is_pin(version) {
                 return true;
             }
         }

@@ -5,7 +5,7 @@ ghost use Rattle.std.specs.List.{list_all, slice_split};
 ghost use Rattle.ul_version.specs.Reading as Versions;
 ghost use Rattle.ul_specifier.specs.Clauses;
 ghost use Rattle.ul_specifier.specs.Clauses.{IsClause};
-ghost use Rattle.ul_specifier.specs.Reading as Grammar;
+ghost use Rattle.ul_specifier.specs.Reading as spec;
 ghost use Rattle.ul_specifier.specs.Views.{clauses_view, operator_view, rest_view, space, Reads};
 
 use crate::local::has_local;
@@ -25,7 +25,7 @@ const COMMA: Only = Only { byte: b',' };
 /// White space is space and tab where `inside`, as inside a text, and else each byte of ASCII that is white
 /// space (space, and 9 to 13), as at the ends of a text.
 pub fn after_space(input: &[u8], inside: bool) -> &[u8]
-    ensures { result.now ≡ Grammar.after_all (space inside) input.now }
+    ensures { result.now ≡ spec.after_all (space inside) input.now }
 {
     if inside {
         after_run(&Blank, input)
@@ -36,7 +36,7 @@ pub fn after_space(input: &[u8], inside: bool) -> &[u8]
 
 /// The text without the white space at its end, which is as for `after_space`.
 pub fn before_space(input: &[u8], inside: bool) -> &[u8]
-    ensures { result.now ≡ Grammar.before_all (space inside) input.now }
+    ensures { result.now ≡ spec.before_all (space inside) input.now }
 {
     if inside {
         before_run(&Blank, input)
@@ -50,7 +50,7 @@ pub fn before_space(input: &[u8], inside: bool) -> &[u8]
 /// `None` exactly where no operator of PEP 440 stands there; `===` isn't one here.
 #[tactic(auto, unfolding(crate::specs::Reading::operator))]
 pub fn operator(input: &[u8]) -> Option<(Op, &[u8])>
-    ensures { operator_view result ≡ Grammar.operator input.now }
+    ensures { operator_view result ≡ spec.operator input.now }
 {
     if let Some(rest) = after_word(input, b"==") {
         return Some((Op::Equal, rest));
@@ -104,7 +104,7 @@ fn version(alloc: Global, text: &[u8]) -> Result<Version, SpecFault>
 
 // What `.*` says with an operator: whether the clause asks for the front of a release.
 fn star_of(op: Op) -> Option<bool>
-    ensures { result ≡ Grammar.star_of op }
+    ensures { result ≡ spec.star_of op }
 {
     match op {
         Op::Equal | Op::Unequal => Some(true),
@@ -116,7 +116,7 @@ fn star_of(op: Op) -> Option<bool>
 // The clause of a version before `.*`.
 #[tactic(auto, unfolding(crate::specs::Reading::starred))]
 fn starred(op: Op, version: Version) -> Result<Clause, SpecFault>
-    ensures { Reads (λ c. c) result (Grammar.starred op version) }
+    ensures { Reads (λ c. c) result (spec.starred op version) }
 {
     let Some(prefix) = star_of(op) else {
         return Err(SpecFault::NoReading);
@@ -134,7 +134,7 @@ fn starred(op: Op, version: Version) -> Result<Clause, SpecFault>
 // The clause of a version without `.*`.
 #[tactic(auto, unfolding(crate::specs::Reading::unstarred))]
 fn unstarred(op: Op, version: Version) -> Result<Clause, SpecFault>
-    ensures { Reads (λ c. c) result (Grammar.unstarred op version) }
+    ensures { Reads (λ c. c) result (spec.unstarred op version) }
 {
     if !may_stand(op, &version) {
         return Err(SpecFault::NoReading);
@@ -156,7 +156,7 @@ fn is_bare(version: &Version) -> bool
 
 // Whether a version may stand with an operator without `.*`.
 fn may_stand(op: Op, version: &Version) -> bool
-    ensures { result ≡ Grammar.may_stand op version.now }
+    ensures { result ≡ spec.may_stand op version.now }
 {
     match op {
         Op::Equal | Op::Unequal => true,
@@ -168,7 +168,7 @@ fn may_stand(op: Op, version: &Version) -> bool
 // The clause of an operator and the text after it.
 #[tactic(auto, unfolding(crate::specs::Reading::clause_after))]
 fn clause_after(alloc: Global, op: Op, text: &[u8]) -> Result<Clause, SpecFault>
-    ensures { Reads (λ c. c) result (Grammar.clause_after op text.now) }
+    ensures { Reads (λ c. c) result (spec.clause_after op text.now) }
 {
     if !is_run(&VersionByte, text) {
         return Err(SpecFault::NoReading);
@@ -182,7 +182,7 @@ fn clause_after(alloc: Global, op: Op, text: &[u8]) -> Result<Clause, SpecFault>
 // One clause of a list.
 #[tactic(auto, unfolding(crate::specs::Reading::clause_of))]
 fn clause(alloc: Global, text: &[u8]) -> Result<Clause, SpecFault>
-    ensures { Reads (λ c. c) result (Grammar.clause_of text.now) }
+    ensures { Reads (λ c. c) result (spec.clause_of text.now) }
 {
     let Some((op, rest)) = operator(before_space(after_space(text, true), true)) else {
         return Err(SpecFault::NoReading);
@@ -192,7 +192,7 @@ fn clause(alloc: Global, text: &[u8]) -> Result<Clause, SpecFault>
 
 // The clauses of a list, between its commas.
 fn clauses(alloc: Global, input: &[u8]) -> Result<Vec<Clause>, SpecFault>
-    ensures { Reads clauses_view result (Grammar.clauses_of (Grammar.listed (slice_split Grammar.is_comma input.now))) }
+    ensures { Reads clauses_view result (spec.clauses_of (spec.listed (slice_split spec.is_comma input.now))) }
 {
     let mut list = Vec::new(alloc);
     let mut rest = input;
@@ -216,14 +216,14 @@ impl Clause {
     /// `.*`. A local part may stand with `==` and `!=` alone, without `.*`, and `~=` needs two release
     /// numbers. `NoReading` is the answer exactly where the text has no reading.
     #[tactic(auto, unfolding(crate::specs::Reading::clause_with))]
-    pub fn read(alloc: Global, op: Op, text: &str) -> Result<Clause, SpecFault>
-        ensures read { IfOk result (λ c. Grammar.clause_with op text.now ≡ Some c) }
+    pub fn read(alloc: Global, sign: Op, text: &str) -> Result<Clause, SpecFault>
+        ensures read { IfOk result (λ c. spec.clause_with sign text.now ≡ Some c) }
         ensures valid { IfOk result IsClause }
-        ensures no_reading { IfErr result (λ e. e ≡ SpecFault.NoReading → Grammar.clause_with op text.now ≡ None) }
+        ensures no_reading { IfErr result (λ e. e ≡ SpecFault.NoReading → spec.clause_with sign text.now ≡ None) }
     {
         clause_after(
             alloc,
-            op,
+            sign,
             before_space(after_space(text.as_bytes(), false), false),
         )
     }
@@ -238,9 +238,9 @@ impl Specifiers {
     /// operator. `NoReading` is the answer exactly where the text has no reading.
     #[tactic(auto, unfolding(crate::specs::Reading::specifiers_of))]
     pub fn read(alloc: Global, text: &str) -> Result<Specifiers, SpecFault>
-        ensures read { IfOk result (λ s. Grammar.specifiers_of text.now ≡ Some s) }
+        ensures read { IfOk result (λ s. spec.specifiers_of text.now ≡ Some s) }
         ensures valid { IfOk result (λ s. All IsClause s) }
-        ensures no_reading { IfErr result (λ e. e ≡ SpecFault.NoReading → Grammar.specifiers_of text.now ≡ None) }
+        ensures no_reading { IfErr result (λ e. e ≡ SpecFault.NoReading → spec.specifiers_of text.now ≡ None) }
     {
         let clauses = clauses(
             alloc,

@@ -3,7 +3,7 @@ use Rattle.ul_version.specs.Reading.{version_of}
 use Rattle.std.proofs.Common.{sym, length}
 use Rattle.std.proofs.lemmas.Bool.{eqb-true}
 use Rattle.std.proofs.lemmas.Result.{err_from_is_err_and}
-use Rattle.ul_specifier.proofs.Texts.{not_empty}
+use Rattle.ul_specifier.proofs.ForCallers.{not_empty}
 use Rattle.ul_marker.proofs.Listed.{empty-added, one-added, one-none}
 use Rattle.ul_marker.proofs.Refusals.{Reads-none}
 use Rattle.ul_marker.proofs.comparison.add_version.Goals as goal

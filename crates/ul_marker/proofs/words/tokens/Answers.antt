@@ -2,7 +2,7 @@ use Rattle.std.proofs.Common.{◌≡◌, ◌++◌, ◌∷◌, [], List, refl, sy
 use Rattle.std.proofs.lemmas.Bool.{eqb-true}
 use Rattle.std.proofs.lemmas.Result.{err_from_is_err_and}
 use Rattle.ul_specifier.specs.Reading.{after_all, is_blank}
-use Rattle.ul_specifier.proofs.Texts.{not_empty}
+use Rattle.ul_specifier.proofs.ForCallers.{not_empty}
 use Rattle.ul_marker.proofs.Depths.{deep-none, level-push, level_after}
 use Rattle.ul_marker.proofs.Refusals.{tokens-refused}
 use Rattle.ul_marker.proofs.Tokens.{onto, onto-end, onto-next, onto-none, tokens-shorter}
