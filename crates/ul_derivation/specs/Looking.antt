@@ -35,3 +35,7 @@ pub record IsSaid (p : Plain) (step : Step) (terms : List Term) : Type 0 where
 -- both lists have a term on the node, and the terms are their resolvent on it
 abbrev pub AreCut : ℕ → List Term → List Term → List Term → Type 0
 AreCut m left right ts = HasTermOn m left × HasTermOn m right × IsResolvent m left right ts
+
+-- the terms are the resolvent on a node of what two steps say, each of which has a term on it
+abbrev pub AreCutOf : Plain → Step → Step → ℕ → List Term → Type 0
+AreCutOf p left right m ts = AreCut m (says p left) (says p right) ts

@@ -4,7 +4,7 @@ ghost use Rattle.std.specs.Option.{option_copied};
 ghost use Rattle.ul_problem.specs.Plain.{size_of};
 ghost use Rattle.ul_problem.specs.Terms.{IsOrdered};
 ghost use Rattle.ul_problem.specs.Steps.{AreOfOne, AreRightAfter, AreTermsOf, HasNeed, HasTermOn, IsResolvent, IsRight, IsRightBase, IsCutOf, IsStepWithin, IsRightNeed, IsRightPython, says, step_of};
-ghost use Rattle.ul_derivation.specs.Looking.{AreCut, AreNeedsOfSize, HaveNeed, IsSaid, said_or};
+ghost use Rattle.ul_derivation.specs.Looking.{AreCut, AreCutOf, AreNeedsOfSize, HaveNeed, IsSaid, said_or};
 
 use crate::index::{Entry, Index};
 use std::alloc::{AllocError, Global};
@@ -212,7 +212,7 @@ fn is_cut_of(
 ) -> Result<bool, AllocError>
     requires left { IsStepWithin problem.now left.now }
     requires right { IsStepWithin problem.now right.now }
-    ensures { IfOk result (λ b. IsTrue b ↔ AreCut node (says problem.now left.now) (says problem.now right.now) terms.now) }
+    ensures { IfOk result (λ b. IsTrue b ↔ AreCutOf problem.now left.now right.now node terms.now) }
 {
     let made_left = made(alloc, problem, left)?;
     let made_right = made(alloc, problem, right)?;

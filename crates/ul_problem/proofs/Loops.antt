@@ -10,7 +10,7 @@ use Rattle.std.proofs.lemmas.List.{get_or-replicate, get_or_past, length-replica
 use Rattle.std.proofs.lemmas.Bool.{cases_lt}
 use Rattle.std.specs.Prelude.{IsTrue, ◌↔◌, IfOk, Result, Ok, Err, All, Contains, replicate}
 use Rattle.ul_ranges.specs.Flags.{has, set_of}
-use Rattle.ul_ranges.proofs.FlagLaws.{set_members, same_sets, length-set_of}
+use Rattle.ul_ranges.proofs.ForCallers.{set_members, same_sets, length-set_of}
 use Rattle.ul_version.specs.Fields.{Fields}
 use Rattle.ul_problem.specs.Problems.{AllAre, AreNeeds, AreNeedsAfter, HasBase, IsNeedAfter, IsNodeOf, IsOrderOf, Increases, VersionBefore}
 use Rattle.ul_problem.specs.declared.problem.Need.{Need}

@@ -5,7 +5,7 @@ use Rattle.ul_ranges.specs.Flags.{has, both, less, is_blank}
 use Rattle.ul_problem.specs.Terms.{Tells, Denies, relation_of, relation_from_of, IsTold}
 use Rattle.ul_problem.specs.declared.term.Term.{Term}
 use Rattle.ul_problem.specs.declared.term.Term.TheVariants.{In, NotIn}
-use Rattle.ul_ranges.proofs.FlagLaws.{has-both, has-less, blank_none, blank_some}
+use Rattle.ul_ranges.proofs.ForCallers.{has-both, has-less, blank_none, blank_some}
 
 -- a test that is true exactly where a fact holds
 abbrev IsTest : Bool → Type 0 → Type 0

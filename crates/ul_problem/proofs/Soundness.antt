@@ -14,7 +14,7 @@ use Rattle.ul_problem.specs.declared.term.Term.{Term}
 use Rattle.ul_problem.specs.declared.term.Term.TheVariants.{In, NotIn}
 use Rattle.ul_problem.specs.declared.step.Step.{Step}
 use Rattle.ul_problem.specs.declared.step.Step.TheVariants.{Need as NeedStep, Python, Base, Cut}
-use Rattle.ul_ranges.proofs.FlagLaws.{blank_some}
+use Rattle.ul_ranges.proofs.ForCallers.{blank_some}
 use Rattle.ul_problem.proofs.TermLaws.{allows-meet, allows-join, may_hold-written, all_at, all_from, met_parts, and_left', and_right', and_both}
 
 or_parts : (x y : Bool) → cond x true y ≡ true → (x ≡ true) ⊎ (y ≡ true)

@@ -2,7 +2,7 @@
 use Rattle.std.proofs.Common.{◌≡◌, ℕ, List, [], ◌∷◌, Bool, true, false, cond, not, Option, Some, None, refl, ap, ◌∙◌, sym, ◌<◌, ◌≤◌, arith, nat_eq, eq-eqb, subst}
 use Rattle.std.proofs.lemmas.Bool.{eqb-true}
 use Rattle.ul_ranges.specs.Flags.{has, is_blank}
-use Rattle.ul_ranges.proofs.FlagLaws.{has-both, has-either, has-less, blank_none}
+use Rattle.ul_ranges.proofs.ForCallers.{has-both, has-either, has-less, blank_none}
 use Rattle.ul_problem.specs.Terms.{Selection, is_among, node_of, allows, holds, all_hold, meet_of, join_of, negation, term_on, may_hold, IsOrdered, IsOrderedFrom}
 use Rattle.ul_problem.specs.Steps.{written, met_terms}
 use Rattle.ul_problem.specs.declared.term.Term.{Term}

@@ -3,7 +3,7 @@ use Rattle.std.proofs.Common.{◌≡◌, ℕ, zero, suc, List, [], ◌∷◌, �
 use Rattle.std.proofs.lemmas.Bool.{eqb-true, ltb-false}
 use Rattle.std.proofs.lemmas.Option.{none-some, same_Some}
 use Rattle.ul_ranges.specs.Flags.{is_blank}
-use Rattle.ul_ranges.proofs.FlagLaws.{length-both, length-either, length-less}
+use Rattle.ul_ranges.proofs.ForCallers.{length-both, length-either, length-less}
 use Rattle.ul_problem.specs.Terms.{node_of, set_of, meet_of, join_of, term_on, IsOrdered, IsOrderedFrom}
 use Rattle.ul_problem.specs.Plain.{Plain, size_of, base_of}
 use Rattle.ul_problem.specs.Problems.{IsWellFormed}

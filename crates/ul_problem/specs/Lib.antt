@@ -9,3 +9,4 @@ pub mod Best
 pub mod Laws
 pub mod Marks
 pub mod Turns
+pub mod Examples

@@ -1,5 +1,6 @@
 //! Worked examples of the definitions. None of these functions does anything.
 ghost use Rattle.std.specs.Prelude.{◌≡◌, [], ◌∷◌, true, false, Some, None};
+ghost use Rattle.ul_problem.specs.Examples.{all_three, first_alone, first_and_third, first_two, last_two, second_alone, third_alone};
 ghost use Rattle.ul_problem.specs.Terms.{allows, meet_of, join_of, relation_of};
 ghost use Rattle.ul_problem.specs.Steps.{pair_of, resolved};
 ghost use Rattle.ul_problem.specs.Best.{first_open, version_in};
@@ -8,14 +9,14 @@ ghost use Rattle.ul_problem.specs.declared.term.Relation.TheVariants.{Holds, Fai
 
 /// Terms on node 4, which has three versions.
 pub fn terms()
-    ensures in_and_in { meet_of (In 4 (true ∷ true ∷ false ∷ [])) (In 4 (false ∷ true ∷ true ∷ [])) ≡ In 4 (false ∷ true ∷ false ∷ []) }
-    ensures in_and_not { meet_of (In 4 (true ∷ true ∷ false ∷ [])) (NotIn 4 (false ∷ true ∷ true ∷ [])) ≡ In 4 (true ∷ false ∷ false ∷ []) }
-    ensures not_and_not { meet_of (NotIn 4 (true ∷ true ∷ false ∷ [])) (NotIn 4 (false ∷ true ∷ true ∷ [])) ≡ NotIn 4 (true ∷ true ∷ true ∷ []) }
-    ensures in_or_in { join_of (In 4 (true ∷ false ∷ false ∷ [])) (In 4 (false ∷ false ∷ true ∷ [])) ≡ In 4 (true ∷ false ∷ true ∷ []) }
-    ensures in_or_not { join_of (In 4 (true ∷ false ∷ false ∷ [])) (NotIn 4 (true ∷ true ∷ false ∷ [])) ≡ NotIn 4 (false ∷ true ∷ false ∷ []) }
-    ensures not_or_not { join_of (NotIn 4 (true ∷ true ∷ false ∷ [])) (NotIn 4 (false ∷ true ∷ true ∷ [])) ≡ NotIn 4 (false ∷ true ∷ false ∷ []) }
-    ensures absent { allows (NotIn 4 (true ∷ true ∷ true ∷ [])) None ≡ true }
-    ensures present { allows (NotIn 4 (true ∷ false ∷ true ∷ [])) (Some 2) ≡ false }
+    ensures in_and_in { meet_of (In 4 first_two) (In 4 last_two) ≡ In 4 second_alone }
+    ensures in_and_not { meet_of (In 4 first_two) (NotIn 4 last_two) ≡ In 4 first_alone }
+    ensures not_and_not { meet_of (NotIn 4 first_two) (NotIn 4 last_two) ≡ NotIn 4 all_three }
+    ensures in_or_in { join_of (In 4 first_alone) (In 4 third_alone) ≡ In 4 first_and_third }
+    ensures in_or_not { join_of (In 4 first_alone) (NotIn 4 first_two) ≡ NotIn 4 second_alone }
+    ensures not_or_not { join_of (NotIn 4 first_two) (NotIn 4 last_two) ≡ NotIn 4 second_alone }
+    ensures absent { allows (NotIn 4 all_three) None ≡ true }
+    ensures present { allows (NotIn 4 first_and_third) (Some 2) ≡ false }
 {}
 
 /// What a known term tells: {1} of {1, 2}, {1} of {2}, {1, 2} of {2}, `not {1, 2}` of `not {1}`, and {} of anything.
@@ -30,7 +31,8 @@ pub fn relations()
 
 /// What a need says: in the order of nodes, without `not n {}`, and met where the two nodes are one.
 pub fn pairs()
-    ensures ahead { pair_of (In 0 (true ∷ [])) (NotIn 1 (true ∷ false ∷ [])) ≡ In 0 (true ∷ []) ∷ NotIn 1 (true ∷ false ∷ []) ∷ [] }
+    ensures ahead { pair_of (In 0 (true ∷ [])) (NotIn 1 (true ∷ false ∷ []))
+        ≡ In 0 (true ∷ []) ∷ NotIn 1 (true ∷ false ∷ []) ∷ [] }
     ensures behind { pair_of (In 3 (true ∷ [])) (NotIn 1 (true ∷ [])) ≡ NotIn 1 (true ∷ []) ∷ In 3 (true ∷ []) ∷ [] }
     ensures dropped { pair_of (In 0 (true ∷ [])) (NotIn 1 (false ∷ false ∷ [])) ≡ In 0 (true ∷ []) ∷ [] }
     ensures met { pair_of (In 2 (true ∷ true ∷ [])) (NotIn 2 (true ∷ false ∷ [])) ≡ In 2 (false ∷ true ∷ []) ∷ [] }

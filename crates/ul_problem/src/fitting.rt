@@ -4,7 +4,6 @@ ghost use Rattle.ul_problem.specs.Marks.{AreMarked, HasNoMark, IsNeedMarked};
 ghost use Rattle.ul_problem.specs.Plain.{base_in, size_in};
 ghost use Rattle.ul_problem.specs.Problems.{AllAre, AreNeeds, AreOneBase, HasBase, Increases, IsBaseOf, IsExtraOf, IsNodeOf, IsOrderOf, IsSingle, IsWellFormed, NodeBefore, PlaceBefore, VersionBefore};
 
-use crate::equality::same_versions;
 use crate::problem::{Need, NeedRow, NodeFacts, Problem};
 use std::alloc::{AllocError, Global};
 use std::cmp::Ordering;
@@ -122,6 +121,20 @@ fn has_base(nodes: &[NodeFacts], facts: &NodeFacts) -> bool
         },
         _ => false,
     }
+}
+
+fn same_versions(versions: &[Version], others: &[Version]) -> bool
+    ensures { IsTrue result ↔ (versions.now ≡ others.now) }
+{
+    if versions.len() != others.len() {
+        return false;
+    }
+    for k in 0..versions.len() {
+        if !versions[k].same(&others[k]) {
+            return false;
+        }
+    }
+    true
 }
 
 fn is_base_of(base: &NodeFacts, facts: &NodeFacts) -> bool

@@ -1,7 +1,6 @@
 //! A problem of a region, its terms, its steps and its best selection, as plain data.
 #![tactic(auto)]
 
-mod equality;
 pub mod examples;
 mod finding;
 mod fitting;

@@ -2,7 +2,7 @@ use Rattle.std.proofs.Common.{arith, refl, sym, ap, ◌∙◌, ◌+◌, ◌-◌,
 use Rattle.std.proofs.lemmas.Option.{slice_get_read}
 use Rattle.ul_base.specs.Nodes.{node_cmp}
 use Rattle.ul_problem.specs.declared.problem.NodeFacts.{NodeFacts}
-use Rattle.ul_base.proofs.Nodes.{node_cmp_same}
+use Rattle.ul_base.proofs.ForCallers.{node_cmp_same}
 use Rattle.ul_problem.proofs.Halving.{halves_up, halves_down, halves_end}
 use Rattle.ul_problem.proofs.finding.place_in.Goals as goal
 

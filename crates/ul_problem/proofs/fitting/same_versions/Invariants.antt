@@ -1,5 +1,5 @@
 use Rattle.std.proofs.Common.{◌≡◌, take}
-use Rattle.ul_problem.proofs.equality.same_versions.Given as goal
+use Rattle.ul_problem.proofs.fitting.same_versions.Given as goal
 
 abbrev pub invariant-loop-k : goal.invariant-loop-k
 invariant-loop-k l = take l.k l.versions ≡ take l.k l.others
