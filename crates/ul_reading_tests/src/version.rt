@@ -246,6 +246,36 @@ fn releases_are_padded(rt: HostRuntime) {
     assert!(rt; !has_front(&ten[..9], &ten) && !has_front(&ten, &[2]));
 }
 
+// Versions of which each two differ in some part.
+const DIFFERENT: [&str; 12] = [
+    "1.0",
+    "1.0.0",
+    "1!1.0",
+    "1.0a1",
+    "1.0b1",
+    "1.0a2",
+    "1.0.post1",
+    "1.0.dev1",
+    "1.0+1",
+    "1.0+a",
+    "1.0+a.1",
+    "1.0+b",
+];
+
+#[test]
+fn versions_differ_in_each_part(rt: HostRuntime) -> Result<(), Fail> {
+    let mut versions = Vec::new(rt.alloc());
+    for text in DIFFERENT {
+        versions.push(Version::read(rt.alloc(), text)?)?;
+    }
+    for (i, version) in versions.iter().enumerate() {
+        for (j, other) in versions.iter().enumerate() {
+            assert_eq!(rt; version.same(other), i == j, "{i} and {j}");
+        }
+    }
+    Ok(())
+}
+
 #[test]
 fn bytes_are_of_their_classes(rt: HostRuntime) {
     for (byte, classes) in [
