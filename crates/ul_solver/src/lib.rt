@@ -1,0 +1,6 @@
+//! The solver.
+#![tactic(auto)]
+
+mod solver;
+
+pub use solver::{Answer, solve};
