@@ -6,3 +6,4 @@ pub mod Room
 pub mod Choosing
 pub mod Starting
 pub mod Possible
+pub mod Existing

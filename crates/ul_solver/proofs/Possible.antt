@@ -36,7 +36,7 @@ target_need [] n h = absurd h
 target_need (x ∷ xs) n (inl e) = (x, inl refl, e)
 target_need (x ∷ xs) n (inr h) = let r = target_need xs n h in (r.0, inr r.1, r.2)
 
-asked_by : (p : Plain) (d : Picks) (n : ℕ) → IsOneOf n (wanted p d) → (e : ℕ × ℕ) × IsOneOf e d × ((need : Need) × IsOneOf need (needs_of p e.0 e.1) × (need.node ≡ n))
+pub asked_by : (p : Plain) (d : Picks) (n : ℕ) → IsOneOf n (wanted p d) → (e : ℕ × ℕ) × IsOneOf e d × ((need : Need) × IsOneOf need (needs_of p e.0 e.1) × (need.node ≡ n))
 asked_by p [] n h = absurd h
 asked_by p (e ∷ d) n h = elim (one_split n (targets (needs_of p e.0 e.1)) (wanted p d) h) [
   | inl i ↦ (e, inl refl, target_need (needs_of p e.0 e.1) n i)

@@ -78,28 +78,34 @@ onto_from q ns (e ∷ d) h = elim (onto_from q (e.0 ∷ ns) d h) [
   | inr i ↦ inr (i.0, inr i.1)
 ]
 
-in_range : (p : Plain) (n v : ℕ) → v < size_of p n → n < length p.nodes
+pub in_range : (p : Plain) (n v : ℕ) → v < size_of p n → n < length p.nodes
 in_range p n v h = which (slice_get p.nodes n) refl h
   where
     which : (o : Option NodeFacts) → slice_get p.nodes n ≡ o → v < size_in o → n < length p.nodes
     which None e i = absurd (omega arith)
     which (Some f) e i = slice_get_within p.nodes n f e
 
-pub room : (p : Plain) (t : Track) (n v : ℕ) → IsState p t → next_of p (picks_of t.facts) ≡ Some n → v < size_of p n → level_of t.facts < length p.nodes
+-- a chain of nodes of the problem has room for the next node
+pub chain_room : (p : Plain) (d : Picks) (n : ℕ) → IsChain p [] d → ((m v : ℕ) → IsOneOf (m, v) d → m < length p.nodes) → next_of p d ≡ Some n → n < length p.nodes → length d < length p.nodes
 unfolding IsDistinct
-room p t n v st next below =
-    let d : Picks = picks_of t.facts in
-    let c = chain_distinct p [] d [] (λ q h. tt) tt (steered_chain p [] t.facts st.steered) in
+chain_room p d n chain within next there =
+    let c = chain_distinct p [] d [] (λ q h. tt) tt chain in
     let all : IsDistinct eqb (n ∷ nodes_onto [] d) = (c.1 n (not_decided p d n next), c.0) in
     let low : (q : ℕ) → list_any (eqb q) (n ∷ nodes_onto [] d) ≡ true → q < length p.nodes = λ q h.
-    (elim (or_cases (eqb q n) (list_any (eqb q) (nodes_onto [] d)) h) [
-      | inl j ↦ (let same : q ≡ n = eqb-true q n j in let r = in_range p n v below in omega arith)
-      | inr j ↦ (elim (onto_from q [] d j) [
-        | inl k ↦ absurd (true≢false (sym k))
-        | inr k ↦ (let f = pick_fact p t.steps [] t.facts q k.0 st.right.follow.derived k.1 in in_range p q k.0 f.0)
-      ])
-    ]) in
+          (elim (or_cases (eqb q n) (list_any (eqb q) (nodes_onto [] d)) h) [
+              inl j ↦ (let same : q ≡ n = eqb-true q n j in omega arith)
+            | inr j ↦ (elim (onto_from q [] d j) [
+                  inl k ↦ absurd (true≢false (sym k))
+                | inr k ↦ within q k.0 k.1 ]) ]) in
     let fits = length-le_from_distinct_below (n ∷ nodes_onto [] d) (length p.nodes) all low in
     let l = long [] d in
+    omega (arith, fits, l)
+
+-- a further decision finds room among the levels
+pub room : (p : Plain) (t : Track) (n v : ℕ) → IsState p t → next_of p (picks_of t.facts) ≡ Some n → v < size_of p n → level_of t.facts < length p.nodes
+room p t n v st next below =
+    let d : Picks = picks_of t.facts in
+    let r = chain_room p d n (steered_chain p [] t.facts st.steered)
+              (λ q u i. (let f = pick_fact p t.steps [] t.facts q u st.right.follow.derived i in in_range p q u f.0)) next (in_range p n v below) in
     let k = level_counted p [] t.facts st.steered in
-    omega (arith, fits, l, k)
+    omega (arith, k)
