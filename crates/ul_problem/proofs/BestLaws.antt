@@ -3,12 +3,12 @@ use Rattle.std.proofs.lemmas.Bool.{eqb-true, cases_order, true≢false}
 use Rattle.std.proofs.lemmas.Option.{same_Some}
 use Rattle.std.proofs.lemmas.List.{append-nil}
 use Rattle.ul_problem.specs.Terms.{Selection, is_among}
-use Rattle.ul_problem.specs.Plain.{Plain, needs_of, base_of}
+use Rattle.ul_problem.specs.Plain.{Plain, needs_of, base_of, order_of}
 use Rattle.ul_problem.specs.Serving.{Serves, IsOneOf}
 use Rattle.ul_problem.specs.Problems.{IsWellFormed}
 use Rattle.ul_problem.proofs.Rules.{some_root, root_base, need_base}
 use Rattle.ul_problem.specs.declared.problem.Need.{Need}
-use Rattle.ul_problem.specs.Best.{Picks, order_of, is_decided, first_open, targets, wanted, next_of, Agrees, Extends, IsFirst, IsBestFrom, IsBest, version_in, IsTrailed, IsChain}
+use Rattle.ul_problem.specs.Best.{Picks, is_decided, first_open, targets, wanted, next_of, Agrees, Extends, IsFirst, IsBestFrom, IsBest, version_in, IsTrailed, IsChain}
 
 -- two first versions are one
 same_place : (p : Plain) (d : Picks) (n v w : ℕ) (a : IsFirst p d n v) (b : IsFirst p d n w) → (a.0 ≡ b.0) ⊎ ((a.0 < b.0) ⊎ (b.0 < a.0)) → v ≡ w

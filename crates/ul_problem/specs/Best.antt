@@ -1,24 +1,15 @@
 -- The best selection, as the list of its decisions.
 use Rattle.std.specs.Prelude.{◌≡◌, ℕ, List, [], ◌∷◌, ◌++◌, Bool, true, false, cond, Option, Some, None, ◌<◌, nat_eq, slice_get}
 use Rattle.ul_problem.specs.Terms.{Selection}
-use Rattle.ul_problem.specs.Plain.{Plain, node_at, needs_of}
+use Rattle.ul_problem.specs.Plain.{Plain, needs_of}
+pub use Rattle.ul_problem.specs.Plain.{order_of}
 use Rattle.ul_problem.specs.Serving.{Serves}
 use Rattle.ul_problem.specs.Problems.{IsWellFormed}
 use Rattle.ul_problem.specs.declared.problem.Need.{Need}
-use Rattle.ul_problem.specs.declared.problem.NodeFacts.{NodeFacts}
 
 -- a list of decisions, each a node and a version
 abbrev pub Picks : Type 0
 Picks = List (ℕ × ℕ)
-
--- the order of preference of what is known of a node
-abbrev pub order_in : Option NodeFacts → List ℕ
-order_in None = []
-order_in (Some f) = f.order
-
--- the order of preference of a node's versions
-abbrev pub order_of : Plain → ℕ → List ℕ
-order_of p n = order_in (node_at p n)
 
 -- the node is decided by the list
 abbrev pub is_decided : ℕ → Picks → Bool

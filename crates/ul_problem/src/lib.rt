@@ -19,6 +19,3 @@ pub use problem::{Need, NeedRow, NeedRows, NodeFacts, Problem};
 pub use resolving::resolvent;
 pub use step::{Derivation, Step};
 pub use term::{Relation, Term, Terms, same_terms, term_on};
-
-#[cfg(test)]
-mod tests;
