@@ -1,7 +1,9 @@
 pub mod Plain
+pub mod Problems
 pub mod Terms
 pub mod Serving
-pub mod Problems
 pub mod Steps
+pub mod Decisions
 pub mod Best
+pub mod Laws
 pub mod Turns
