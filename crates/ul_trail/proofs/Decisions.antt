@@ -16,7 +16,7 @@ use Rattle.ul_trail.specs.Facts.{is_open, one_of, first_of, picks_of, pick_with,
 use Rattle.ul_trail.specs.Counts.{sizes_of}
 use Rattle.ul_trail.specs.Propagation.{IsTrailOf, Follow, IsDerived, AreRaised, IsAlive, AreLater, IsBegun, root_facts}
 use Rattle.ul_trail.specs.Standing.{IsSettled, IsSized}
-use Rattle.ul_problem.proofs.Rules.{node_of_size}
+use Rattle.ul_problem.proofs.ForCallers.{node_of_size}
 use Rattle.ul_trail.proofs.Singles.{one_length}
 use Rattle.ul_trail.specs.Moves.{decision_at}
 use Rattle.ul_trail.specs.Kept.{IsIndexed, HasPassed, IsMark, AreMarks, turns_of}

@@ -14,15 +14,14 @@ use Rattle.ul_problem.specs.declared.term.Term.TheVariants.{In, NotIn}
 use Rattle.ul_problem.specs.declared.problem.Need.{Need}
 use Rattle.ul_problem.specs.declared.step.Step.{Step}
 use Rattle.ul_problem.specs.declared.step.Step.TheVariants.{Need as NeedStep, Python, Base}
-use Rattle.ul_problem.proofs.TermLaws.{allows-meet, and_both, and_left', and_right'}
-use Rattle.ul_ranges.proofs.FlagLaws.{blank_none}
+use Rattle.ul_problem.proofs.ForCallers.{allows-meet, and_both, and_left', and_right', IsAsked, asked_base, asked_all, one_left, one_right, wanted_one, pick_of, none_open, decided_version}
+use Rattle.ul_ranges.proofs.ForCallers.{blank_none}
 use Rattle.ul_trail.specs.Track.{Track}
 use Rattle.ul_trail.specs.declared.fact.Fact.{Fact}
 use Rattle.ul_trail.specs.Facts.{is_open, IsHeld, AreHeld, one_of, first_of, pick_with, picks_of}
 use Rattle.ul_trail.specs.Propagation.{IsDerived, AreDerivedAfter, IsTrailOf, NoConflict}
 use Rattle.ul_trail.specs.Moves.{HasSteps}
 use Rattle.ul_trail.proofs.Following.{one_has, one_first}
-use Rattle.ul_problem.proofs.BestLaws.{IsAsked, asked_base, asked_all, one_left, one_right, wanted_one, pick_of, none_open, decided_version}
 
 one_place : {A : Type 0} (x : A) (xs : List A) → IsOneOf x xs → (k : ℕ) × (slice_get xs k ≡ Some x)
 one_place x [] h = absurd h

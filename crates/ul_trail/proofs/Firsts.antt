@@ -4,7 +4,7 @@ use Rattle.std.proofs.lemmas.Bool.{cases_eq, cases_lt, true≢false, eqb-true, e
 use Rattle.std.proofs.lemmas.List.{append-nil}
 use Rattle.std.proofs.lemmas.Option.{none-some, same_Some, slice_get_within, slice_get_read, slice_get-get_or}
 use Rattle.ul_ranges.specs.Flags.{has, is_blank}
-use Rattle.ul_ranges.proofs.FlagLaws.{blank_none}
+use Rattle.ul_ranges.proofs.ForCallers.{blank_none}
 use Rattle.ul_problem.specs.Plain.{Plain, node_at, size_of, base_of, barred_of, needs_of, size_in, base_in, barred_in, needs_in}
 use Rattle.ul_problem.specs.Serving.{IsOneOf, Forbids}
 use Rattle.ul_problem.specs.Problems.{IsWellFormed}
@@ -13,9 +13,7 @@ use Rattle.ul_problem.specs.declared.problem.Need.{Need}
 use Rattle.ul_problem.specs.declared.problem.NodeFacts.{NodeFacts}
 use Rattle.ul_problem.specs.declared.step.Step.{Step}
 use Rattle.ul_problem.specs.declared.step.Step.TheVariants.{Need as NeedStep, Python, Base, Cut}
-use Rattle.ul_problem.proofs.Rules.{node_whole, node_of_size, node_of_base, need_fits, one_place, barred_size}
-use Rattle.ul_problem.proofs.BestLaws.{one_left, one_right}
-use Rattle.ul_problem.proofs.Soundness.{step_sound, has_within}
+use Rattle.ul_problem.proofs.ForCallers.{node_whole, node_of_size, node_of_base, need_fits, one_place, barred_size, one_left, one_right, step_sound, has_within}
 use Rattle.ul_trail.specs.Facts.{one_of}
 use Rattle.ul_trail.specs.Propagation.{AreForbidden}
 use Rattle.ul_trail.specs.Moves.{HasSteps}

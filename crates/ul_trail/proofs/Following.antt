@@ -3,7 +3,7 @@ use Rattle.std.proofs.Common.{◌≡◌, ℕ, zero, suc, List, [], ◌∷◌, �
 use Rattle.std.proofs.lemmas.Bool.{eqb-true, true≢false}
 use Rattle.std.proofs.lemmas.List.{append-nil}
 use Rattle.ul_ranges.specs.Flags.{has}
-use Rattle.ul_problem.specs.Terms.{Selection, node_of, set_of, allows, holds, all_hold, is_among}
+use Rattle.ul_problem.specs.Terms.{Selection, node_of, set_of, allows, holds, all_hold, is_among, negation}
 use Rattle.ul_problem.specs.Plain.{Plain, size_of}
 use Rattle.ul_problem.specs.Serving.{Serves, Forbids}
 use Rattle.ul_problem.specs.Steps.{says}
@@ -11,10 +11,10 @@ use Rattle.ul_problem.specs.Best.{Agrees, Extends}
 use Rattle.ul_problem.specs.declared.term.Term.{Term}
 use Rattle.ul_problem.specs.declared.term.Term.TheVariants.{In, NotIn}
 use Rattle.ul_problem.specs.declared.step.Step.{Step}
-use Rattle.ul_problem.proofs.TermLaws.{and_both, and_left', and_right'}
+use Rattle.ul_problem.proofs.ForCallers.{and_both, and_left', and_right'}
 use Rattle.ul_trail.specs.Track.{Track}
 use Rattle.ul_trail.specs.declared.fact.Fact.{Fact}
-use Rattle.ul_trail.specs.Facts.{is_open, IsHeld, AreHeld, AreHeldBut, negation, one_of, first_of, pick_with, picks_of}
+use Rattle.ul_trail.specs.Facts.{is_open, IsHeld, AreHeld, AreHeldBut, one_of, first_of, pick_with, picks_of}
 use Rattle.ul_trail.specs.Propagation.{IsDerived, AreDerivedAfter, AreForbidden, Follow, AreTrue, AreSound}
 
 -- what the selection has is open where the facts are true

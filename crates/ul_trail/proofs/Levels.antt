@@ -3,7 +3,7 @@ use Rattle.std.proofs.Common.{◌≡◌, ℕ, zero, suc, ◌+◌, List, [], ◌�
 use Rattle.std.proofs.lemmas.Bool.{eqb-true, leb-true, leb-false, le-leb, lt-leb, true≢false, cases_order, cases_lt}
 use Rattle.ul_problem.specs.Terms.{node_of, allows}
 use Rattle.ul_problem.specs.declared.term.Term.{Term}
-use Rattle.ul_problem.proofs.TermLaws.{and_left', and_right'}
+use Rattle.ul_problem.proofs.ForCallers.{and_left', and_right'}
 use Rattle.ul_trail.specs.declared.fact.Fact.{Fact}
 use Rattle.ul_trail.specs.Facts.{is_open, up_to, level_of, AreAt}
 use Rattle.ul_trail.specs.Counts.{one_if, versions_open, open_below, open_in, level_number, level_numbers, levels_of, AreReached}

@@ -16,3 +16,4 @@ pub mod Rewinding
 pub mod Firsts
 pub mod Rooted
 pub mod Finished
+pub mod ForCallers

@@ -4,16 +4,13 @@ use Rattle.std.proofs.lemmas.Bool.{ne_eqb}
 use Rattle.std.proofs.lemmas.List.{length-set}
 use Rattle.std.proofs.lemmas.Option.{slice_get_read, slice_get_within, same_Some}
 use Rattle.ul_ranges.specs.Flags.{has, both, either, less, is_blank}
-use Rattle.ul_ranges.proofs.FlagLaws.{has-both, has-less, length-both, length-either, length-less, blank_some}
+use Rattle.ul_ranges.proofs.ForCallers.{has-both, has-less, length-both, length-either, length-less, blank_some}
 use Rattle.ul_problem.specs.Terms.{node_of, set_of, allows, meet_of, relation_of, relation_from_of, IsTold}
 use Rattle.ul_problem.specs.declared.term.Term.{Term}
 use Rattle.ul_problem.specs.declared.term.Term.TheVariants.{In, NotIn}
 use Rattle.ul_problem.specs.declared.term.Relation.{Relation}
 use Rattle.ul_problem.specs.declared.term.Relation.TheVariants.{Holds, Fails, Unknown}
-use Rattle.ul_problem.proofs.TermLaws.{allows-meet, and_left', and_right'}
-use Rattle.ul_problem.proofs.Merging.{meet_node}
-use Rattle.ul_problem.proofs.Relations.{relation_exact}
-use Rattle.ul_problem.proofs.Soundness.{has_within}
+use Rattle.ul_problem.proofs.ForCallers.{allows-meet, and_left', and_right', meet_node, relation_exact, has_within}
 use Rattle.ul_trail.specs.declared.fact.Fact.{Fact}
 use Rattle.ul_trail.specs.Facts.{is_open, IsHeld, IsFailed, IsMirror, IsAllowed}
 use Rattle.ul_trail.specs.Propagation.{IsOption}

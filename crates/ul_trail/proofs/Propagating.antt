@@ -2,7 +2,7 @@
 use Rattle.std.proofs.Common.{◌≡◌, ℕ, zero, suc, ◌+◌, List, [], ◌∷◌, ◌++◌, Bool, true, false, cond, Option, Some, None, refl, ap, ◌∙◌, sym, subst, ◌<◌, ◌≤◌, ◌⊎◌, inl, inr, arith, slice_get, get_or, length, take, max, append_assoc, length-append}
 use Rattle.std.proofs.lemmas.List.{append-nil}
 use Rattle.std.proofs.lemmas.Option.{none-some, same_Some, slice_get_within}
-use Rattle.ul_problem.specs.Terms.{node_of, allows}
+use Rattle.ul_problem.specs.Terms.{node_of, allows, negation}
 use Rattle.ul_problem.specs.Plain.{Plain, size_of, size_in}
 use Rattle.ul_problem.specs.Steps.{says}
 use Rattle.ul_problem.specs.Best.{Picks, wanted}
@@ -14,7 +14,7 @@ use Rattle.ul_trail.specs.declared.fact.Fact.{Fact}
 use Rattle.ul_trail.specs.declared.fact.Progress.{Progress}
 use Rattle.ul_trail.specs.declared.fact.Progress.TheVariants.{Quiet, Conflict}
 use Rattle.ul_trail.specs.declared.mark.Mark.{Mark}
-use Rattle.ul_trail.specs.Facts.{is_open, AreHeld, AreHeldBut, picks_of, pick_with, level_of, up_to, AreAt, negation}
+use Rattle.ul_trail.specs.Facts.{is_open, AreHeld, AreHeldBut, picks_of, pick_with, level_of, up_to, AreAt}
 use Rattle.ul_trail.specs.Counts.{sizes_of, size_list}
 use Rattle.ul_trail.specs.Propagation.{IsDerived, Follow, said_by, IsTrailOf, IsOption, IsNew, AreNewAfter, HasGrown, IsQuietAt, IsConflict, IsProgress, AreRaised, IsAlive, AreLater, IsBegun, root_facts}
 use Rattle.ul_trail.specs.Standing.{IsForced, AreForced, HasForced, IsCalm, HasConflict, IsFresh, IsSettled}

@@ -11,7 +11,7 @@ use Rattle.ul_problem.specs.Best.{Picks, wanted}
 use Rattle.ul_problem.specs.Steps.{says, AreRightAfter, IsStepWithin, AreTermsOf}
 use Rattle.ul_problem.specs.declared.term.Term.{Term}
 use Rattle.ul_problem.specs.declared.step.Step.{Step}
-use Rattle.ul_problem.proofs.Wholes.{says_whole, says_fits, all_within, fits_at}
+use Rattle.ul_problem.proofs.ForCallers.{says_whole, says_fits, all_within, fits_at}
 use Rattle.ul_trail.specs.Track.{Track}
 use Rattle.ul_trail.specs.declared.fact.Fact.{Fact}
 use Rattle.ul_trail.specs.declared.mark.Mark.{Mark}

@@ -13,7 +13,7 @@ use Rattle.ul_problem.specs.declared.term.Term.{Term}
 use Rattle.ul_problem.specs.declared.term.Term.TheVariants.{In, NotIn}
 use Rattle.ul_problem.specs.declared.step.Step.{Step}
 use Rattle.ul_problem.specs.declared.problem.NodeFacts.{NodeFacts}
-use Rattle.ul_problem.proofs.Rules.{root_single, node_of_size, node_whole}
+use Rattle.ul_problem.proofs.ForCallers.{root_single, node_of_size, node_whole}
 use Rattle.ul_trail.specs.declared.fact.Fact.{Fact}
 use Rattle.ul_trail.specs.declared.mark.Mark.{Mark}
 use Rattle.ul_trail.specs.Facts.{is_open, one_of, first_of, picks_of, level_of, IsMirror}

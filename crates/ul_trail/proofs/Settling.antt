@@ -4,11 +4,11 @@ use Rattle.std.proofs.lemmas.Bool.{ne_eqb, eqb-false, cases_eq}
 use Rattle.std.proofs.lemmas.List.{append-nil}
 use Rattle.std.proofs.lemmas.Option.{none-some, same_Some, slice_get_read, slice_get_within}
 use Rattle.ul_problem.specs.Serving.{IsOneOf}
-use Rattle.ul_problem.specs.Terms.{node_of, set_of, allows}
+use Rattle.ul_problem.specs.Terms.{node_of, set_of, allows, negation}
 use Rattle.ul_problem.specs.declared.term.Term.{Term}
 use Rattle.ul_problem.specs.declared.term.Term.TheVariants.{In, NotIn}
 use Rattle.ul_trail.specs.declared.fact.Fact.{Fact}
-use Rattle.ul_trail.specs.Facts.{is_open, IsHeld, IsFailed, AreHeld, AreHeldBut, negation}
+use Rattle.ul_trail.specs.Facts.{is_open, IsHeld, IsFailed, AreHeld, AreHeldBut}
 use Rattle.ul_trail.specs.Standing.{IsSized, AreSized, AllSized, IsCalm, IsPending, IsSettled, IsForced, AreForced, HasForced, HasConflict}
 use Rattle.ul_trail.specs.Watched.{has_term, places_from, places_on}
 use Rattle.ul_trail.specs.Findings.{IsLoose, IsCalmAt, HasForcedOne, IsSettlement}

@@ -4,12 +4,12 @@ use Rattle.std.proofs.lemmas.Bool.{cases_eq}
 use Rattle.std.proofs.lemmas.List.{append-nil}
 use Rattle.std.proofs.lemmas.Option.{same_Some, slice_get_read, slice_get-get_or, get_or_from_slice_get, slice_get_within}
 use Rattle.ul_problem.specs.Serving.{IsOneOf}
-use Rattle.ul_problem.specs.Terms.{node_of, allows, is_among}
+use Rattle.ul_problem.specs.Terms.{node_of, allows, is_among, negation}
 use Rattle.ul_problem.specs.declared.term.Term.TheVariants.{In, NotIn}
 use Rattle.ul_problem.specs.declared.term.Term.{Term}
 use Rattle.ul_trail.specs.declared.fact.Fact.{Fact}
 use Rattle.ul_trail.specs.Counts.{open_in}
-use Rattle.ul_trail.specs.Facts.{is_open, negation}
+use Rattle.ul_trail.specs.Facts.{is_open}
 use Rattle.ul_trail.specs.Propagation.{IsOption}
 use Rattle.ul_trail.specs.Standing.{IsCalm, IsPending, IsSettled, IsForced, AreForced, HasForced, HasConflict, IsFresh, IsPossible, AllSized, IsStanding}
 use Rattle.ul_trail.specs.Watched.{IsWatched, has_term, places_on}

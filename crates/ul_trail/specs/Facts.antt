@@ -29,11 +29,6 @@ abbrev pub AreHeldBut : List Fact → Term → List Term → Type 0
 AreHeldBut facts t [] = ⊥
 AreHeldBut facts t (u ∷ us) = ((u ≡ t) × AreHeld facts us) ⊎ (IsHeld facts u × AreHeldBut facts t us)
 
--- the term that holds where the other doesn't
-abbrev pub negation : Term → Term
-negation (In n s) = NotIn n s
-negation (NotIn n s) = In n s
-
 -- a set of one version
 abbrev pub one_of : ℕ → ℕ → List Bool
 one_of zero v = []

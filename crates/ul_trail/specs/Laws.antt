@@ -1,13 +1,13 @@
 -- The laws of the trail.
 use Rattle.std.specs.Prelude.{◌≡◌, ℕ, List, [], ◌∷◌, ◌++◌, false, Some, None, ◌≤◌}
-use Rattle.ul_problem.specs.Terms.{Selection, holds, node_of, term_on, IsOrdered}
+use Rattle.ul_problem.specs.Terms.{Selection, holds, node_of, term_on, IsOrdered, negation}
 use Rattle.ul_problem.specs.Plain.{Plain}
 use Rattle.ul_problem.specs.Serving.{Serves}
 use Rattle.ul_problem.specs.Best.{Agrees, Extends, IsChain, next_of, version_in}
 use Rattle.ul_problem.specs.Problems.{IsWellFormed}
 use Rattle.ul_trail.specs.Track.{Track}
 use Rattle.ul_trail.specs.declared.fact.Fact.{Fact}
-use Rattle.ul_trail.specs.Facts.{is_open, picks_of, negation, AreHeld, AreHeldBut, up_to, level_of}
+use Rattle.ul_trail.specs.Facts.{is_open, picks_of, AreHeld, AreHeldBut, up_to, level_of}
 use Rattle.ul_problem.specs.Steps.{IsResolvent, AreRightAfter}
 use Rattle.ul_problem.specs.declared.term.Term.{Term}
 use Rattle.ul_problem.specs.declared.step.Step.{Step}

@@ -1,6 +1,6 @@
 -- When a trail is one of a problem's, and what propagation makes of it.
 use Rattle.std.specs.Prelude.{◌≡◌, ℕ, suc, ◌+◌, List, [], ◌∷◌, ◌++◌, Bool, true, false, Option, Some, None, ◌<◌, ◌≤◌, slice_get, length, take, ◌⊎◌}
-use Rattle.ul_problem.specs.Terms.{Selection, node_of, allows, holds, all_hold}
+use Rattle.ul_problem.specs.Terms.{Selection, node_of, allows, holds, all_hold, negation}
 use Rattle.ul_problem.specs.Plain.{Plain, size_of}
 use Rattle.ul_problem.specs.Serving.{Serves, Forbids, IsOneOf}
 use Rattle.ul_problem.specs.Steps.{says, IsRight, AreRightAfter}
@@ -11,7 +11,7 @@ use Rattle.ul_trail.specs.Track.{Track}
 use Rattle.ul_trail.specs.declared.fact.Progress.{Progress}
 use Rattle.ul_trail.specs.declared.fact.Progress.TheVariants.{Quiet, Conflict}
 use Rattle.ul_trail.specs.declared.fact.Fact.{Fact}
-use Rattle.ul_trail.specs.Facts.{is_open, IsHeld, IsFailed, AreHeld, AreHeldBut, negation, one_of, picks_of, level_of, up_to}
+use Rattle.ul_trail.specs.Facts.{is_open, IsHeld, IsFailed, AreHeld, AreHeldBut, one_of, picks_of, level_of, up_to}
 use Rattle.ul_trail.specs.Counts.{sizes_of}
 use Rattle.ul_problem.specs.Best.{wanted, Agrees}
 

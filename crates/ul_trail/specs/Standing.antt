@@ -1,6 +1,6 @@
 -- What is known of each node, and what propagation keeps of the held incompatibilities.
 use Rattle.std.specs.Prelude.{◌≡◌, ℕ, suc, ◌+◌, List, [], ◌∷◌, ◌++◌, Bool, true, false, cond, Option, Some, None, ◌<◌, ◌≤◌, ◌⊎◌, nat_eq, slice_get, get_or, length, take, drop, replicate}
-use Rattle.ul_problem.specs.Terms.{node_of, set_of, allows}
+use Rattle.ul_problem.specs.Terms.{node_of, set_of, allows, negation}
 use Rattle.ul_problem.specs.Serving.{IsOneOf}
 use Rattle.ul_ranges.specs.Flags.{has, less}
 use Rattle.ul_problem.specs.declared.term.Term.{Term}
@@ -8,7 +8,7 @@ use Rattle.ul_problem.specs.declared.term.Term.TheVariants.{In, NotIn}
 use Rattle.ul_problem.specs.declared.term.Relation.{Relation}
 use Rattle.ul_problem.specs.declared.term.Relation.TheVariants.{Holds, Fails, Unknown}
 use Rattle.ul_trail.specs.declared.fact.Fact.{Fact}
-use Rattle.ul_trail.specs.Facts.{is_open, IsHeld, IsFailed, AreHeld, AreHeldBut, IsMirror, negation}
+use Rattle.ul_trail.specs.Facts.{is_open, IsHeld, IsFailed, AreHeld, AreHeldBut, IsMirror}
 use Rattle.ul_trail.specs.Watched.{has_term}
 use Rattle.ul_trail.specs.Propagation.{IsOption}
 

@@ -42,7 +42,7 @@ fn push_version(
     requires version { version < length facts.now.versions }
     ensures { IfOk result (λ _. steps.new.items ≡ steps.old.items ++ version_steps facts.now node version) }
 {
-    let versions = single(alloc, facts.barred.size(), version)?;
+    let versions = single(facts.barred.size(), version);
     push_base(alloc, steps, node, &versions, facts.base)?;
     let rows = facts.needs.as_slice();
     push_needs(

@@ -14,7 +14,6 @@ mod holding;
 pub mod laws;
 mod mark;
 mod propagation;
-mod reading;
 mod rooting;
 mod standing;
 mod trail;

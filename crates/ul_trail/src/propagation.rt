@@ -1,8 +1,7 @@
 //! Unit propagation. A step looks at one incompatibility; a walk at those that a fact's node is in; and the spread at all that is new.
 ghost use Rattle.std.specs.Prelude.{◌≡◌, ◌+◌, ◌≤◌, ◌<◌, ℕ, Some, suc, length, slice_get, IfOk};
-ghost use Rattle.ul_problem.specs.Terms.{node_of};
+ghost use Rattle.ul_problem.specs.Terms.{node_of, negation};
 ghost use Rattle.ul_problem.specs.declared.term.Term.{Term};
-ghost use Rattle.ul_trail.specs.Facts.{negation};
 ghost use Rattle.ul_trail.specs.Counts.{open_in};
 ghost use Rattle.ul_trail.specs.declared.fact.Fact.{Fact};
 ghost use Rattle.ul_trail.specs.Standing.{AreSized, AllSized, IsSettled};
@@ -34,38 +33,28 @@ pub struct Cursor {
 }
 
 // Looks at one incompatibility.
-fn examine(alloc: Global, standing: &Standing, terms: &[Term]) -> Result<Finding, AllocError>
+fn examine(standing: &Standing, terms: &[Term]) -> Finding
     requires standing { Stands standing.now }
     requires sized { AreSized standing.now.sizes.items terms.now }
-    ensures { IfOk result (λ f. IsFinding standing.now.sizes.items standing.now.facts.items terms.now f) }
+    ensures { IsFinding standing.now.sizes.items standing.now.facts.items terms.now result }
 {
     let mut loose = None;
     for (place, term) in terms.iter().enumerate() {
-        let told = standing.told(alloc, term)?;
+        let told = standing.told(term);
         match told {
             Relation::Holds => {}
-            Relation::Fails => return Ok(Finding::Calm),
+            Relation::Fails => return Finding::Calm,
             Relation::Unknown => {
                 if loose.is_some() {
-                    return Ok(Finding::Calm);
+                    return Finding::Calm;
                 }
                 loose = Some(place);
             }
         }
     }
     match loose {
-        Some(place) => Ok(Finding::Forced(place)),
-        None => Ok(Finding::Held),
-    }
-}
-
-// The term that holds where this one doesn't.
-fn negated(alloc: Global, term: &Term) -> Result<Term, AllocError>
-    ensures { IfOk result (λ t. t ≡ negation term.now) }
-{
-    match term {
-        Term::In(node, set) => Ok(Term::NotIn(*node, set.copy(alloc)?)),
-        Term::NotIn(node, set) => Ok(Term::In(*node, set.copy(alloc)?)),
+        Some(place) => Finding::Forced(place),
+        None => Finding::Held,
     }
 }
 
@@ -85,12 +74,12 @@ fn settle(
     ensures settlement { IfOk result (λ b. Settles terms.now level place standing.old standing.new b) }
 {
     let list = terms[place].terms();
-    let finding = examine(alloc, standing, list)?;
+    let finding = examine(standing, list);
     match finding {
         Finding::Held => Ok(true),
         Finding::Calm => Ok(false),
         Finding::Forced(at) => {
-            let term = negated(alloc, &list[at])?;
+            let term = list[at].negation(alloc)?;
             let fact = Fact {
                 term,
                 level,

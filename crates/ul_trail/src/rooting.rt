@@ -13,7 +13,6 @@ ghost use Rattle.ul_trail.specs.Roots.{root_picks};
 use crate::asking::ask;
 use crate::deciding::decision;
 use crate::fact::Fact;
-use crate::reading::{needs_at, size_at};
 use crate::standing::Standing;
 use crate::watching::Row;
 use std::alloc::{AllocError, Global};
@@ -88,8 +87,8 @@ fn plant_one(
     ensures positions { IfOk result (λ _. length asked.new.positions.items ≡ length asked.old.positions.items) }
     ensures queue { IfOk result (λ _. asked.new.queue.items ≡ asked.old.queue.items ++ targets (needs_of problem.now root 0)) }
 {
-    let term = decision(alloc, size_at(problem, root), root, 0)?;
-    let needs = needs_at(problem, root, 0);
+    let term = decision(problem.size_at(root), root, 0);
+    let needs = problem.needs_at(root, 0);
     asked.positions[root as usize] = asked.picks.len();
     asked.picks.push((root, 0))?;
     ask(&mut asked.queue, needs)?;

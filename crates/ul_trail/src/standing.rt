@@ -35,13 +35,13 @@ impl Standing {
     }
 
     /// What the facts tell of a term.
-    pub fn told(&self, alloc: Global, term: &Term) -> Result<Relation, AllocError>
+    pub fn told(&self, term: &Term) -> Relation
         requires standing { Stands self.now }
         requires sized { IsSized self.now.sizes.items term.now }
-        ensures { IfOk result (λ r. IsToldBy self.now.sizes.items self.now.facts.items term.now r) }
+        ensures { IsToldBy self.now.sizes.items self.now.facts.items term.now result }
     {
         let known = &self.known[term.node() as usize];
-        term.relation(alloc, known)
+        term.relation(known)
     }
 
     /// The last fact is taken back.
@@ -52,8 +52,10 @@ impl Standing {
         ensures facts { self.new.facts.items ≡ take (length self.old.facts.items - 1) self.old.facts.items }
         ensures sizes { self.new.sizes.items ≡ self.old.sizes.items }
     {
-        if let (Some(fact), Some(before)) = (self.facts.pop(), self.before.pop()) {
-            self.known[fact.term.node() as usize] = before;
+        if let Some(fact) = self.facts.pop() {
+            if let Some(before) = self.before.pop() {
+                self.known[fact.term.node() as usize] = before;
+            }
         }
     }
 }

@@ -19,7 +19,6 @@ use crate::fact::{Fact, Progress};
 use crate::holding::{append, hold, unwind};
 use crate::mark::Mark;
 use crate::propagation::{Cursor, spread};
-use crate::reading::{needs_at, size_at};
 use crate::rooting::{Asked, opens, plant, rows, sizes};
 use crate::standing::Standing;
 use crate::watching::Watching;
@@ -189,8 +188,8 @@ impl Trail {
         ensures steps { IfOk result (λ _. self.new.steps ≡ self.old.steps) }
         ensures facts { IfOk result (λ _. self.new.facts ≡ self.old.facts ++ decision_at problem.now self.old.facts node version ∷ []) }
     {
-        let needs = needs_at(problem, node, version);
-        let term = decision(alloc, size_at(problem, node), node, version)?;
+        let needs = problem.needs_at(node, version);
+        let term = decision(problem.size_at(node), node, version);
         let first = first_undecided(
             self.queue.as_slice(),
             self.picks.as_slice(),

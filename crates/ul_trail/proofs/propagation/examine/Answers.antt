@@ -5,15 +5,15 @@ use Rattle.ul_trail.proofs.propagation.examine.Goals as goal
 use Rattle.ul_trail.proofs.propagation.examine.Goals.{in-Holds, in-Unknown+else-is_some}
 
 pub returns-in-Fails : goal.returns-in-Fails
-returns-in-Fails c = failed_here _ _ _ c.loop-place.place c.index-terms-place.result c.in_ok-told.told c.loop-place-test.true c.index-terms-place.is c.in_ok-told.ensures c.in-Fails.is
+returns-in-Fails c = failed_here _ _ _ c.loop-place.place c.index-terms-place.result c.told-told.result c.loop-place-test.true c.index-terms-place.is c.told-told.ensures c.in-Fails.is
 
 pub returns-then-is_some : goal.returns-then-is_some
-returns-then-is_some c = two_here _ _ _ c.loop-place.place c.index-terms-place.result c.in_ok-told.told c.loop-place.loose c.loop-place-test.true c.index-terms-place.is c.in_ok-told.ensures c.in-Unknown.is c.loop-place.invariant c.if-is_some.ensures
+returns-then-is_some c = two_here _ _ _ c.loop-place.place c.index-terms-place.result c.told-told.result c.loop-place.loose c.loop-place-test.true c.index-terms-place.is c.told-told.ensures c.in-Unknown.is c.loop-place.invariant c.if-is_some.ensures
 
 pub loop-place-preserved : goal.loop-place-preserved
 loop-place-preserved c = elim c.match-told.branch [
-  | in-Holds w ↦ held_here _ _ _ c.loop-place.place c.index-terms-place.result c.in_ok-told.told c.loop-place.loose _ c.loop-place-test.true c.index-terms-place.is c.in_ok-told.ensures w.in-Holds.is c.loop-place.invariant w.loose-is
-  | in-Unknown+else-is_some w ↦ loose_here _ _ _ c.loop-place.place c.index-terms-place.result c.in_ok-told.told c.loop-place.loose _ c.loop-place-test.true c.index-terms-place.is c.in_ok-told.ensures w.in-Unknown.is c.loop-place.invariant w.if-is_some.ensures w.loose-is
+  | in-Holds w ↦ held_here _ _ _ c.loop-place.place c.index-terms-place.result c.told-told.result c.loop-place.loose _ c.loop-place-test.true c.index-terms-place.is c.told-told.ensures w.in-Holds.is c.loop-place.invariant w.loose-is
+  | in-Unknown+else-is_some w ↦ loose_here _ _ _ c.loop-place.place c.index-terms-place.result c.told-told.result c.loop-place.loose _ c.loop-place-test.true c.index-terms-place.is c.told-told.ensures w.in-Unknown.is c.loop-place.invariant w.if-is_some.ensures w.loose-is
 ]
 
 pub returns-in-Some : goal.returns-in-Some

@@ -5,7 +5,7 @@ use Rattle.ul_trail.proofs.Decisions.{decision_sized, indexed_push}
 use Rattle.ul_trail.proofs.rooting.plant_one.Goals as goal
 
 pub push-requires-2-clause-sized : goal.push-requires-2-clause-sized
-push-requires-2-clause-sized c = decision_sized c.args.problem.now c.args.standing.now.sizes.items c.args.root 0 c.size_at.result c.in_ok-term.term c.requires.sizes (let s = c.requires.single in omega arith) c.size_at.ensures c.in_ok-term.ensures
+push-requires-2-clause-sized c = decision_sized c.args.problem.now c.args.standing.now.sizes.items c.args.root 0 c.size_at.result c.decision-term.result c.requires.sizes (let s = c.requires.single in omega arith) c.size_at.ensures c.decision-term.ensures
 
 pub returns-clause-indexed : goal.returns-clause-indexed
 returns-clause-indexed c =

@@ -3,7 +3,7 @@ use Rattle.std.proofs.lemmas.Option.{none-some}
 use Rattle.ul_problem.specs.declared.term.Term.{Term}
 use Rattle.ul_problem.specs.declared.step.Step.{Step}
 use Rattle.ul_problem.specs.Best.{Picks, wanted}
-use Rattle.ul_problem.proofs.Rules.{root_single}
+use Rattle.ul_problem.proofs.ForCallers.{root_single}
 use Rattle.ul_trail.specs.Track.{Track}
 use Rattle.ul_trail.specs.Facts.{level_of, picks_of}
 use Rattle.ul_trail.specs.Counts.{sizes_of}

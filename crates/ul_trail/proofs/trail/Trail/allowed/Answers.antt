@@ -1,6 +1,6 @@
 use Rattle.std.proofs.Common.{◌≡◌, ℕ, List, true, length, get_or, arith, ap, subst, sym, ◌∙◌}
 use Rattle.ul_problem.specs.Plain.{size_of}
-use Rattle.ul_problem.proofs.Loops.{ok_then}
+use Rattle.ul_problem.proofs.ForCallers.{ok_then}
 use Rattle.ul_trail.specs.Track.{Track}
 use Rattle.ul_trail.specs.Counts.{sizes_of}
 use Rattle.ul_trail.specs.Facts.{IsAllowed}

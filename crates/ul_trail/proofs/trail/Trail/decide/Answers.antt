@@ -5,7 +5,7 @@ use Rattle.ul_problem.specs.declared.term.Term.TheVariants.{In}
 use Rattle.ul_problem.specs.Plain.{size_of, needs_of}
 use Rattle.ul_problem.specs.Best.{Picks, is_decided, targets}
 use Rattle.ul_problem.specs.declared.problem.Need.{Need}
-use Rattle.ul_problem.proofs.BestLaws.{not_decided}
+use Rattle.ul_problem.proofs.ForCallers.{not_decided}
 use Rattle.std.proofs.lemmas.List.{length-set}
 use Rattle.ul_trail.specs.Track.{Track}
 use Rattle.ul_trail.specs.Facts.{is_open, level_of, picks_of, one_of}
@@ -23,7 +23,7 @@ pub push-requires-3-clause-sized : goal.push-requires-3-clause-sized
 push-requires-3-clause-sized c =
     let w : IsTrailOf c.args.problem.now (record { steps = c.self.inside.steps.items; terms = c.self.inside.watching.terms.items; facts = c.self.inside.standing.facts.items; sizes = c.self.inside.standing.sizes.items; width = length c.self.inside.watching.rows.items; queue = c.self.inside.queue.items; turns = turns_of c.self.inside.marks.items; whole = c.self.inside.whole })
     = subst (IsTrailOf c.args.problem.now) (sym c.self.view_is) c.requires.right in
-    decision_sized c.args.problem.now c.self.inside.standing.sizes.items c.args.node c.args.version c.size_at.result c.in_ok-term.term w.sizes c.requires.there c.size_at.ensures c.in_ok-term.ensures
+    decision_sized c.args.problem.now c.self.inside.standing.sizes.items c.args.node c.args.version c.size_at.result c.decision-term.result w.sizes c.requires.there c.size_at.ensures c.decision-term.ensures
 
 right-of : (c : goal.After-self-4-1) → IsTrailOf c.args.problem.now (record { steps = c.self.inside.steps.items; terms = c.self.inside.watching.terms.items; facts = c.self.inside.standing.facts.items; sizes = c.self.inside.standing.sizes.items; width = length c.self.inside.watching.rows.items; queue = c.self.inside.queue.items; turns = turns_of c.self.inside.marks.items; whole = c.self.inside.whole })
 right-of c = subst (IsTrailOf c.args.problem.now) (sym c.self.view_is) c.requires.right
@@ -32,7 +32,7 @@ kept-of : (c : goal.After-self-4-1) → IsKept c.self.inside
 kept-of c = let w = right-of c in c.self.invariant w.whole
 
 abbrev fact-of : goal.After-self-4-1 → Fact
-fact-of c = record { term = c.in_ok-term.term; level = c.len-level.result; cause = None }
+fact-of c = record { term = c.decision-term.result; level = c.len-level.result; cause = None }
 
 level-is : (c : goal.After-self-4-1) → c.len-level.result ≡ suc (level_of c.self.inside.standing.facts.items)
 level-is c =
@@ -76,8 +76,8 @@ invariant_of-self-2 c = λ h.
     let w = right-of c in
     let ef = c.in_ok-push-3.ensures.facts in
     let lf = level-is c in
-    let sz = decision_sized c.args.problem.now c.self.inside.standing.sizes.items c.args.node c.args.version c.size_at.result c.in_ok-term.term w.sizes c.requires.there c.size_at.ensures c.in_ok-term.ensures in
-    let room : c.args.node < length c.self.inside.positions.items = subst (λ (j : ℕ). c.args.node < j) (sym k.positions) (subst (λ (t : Term). node_of t < length c.self.inside.standing.sizes.items) c.in_ok-term.ensures sz.0) in
+    let sz = decision_sized c.args.problem.now c.self.inside.standing.sizes.items c.args.node c.args.version c.size_at.result c.decision-term.result w.sizes c.requires.there c.size_at.ensures c.decision-term.ensures in
+    let room : c.args.node < length c.self.inside.positions.items = subst (λ (j : ℕ). c.args.node < j) (sym k.positions) (subst (λ (t : Term). node_of t < length c.self.inside.standing.sizes.items) c.decision-term.ensures sz.0) in
     let len : length c.push-3.new.self.facts.items ≡ length c.self.inside.standing.facts.items + 1 = ap (λ (x : List Fact). length x) ef ∙ length-append c.self.inside.standing.facts.items (fact-of c ∷ []) in
     let mlen : length c.push.new.self.items ≡ length c.self.inside.marks.items + 1 = ap (λ (x : List Mark). length x) c.in_ok-push.ensures.items ∙ length-append c.self.inside.marks.items (c.mark_of-mark.result ∷ []) in
     let plen : c.len-3.result ≡ length c.self.inside.picks.items = (let y = c.len-3.ensures in omega arith) in
@@ -92,7 +92,7 @@ invariant_of-self-2 c = λ h.
       checked = k.checked;
       settled = subst (λ (x : List Fact). IsSettled x c.self.inside.watching.terms.items c.self.inside.cursor.seen c.self.inside.cursor.checked) (sym ef) (settled_push c.self.inside.standing.facts.items (fact-of c) c.self.inside.watching.terms.items c.self.inside.cursor.seen c.self.inside.cursor.checked k.seen k.settled);
       level = ap level_of ef ∙ (lvl ∙ omega arith);
-      picks = picks-is c ∙ (ap (λ (d : Picks). d ++ (c.args.node, c.args.version) ∷ []) k.picks ∙ (sym (picks_push c.self.inside.standing.facts.items (fact-of c) c.args.node c.args.version c.size_at.result refl c.in_ok-term.ensures (let a = c.requires.there in let b = c.size_at.ensures in omega arith)) ∙ ap picks_of (sym ef)));
+      picks = picks-is c ∙ (ap (λ (d : Picks). d ++ (c.args.node, c.args.version) ∷ []) k.picks ∙ (sym (picks_push c.self.inside.standing.facts.items (fact-of c) c.args.node c.args.version c.size_at.result refl c.decision-term.ensures (let a = c.requires.there in let b = c.size_at.ensures in omega arith)) ∙ ap picks_of (sym ef)));
       indexed = subst (λ (d : Picks). IsIndexed d (slice_set c.self.inside.positions.items c.args.node c.len-3.result)) (sym (picks-is c))
           (subst (λ (j : ℕ). IsIndexed (c.self.inside.picks.items ++ (c.args.node, c.args.version) ∷ []) (slice_set c.self.inside.positions.items c.args.node j)) (sym plen) (indexed_push c.self.inside.picks.items c.self.inside.positions.items c.args.node c.args.version k.indexed (undecided-is c) room));
       positions = length-set c.self.inside.positions.items c.args.node c.len-3.result ∙ (k.positions ∙ ap (λ (z : List ℕ). length z) (sym c.in_ok-push-3.ensures.sizes));
@@ -114,8 +114,8 @@ made : (t u : Term) (a b : ℕ) → t ≡ u → a ≡ b → decision_record t a 
 made t u a b e g = ap (λ (x : Term). decision_record x a) e ∙ ap (λ (l : ℕ). decision_record u l) g
 
 fact-is : (c : goal.After-self-4-1) → fact-of c ≡ decision_at c.args.problem.now c.self.inside.standing.facts.items c.args.node c.args.version
-fact-is c = made c.in_ok-term.term (In c.args.node (one_of (size_of c.args.problem.now c.args.node) c.args.version)) c.len-level.result (level_of c.self.inside.standing.facts.items + 1)
-    (c.in_ok-term.ensures ∙ ap (λ (z : ℕ). In c.args.node (one_of z c.args.version)) c.size_at.ensures) (let l = level-is c in omega arith)
+fact-is c = made c.decision-term.result (In c.args.node (one_of (size_of c.args.problem.now c.args.node) c.args.version)) c.len-level.result (level_of c.self.inside.standing.facts.items + 1)
+    (c.decision-term.ensures ∙ ap (λ (z : ℕ). In c.args.node (one_of z c.args.version)) c.size_at.ensures) (let l = level-is c in omega arith)
 
 abbrev track-of : goal.After-self-4-1 → List Fact → List ℕ → List ℕ → List ℕ → Track
 track-of c facts sizes queue turns = record { steps = c.self.inside.steps.items; terms = c.self.inside.watching.terms.items; facts = facts; sizes = sizes; width = length c.self.inside.watching.rows.items; queue = queue; turns = turns; whole = true }

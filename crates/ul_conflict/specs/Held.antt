@@ -1,0 +1,7 @@
+-- Places of held incompatibilities.
+use Rattle.std.specs.Prelude.{◌≡◌, ℕ, List, Some, ◌<◌, slice_get, length}
+use Rattle.ul_trail.specs.Track.{Track}
+
+-- each place of the list is that of a held incompatibility
+abbrev pub AreHeldPlaces : Track → List ℕ → Type 0
+AreHeldPlaces t places = (i place : ℕ) → slice_get places i ≡ Some place → place < length t.terms
