@@ -1,5 +1,5 @@
-use Rattle.std.proofs.Common.{◌≡◌, ℕ, List, [], ◌∷◌, ◌++◌, Bool, true, false, cond, Option, Some, None, ◌<◌, ◌⊎◌, inl, inr, refl, sym, ap, subst, ◌∙◌, nat_eq, eq-eqb, slice_get, append_assoc}
-use Rattle.std.proofs.lemmas.Bool.{eqb-true, cases_order, true≢false}
+use Rattle.std.proofs.Common.{◌≡◌, ℕ, List, [], ◌∷◌, ◌++◌, Bool, true, false, cond, Option, Some, None, ◌⊎◌, inl, inr, refl, sym, ap, subst, ◌∙◌, nat_eq, eq-eqb, append_assoc}
+use Rattle.std.proofs.lemmas.Bool.{eqb-true, true≢false}
 use Rattle.std.proofs.lemmas.Option.{same_Some}
 use Rattle.std.proofs.lemmas.List.{append-nil}
 use Rattle.ul_problem.specs.Terms.{Selection, is_among}

@@ -2,7 +2,7 @@
 use Rattle.std.proofs.Common.{◌≡◌, ℕ, List, [], ◌∷◌, ◌++◌, Bool, true, false, cond, Option, Some, None, ◌<◌, ◌⊎◌, inl, inr, refl, sym, ap, subst, ◌∙◌, slice_get}
 use Rattle.std.proofs.lemmas.Bool.{cases_order}
 use Rattle.std.proofs.lemmas.Option.{same_Some, none-some}
-use Rattle.ul_problem.specs.Decisions.{decided_version, is_key_decided, first_undecided, AgreesWith, AreAllPassed, IsFirstTaken, IsBestListFrom}
+use Rattle.ul_problem.specs.Decisions.{decided_version, is_key_decided, AgreesWith, IsFirstTaken, IsBestListFrom}
 
 module _ {K V : Type 0} where
   -- two first versions are one

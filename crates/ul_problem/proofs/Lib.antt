@@ -1,6 +1,8 @@
 pub mod ForCallers
 pub mod Rules
 pub mod Loops
+pub mod Halving
+pub mod Marking
 pub mod TermLaws
 pub mod Relations
 pub mod Soundness

@@ -1,5 +1,5 @@
 -- The best selection, as the list of its decisions.
-use Rattle.std.specs.Prelude.{◌≡◌, ℕ, List, [], ◌∷◌, ◌++◌, Bool, true, false, cond, Option, Some, None, ◌<◌, nat_eq, slice_get}
+use Rattle.std.specs.Prelude.{◌≡◌, ℕ, List, [], ◌∷◌, ◌++◌, Bool, Option, Some, None, nat_eq, slice_get}
 use Rattle.ul_problem.specs.Decisions.{decided_version, first_undecided, is_key_decided, AgreesWith, AreAllPassed, IsBestListFrom, IsFirstTaken}
 use Rattle.ul_problem.specs.Terms.{Selection}
 use Rattle.ul_problem.specs.Plain.{Plain, needs_of}

@@ -3,6 +3,7 @@
 
 mod equality;
 pub mod examples;
+mod finding;
 mod fitting;
 mod incompat;
 pub mod laws;
