@@ -12,14 +12,12 @@ use Rattle.ul_problem.specs.Steps.{AreTermsOf, IsTermOf, AreWritten, written, Is
 use Rattle.ul_problem.specs.declared.term.Term.{Term}
 use Rattle.ul_problem.specs.declared.term.Term.TheVariants.{In, NotIn}
 use Rattle.ul_problem.specs.declared.step.Step.{Step}
-use Rattle.ul_problem.proofs.Rules.{root_single}
+use Rattle.ul_problem.proofs.ForCallers.{root_single}
 use Rattle.ul_trail.specs.Track.{Track}
 use Rattle.ul_trail.specs.declared.fact.Fact.{Fact}
 use Rattle.ul_trail.specs.Facts.{is_open, IsHeld, AreHeld, one_of, level_of}
 use Rattle.ul_trail.specs.Propagation.{IsTrailOf, root_fact, root_facts, AreLater, IsBegun}
-use Rattle.ul_trail.proofs.Following.{one_has}
-use Rattle.ul_trail.proofs.Places.{take_front}
-use Rattle.ul_trail.proofs.Keeping.{get_cases}
+use Rattle.ul_trail.proofs.ForCallers.{one_has, take_front, get_cases}
 use Rattle.ul_conflict.specs.Satisfiers.{IsSatisfier}
 use Rattle.ul_conflict.specs.Resolved.{IsResolved}
 use Rattle.ul_conflict.proofs.Deriving.{level_at}

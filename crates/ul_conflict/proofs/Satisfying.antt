@@ -10,15 +10,11 @@ use Rattle.ul_problem.specs.Steps.{AreTermsOf, IsTermOf}
 use Rattle.ul_problem.specs.declared.term.Term.{Term}
 use Rattle.ul_problem.specs.declared.term.Relation.{Relation}
 use Rattle.ul_problem.specs.declared.term.Relation.TheVariants.{Holds, Fails, Unknown}
-use Rattle.ul_problem.proofs.Relations.{relation_exact}
-use Rattle.ul_problem.proofs.Wholes.{term_one, fits_at}
+use Rattle.ul_problem.proofs.ForCallers.{relation_exact, term_one, fits_at}
 use Rattle.ul_trail.specs.declared.fact.Fact.{Fact}
 use Rattle.ul_trail.specs.Facts.{is_open, IsHeld, AreHeld, AreHeldBut, IsMirror}
 use Rattle.ul_trail.specs.Counts.{sizes_of}
-use Rattle.ul_trail.proofs.Places.{take_next, take_whole, take_front}
-use Rattle.ul_trail.proofs.Mirrors.{open_past}
-use Rattle.ul_trail.proofs.Levels.{append_within, IsWithin}
-use Rattle.ul_trail.proofs.Propagating.{sizes_at}
+use Rattle.ul_trail.proofs.ForCallers.{take_next, take_whole, take_front, open_past, append_within, IsWithin, sizes_at}
 use Rattle.ul_conflict.specs.Satisfiers.{IsHeldApart, TakesPart, LeavesOut, IsPart, IsSatisfier}
 
 pub skip_apart : (skip : Option ℕ) (n : ℕ) → false ≡ option_eq nat_eq skip (Some n) → skip ≡ Some n → ⊥

@@ -11,14 +11,12 @@ use Rattle.ul_problem.specs.Steps.{IsTermOf, IsRootTerm, AreRootTerms}
 use Rattle.ul_problem.specs.declared.term.Term.{Term}
 use Rattle.ul_problem.specs.declared.term.Term.TheVariants.{In, NotIn}
 use Rattle.ul_problem.specs.declared.step.Step.{Step}
-use Rattle.ul_problem.proofs.Rules.{root_single}
+use Rattle.ul_problem.proofs.ForCallers.{root_single}
 use Rattle.ul_trail.specs.Track.{Track}
 use Rattle.ul_trail.specs.declared.fact.Fact.{Fact}
 use Rattle.ul_trail.specs.Facts.{is_open, IsHeld, AreHeld, one_of}
 use Rattle.ul_trail.specs.Propagation.{IsTrailOf, root_fact, root_facts}
-use Rattle.ul_trail.proofs.Places.{take_front, take_whole}
-use Rattle.ul_trail.proofs.Singles.{one_other}
-use Rattle.ul_trail.proofs.Levels.{append_within}
+use Rattle.ul_trail.proofs.ForCallers.{take_front, take_whole, one_other, append_within}
 use Rattle.ul_conflict.proofs.Satisfying.{take_more, all_more_held}
 use Rattle.ul_conflict.proofs.Deriving.{held_on}
 

@@ -1,31 +1,31 @@
 //! Conflict analysis: from the conflict down the facts, a cut at each fact that takes part, until the resolvent derives something at a
 //! lower level, or forbids the roots.
-ghost use Rattle.std.specs.Prelude.{◌≡◌, ◌≤◌, ◌<◌, ◌++◌, ◌+◌, List, Some, length, slice_get, take, IfOk};
-ghost use Rattle.ul_problem.specs.Steps.{AreTermsOf, AreRightAfter, HasTermOn};
+ghost use Rattle.std.specs.Prelude.{◌≡◌, ◌≤◌, ◌<◌, List, Some, length, slice_get, IfOk};
+ghost use Rattle.ul_problem.specs.Steps.{AreTermsOf};
 ghost use Rattle.ul_problem.specs.declared.term.Term.{Term};
 ghost use Rattle.ul_trail.specs.Propagation.{IsTrailOf, IsConflict};
-ghost use Rattle.ul_conflict.specs.Outcomes.{IsOutcome};
-ghost use Rattle.ul_conflict.specs.Resolved.{IsResolvedBy, IsTurned, IsCut, IsLevelBefore, IsLastOf};
+ghost use Rattle.ul_conflict.specs.Headline.{IsOutcome};
+ghost use Rattle.ul_conflict.specs.Resolved.{IsResolvedBy, IsTurned, IsCut, IsLevelBefore, LeadsBackOf};
 
-use crate::copies::copied;
+use crate::closing::closed;
+use crate::held::place_of;
 use crate::satisfier::satisfier;
 use std::alloc::{AllocError, Global};
-use ul_problem::{Derivation, Incompat, Problem, Step, Terms, resolvent};
+use ul_problem::{Derivation, Incompat, Problem, Step, resolvent};
 use ul_trail::{Fact, Trail};
 
 /// What conflict analysis comes to.
 #[derive(Drop)]
 pub enum Outcome {
-    /// The level to go back to, and the steps learned.
+    /// The level to go back to, and the steps learned. The last of them derives something new there.
     Backjump { level: u64, learned: Vec<Step> },
     /// An accepted derivation.
     Closed(Derivation),
 }
 
-/// The present resolvent: the place of the conflict that it comes from, its terms, the number of the step that says it, and the steps learned.
+/// The present resolvent: its terms, the number of the step that says it, and the steps learned.
 #[derive(Drop)]
 pub struct Resolvent {
-    pub conflict: u64,
     pub terms: Incompat,
     pub number: u64,
     pub learned: Vec<Step>,
@@ -42,7 +42,7 @@ pub enum Turn {
     Close,
 }
 
-// The resolvent with the incompatibility at the place `cause`, on a node.
+// The resolvent with the incompatibility at the place `cause`, on a node. Where a held step says it already, none is learned.
 fn cut(
     alloc: Global,
     problem: &Problem,
@@ -51,25 +51,32 @@ fn cut(
     node: u64,
     cause: u64,
 ) -> Result<(), AllocError>
+    requires right { IsTrailOf problem.now trail.now }
     requires cause { cause < length trail.now.terms }
     requires step { cause < length trail.now.steps }
     requires left { AreTermsOf problem.now resolved.old.terms }
-    requires right { (ts : List Term) → slice_get trail.now.terms cause ≡ Some ts → AreTermsOf problem.now ts }
-    ensures conflict { IfOk result (λ _. resolved.new.conflict ≡ resolved.old.conflict) }
-    ensures cut { IfOk result (λ _. (ts : List Term) → slice_get trail.now.terms cause ≡ Some ts → IsCut problem.now (length trail.now.steps) node cause resolved.old resolved.new ts) }
+    requires fits { (ts : List Term) → slice_get trail.now.terms cause ≡ Some ts → AreTermsOf problem.now ts }
+    ensures { IfOk result (λ _. IsCut problem.now trail.now node cause resolved.old resolved.new) }
 {
     let count = trail.steps().len();
-    let right = trail.terms(cause);
-    let terms = resolvent(alloc, node, &resolved.terms, right)?;
-    let copy = terms.copy(alloc)?;
-    let left = resolved.number;
-    resolved.learned.push(Step::Cut {
-        left,
-        right: cause + 1,
-        node,
-        terms: copy.into_terms(),
-    })?;
-    resolved.number = (count + resolved.learned.len()) as u64;
+    let terms = resolvent(alloc, node, &resolved.terms, trail.terms(cause))?;
+    let found = place_of(problem, trail, &terms);
+    match found {
+        Some(place) => {
+            resolved.number = place + 1;
+        }
+        None => {
+            let copy = terms.copy(alloc)?;
+            let left = resolved.number;
+            resolved.learned.push(Step::Cut {
+                left,
+                right: cause + 1,
+                node,
+                terms: copy.into_terms(),
+            })?;
+            resolved.number = (count + resolved.learned.len()) as u64;
+        }
+    }
     resolved.terms = terms;
     Ok(())
 }
@@ -97,24 +104,16 @@ fn advance(
 ) -> Result<Turn, AllocError>
     requires right { IsTrailOf problem.now trail.now }
     requires state { IsResolvedBy problem.now trail.now resolved.old place }
-    ensures turned { IfOk result (λ r. IsTurned problem.now trail.now resolved.new place r) }
-    ensures conflict { IfOk result (λ _. resolved.new.conflict ≡ resolved.old.conflict) }
+    ensures { IfOk result (λ r. IsTurned problem.now trail.now resolved.new place r) }
 {
     let _ = problem.roots();
-    let at = satisfier(alloc, problem, trail, resolved.terms.terms(), None, place)?;
+    let at = satisfier(problem, trail, resolved.terms.terms(), None, place);
     if at == 0 {
         return Ok(Turn::Close);
     }
     let fact = &trail.facts()[at - 1];
     let node = fact.term.node();
-    let before = satisfier(
-        alloc,
-        problem,
-        trail,
-        resolved.terms.terms(),
-        Some(node),
-        at - 1,
-    )?;
+    let before = satisfier(problem, trail, resolved.terms.terms(), Some(node), at - 1);
     let level = level_before(trail.facts(), before);
     if level < fact.level {
         return Ok(Turn::Jump(level));
@@ -139,32 +138,40 @@ fn start(
     requires conflict { IsConflict problem.now trail.now conflict }
     requires place { conflict < length trail.now.terms }
     requires step { conflict < length trail.now.steps }
-    ensures state { IfOk result (λ r. IsResolvedBy problem.now trail.now r (length trail.now.facts)) }
-    ensures conflict { IfOk result (λ r. r.conflict ≡ conflict) }
+    ensures { IfOk result (λ r. IsResolvedBy problem.now trail.now r (length trail.now.facts)) }
 {
     let _ = problem.roots();
     let count = trail.steps().len() as u64;
     let terms = trail.terms(conflict).copy(alloc)?;
     Ok(Resolvent {
-        conflict,
         terms,
         number: (conflict + 1).min(count),
         learned: Vec::new(alloc),
     })
 }
 
-// The steps up to the one that says the resolvent.
-fn closed(alloc: Global, trail: &Trail, resolved: Resolvent) -> Result<Derivation, AllocError>
-    requires { IsLastOf trail.now.steps resolved }
-    ensures { IfOk result (λ d. d ≡ take resolved.number (trail.now.steps ++ resolved.learned.items)) }
+// The backjump to a level. The last learned step says the resolvent: where a held step does, it's learned once more.
+fn jump(
+    alloc: Global,
+    problem: &Problem,
+    trail: &Trail,
+    level: u64,
+    resolved: Resolvent,
+) -> Result<Outcome, AllocError>
+    requires right { IsTrailOf problem.now trail.now }
+    requires jump { LeadsBackOf problem.now trail.now level resolved }
+    ensures { IfOk result (λ o. IsOutcome problem.now trail.now o) }
 {
+    let _ = problem.roots();
     let steps = trail.steps().as_slice();
-    let count = steps.len().min(resolved.number as usize);
-    let mut all = copied(alloc, &steps[..count])?;
-    for step in resolved.learned {
-        all.push(step)?;
+    let number = resolved.number as usize;
+    let mut learned = resolved.learned;
+    if number > steps.len() {
+        return Ok(Outcome::Backjump { level, learned });
     }
-    Ok(Derivation::of(all))
+    let again = steps[number - 1].copy(alloc)?;
+    learned.push(again)?;
+    Ok(Outcome::Backjump { level, learned })
 }
 
 /// What a conflict comes to: a level to go back to with the steps learned, or an accepted derivation.
@@ -176,7 +183,7 @@ pub fn resolve(
 ) -> Result<Outcome, AllocError>
     requires right { IsTrailOf problem.now trail.now }
     requires conflict { IsConflict problem.now trail.now conflict }
-    ensures { IfOk result (λ o. IsOutcome problem.now trail.now conflict o) }
+    ensures { IfOk result (λ o. IsOutcome problem.now trail.now o) }
 {
     let mut resolved = start(alloc, problem, trail, conflict)?;
     let mut place = trail.facts().len();
@@ -187,10 +194,8 @@ pub fn resolve(
                 place = next;
             }
             Turn::Jump(level) => {
-                return Ok(Outcome::Backjump {
-                    level,
-                    learned: resolved.learned,
-                });
+                let outcome = jump(alloc, problem, trail, level, resolved)?;
+                return Ok(outcome);
             }
             Turn::Close => {
                 let derivation = closed(alloc, trail, resolved)?;

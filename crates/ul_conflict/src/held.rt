@@ -1,8 +1,7 @@
 //! Held steps that say given terms.
-ghost use Rattle.std.specs.Prelude.{◌≡◌, Some, slice_get, IfSome};
+ghost use Rattle.std.specs.Prelude.{◌≡◌, ◌<◌, Some, length, slice_get, IfSome};
 ghost use Rattle.ul_problem.specs.Steps.{AreTermsOf};
 ghost use Rattle.ul_trail.specs.Propagation.{IsTrailOf};
-ghost use Rattle.ul_trail.specs.Watched.{places_on};
 ghost use Rattle.ul_conflict.specs.Held.{AreHeldPlaces};
 
 use ul_problem::{Incompat, Problem, Term, same_terms};
@@ -11,7 +10,8 @@ use ul_trail::Trail;
 // The first of these places whose incompatibility has these terms.
 fn found_in(trail: &Trail, places: &[u64], terms: &[Term]) -> Option<u64>
     requires { AreHeldPlaces trail.now places.now }
-    ensures { IfSome result (λ place. slice_get trail.now.terms place ≡ Some terms.now) }
+    ensures said { IfSome result (λ place. slice_get trail.now.terms place ≡ Some terms.now) }
+    ensures within { IfSome result (λ place. place < length trail.now.steps) }
 {
     for place in places {
         if same_terms(trail.terms(*place).terms(), terms) {
@@ -19,6 +19,21 @@ fn found_in(trail: &Trail, places: &[u64], terms: &[Term]) -> Option<u64>
         }
     }
     None
+}
+
+// The shorter of two lists of places.
+fn shorter<'a>(trail: &Trail, best: Option<&'a Vec<u64>>, row: &'a Vec<u64>) -> Option<&'a Vec<u64>>
+    requires best { IfSome best (λ places. AreHeldPlaces trail.now places.now.items) }
+    requires row { AreHeldPlaces trail.now row.now.items }
+    ensures { IfSome result (λ places. AreHeldPlaces trail.now places.now.items) }
+{
+    let Some(other) = best else {
+        return Some(row);
+    };
+    if row.len() < other.len() {
+        return Some(row);
+    }
+    Some(other)
 }
 
 // The shortest list of the incompatibilities on a node of these terms.
@@ -30,16 +45,7 @@ fn shortest<'a>(problem: &Problem, trail: &'a Trail, terms: &[Term]) -> Option<&
     let mut best: Option<&Vec<u64>> = None;
     for term in terms {
         let row = trail.watched(term.node());
-        match best {
-            Some(other) => {
-                if row.len() < other.len() {
-                    best = Some(row);
-                }
-            }
-            None => {
-                best = Some(row);
-            }
-        }
+        best = shorter(trail, best, row);
     }
     best
 }
@@ -48,7 +54,8 @@ fn shortest<'a>(problem: &Problem, trail: &'a Trail, terms: &[Term]) -> Option<&
 pub fn place_of(problem: &Problem, trail: &Trail, terms: &Incompat) -> Option<u64>
     requires right { IsTrailOf problem.now trail.now }
     requires fits { AreTermsOf problem.now terms.now }
-    ensures { IfSome result (λ place. slice_get trail.now.terms place ≡ Some terms.now) }
+    ensures said { IfSome result (λ place. slice_get trail.now.terms place ≡ Some terms.now) }
+    ensures within { IfSome result (λ place. place < length trail.now.steps) }
 {
     let list = terms.terms();
     match shortest(problem, trail, list) {
