@@ -1,3 +1,11 @@
-pub mod Memory
+pub mod ForCallers
 pub mod Names
+pub mod NameAbove
 pub mod Nodes
+pub mod Memory
+pub mod ListedFiles
+pub mod Lists
+pub mod Members
+pub mod KeptLists
+pub mod Increasing
+pub mod Reaching

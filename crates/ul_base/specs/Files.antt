@@ -1,5 +1,5 @@
 -- What files are, and what a read of one may answer.
-use Rattle.std.specs.Prelude.{◌≡◌, ℕ, ◌<◌, ◌≤◌, List, [], ◌∷◌, map, length, Option, Some, None, Result, Ok, Err, Vec, String, string_bytes, IfSome, if◌then◌else◌}
+use Rattle.std.specs.Prelude.{◌≡◌, ℕ, ◌<◌, ◌≤◌, List, [], ◌∷◌, map, length, Option, Some, None, Result, Ok, Err, Vec, String, string_bytes, IfSome, IsSome, if◌then◌else◌}
 use Rattle.std.specs.Str.{bytes_eq}
 use Rattle.std.specs.declared.alloc.Global.{Global}
 use Rattle.ul_base.specs.Causes.{Rose}
@@ -29,10 +29,13 @@ Tells m path limit (Err Failed) = Unit {0}
 Tells m path limit (Err NoMemory) = Unit {0}
 
 -- what an answer says of the count of faults and of the path that failed last: a failed read raises the count, and is
--- the last that failed, where that is told; every other answer leaves both as they were
-abbrev pub ReadCause : ℕ → ℕ → Option (List ℕ) → Option (List ℕ) → List ℕ → Result (Option (Vec ℕ Global)) ReadRefused → Type 0
+-- the last that failed, where that is told, and what was told once stays told; every other answer leaves both as they
+-- were
+abbrev pub ReadCause :
+    ℕ → ℕ → Option (List ℕ) → Option (List ℕ) → List ℕ → Result (Option (Vec ℕ Global)) ReadRefused → Type 0
 ReadCause before now last_before last_now path (Ok _) = (now ≡ before) × (last_now ≡ last_before)
-ReadCause before now last_before last_now path (Err Failed) = Rose before now × (before ≤ now) × IfSome last_now (λ p. p ≡ path)
+ReadCause before now last_before last_now path (Err Failed) =
+    Rose before now × (before ≤ now) × IfSome last_now (λ p. p ≡ path) × (IsSome last_before → IsSome last_now)
 ReadCause before now last_before last_now path (Err TooLong) = (now ≡ before) × (last_now ≡ last_before)
 ReadCause before now last_before last_now path (Err NoMemory) = (now ≡ before) × (last_now ≡ last_before)
 

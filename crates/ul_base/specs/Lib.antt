@@ -1,7 +1,12 @@
+pub mod Names
+pub mod Nodes
 pub mod Causes
 pub mod Files
 pub mod MemFiles
-pub mod MemSink
-pub mod Names
-pub mod Nodes
+pub mod ListedFiles
 pub mod Sinks
+pub mod MemSink
+pub mod Kept
+pub mod Reached
+pub mod Increasing
+pub mod Examples

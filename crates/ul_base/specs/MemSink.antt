@@ -12,18 +12,26 @@ pub record SinkState : Type 0 where
   pub calls : ℕ
   pub faults : ℕ
 
+-- a sink that nothing was written to
+abbrev pub empty_sink : List (ℕ × ℕ) → SinkState
+empty_sink failing = record { written = []; failing = failing; calls = 0; faults = 0 }
+
 -- after how many bytes the call of this number fails, if it does: the first pair that begins with the number counts
 abbrev pub bytes_before : List (ℕ × ℕ) → ℕ → Option ℕ
 bytes_before [] call = None
 bytes_before (pair ∷ pairs) call = if pair.0 == call then Some pair.1 else bytes_before pairs call
+
+-- the sink after one more write, of which it took this
+abbrev pub sink_with : SinkState → List ℕ → SinkState
+sink_with before bytes = record before { written = before.written ++ bytes; calls = counted before.calls }
 
 -- the next call answers so, and leaves the sink so: it fails exactly where its number is one of those that fail, and
 -- then writes as many bytes as are said there, or the whole piece where that is less
 abbrev pub MemWrite : SinkState → SinkState → List ℕ → Result (Unit {0}) SinkRefused → Type 0
 MemWrite before now piece (Ok _) =
     (bytes_before before.failing before.calls ≡ None)
-    × (now ≡ record before { written = before.written ++ piece; calls = counted before.calls })
+    × (now ≡ sink_with before piece)
 MemWrite before now piece (Err Failed) =
     (count : ℕ) × (bytes_before before.failing before.calls ≡ Some count)
-    × (now ≡ record before { written = before.written ++ take count piece; calls = counted before.calls; faults = counted before.faults })
+    × (now ≡ record (sink_with before (take count piece)) { faults = counted before.faults })
 MemWrite before now piece (Err NoMemory) = now ≡ record before { calls = counted before.calls }

@@ -56,6 +56,10 @@ is_normal_byte b = is_ascii_digit b || (is_ascii_lowercase b || b == 45)
 abbrev pub IsPlain : List ℕ → Type 0
 IsPlain name = (0 < length name) × (list_all is_normal_byte name ≡ true)
 
+-- a name that is greater than this one: a `0` behind it
+unfoldable pub name_above : List ℕ → List ℕ
+name_above name = name ++ 48 ∷ []
+
 -- the order of names: their bytes, the first that differ deciding
 abbrev pub name_cmp : List ℕ → List ℕ → Ordering
 name_cmp = slice_cmp nat_cmp
@@ -66,6 +70,10 @@ NameReading text (Ok name) = name_of text ≡ Some name
 NameReading text (Err NoReading) = name_of text ≡ None
 NameReading text (Err NoMemory) = Unit {0}
 
+-- the text has bytes of names alone, and this is its normal form
+abbrev pub IsFormOf : List ℕ → List ℕ → Type 0
+IsFormOf text form = (list_all is_name_byte text ≡ true) × (form ≡ normal_form text)
+
 -- the normal form of a text that a run of separators may stand before
 abbrev pub form_behind : Bool → List ℕ → List ℕ
 form_behind run text = normal_form (if run then 45 ∷ text else text)
@@ -74,6 +82,7 @@ form_behind run text = normal_form (if run then 45 ∷ text else text)
 -- separators or not, stay the same text; a byte that stands in no name is refused
 abbrev pub AddsByte : List ℕ → List ℕ → Bool → ℕ → Result Bool NameFault → Type 0
 AddsByte before now run byte (Ok after) =
-    (is_name_byte byte ≡ true) × ((rest : List ℕ) → now ++ form_behind after rest ≡ before ++ form_behind run (byte ∷ rest))
+    (is_name_byte byte ≡ true)
+    × ((rest : List ℕ) → now ++ form_behind after rest ≡ before ++ form_behind run (byte ∷ rest))
 AddsByte before now run byte (Err NoReading) = is_name_byte byte ≡ false
 AddsByte before now run byte (Err NoMemory) = Unit {0}

@@ -11,7 +11,9 @@ Appended (Some before) now piece = now ≡ Some (before ++ piece)
 
 -- what an answer says: a failed write raises the count and appends a part of the piece from its front, want of memory
 -- leaves all as it was, and else the whole piece is appended
-abbrev pub WriteCause : ℕ → ℕ → Option (List ℕ) → Option (List ℕ) → List ℕ → Result (Unit {0}) SinkRefused → Type 0
+abbrev pub WriteCause :
+    ℕ → ℕ → Option (List ℕ) → Option (List ℕ) → List ℕ → Result (Unit {0}) SinkRefused → Type 0
 WriteCause before now had has piece (Ok _) = (now ≡ before) × Appended had has piece
-WriteCause before now had has piece (Err Failed) = Rose before now × (before ≤ now) × (n : ℕ) × Appended had has (take n piece)
+WriteCause before now had has piece (Err Failed) =
+    Rose before now × (before ≤ now) × (n : ℕ) × Appended had has (take n piece)
 WriteCause before now had has piece (Err NoMemory) = (now ≡ before) × (has ≡ had)

@@ -34,7 +34,7 @@ pub trait Files {
     /// How often a read has failed. The count never falls, and stands still at its type's end.
     ghost faults: { Self → ℕ };
 
-    /// The path of the last read that answered `Failed`, where it is told.
+    /// The path of the last read that answered `Failed`, where it is told. Once it is told it stays told.
     ghost last_failed: { Self → Option (List ℕ) };
 
     /// Reads the file at `path`, of at most `limit` bytes.

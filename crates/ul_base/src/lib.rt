@@ -8,18 +8,17 @@
 mod files;
 mod gate;
 pub mod laws;
+mod listed_files;
 mod mem_files;
 mod mem_sink;
 mod name;
 mod node;
 mod sink;
-#[cfg(test)]
-mod tests;
 
 pub use files::{Files, ReadRefused};
 pub use gate::{Gate, Open};
 pub use mem_files::{MemFiles, SureFiles};
 pub use mem_sink::MemSink;
-pub use name::{Name, NameFault};
+pub use name::{Name, NameFault, is_name};
 pub use node::Node;
 pub use sink::{Sink, SinkRefused};

@@ -1,20 +1,22 @@
 //! Files in memory.
-ghost use Rattle.std.specs.Prelude.{◌≡◌, ◌≢◌, Some, None, string_bytes, option_map};
-ghost use Rattle.ul_base.specs.Files.{FileMap, files_of, content, Tells, ReadCause};
-ghost use Rattle.ul_base.specs.MemFiles.{FilesState, MemRead};
+ghost use Rattle.std.specs.Prelude.{◌≡◌, ◌≢◌, None, Some, string_bytes, option_map};
+ghost use Rattle.ul_base.specs.Files.{FileMap, files_of, Tells, ReadCause};
+ghost use Rattle.ul_base.specs.MemFiles.{FilesState, MemRead, unread_files};
 
 use crate::files::{Files, ReadRefused};
+use crate::listed_files::ListedFiles;
 use std::alloc::Global;
 use std::marker::Model;
 
-/// Files in memory, of which the reads of given numbers fail.
+/// Files in memory, of which the reads of given numbers fail. The first read that doesn't fail makes an index of the
+/// paths.
 ///
 /// A clause sees the map, the numbers of the reads that fail, how many reads there were and how many of them failed
 /// (both stand still at their type's end), and the path of the last that failed.
 #[derive(Drop)]
 pub struct MemFiles {
     alloc: Global,
-    list: Vec<(String, Vec<u8>)>,
+    files: ListedFiles,
     failing: Vec<u64>,
     calls: u64,
     faults: u64,
@@ -25,7 +27,7 @@ impl Model for MemFiles {
     ghost Value = { FilesState };
 
     ghost view = { λ s. record {
-      files = files_of s.list.items;
+      files = s.files;
       failing = s.failing.items;
       calls = s.calls;
       faults = s.faults;
@@ -37,11 +39,11 @@ impl MemFiles {
     /// The files of a list, of which the first pair of a path counts; the reads whose numbers, from 0, stand in
     /// `failing` fail, and no other.
     pub fn of(alloc: Global, list: Vec<(String, Vec<u8>)>, failing: Vec<u64>) -> MemFiles
-        ensures { result ≡ record { files = files_of list.items; failing = failing.items; calls = 0; faults = 0; last = None } }
+        ensures { result ≡ unread_files (files_of list.items) failing.items }
     {
         MemFiles {
             alloc,
-            list,
+            files: ListedFiles::of(list),
             failing,
             calls: 0,
             faults: 0,
@@ -72,7 +74,7 @@ impl Files for MemFiles {
             self.faults = self.faults.saturating_add(1);
             return Err(ReadRefused::Failed);
         }
-        answer(self.alloc, &self.list, path, limit)
+        self.files.answer(self.alloc, path, limit)
     }
 }
 
@@ -82,13 +84,13 @@ impl Files for MemFiles {
 #[derive(Drop)]
 pub struct SureFiles {
     alloc: Global,
-    list: Vec<(String, Vec<u8>)>,
+    files: ListedFiles,
 }
 
 impl Model for SureFiles {
     ghost Value = { FileMap };
 
-    ghost view = { λ s. files_of s.list.items };
+    ghost view = { λ s. s.files };
 }
 
 impl SureFiles {
@@ -96,7 +98,10 @@ impl SureFiles {
     pub fn of(alloc: Global, list: Vec<(String, Vec<u8>)>) -> SureFiles
         ensures { result ≡ files_of list.items }
     {
-        SureFiles { alloc, list }
+        SureFiles {
+            alloc,
+            files: ListedFiles::of(list),
+        }
     }
 }
 
@@ -114,40 +119,6 @@ impl Files for SureFiles {
         ensures cause { ReadCause 0 0 None None path.now result }
         ensures sure { result ≢ Err ReadRefused.Failed }
     {
-        answer(self.alloc, &self.list, path, limit)
+        self.files.answer(self.alloc, path, limit)
     }
-}
-
-// The answer to a read that doesn't fail.
-fn answer(
-    alloc: Global,
-    list: &[(String, Vec<u8>)],
-    path: &str,
-    limit: u64,
-) -> Result<Option<Vec<u8>>, ReadRefused>
-    ensures tells { Tells (files_of list.now) path.now limit result }
-    ensures sure { result ≢ Err ReadRefused.Failed }
-{
-    match find(list, path) {
-        None => Ok(None),
-        Some(bytes) => {
-            if bytes.len() as u64 > limit {
-                return Err(ReadRefused::TooLong);
-            }
-            let copy = Vec::from_slice(alloc, bytes)?;
-            Ok(Some(copy))
-        }
-    }
-}
-
-// The bytes of the first pair that has the path.
-fn find<'a>(list: &'a [(String, Vec<u8>)], path: &str) -> Option<&'a [u8]>
-    ensures { option_map (λ b. b.now) result ≡ content (files_of list.now) path.now }
-{
-    for pair in list {
-        if pair.0.as_str() == path {
-            return Some(&pair.1);
-        }
-    }
-    None
 }

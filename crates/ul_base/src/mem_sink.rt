@@ -1,7 +1,7 @@
 //! A sink in memory.
 ghost use Rattle.std.specs.Prelude.{◌≡◌, [], Some, take};
 ghost use Rattle.ul_base.specs.Sinks.{WriteCause};
-ghost use Rattle.ul_base.specs.MemSink.{SinkState, MemWrite, bytes_before};
+ghost use Rattle.ul_base.specs.MemSink.{SinkState, MemWrite, bytes_before, empty_sink};
 
 use crate::sink::{Sink, SinkRefused};
 use std::alloc::Global;
@@ -34,7 +34,7 @@ impl MemSink {
     /// An empty sink. A write whose number, from 0, stands first in a pair of `failing` fails, after as many bytes
     /// as the pair's second number or the whole piece, whichever is less; the first such pair counts.
     pub fn of(alloc: Global, failing: Vec<(u64, u64)>) -> MemSink
-        ensures { result ≡ record { written = []; failing = failing.items; calls = 0; faults = 0 } }
+        ensures { result ≡ empty_sink failing.items }
     {
         MemSink {
             bytes: Vec::new(alloc),

@@ -7,7 +7,8 @@ ghost use Rattle.std.specs.Cmp.Rules.{hashing};
 ghost use Rattle.std.specs.Hash as fed;
 ghost use Rattle.std.specs.List.{list_all};
 ghost use Rattle.std.specs.Str.{bytes_eq};
-ghost use Rattle.ul_base.specs.Names.{AddsByte, IsNormalName, IsPlain, NameReading, has_ends, is_name_byte, is_separator, name_cmp, normal_form};
+ghost use Rattle.ul_base.specs.Names;
+ghost use Rattle.ul_base.specs.Names.{AddsByte, IsFormOf, IsNormalName, IsPlain, NameReading, has_ends, is_name_byte, is_separator, name_cmp};
 
 use std::alloc::{AllocError, Global};
 use std::cmp::Ordering;
@@ -136,6 +137,29 @@ impl Hash for Name {
     }
 }
 
+/// Whether a text is a name, in its normal form or not. It takes no memory.
+///
+/// `Name::read` answers `NoReading` exactly where it is none.
+#[tactic(auto, unfolding(crate::specs::Names::is_name))]
+pub fn is_name(text: &str) -> bool
+    ensures { result ≡ Names.is_name text.now }
+{
+    let bytes = text.as_bytes();
+    ends_well(bytes) && has_name_bytes(bytes)
+}
+
+// Each byte is a letter, a digit or a separator.
+fn has_name_bytes(bytes: &[u8]) -> bool
+    ensures { result ≡ list_all is_name_byte bytes.now }
+{
+    for byte in bytes {
+        if !byte.is_ascii_alphanumeric() && !separates(*byte) {
+            return false;
+        }
+    }
+    true
+}
+
 // The bytes begin and end with a letter or a digit.
 fn ends_well(bytes: &[u8]) -> bool
     ensures { result ≡ has_ends bytes.now }
@@ -156,7 +180,7 @@ fn separates(byte: u8) -> bool
 
 // The normal form of letters, digits and separators; `NoReading` where another byte is among them.
 fn normalized(alloc: Global, bytes: &[u8]) -> Result<String, NameFault>
-    ensures value { IfOk result (λ t. (list_all is_name_byte bytes.now ≡ true) × (string_bytes t ≡ normal_form bytes.now)) }
+    ensures value { IfOk result (λ t. IsFormOf bytes.now (string_bytes t)) }
     ensures no_reading { IfErr result (λ e. e ≡ NameFault.NoReading → list_all is_name_byte bytes.now ≡ false) }
 {
     let mut text = String::new(alloc);

@@ -3,11 +3,11 @@ use Rattle.std.proofs.Common.{◌≡◌, ℕ, zero, suc, ◌+◌, ◌<◌, ◌^�
 use Rattle.std.specs.Prelude.{replicate, Option, Some, None, Ok, Err}
 use Rattle.std.specs.List.{range_with_len}
 use Rattle.std.proofs.lemmas.List.{replicate_more}
-use Rattle.ul_core.specs.declared.events.Event.{Event}
 use Rattle.ul_core.specs.declared.events.Event.TheVariants.{Claim}
 use Rattle.ul_core.specs.declared.events.EventFault.TheVariants.{Shard, Known, Part, Full, NoMemory}
 use Rattle.ul_core.specs.Core.{Core, first_core}
-use Rattle.ul_core.specs.Steps.{Answer, Steps, Runs, Takes, claimed, draws}
+use Rattle.ul_core.specs.Steps.{Answer, Runs, Takes, after_claim, draws}
+use Rattle.ul_core.proofs.ForCallers.{run_more}
 use Rattle.ul_claims.specs.Claimed.{Shows, IsClaim, EachClaimIsNext}
 
 draws-append : (xs ys : List Answer) → draws (xs ++ ys) ≡ draws xs ++ draws ys
@@ -24,13 +24,6 @@ next_range : (n : ℕ) → range_with_len 0 (n + 1) ≡ range_with_len 0 n ++ n 
 next_range n = ap (range_with_len 0) (let e : n + 1 ≡ suc n = omega arith in e) ∙ (range_more 0 n ∙ ap (λ (k : ℕ). range_with_len 0 n ++ k ∷ []) (let e : 0 + n ≡ n = omega arith in e))
 
 module _ {L : Type 0} (f : L → ℕ) where
-  -- one more step at the end of a run
-  runs_more : (s s' s'' : Core L) (events : List (Event L)) (answers : List Answer) (e : Event L) (a : Answer) → Runs f s events answers s' → Steps f s' e a s'' → Runs f s (events ++ e ∷ []) (answers ++ a ∷ []) s''
-  runs_more s s' s'' [] [] e a run step = (s'', subst (λ z. Steps f z e a s'') run step, refl)
-  runs_more s s' s'' [] (b ∷ answers) e a run step = absurd run
-  runs_more s s' s'' (d ∷ events) [] e a run step = absurd run
-  runs_more s s' s'' (d ∷ events) (b ∷ answers) e a run step = (run.0, run.1, runs_more run.0 s' s'' events answers e a run.2 step)
-
   -- what n events Claim do, from any core that has room for them
   claims_run : (n : ℕ) (s s' : Core L) (answers : List Answer) → s.claims + n < 2 ^ 64 → Runs f s (replicate n Claim) answers s' → (s' ≡ record s { claims = s.claims + n }) × (draws answers ≡ range_with_len s.claims n)
   claims_run zero s s' [] room run = (run ∙ ap (λ (k : ℕ). record s { claims = k }) (let e : s.claims ≡ s.claims + 0 = omega arith in e), refl)
@@ -38,8 +31,8 @@ module _ {L : Type 0} (f : L → ℕ) where
   claims_run (suc n) s s' [] room run = absurd run
   claims_run (suc n) s s' (Ok answer ∷ answers) room run =
       let step = run.1 in
-      let rest : Runs f (claimed s) (replicate n Claim) answers s' = subst (λ m. Runs f m (replicate n Claim) answers s') step.2 run.2 in
-      let r = claims_run n (claimed s) s' answers (omega (arith, room)) rest in (
+      let rest : Runs f (after_claim s) (replicate n Claim) answers s' = subst (λ m. Runs f m (replicate n Claim) answers s') step.2 run.2 in
+      let r = claims_run n (after_claim s) s' answers (omega (arith, room)) rest in (
         r.0 ∙ ap (λ (k : ℕ). record s { claims = k }) (let e : s.claims + 1 + n ≡ s.claims + suc n = omega arith in e),
         ap (λ (o : Option ℕ). draws (Ok o ∷ answers)) step.1 ∙ ap (λ (zs : List ℕ). s.claims ∷ zs) r.1,
       )
@@ -57,19 +50,19 @@ module _ {L : Type 0} (f : L → ℕ) where
 pub shows_first : Shows 0
 shows_first = record { core = first_core 1; answers = []; run = refl; number = refl; drawn = refl }
 
-takes : (n : ℕ) (s : Shows n) → n + 1 < 2 ^ 64 → Takes (λ (label : ℕ). label) s.core Claim (Some n) (claimed s.core)
+takes : (n : ℕ) (s : Shows n) → n + 1 < 2 ^ 64 → Takes (λ (label : ℕ). label) s.core Claim (Some n) (after_claim s.core)
 takes n s room = (omega (arith, s.number, room), ap Some (sym s.number), refl)
 
 pub claim_of : (n : ℕ) → Shows n → n + 1 < 2 ^ 64 → IsClaim n
-claim_of n s room = record { before = s; taken = takes n s room }
+claim_of n s room = record { before = s; event = takes n s room }
 
 pub shows_more : (n : ℕ) → Shows n → n + 1 < 2 ^ 64 → Shows (n + 1)
 shows_more n s room =
     let one : List Answer = Ok (Some n) ∷ [] in
-    let run : Runs (λ (label : ℕ). label) (first_core 1) (replicate n Claim ++ Claim ∷ []) (s.answers ++ one) (claimed s.core) = runs_more (λ (label : ℕ). label) (first_core 1) s.core (claimed s.core) (replicate n Claim) s.answers Claim (Ok (Some n)) s.run (takes n s room) in record {
-      core = claimed s.core;
+    let run : Runs (λ (label : ℕ). label) (first_core 1) (replicate n Claim ++ Claim ∷ []) (s.answers ++ one) (after_claim s.core) = run_more (λ (label : ℕ). label) (first_core 1) (replicate n Claim) s.answers s.core Claim (Ok (Some n)) (after_claim s.core) s.run (takes n s room) in record {
+      core = after_claim s.core;
       answers = s.answers ++ one;
-      run = subst (λ events. Runs (λ (label : ℕ). label) (first_core 1) events (s.answers ++ one) (claimed s.core)) (replicate_more n Claim) run;
+      run = subst (λ events. Runs (λ (label : ℕ). label) (first_core 1) events (s.answers ++ one) (after_claim s.core)) (replicate_more n Claim) run;
       number = ap (λ (k : ℕ). k + 1) s.number;
       drawn = draws-append s.answers one ∙ (ap (λ zs. zs ++ n ∷ []) s.drawn ∙ sym (next_range n));
     }

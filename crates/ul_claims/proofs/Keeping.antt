@@ -1,17 +1,19 @@
 -- Each step on the word keeps the rule.
-use Rattle.std.proofs.Common.{◌≡◌, ℕ, zero, suc, ◌+◌, ◌-◌, ◌*◌, ◌%◌, ◌^◌, ◌<◌, ◌≤◌, ◌==◌, cond, List, [], ◌∷◌, ◌++◌, length, set, slice_index, sym, refl, ap, ◌∙◌, subst, ⊎_elim, arith, length-append, get_or-set_same, length-set}
+use Rattle.std.proofs.Common.{◌≡◌, ◌≢◌, ℕ, zero, suc, ◌+◌, ◌-◌, ◌*◌, ◌%◌, ◌^◌, ◌<◌, ◌≤◌, ◌==◌, cond, List, [], ◌∷◌, ◌++◌, length, set, slice_index, sym, refl, ap, ◌∙◌, subst, ⊎_elim, arith, length-append, get_or-set_same, length-set}
 use Rattle.std.proofs.lemmas.List.{set-get_or}
 use Rattle.std.proofs.lemmas.Bool.Decides.{nat_tests}
 use Rattle.std.proofs.Math.Nat.{mod-eq_of_lt}
 use mathlib.Core.Option.{none, some, some-ne-none, some-injective}
 use lib.ListN.{get_elem?}
-use Rattle.atomic_table.specs.Table.{Me, step, keeps, opening, Allows, Splits, Joins}
+use mathlib.Core.Logic.{dite}
+use native.Mathlib.Decide.{ℕ_discrete}
+use Rattle.atomic_table.specs.Table.{State, Me, step, stepped, keeps, opening, Allows, Splits, Joins}
 use Rattle.atomic_table.proofs.Lists.{at_set, at_snoc}
 use Rattle.ul_claims.specs.declared.steps.Tally.{Tally}
-use Rattle.ul_claims.specs.Rule.{parts_in_all, tally, times, total, once_below, Fits, EachOnce, Draws, Looks}
+use Rattle.ul_claims.specs.Rule.{parts_in_all, tally, times, total, once_below, Fits, EachOnce, Draws, Looks, EachNumberHasOneSeat}
 use Rattle.ul_claims.specs.Claimed.{Shows}
 use Rattle.ul_claims.proofs.CoreClaims.{shows_first, claim_of, shows_more}
-use Rattle.ul_claims.proofs.Numbers.{times-append, All-from_times}
+use Rattle.ul_claims.proofs.Numbers.{times-append, All-from_times, times_from_contains}
 
 -- a seat's share of the total after a change of its view
 total_set : (f : Tally → ℕ) (vs : List Tally) (j : ℕ) (v w : Tally) → get_elem? vs j ≡ some v → total f (set vs j w) + f v ≡ total f vs + f w
@@ -55,8 +57,8 @@ one_seat (suc j) u v fits is = absurd (some-ne-none v (sym is))
 pub opens : EachOnce (opening (0 ∷ []) [] (tally parts_in_all []))
 opens = record {
   width = refl;
-  shown = shows_first;
-  counted = refl;
+  core = shows_first;
+  parts = refl;
   once = λ x. grind (arith, nat_tests);
   sums = refl;
   fits = λ j v is. one_seat j (tally parts_in_all []) v ((λ z. refl), omega arith) is;
@@ -68,20 +70,27 @@ draws slots id me part few s r _ at small =
     let v : Tally = me.0 in
     let n : ℕ = slice_index s.words 0 in
     let w : Tally = tally v.parts (v.drawn ++ n ∷ []) in
-    let top : n + 1 < 2 ^ 64 = omega (arith, total_le s.views r.fits, r.sums, r.counted) in
-    let now : slice_index (set s.words 0 ((n + 1) % 2 ^ 64)) 0 ≡ n + 1 = get_or-set_same s.words 0 ((n + 1) % 2 ^ 64) 0 (omega (arith, r.width)) ∙ mod-eq_of_lt top in (
+    let top : n + 1 < 2 ^ 64 = omega (arith, total_le s.views r.fits, r.sums, r.parts) in
+    let now : slice_index (set s.words 0 ((n + 1) % 2 ^ 64)) 0 ≡ n + 1 = get_or-set_same s.words 0 ((n + 1) % 2 ^ 64) 0 (omega (arith, r.width)) ∙ mod-eq_of_lt top in
+    let after : State ℕ Tally = stepped s 0 ((n + 1) % 2 ^ 64) id me.1 w keeps in
+    let kept : EachOnce after = record {
+      width = length-set s.words 0 _ ∙ r.width;
+      core = subst Shows (sym now) (shows_more n r.core top);
+      parts = omega (arith, total_set (λ u. u.parts) s.views id v w at, r.parts);
+      once = λ x. omega (arith, ap (once_below x) now, once_suc x n, total_set (λ u. times x u.drawn) s.views id v w at, r.once x, times-append x v.drawn (n ∷ []));
+      sums = omega (arith, now, total_set (λ u. length u.drawn) s.views id v w at, r.sums, length-append v.drawn (n ∷ []));
+      fits = each_set Fits s.views id w ((λ z. absurd (omega arith)), omega (arith, length-append v.drawn (n ∷ []))) r.fits;
+    } in (
       w,
       keeps,
       tt,
-      record {
-        width = length-set s.words 0 _ ∙ r.width;
-        shown = subst Shows (sym now) (shows_more n r.shown top);
-        counted = omega (arith, total_set (λ u. u.parts) s.views id v w at, r.counted);
-        once = λ x. omega (arith, ap (once_below x) now, once_suc x n, total_set (λ u. times x u.drawn) s.views id v w at, r.once x, times-append x v.drawn (n ∷ []));
-        sums = omega (arith, now, total_set (λ u. length u.drawn) s.views id v w at, r.sums, length-append v.drawn (n ∷ []));
-        fits = each_set Fits s.views id w ((λ z. absurd (omega arith)), omega (arith, length-append v.drawn (n ∷ []))) r.fits;
-      },
-      (refl, All-from_times (λ x. x < n) v.drawn (λ x h. below_once x n (omega (arith, r.once x, total_ge (λ u. times x u.drawn) s.views id v at))), claim_of n r.shown top),
+      kept,
+      (
+        refl,
+        All-from_times (λ x. x < n) v.drawn (λ x h. below_once x n (omega (arith, r.once x, total_ge (λ u. times x u.drawn) s.views id v at))),
+        claim_of n r.core top,
+        record { before = s; seat = id; rule_before = r; word = refl; here = at; after = after; word_after = now; views_after = refl; rule_after = kept },
+      ),
     )
 
 pub splits : (id : ℕ) (v : Tally) → 1 < v.parts → length v.drawn ≤ 2 ^ 32 → Splits EachOnce id v (tally (v.parts - 1) v.drawn) (tally 1 [])
@@ -90,8 +99,8 @@ splits id v parts few s r at =
     let w : Tally = tally 1 [] in
     let vs : List Tally = set s.views id l in record {
       width = r.width;
-      shown = r.shown;
-      counted = omega (arith, total_snoc (λ u. u.parts) vs w, total_set (λ u. u.parts) s.views id v l at, r.counted);
+      core = r.core;
+      parts = omega (arith, total_snoc (λ u. u.parts) vs w, total_set (λ u. u.parts) s.views id v l at, r.parts);
       once = λ x. omega (arith, total_snoc (λ u. times x u.drawn) vs w, total_set (λ u. times x u.drawn) s.views id v l at, r.once x);
       sums = omega (arith, total_snoc (λ u. length u.drawn) vs w, total_set (λ u. length u.drawn) s.views id v l at, r.sums);
       fits = each_snoc Fits vs w ((λ z. absurd (omega arith)), omega arith) (each_set Fits s.views id l ((λ z. absurd (omega arith)), omega arith) r.fits);
@@ -105,8 +114,8 @@ joins id v other u s r at two there =
     let was : get_elem? s.views other ≡ some u = ⊎_elim (λ t. absurd (two t.0)) (λ t. t.1) (at_set s.views id other b u there) in
     let fv = r.fits id v at in let fu = r.fits other u was in record {
       width = r.width;
-      shown = r.shown;
-      counted = omega (arith, total_set (λ z. z.parts) vs other u w there, total_set (λ z. z.parts) s.views id v b at, r.counted);
+      core = r.core;
+      parts = omega (arith, total_set (λ z. z.parts) vs other u w there, total_set (λ z. z.parts) s.views id v b at, r.parts);
       once = λ x. omega (arith, total_set (λ z. times x z.drawn) vs other u w there, total_set (λ z. times x z.drawn) s.views id v b at, r.once x, times-append x v.drawn u.drawn);
       sums = omega (arith, total_set (λ z. length z.drawn) vs other u w there, total_set (λ z. length z.drawn) s.views id v b at, r.sums, length-append v.drawn u.drawn);
       fits = each_set Fits vs other w ((λ z. refl), omega arith) (each_set Fits s.views id b ((λ z. ap (λ xs. xs ++ u.drawn) (fv.0 (omega arith)) ∙ fu.0 (omega arith)), omega (arith, fv.1, fu.1, length-append v.drawn u.drawn)) r.fits);
@@ -125,6 +134,23 @@ alone f (u ∷ vs) (suc j) v none_of all e h = let le = total_ge (λ z. z.parts)
 once_at_most : (x n : ℕ) → once_below x n ≤ 1
 once_at_most x n = grind (arith, nat_tests)
 
+-- two seats' share of the total
+total_two : (f : Tally → ℕ) (vs : List Tally) (i j : ℕ) (v w : Tally) → i ≢ j → get_elem? vs i ≡ some v → get_elem? vs j ≡ some w → f v + f w ≤ total f vs
+total_two f [] i j v w apart at there = absurd (some-ne-none v (sym at))
+total_two f (u ∷ vs) zero zero v w apart at there = absurd (apart refl)
+total_two f (u ∷ vs) zero (suc j) v w apart at there = omega (arith, ap f (some-injective u v at), total_ge f vs j w there)
+total_two f (u ∷ vs) (suc i) zero v w apart at there = omega (arith, ap f (some-injective u w there), total_ge f vs i v at)
+total_two f (u ∷ vs) (suc i) (suc j) v w apart at there = omega (arith, total_two f vs i j v w (λ e. apart (ap suc e)) at there)
+
+pub one_seat_each : EachNumberHasOneSeat
+one_seat_each s r x =
+    let n : ℕ = slice_index s.words 0 in record {
+      one = λ i j v w at there has has'. dite (ℕ_discrete i j) (λ e. e)
+          (λ apart. absurd (omega (arith, total_two (λ u. times x u.drawn) s.views i j v w apart at there, times_from_contains x v.drawn has, times_from_contains x w.drawn has', r.once x, once_at_most x n)));
+      once = λ i v at. omega (arith, total_ge (λ u. times x u.drawn) s.views i v at, r.once x, once_at_most x n);
+      below = λ i v at has. below_once x n (omega (arith, r.once x, times_from_contains x v.drawn has, total_ge (λ u. times x u.drawn) s.views i v at));
+    }
+
 pub looks : (slots id : ℕ) (me : Me ℕ Tally) → Allows EachOnce slots id me 0 (λ n. n) (Looks (step slots 0 0 0 none) me)
 looks slots id me s r _ at small =
     let v : Tally = me.0 in
@@ -134,8 +160,8 @@ looks slots id me s r _ at small =
       tt,
       record {
         width = length-set s.words 0 _ ∙ r.width;
-        shown = subst (λ ws. Shows (slice_index ws 0)) (sym (set-get_or s.words 0 0)) r.shown;
-        counted = omega (arith, total_set (λ u. u.parts) s.views id v v at, r.counted);
+        core = subst (λ ws. Shows (slice_index ws 0)) (sym (set-get_or s.words 0 0)) r.core;
+        parts = omega (arith, total_set (λ u. u.parts) s.views id v v at, r.parts);
         once = λ x. omega (arith, ap (λ ws. once_below x (slice_index ws 0)) (set-get_or s.words 0 0), total_set (λ u. times x u.drawn) s.views id v v at, r.once x);
         sums = omega (arith, ap (λ ws. slice_index ws 0) (set-get_or s.words 0 0), total_set (λ u. length u.drawn) s.views id v v at, r.sums);
         fits = each_set Fits s.views id v (r.fits id v at) r.fits;
@@ -143,6 +169,6 @@ looks slots id me s r _ at small =
       (
         refl,
         (λ x. omega (arith, r.once x, once_at_most x n, total_ge (λ u. times x u.drawn) s.views id v at)),
-        λ every x. sym (alone (λ u. times x u.drawn) s.views id v (λ u f z. ap (times x) (f.0 z)) r.fits at (r.counted ∙ sym every)) ∙ r.once x,
+        λ every x. sym (alone (λ u. times x u.drawn) s.views id v (λ u f z. ap (times x) (f.0 z)) r.fits at (r.parts ∙ sym every)) ∙ r.once x,
       ),
     )

@@ -1,3 +1,4 @@
+pub mod ForCallers
 pub mod CoreClaims
 pub mod Keeping
 pub mod Numbers

@@ -3,7 +3,7 @@ use Rattle.std.specs.Prelude.{◌≡◌, ℕ, ◌<◌, ◌^◌, List, replicate,
 use Rattle.std.specs.List.{range_with_len}
 use Rattle.ul_core.specs.declared.events.Event.TheVariants.{Claim}
 use Rattle.ul_core.specs.Core.{Core, first_core}
-use Rattle.ul_core.specs.Steps.{Answer, Runs, Takes, claimed, draws}
+use Rattle.ul_core.specs.Steps.{Answer, Runs, Takes, after_claim, draws}
 
 -- The core that n events Claim led to from the beginning: its claim number is n, and they drew the numbers from 0 to below n, each once.
 -- A Claim reads neither labels nor logs, so labels that are numbers and one shard stand for all.
@@ -17,7 +17,7 @@ pub record Shows (n : ℕ) : Type 0 where
 -- n is drawn by one event Claim, at the core that n such events led to
 pub record IsClaim (n : ℕ) : Type 0 where
   pub before : Shows n
-  pub taken : Takes (λ (label : ℕ). label) before.core Claim (Some n) (claimed before.core)
+  pub event : Takes (λ (label : ℕ). label) before.core Claim (Some n) (after_claim before.core)
 
 module _ {L : Type 0} (f : L → ℕ) where
   -- whatever the labels and the number of shards: n events Claim from the beginning leave the claim number n and empty logs, and draw the numbers from 0 to below n, in order

@@ -1,4 +1,5 @@
-pub mod Claimed
-pub mod Rule
+pub mod Headline
 pub mod Seats
+pub mod Rule
+pub mod Claimed
 pub mod Vectors

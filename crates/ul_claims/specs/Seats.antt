@@ -2,8 +2,10 @@
 use Rattle.std.specs.Prelude.{◌≡◌, ℕ, ◌+◌, ◌<◌, ◌≤◌, ◌^◌, nat_lt, List, [], ◌∷◌, ◌++◌, All, Any, Contains, Option, MatchOption, sum_by, length, filter}
 use Rattle.std.specs.List.Sorted.{IsStrictlyIncreasing}
 use Rattle.atomic_table.specs.Seated.{TableId}
+use Rattle.atomic_table.specs.Table.{Me}
+use Rattle.ul_claims.specs.declared.steps.Tally.{Tally}
 use Rattle.ul_claims.specs.Claimed.{IsClaim}
-use Rattle.ul_claims.specs.Rule.{parts_in_all, times}
+use Rattle.ul_claims.specs.Rule.{parts_in_all, tally, times, IsDrawOf}
 
 -- claims: which table has their word, and the limit of their numbers
 pub record ClaimsView : Type 0 where
@@ -24,15 +26,17 @@ first_seat claims = record { claims = claims; parts = parts_in_all; drawn = [] }
 abbrev pub split_seat : ClaimsView → SeatView
 split_seat claims = record { claims = claims; parts = 1; drawn = [] }
 
--- one draw: one event Claim of the core draws a number, greater than all that the seat drew before, which is added to the seat's list and is the answer where it is below the limit;
--- else there is none. So a seat that drew n drew at most n + 1 numbers
+-- One draw: the word held a number, greater than all that the seat drew before, and then holds one more; one event Claim
+-- of the core draws it. It stands at the end of the seat's list, and is the answer where it is below the limit; else there
+-- is none. So a seat that drew n drew at most n + 1 numbers.
 pub record IsDraw (before : SeatView) (answer : Option ℕ) (after : SeatView) : Type 0 where
   pub number : ℕ
+  pub word : IsDrawOf number (tally before.parts before.drawn)
   pub claim : IsClaim number
-  pub added : after ≡ record before { drawn = before.drawn ++ number ∷ [] }
+  pub list : after ≡ record before { drawn = before.drawn ++ number ∷ [] }
   pub greater : All (λ x. x < number) before.drawn
   pub few : length after.drawn ≤ number + 1
-  pub answered : MatchOption answer (before.claims.limit ≤ number) (λ n. (n ≡ number) × (number < before.claims.limit))
+  pub reply : MatchOption answer (before.claims.limit ≤ number) (λ n. (n ≡ number) × (number < before.claims.limit))
 
 -- the numbers below the limit, in the order in which they stand
 abbrev pub below : ℕ → List ℕ → List ℕ
@@ -62,3 +66,7 @@ pub record Keeps (slots : List (ℕ × ℕ)) (limit parts : ℕ) (drawn kept : L
   pub some_part : 0 < parts
   pub few : length drawn ≤ 2 ^ 32
   pub has_room : limit ≤ room
+
+-- what a seat knows once it has taken in another
+abbrev pub joined_me : Me ℕ Tally → SeatView → Me ℕ Tally
+joined_me me seat = (tally (me.0.parts + seat.parts) (me.0.drawn ++ seat.drawn), me.1)

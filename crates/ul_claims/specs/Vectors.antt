@@ -39,7 +39,7 @@ pub record AreDraws (table : TableId) : Type 0 where
   pub first : IsDraw (seat_with table 5 []) (Some 0) (seat_with table 5 (0 ∷ []))
   pub last_below : IsDraw (seat_with table 5 (0 ∷ 3 ∷ [])) (Some 4) (seat_with table 5 (0 ∷ 3 ∷ 4 ∷ []))
   pub at_limit : IsDraw (seat_with table 5 (0 ∷ 3 ∷ [])) None (seat_with table 5 (0 ∷ 3 ∷ 5 ∷ []))
-  pub beyond : IsDraw (seat_with table 5 (0 ∷ 5 ∷ [])) None (seat_with table 5 (0 ∷ 5 ∷ 9 ∷ []))
+  pub beyond : IsDraw (seat_with table 5 (0 ∷ 5 ∷ [])) None (seat_with table 5 (0 ∷ 5 ∷ 6 ∷ []))
 
 -- draws that aren't: None below the limit, a claim at it, a number that isn't greater, one that isn't added, another one than is answered, and lost draws
 pub record AreNotDraws (table : TableId) : Type 0 where
@@ -56,7 +56,7 @@ two_seats table limit = record (seat_with table limit (0 ∷ 3 ∷ [])) { parts 
 
 -- what is said of several seats
 pub record AreGathered (table : TableId) : Type 0 where
-  pub kept : below 3 (0 ∷ 5 ∷ 2 ∷ 3 ∷ []) ≡ 0 ∷ 2 ∷ []
+  pub below_limit : below 3 (0 ∷ 5 ∷ 2 ∷ 3 ∷ []) ≡ 0 ∷ 2 ∷ []
   pub drawn : IsDrawn (two_seats table 3) 1
   pub drawn_beyond : IsDrawn (two_seats table 3) 3
   pub not_drawn : ¬ IsDrawn (two_seats table 3) 2

@@ -39,8 +39,9 @@ impl Claims {
         Ok((Claims { table, limit }, ClaimSeat { seat, kept, limit }))
     }
 
-    /// Draws the next number: one fetch_add, which takes no memory and waits for no thread. It answers None exactly
-    /// where the number is the limit or more. The seat drew fewer than 2^32 times.
+    /// Draws the next number: one fetch_add, which takes no memory and waits for no thread. The number is what the word
+    /// held, and the word then holds one more. It answers None exactly where the number is the limit or more. The seat
+    /// drew fewer than 2^32 times.
     pub fn draw(&self, seat: &mut ClaimSeat) -> Option<Claim>
         requires own { seat.old.claims ≡ self.now }
         requires few { length seat.old.drawn < 2 ^ 32 }
@@ -55,7 +56,7 @@ impl Claims {
         Some(Claim { number })
     }
 
-    /// A seat that drew nothing. Only the first seat is split, fewer than 2^31 times: it is the one with more than one
+    /// A seat that drew nothing, with room for all numbers below the limit. Only the first seat is split, fewer than 2^31 times: it is the one with more than one
     /// part. After want of memory it is as before.
     pub fn split(&self, alloc: Global, seat: &mut ClaimSeat) -> Result<ClaimSeat, AllocError>
         requires own { seat.old.claims ≡ self.now }

@@ -1,8 +1,7 @@
 // What all seats together drew.
-ghost use Rattle.std.specs.Prelude.{◌≡◌, ◌+◌, ◌<◌, ◌≤◌, ◌++◌, ◌↔◌, ℕ, [], All, Contains, IfOk, OnOk};
-ghost use Rattle.std.specs.List.Sorted.{IsStrictlyIncreasing};
-ghost use Rattle.ul_claims.specs.Rule.{tally};
-ghost use Rattle.ul_claims.specs.Seats.{below, IsDrawn, times_drawn, AreAll, HadNone};
+ghost use Rattle.std.specs.Prelude.{◌≡◌, ◌++◌, All, IfOk, OnOk};
+ghost use Rattle.ul_claims.specs.Headline.{AreDrawn};
+ghost use Rattle.ul_claims.specs.Seats.{below, joined_me};
 
 use crate::counters::Claims;
 use crate::seats::ClaimSeat;
@@ -18,7 +17,7 @@ impl Claims {
         seat: ClaimSeat,
     ) -> Result<(), AllocError>
         requires own { (all.old.table_id ≡ self.now.table) × (seat.claims ≡ self.now) }
-        ensures seat { (all.new.table_id ≡ all.old.table_id) × (all.new.me ≡ (tally (all.old.me.0.parts + seat.parts) (all.old.me.0.drawn ++ seat.drawn), all.old.me.1)) }
+        ensures seat { (all.new.table_id ≡ all.old.table_id) × (all.new.me ≡ joined_me all.old.me seat) }
         ensures numbers { OnOk result (numbers.new.items ≡ numbers.old.items ++ below self.now.limit seat.drawn) }
     {
         let ClaimSeat {
@@ -35,10 +34,7 @@ impl Claims {
     /// are of these claims. The one error is want of memory.
     pub fn gather(self, alloc: Global, mut seats: Vec<ClaimSeat>) -> Result<Vec<u64>, AllocError>
         requires own { All (λ s. s.claims ≡ self) seats.items }
-        ensures rising { IfOk result (λ v. IsStrictlyIncreasing v.items) }
-        ensures exact { IfOk result (λ v. (n : ℕ) → Contains v.items n ↔ ((n < self.limit) × IsDrawn seats.items n)) }
-        ensures apart { OnOk result ((n : ℕ) → times_drawn n seats.items ≤ 1) }
-        ensures whole { IfOk result (λ v. AreAll seats.items → HadNone seats.items → (n : ℕ) → n < self.limit → Contains v.items n) }
+        ensures { IfOk result (λ v. AreDrawn self seats.items v.items) }
     {
         // One seat takes in the others, and its own numbers theirs.
         let Some(last) = seats.pop() else {

@@ -9,6 +9,3 @@ mod steps;
 
 pub use counters::Claims;
 pub use seats::{Claim, ClaimSeat};
-
-#[cfg(test)]
-mod tests;

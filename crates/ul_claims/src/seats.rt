@@ -27,7 +27,8 @@ impl Claim {
     }
 }
 
-/// What one thread draws with. It has room for all numbers below the limit, so that a draw takes no memory.
+/// What one thread draws with. A draw takes no memory, so each seat has room for all numbers below the limit from the
+/// start: eight bytes for each of them, in every seat. With a limit of 4,096 and 64 seats that is 2 MB.
 #[derive(Drop)]
 pub struct ClaimSeat {
     pub(crate) seat: TableSeat,

@@ -5,11 +5,11 @@ use Rattle.std.proofs.Math.Seq.{map-set_same}
 use Rattle.std.specs.Global.{Vec}
 use Rattle.ul_core.specs.declared.trees.Tree.{Tree}
 use Rattle.ul_core.specs.Core.{Core, core_of, first_core, log_of}
-use Rattle.ul_core.specs.Steps.{published}
+use Rattle.ul_core.specs.Steps.{after_tree}
 
 module _ {L : Type 0} where
   pub log_longer : (logs : List (Vec (Tree L))) (claims k : ℕ) (v w : Vec (Tree L)) (s : Core L) (t : Tree L)
-      → core_of logs claims ≡ s → k < length s.logs → v ≡ get_or logs k v → w.items ≡ v.items ++ t ∷ [] → core_of (set logs k w) claims ≡ published s k t
+      → core_of logs claims ≡ s → k < length s.logs → v ≡ get_or logs k v → w.items ≡ v.items ++ t ∷ [] → core_of (set logs k w) claims ≡ after_tree s k t
   log_longer logs claims k v w s t is l at_k more =
       let inside : k < length logs = omega (arith, length-map logs (λ (z : Vec (Tree L)). z.items), ap (λ z. length z.logs) is) in
       let here : log_of s k ≡ v.items = ap (λ z. log_of z k) (sym is) ∙ (get_or-map (λ (z : Vec (Tree L)). z.items) logs k v [] inside ∙ ap (λ z. z.items) (sym at_k)) in

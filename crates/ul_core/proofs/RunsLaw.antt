@@ -14,7 +14,7 @@ use Rattle.ul_core.specs.declared.events.EventFault.{EventFault}
 use Rattle.ul_core.specs.declared.events.EventFault.TheVariants.{Shard, Known, Part, Full, NoMemory}
 use Rattle.ul_core.specs.Hashes.{tree_hash}
 use Rattle.ul_core.specs.Core.{Core, first_core, log_of, shard_of, Stands, IsPart}
-use Rattle.ul_core.specs.Steps.{Answer, HadMemory, MayPublish, Takes, Refuses, Steps, Runs, RunsAll, published, claimed, draws, taken_trees}
+use Rattle.ul_core.specs.Steps.{Answer, HadMemory, MayPublish, Takes, Refuses, Steps, Runs, RunsAll, after_tree, after_claim, draws, taken_trees}
 use Rattle.ul_core.specs.Laws.{Begins, IsSound}
 
 some_is : (a b : ℕ) → Some a ≡ Some b → a ≡ b
@@ -56,24 +56,24 @@ module _ {L : Type 0} where
   got_snoc (z ∷ xs) x y (suc i) e = ⊎_elim (λ p. inl p) (λ q. inr (omega (arith, q.0), q.1)) (got_snoc xs x y i e)
 
   -- a log of a core with one tree more
-  log_here : (s : Core L) (k : ℕ) (t : Tree L) → k < length s.logs → log_of (published s k t) k ≡ log_of s k ++ t ∷ []
+  pub log_here : (s : Core L) (k : ℕ) (t : Tree L) → k < length s.logs → log_of (after_tree s k t) k ≡ log_of s k ++ t ∷ []
   log_here s k t l = get_or-set_same s.logs k (log_of s k ++ t ∷ []) [] l
 
-  log_else : (s : Core L) (k j : ℕ) (t : Tree L) → j ≢ k → log_of (published s k t) j ≡ log_of s j
+  pub log_else : (s : Core L) (k j : ℕ) (t : Tree L) → j ≢ k → log_of (after_tree s k t) j ≡ log_of s j
   log_else s k j t ne = get_or-set_other s.logs k j (log_of s k ++ t ∷ []) [] ne
 
-  log_begins : (s : Core L) (k j : ℕ) (t : Tree L) → k < length s.logs → Begins (log_of s j) (log_of (published s k t) j)
+  log_begins : (s : Core L) (k j : ℕ) (t : Tree L) → k < length s.logs → Begins (log_of s j) (log_of (after_tree s k t) j)
   log_begins s k j t l = dite (ℕ_discrete j k)
-      (λ is. subst (λ z. Begins (log_of s z) (log_of (published s k t) z)) (sym is) (t ∷ [], log_here s k t l))
+      (λ is. subst (λ z. Begins (log_of s z) (log_of (after_tree s k t) z)) (sym is) (t ∷ [], log_here s k t l))
       (λ no. ([], log_else s k j t no ∙ sym (append-nil (log_of s j))))
 
-  log_got : (s : Core L) (k j i : ℕ) (t y : Tree L) → k < length s.logs → slice_get (log_of (published s k t) j) i ≡ Some y
+  log_got : (s : Core L) (k j i : ℕ) (t y : Tree L) → k < length s.logs → slice_get (log_of (after_tree s k t) j) i ≡ Some y
       → (slice_get (log_of s j) i ≡ Some y) ⊎ ((j ≡ k) × (i ≡ length (log_of s k)) × (t ≡ y))
   log_got s k j i t y l e = dite (ℕ_discrete j k)
       (λ is. ⊎_elim
       (λ p. inl (subst (λ z. slice_get (log_of s z) i ≡ Some y) (sym is) p))
       (λ q. inr (is, q.0, q.1))
-      (got_snoc (log_of s k) t y i (subst (λ z. slice_get z i ≡ Some y) (ap (log_of (published s k t)) is ∙ log_here s k t l) e)))
+      (got_snoc (log_of s k) t y i (subst (λ z. slice_get z i ≡ Some y) (ap (log_of (after_tree s k t)) is ∙ log_here s k t l) e)))
       (λ no. inl (subst (λ z. slice_get z i ≡ Some y) (log_else s k j t no) e))
 
   begins_got : (xs ys : List (Tree L)) (i : ℕ) (y : Tree L) → Begins xs ys → slice_get xs i ≡ Some y → slice_get ys i ≡ Some y
@@ -88,27 +88,27 @@ module _ {L : Type 0} where
   module _ (f : L → ℕ) where
     -- what a step does to the core: nothing, one tree more, or one claim
     abbrev Changed : Core L → Core L → Type 0
-    Changed s s' = (s' ≡ s) ⊎ (((k : ℕ) × (t : Tree L) × MayPublish f s k t × (s' ≡ published s k t)) ⊎ (s' ≡ claimed s))
+    Changed s s' = (s' ≡ s) ⊎ (((k : ℕ) × (t : Tree L) × MayPublish f s k t × (s' ≡ after_tree s k t)) ⊎ (s' ≡ after_claim s))
 
     changed : (s : Core L) (e : Event L) (a : Answer) (s' : Core L) → Steps f s e a s' → Changed s s'
     changed s e (Err c) s' h = inl h.1
     changed s (Publish k t) (Ok o) s' h = inr (inl (k, t, h.0, h.2))
     changed s Claim (Ok o) s' h = inr (inr h.2)
 
-    shard_below : (s : Core L) (t : Tree L) → 0 < length s.logs → shard_of f s t < length s.logs
+    pub shard_below : (s : Core L) (t : Tree L) → 0 < length s.logs → shard_of f s t < length s.logs
     shard_below s t l = omega arith
 
-    len_published : (s : Core L) (k : ℕ) (t : Tree L) → length (published s k t).logs ≡ length s.logs
+    len_published : (s : Core L) (k : ℕ) (t : Tree L) → length (after_tree s k t).logs ≡ length s.logs
     len_published s k t = length-set s.logs k (log_of s k ++ t ∷ [])
 
-    stands_on : (s : Core L) (k : ℕ) (t p : Tree L) → k < length s.logs → Stands f s p → Stands f (published s k t) p
-    stands_on s k t p l h = let same : shard_of f (published s k t) p ≡ shard_of f s p = shard_same s k t p in
-        (h.0, subst (λ z. slice_get (log_of (published s k t) z) h.0 ≡ Some p) (sym same) (begins_got _ _ h.0 p (log_begins s k (shard_of f s p) t l) h.1))
+    stands_on : (s : Core L) (k : ℕ) (t p : Tree L) → k < length s.logs → Stands f s p → Stands f (after_tree s k t) p
+    stands_on s k t p l h = let same : shard_of f (after_tree s k t) p ≡ shard_of f s p = shard_same s k t p in
+        (h.0, subst (λ z. slice_get (log_of (after_tree s k t) z) h.0 ≡ Some p) (sym same) (begins_got _ _ h.0 p (log_begins s k (shard_of f s p) t l) h.1))
       where
-        shard_same : (s : Core L) (k : ℕ) (t p : Tree L) → shard_of f (published s k t) p ≡ shard_of f s p
+        shard_same : (s : Core L) (k : ℕ) (t p : Tree L) → shard_of f (after_tree s k t) p ≡ shard_of f s p
         shard_same s k t p = ap (λ n. tree_hash f p % n) (len_published s k t)
 
-    sound_published : (s : Core L) (k : ℕ) (t : Tree L) → 0 < length s.logs → MayPublish f s k t → IsSound f s → IsSound f (published s k t)
+    sound_published : (s : Core L) (k : ℕ) (t : Tree L) → 0 < length s.logs → MayPublish f s k t → IsSound f s → IsSound f (after_tree s k t)
     sound_published s k t some m w =
         let l : k < length s.logs = omega (arith, m.own, shard_below s t some) in
         -- the new tree stands nowhere in the old logs
@@ -142,7 +142,7 @@ module _ {L : Type 0} where
         q)
         (changed s e a s' h)
 
-    sound_run : (s : Core L) (events : List (Event L)) (answers : List Answer) (s' : Core L) → 0 < length s.logs → IsSound f s → Runs f s events answers s' → (length s'.logs ≡ length s.logs) × IsSound f s'
+    pub sound_run : (s : Core L) (events : List (Event L)) (answers : List Answer) (s' : Core L) → 0 < length s.logs → IsSound f s → Runs f s events answers s' → (length s'.logs ≡ length s.logs) × IsSound f s'
     sound_run s [] [] s' some w r = subst (λ z. (length z.logs ≡ length s.logs) × IsSound f z) (sym r) (refl, w)
     sound_run s [] (a ∷ answers) s' some w r = absurd r
     sound_run s (e ∷ events) [] s' some w r = absurd r
@@ -196,9 +196,9 @@ module _ {L : Type 0} where
     each_tree_stays s s' events answers some r k = let b = run_begins s events answers s' (omega arith) r k in (b, λ i t e. begins_got _ _ i t b e)
 
     -- the log of a shard after one tree was taken
-    log_taken : (s : Core L) (shard k : ℕ) (t : Tree L) → shard < length s.logs → log_of (published s shard t) k ≡ log_of s k ++ cond (shard == k) (t ∷ []) []
+    log_taken : (s : Core L) (shard k : ℕ) (t : Tree L) → shard < length s.logs → log_of (after_tree s shard t) k ≡ log_of s k ++ cond (shard == k) (t ∷ []) []
     log_taken s shard k t l = dite (ℕ_discrete k shard)
-        (λ is. subst (λ z. log_of (published s shard t) z ≡ log_of s z ++ cond (shard == z) (t ∷ []) []) (sym is) (log_here s shard t l ∙ ap (λ b. log_of s shard ++ cond b (t ∷ []) []) (sym (eq-eqb shard shard refl))))
+        (λ is. subst (λ z. log_of (after_tree s shard t) z ≡ log_of s z ++ cond (shard == z) (t ∷ []) []) (sym is) (log_here s shard t l ∙ ap (λ b. log_of s shard ++ cond b (t ∷ []) []) (sym (eq-eqb shard shard refl))))
         (λ no. log_else s shard k t no ∙ (sym (append-nil (log_of s k)) ∙ ap (λ b. log_of s k ++ cond b (t ∷ []) []) (sym (ne_eqb shard k (λ e. no (sym e))))))
 
     pub each_log_is_what_was_taken : (s s' : Core L) (events : List (Event L)) (answers : List Answer) → 1 ≤ length s.logs → Runs f s events answers s' → (k : ℕ) → log_of s' k ≡ log_of s k ++ taken_trees k events answers
@@ -307,7 +307,7 @@ module _ {L : Type 0} where
         (g.count ∙ (ap (count_by is_ok) e.0 ∙ sym h.count), e.1)
 
     -- a run with one event more at its end
-    run_more : (s : Core L) (events : List (Event L)) (answers : List Answer) (s' : Core L) (e : Event L) (a : Answer) (s'' : Core L) → Runs f s events answers s' → Steps f s' e a s'' → Runs f s (events ++ e ∷ []) (answers ++ a ∷ []) s''
+    pub run_more : (s : Core L) (events : List (Event L)) (answers : List Answer) (s' : Core L) (e : Event L) (a : Answer) (s'' : Core L) → Runs f s events answers s' → Steps f s' e a s'' → Runs f s (events ++ e ∷ []) (answers ++ a ∷ []) s''
     run_more s [] [] s' e a s'' r h = (s'', subst (λ z. Steps f z e a s'') r h, refl)
     run_more s [] (b ∷ answers) s' e a s'' r h = absurd r
     run_more s (d ∷ events) [] s' e a s'' r h = absurd r

@@ -6,7 +6,7 @@ use Rattle.ul_core.specs.Trees.{Has}
 use Rattle.ul_core.specs.Core.{Core, first_core, log_of, shard_of, Stands, IsPart}
 use Rattle.ul_core.specs.Steps.{MayPublish, Runs}
 use Rattle.ul_core.specs.Vectors.{leaf, pair, hash, itself, worked_events, worked_answers, worked_core}
-use Rattle.ul_core.proofs.TreeParts.{hash-grown, label_same, parts_grown}
+use Rattle.ul_core.proofs.TreeParts.{hash-tree_with, label_same, parts_of_tree_with}
 
 none_not : (t : Tree ℕ) → None ≡ Some t → ⊥
 none_not t e = cc
@@ -36,19 +36,19 @@ stands_out : (s : Core ℕ) (t : Tree ℕ) (k : ℕ) → shard_of itself s t ≡
 stands_out s t k e h = subst (λ j. Has (log_of s j) t) e h
 
 leaf_hash : (n : ℕ) → hash (leaf n) ≡ n
-leaf_hash n = hash-grown itself n []
+leaf_hash n = hash-tree_with itself n []
 
 pair_hash : hash pair ≡ 6364136223846793014
-pair_hash = simp hash-grown
+pair_hash = simp hash-tree_with
 
 no_part : (n : ℕ) (p : Tree ℕ) → IsPart p (leaf n) → ⊥
-no_part n p h = has_none p (subst (λ ps. Has ps p) (parts_grown n []) h)
+no_part n p h = has_none p (subst (λ ps. Has ps p) (parts_of_tree_with n []) h)
 
 pair_part : (p : Tree ℕ) → IsPart p pair → leaf 8 ≡ p
-pair_part p h = has_one (leaf 8) p (subst (λ ps. Has ps p) (parts_grown 1 (leaf 8 ∷ [])) h)
+pair_part p h = has_one (leaf 8) p (subst (λ ps. Has ps p) (parts_of_tree_with 1 (leaf 8 ∷ [])) h)
 
 pair_has : IsPart (leaf 8) pair
-pair_has = subst (λ ps. Has ps (leaf 8)) (sym (parts_grown 1 (leaf 8 ∷ []))) (0, refl)
+pair_has = subst (λ ps. Has ps (leaf 8)) (sym (parts_of_tree_with 1 (leaf 8 ∷ []))) (0, refl)
 
 -- the cores after the first tree, the first claim, and the part
 abbrev core_1 : Core ℕ

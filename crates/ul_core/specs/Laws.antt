@@ -1,11 +1,12 @@
--- The law over every list of events.
-use Rattle.std.specs.Prelude.{◌≡◌, ℕ, ◌≤◌, List, ◌++◌, length, slice_get, Some}
+-- The laws of runs and of steps.
+use Rattle.std.specs.Prelude.{◌≡◌, ◌≢◌, ℕ, ◌≤◌, List, [], ◌∷◌, ◌++◌, length, slice_get, Option, Some}
 use Rattle.std.specs.List.{range_with_len}
 use Rattle.ul_core.specs.declared.trees.Tree.{Tree}
 use Rattle.ul_core.specs.declared.events.Event.{Event}
+use Rattle.ul_core.specs.declared.events.Event.TheVariants.{Publish, Claim}
 use Rattle.ul_core.specs.Trees.{Has}
 use Rattle.ul_core.specs.Core.{Core, first_core, log_of, shard_of, Stands, IsPart}
-use Rattle.ul_core.specs.Steps.{Answer, Runs, RunsAll, draws, taken_trees}
+use Rattle.ul_core.specs.Steps.{Answer, Steps, Takes, Runs, RunsAll, draws, taken_trees}
 
 module _ {L : Type 0} where
   -- the second list begins with the first
@@ -45,3 +46,26 @@ module _ {L : Type 0} where
     abbrev pub EachRunHasOneEnd : Type 0
     EachRunHasOneEnd =
         (s s₁ s₂ : Core L) (events : List (Event L)) (m n : ℕ) → RunsAll f s events m s₁ → RunsAll f s events n s₂ → (m ≡ n) × (s₁ ≡ s₂)
+
+    -- a run goes on by one step
+    abbrev pub EachRunGoesOn : Type 0
+    EachRunGoesOn =
+        (s s' s'' : Core L) (events : List (Event L)) (answers : List Answer) (e : Event L) (a : Answer)
+        → Runs f s events answers s' → Steps f s' e a s'' → Runs f s (events ++ e ∷ []) (answers ++ a ∷ []) s''
+
+    -- a run from logs that are in order, and not from the beginning alone, leaves logs that are in order
+    abbrev pub EachSoundCoreStays : Type 0
+    EachSoundCoreStays =
+        (s s' : Core L) (events : List (Event L)) (answers : List Answer)
+        → 1 ≤ length s.logs → IsSound s → Runs f s events answers s' → (length s'.logs ≡ length s.logs) × IsSound s'
+
+    -- What a step that is taken leaves: a publication its tree at the end of its own shard's log, each other log
+    -- as it was, and the claim number too; a claim all logs. (A refusal leaves the whole core.)
+    pub record EachStepKeepsLogs : Type 0 where
+      pub own : (s s' : Core L) (k : ℕ) (t : Tree L) (answer : Option ℕ)
+          → 1 ≤ length s.logs → Takes f s (Publish k t) answer s' → log_of s' k ≡ log_of s k ++ t ∷ []
+      pub other : (s s' : Core L) (k j : ℕ) (t : Tree L) (answer : Option ℕ)
+          → Takes f s (Publish k t) answer s' → j ≢ k → log_of s' j ≡ log_of s j
+      pub number : (s s' : Core L) (k : ℕ) (t : Tree L) (answer : Option ℕ)
+          → Takes f s (Publish k t) answer s' → s'.claims ≡ s.claims
+      pub claim : (s s' : Core L) (answer : Option ℕ) → Takes f s Claim answer s' → s'.logs ≡ s.logs

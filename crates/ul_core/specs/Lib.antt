@@ -1,7 +1,8 @@
-pub mod Core
-pub mod Hashes
-pub mod Laws
-pub mod Steps
-pub mod TreeCode
+pub mod Headline
 pub mod Trees
+pub mod Hashes
+pub mod Core
+pub mod Steps
+pub mod Laws
 pub mod Vectors
+pub mod TreeCode

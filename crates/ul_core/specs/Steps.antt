@@ -32,12 +32,12 @@ module _ {L : Type 0} where
   taken_trees k (Claim ∷ events) (a ∷ answers) = taken_trees k events answers
 
   -- the core with one tree more at the end of a shard's log
-  abbrev pub published : Core L → ℕ → Tree L → Core L
-  published s k t = record s { logs = slice_set s.logs k (log_of s k ++ t ∷ []) }
+  abbrev pub after_tree : Core L → ℕ → Tree L → Core L
+  after_tree s k t = record s { logs = slice_set s.logs k (log_of s k ++ t ∷ []) }
 
   -- the core after one claim
-  abbrev pub claimed : Core L → Core L
-  claimed s = record s { claims = s.claims + 1 }
+  abbrev pub after_claim : Core L → Core L
+  after_claim s = record s { claims = s.claims + 1 }
 
   module _ (f : L → ℕ) where
     -- A tree may be published: the shard is its own, the shard's log hasn't it, and each of its parts
@@ -49,8 +49,8 @@ module _ {L : Type 0} where
 
     -- The event is taken: what it answers, and the core after it.
     abbrev pub Takes : Core L → Event L → Option ℕ → Core L → Type 0
-    Takes s (Publish shard t) answer s' = MayPublish s shard t × (answer ≡ None) × (s' ≡ published s shard t)
-    Takes s Claim answer s' = (s.claims < 2 ^ 64 - 1) × (answer ≡ Some s.claims) × (s' ≡ claimed s)
+    Takes s (Publish shard t) answer s' = MayPublish s shard t × (answer ≡ None) × (s' ≡ after_tree s shard t)
+    Takes s Claim answer s' = (s.claims < 2 ^ 64 - 1) × (answer ≡ Some s.claims) × (s' ≡ after_claim s)
 
     -- The event is refused: the first cause that holds, in this order. Want of memory comes alone of a
     -- tree that may be published.
@@ -90,7 +90,7 @@ module _ {L : Type 0} where
       pub before : List (Event L)
       pub next : Event L
       pub after : List (Event L)
-      pub taken : ℕ
+      pub count : ℕ
       pub whole : events ≡ before ++ next ∷ after
-      pub run : RunsAll s before taken s'
+      pub run : RunsAll s before count s'
       pub wants : Refuses s' next NoMemory

@@ -50,19 +50,19 @@ module _ {L : Type 0} (c : Coded L) where
   tree_code = record { code = code_of; inj = told }
 
 -- the sum of a list
-abbrev pub added : List ℕ → ℕ
-added [] = 0
-added (n ∷ ns) = n + added ns
+abbrev pub total_of : List ℕ → ℕ
+total_of [] = 0
+total_of (n ∷ ns) = n + total_of ns
 
 -- one node, with the weight of each part in the part's place
 abbrev pub weight_step : {L : Type 0} → Tree-F L ℕ → ℕ
-weight_step n = 1 + added n.parts
+weight_step n = 1 + total_of n.parts
 
 -- the weight of a tree: how many nodes it has
 abbrev pub weight : {L : Type 0} → Tree L → ℕ
 weight = fold-Tree _ ℕ weight_step
 
-most_le : {L : Type 0} → (ks : List (Tree L)) → most (λ k. weight k + 1) ks ≤ added (map weight ks) + 1
+most_le : {L : Type 0} → (ks : List (Tree L)) → most (λ k. weight k + 1) ks ≤ total_of (map weight ks) + 1
 most_le [] = omega arith
 most_le (k ∷ ks) = omega (arith, most_le ks)
 

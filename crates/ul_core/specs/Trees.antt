@@ -5,8 +5,8 @@ use Rattle.ul_core.specs.declared.trees.Tree.{Tree}
 use Rattle.ul_core.specs.declared.trees.Tree.TheViews.{out-Tree, roll-Tree}
 
 -- the tree of a label and parts
-abbrev pub grown : {L : Type 0} → L → List (Tree L) → Tree L
-grown l ps = roll-Tree _ record { label = l; parts = ps }
+abbrev pub tree_with : {L : Type 0} → L → List (Tree L) → Tree L
+tree_with l ps = roll-Tree _ record { label = l; parts = ps }
 
 -- the parts of a tree, in order
 abbrev pub parts_of : {L : Type 0} → Tree L → List (Tree L)

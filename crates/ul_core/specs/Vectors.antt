@@ -5,13 +5,13 @@ use Rattle.ul_core.specs.declared.events.Event.{Event}
 use Rattle.ul_core.specs.declared.events.Event.TheVariants.{Publish, Claim}
 use Rattle.ul_core.specs.declared.events.EventFault.TheVariants.{Shard, Known, Part, Full}
 use Rattle.ul_core.specs.Hashes.{tree_hash}
-use Rattle.ul_core.specs.Trees.{grown}
+use Rattle.ul_core.specs.Trees.{tree_with}
 use Rattle.ul_core.specs.Core.{Core, first_core}
 use Rattle.ul_core.specs.Steps.{Answer, Runs, Steps}
 
 -- a tree with no parts
 abbrev pub leaf : ℕ → Tree ℕ
-leaf n = grown n []
+leaf n = tree_with n []
 
 -- a number is its own hash
 abbrev pub itself : ℕ → ℕ
@@ -24,20 +24,20 @@ hash = tree_hash itself
 -- worked values, computed by another program
 pub record HashVectors : Type 0 where
   pub label_alone : hash (leaf 7) ≡ 7
-  pub zeros : hash (grown 0 (leaf 0 ∷ [])) ≡ 1
-  pub one_part : hash (grown 1 (leaf 2 ∷ [])) ≡ 6364136223846793008
-  pub another_part : hash (grown 1 (leaf 8 ∷ [])) ≡ 6364136223846793014
-  pub wraps : hash (grown 3 (leaf 5 ∷ [])) ≡ 645664597830827405
-  pub greatest : hash (grown 18446744073709551615 (leaf 0 ∷ [])) ≡ 12082607849862758612
-  pub two_parts : hash (grown 1 (leaf 2 ∷ leaf 3 ∷ [])) ≡ 8166562322141162356
-  pub in_order : hash (grown 1 (leaf 3 ∷ leaf 2 ∷ [])) ≡ 14530698545987955360
-  pub three_parts : hash (grown 1 (leaf 1 ∷ leaf 1 ∷ leaf 1 ∷ [])) ≡ 10117199216518333219
-  pub deep : hash (grown 1 (grown 1 (leaf 2 ∷ []) ∷ [])) ≡ 12728272447693586014
-  pub deep_and_flat : hash (grown 1 (grown 1 (leaf 1 ∷ []) ∷ leaf 1 ∷ [])) ≡ 15687460046451497307
+  pub zeros : hash (tree_with 0 (leaf 0 ∷ [])) ≡ 1
+  pub one_part : hash (tree_with 1 (leaf 2 ∷ [])) ≡ 6364136223846793008
+  pub another_part : hash (tree_with 1 (leaf 8 ∷ [])) ≡ 6364136223846793014
+  pub wraps : hash (tree_with 3 (leaf 5 ∷ [])) ≡ 645664597830827405
+  pub greatest : hash (tree_with 18446744073709551615 (leaf 0 ∷ [])) ≡ 12082607849862758612
+  pub two_parts : hash (tree_with 1 (leaf 2 ∷ leaf 3 ∷ [])) ≡ 8166562322141162356
+  pub in_order : hash (tree_with 1 (leaf 3 ∷ leaf 2 ∷ [])) ≡ 14530698545987955360
+  pub three_parts : hash (tree_with 1 (leaf 1 ∷ leaf 1 ∷ leaf 1 ∷ [])) ≡ 10117199216518333219
+  pub deep : hash (tree_with 1 (tree_with 1 (leaf 2 ∷ []) ∷ [])) ≡ 12728272447693586014
+  pub deep_and_flat : hash (tree_with 1 (tree_with 1 (leaf 1 ∷ []) ∷ leaf 1 ∷ [])) ≡ 15687460046451497307
 
 -- a tree with a part, whose own shard is 0 of two
 abbrev pub pair : Tree ℕ
-pair = grown 1 (leaf 8 ∷ [])
+pair = tree_with 1 (leaf 8 ∷ [])
 
 -- on two shards: a tree, the tree again, a tree in another shard than its own, a claim, a tree whose part
 -- is wanting, the part, the tree, and a claim
@@ -67,5 +67,5 @@ spent_core = record { logs = [] ∷ []; claims = 2 ^ 64 - 1 }
 
 -- the worked run, and the claim that is refused where all numbers are drawn
 pub record RunVectors : Type 0 where
-  pub worked : Runs itself (first_core 2) worked_events worked_answers worked_core
+  pub in_turn : Runs itself (first_core 2) worked_events worked_answers worked_core
   pub full : Steps itself spent_core Claim (Err Full) spent_core

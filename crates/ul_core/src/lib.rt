@@ -11,6 +11,6 @@ mod trees;
 
 pub use events::{Event, EventFault};
 pub use labels::Label;
-pub use plants::{Plant, is_same, structural_hash};
+pub use plants::{Plant, hash_step, is_same, structural_hash};
 pub use states::CoreState;
 pub use trees::Tree;

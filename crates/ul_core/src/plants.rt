@@ -1,11 +1,15 @@
 ghost use Rattle.std.specs.Prelude.{◌≡◌, ◌↔◌, IsTrue};
-ghost use Rattle.ul_core.specs.Hashes.{tree_hash};
+ghost use Rattle.ul_core.specs.Hashes.{next_hash, tree_hash};
 ghost use Rattle.ul_core.specs.Trees.{Has};
 
 use crate::labels::Label;
 use std::marker::Model;
 
 /// A finite tree: a label and the parts in order. Contracts see it as a `Tree`.
+///
+/// Hashing, comparing and dropping a plant recur once for each of its levels, and nothing bounds how many there
+/// are: a level takes some 200 bytes of the stack, so 10,000 levels are far within a thread's stack, and a
+/// million are not. Who makes plants of outside data bounds their depth.
 #[derive(Drop)]
 pub struct Plant<L: Label> {
     pub label: L,
@@ -20,9 +24,9 @@ impl<L: Label> Model for Plant<L> {
 
     ghost coded = { tree_code L.code };
 
-    ghost use Rattle.ul_core.specs.Trees.{grown};
+    ghost use Rattle.ul_core.specs.Trees.{tree_with};
 
-    ghost view = { λ p. grown p.label p.parts.items };
+    ghost view = { λ p. tree_with p.label p.parts.items };
 
     ghost size = { weight };
 
@@ -38,22 +42,28 @@ pub fn structural_hash<L: Label>(plant: &Plant<L>) -> u64
 {
     let mut hash = plant.label.hash();
     for part in &plant.parts {
-        hash = hash
-            .wrapping_mul(6364136223846793005)
-            .wrapping_add(structural_hash(part))
-            .wrapping_add(1);
+        hash = hash_step(hash, structural_hash(part));
     }
     hash
 }
 
-/// Whether two plants are one tree.
-pub fn is_same<L: Label>(a: &Plant<L>, b: &Plant<L>) -> bool
-    ensures { IsTrue result ↔ (a.now ≡ b.now) }
+/// The structural hash after one part more: the hash of the label and the parts before it, and the part's.
+pub fn hash_step(hash: u64, part: u64) -> u64
+    ensures { result ≡ next_hash hash part }
 {
-    if !a.label.same(&b.label) || a.parts.len() != b.parts.len() {
+    hash.wrapping_mul(6364136223846793005)
+        .wrapping_add(part)
+        .wrapping_add(1)
+}
+
+/// Whether two plants are one tree.
+pub fn is_same<L: Label>(one: &Plant<L>, other: &Plant<L>) -> bool
+    ensures { IsTrue result ↔ (one.now ≡ other.now) }
+{
+    if !one.label.same(&other.label) || one.parts.len() != other.parts.len() {
         return false;
     }
-    let (mine, theirs) = (a.parts.as_slice(), b.parts.as_slice());
+    let (mine, theirs) = (one.parts.as_slice(), other.parts.as_slice());
     for i in 0..mine.len() {
         if !is_same(&mine[i], &theirs[i]) {
             return false;

@@ -1,11 +1,13 @@
-ghost use Rattle.std.specs.Prelude.{◌≡◌, ◌≤◌, ◌<◌, ◌↔◌, IfOk, IfErr, OnErr, OnOk, IsTrue, length};
+ghost use Rattle.std.specs.Prelude.{◌≡◌, ◌≤◌, ◌<◌, ◌%◌, ◌↔◌, IfOk, IfErr, OnErr, OnOk, IsTrue, length, map};
+ghost use Rattle.std.specs.List.{fold};
 ghost use Rattle.std.specs.Bool.{OnTrue, OnFalse};
-ghost use Rattle.ul_core.specs.Core.{first_core, shard_of, Stands};
+ghost use Rattle.ul_core.specs.Core.{first_core, Stands, IsPart};
+ghost use Rattle.ul_core.specs.Hashes.{next_hash, tree_hash};
 ghost use Rattle.ul_core.specs.Trees.{Has};
 
 use crate::events::{Event, EventFault};
 use crate::labels::Label;
-use crate::plants::{Plant, has, structural_hash};
+use crate::plants::{Plant, has, hash_step, structural_hash};
 use std::alloc::{AllocError, Global};
 use std::marker::Model;
 
@@ -33,7 +35,7 @@ impl<L: Label> Model for CoreState<L> {
 
 impl<L: Label> CoreState<L> {
     ghost use Rattle.ul_core.specs.declared.events.Event.TheVariants.{Publish, Claim};
-    ghost use Rattle.ul_core.specs.Steps.{MayPublish, Takes, Refuses, RunsAll, RunsUntil, published};
+    ghost use Rattle.ul_core.specs.Steps.{MayPublish, Takes, Refuses, RunsAll, RunsUntil, after_tree};
 
     /// The state with `shards` empty logs and claim number 0. `shards` is at least 1. Only memory can be
     /// wanting.
@@ -88,7 +90,7 @@ impl<L: Label> CoreState<L> {
     // Appends the tree to the log of its own shard.
     fn publish(&mut self, shard: u8, plant: Plant<L>) -> Result<(), EventFault>
         ensures may { OnOk result (MayPublish L.hash_of self.old shard plant) }
-        ensures taken { OnOk result (self.new ≡ published self.old shard plant) }
+        ensures taken { OnOk result (self.new ≡ after_tree self.old shard plant) }
         ensures refused { IfErr result (λ fault. Refuses L.hash_of self.old (Publish shard plant) fault) }
         ensures same { OnErr result (self.new ≡ self.old) }
     {
@@ -97,19 +99,20 @@ impl<L: Label> CoreState<L> {
         Ok(())
     }
 
-    // Whether the tree may be published, or why not: the first cause.
+    // Whether the tree may be published, or why not: the first cause. Each node is hashed once.
     fn check(&self, shard: u8, plant: &Plant<L>) -> Result<(), EventFault>
         ensures may { OnOk result (MayPublish L.hash_of self.now shard plant.now) }
         ensures first { IfErr result (λ fault. Refuses L.hash_of self.now (Publish shard plant.now) fault) }
         ensures below { OnOk result (shard < length self.now.logs) }
     {
-        if self.own_shard(plant) != shard {
+        let (hash, all_stand) = self.look(plant);
+        if self.shard_at(hash) != shard {
             return Err(EventFault::Shard);
         }
-        if self.stands(plant) {
+        if self.stands(hash, plant) {
             return Err(EventFault::Known);
         }
-        if !self.all_stand(plant.parts.as_slice()) {
+        if !all_stand {
             return Err(EventFault::Part);
         }
         Ok(())
@@ -118,7 +121,7 @@ impl<L: Label> CoreState<L> {
     // The tree at the end of the shard's log.
     fn append(&mut self, shard: u8, plant: Plant<L>) -> Result<(), AllocError>
         requires { shard < length self.old.logs }
-        ensures taken { OnOk result (self.new ≡ published self.old shard plant) }
+        ensures taken { OnOk result (self.new ≡ after_tree self.old shard plant) }
         ensures same { OnErr result (self.new ≡ self.old) }
     {
         self.logs[shard as usize].push(plant)?;
@@ -139,35 +142,46 @@ impl<L: Label> CoreState<L> {
         Ok(number)
     }
 
-    // The tree's own shard.
-    fn own_shard(&self, plant: &Plant<L>) -> u8
-        ensures shard { result ≡ shard_of L.hash_of self.now plant.now }
+    // The shard of a tree with this hash.
+    fn shard_at(&self, hash: u64) -> u8
+        ensures shard { result ≡ hash % length self.now.logs }
         ensures below { result < length self.now.logs }
     {
-        (structural_hash(plant) % self.logs.len() as u64) as u8
+        (hash % self.logs.len() as u64) as u8
     }
 
-    // Whether the tree stands in the log of its own shard.
-    fn stands(&self, plant: &Plant<L>) -> bool
+    // Whether the tree, which has this hash, stands in the log of its own shard.
+    fn stands(&self, hash: u64, plant: &Plant<L>) -> bool
+        requires { hash ≡ tree_hash L.hash_of plant.now }
         ensures { IsTrue result ↔ Stands L.hash_of self.now plant.now }
     {
-        let log = &self.logs[self.own_shard(plant) as usize];
+        let log = &self.logs[self.shard_at(hash) as usize];
         has(log.as_slice(), plant)
     }
 
-    // Whether each tree of the list stands in the log of its own shard.
-    fn all_stand(&self, trees: &[Plant<L>]) -> bool
-        ensures all { OnTrue result ((t : _) → Has trees.now t → Stands L.hash_of self.now t) }
-        ensures some { OnFalse result ((t : _) × Has trees.now t × ¬ Stands L.hash_of self.now t) }
+    // The hash of the tree, and whether each of its parts stands in the log of the part's own shard.
+    fn look(&self, plant: &Plant<L>) -> (u64, bool)
+        ensures hash { result.0 ≡ tree_hash L.hash_of plant.now }
+        ensures all { OnTrue result.1 ((t : _) → IsPart t plant.now → Stands L.hash_of self.now t) }
+        ensures some { OnFalse result.1 ((t : _) × IsPart t plant.now × ¬ Stands L.hash_of self.now t) }
     {
-        for tree in trees {
-            if !self.stands(tree) {
-                return false;
-            }
+        self.look_at(plant.label.hash(), plant.parts.as_slice())
+    }
+
+    // The hash of the tree with these parts and a label of this hash, and whether each part stands in the log of
+    // its own shard.
+    fn look_at(&self, label_hash: u64, parts: &[Plant<L>]) -> (u64, bool)
+        ensures hash { result.0 ≡ fold next_hash label_hash (map (tree_hash L.hash_of) parts.now) }
+        ensures all { OnTrue result.1 ((t : _) → Has parts.now t → Stands L.hash_of self.now t) }
+        ensures some { OnFalse result.1 ((t : _) × Has parts.now t × ¬ Stands L.hash_of self.now t) }
+    {
+        let mut hash = label_hash;
+        let mut all_stand = true;
+        for part in parts {
+            let part_hash = structural_hash(part);
+            hash = hash_step(hash, part_hash);
+            all_stand = self.stands(part_hash, part) && all_stand;
         }
-        true
+        (hash, all_stand)
     }
 }
-
-#[cfg(test)]
-mod tests;

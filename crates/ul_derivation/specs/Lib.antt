@@ -1,3 +1,5 @@
+pub mod Headline
 pub mod Faults
 pub mod Laws
 pub mod Rows
+pub mod Looking

@@ -4,7 +4,7 @@ pub mod Branchwise
 pub mod Varied
 pub mod Unique
 pub mod Sameness
-pub mod Stairs
+pub mod PartsByKeys
 pub mod Applied
 pub mod JoinedTrees
 pub mod Shapes
@@ -19,6 +19,7 @@ pub mod Leaves
 pub mod Joint
 pub mod Merged
 pub mod Made
+pub mod Viewed
 pub mod Pieces
 pub mod Smaller
 pub mod Steps
@@ -31,7 +32,7 @@ pub mod FreshTexts
 pub mod Leads
 pub mod Walks
 pub mod Existence
-pub mod Onward
+pub mod NextParts
 pub mod Follow
 pub mod Unions
 pub mod Settled
@@ -40,3 +41,11 @@ pub mod Exists
 pub mod Lowering
 pub mod SimplifySteps
 pub mod PiecesInCode
+pub mod Shortcuts
+pub mod Tools
+pub mod Counted
+pub mod FanTrees
+pub mod Truths
+pub mod TreeTruths
+pub mod ForCallers
+pub mod FirstPaths

@@ -21,15 +21,15 @@ pub returns-then-not-same : goal.returns-then-not-same
 returns-then-not-same g t c = (
   (λ h. absurd (untrue_false h)),
   λ e. absurd (elim c.then-not-same.branch [
-    | then-not-same-via-then-not-same w ↦ untrue c.same.result w.if-not-same.true (c.same.ensures.1 (label_same _ _ _ _ _ _ c.a.view_is c.b.view_is e))
-    | then-not-same-via-else-not-same+then-len w ↦ w.if-len.true (omega (arith, w.len.ensures, w.len-else-not-same.ensures, c.a.inside.parts.ok.0, c.b.inside.parts.ok.0, ap length (parts_same _ _ _ _ _ _ c.a.view_is c.b.view_is e)))
+    | then-not-same-via-then-not-same w ↦ untrue c.same.result w.if-not-same.true (c.same.ensures.1 (label_same _ _ _ _ _ _ c.one.view_is c.other.view_is e))
+    | then-not-same-via-else-not-same+then-len w ↦ w.if-len.true (omega (arith, w.len.ensures, w.len-else-not-same.ensures, c.one.inside.parts.ok.0, c.other.inside.parts.ok.0, ap length (parts_same _ _ _ _ _ _ c.one.view_is c.other.view_is e)))
   ]),
 )
 
 pub returns-then-not-is_same : goal.returns-then-not-is_same
 returns-then-not-is_same g t c = (
   (λ h. absurd (untrue_false h)),
-  λ e. absurd (untrue c.is_same.result c.if-not-is_same.true (c.is_same.ensures.1 (let same = parts_same _ _ _ _ _ _ c.a.view_is c.b.view_is e in
+  λ e. absurd (untrue c.is_same.result c.if-not-is_same.true (c.is_same.ensures.1 (let same = parts_same _ _ _ _ _ _ c.one.view_is c.other.view_is e in
       let lists : c.as_slice-mine.result.now ≡ c.as_slice-theirs.result.now = c.as_slice-mine.ensures.value ∙ (same ∙ sym c.as_slice-theirs.ensures.value) in
       same_at c.as_slice-mine.result.now c.as_slice-theirs.result.now c.loop-i.i c.index-mine-i.result c.index-theirs-i.result lists c.loop-i-test.true c.index-mine-i.is c.index-theirs-i.is))),
 )

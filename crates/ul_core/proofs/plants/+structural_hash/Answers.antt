@@ -1,7 +1,7 @@
 use Rattle.std.proofs.Common.{◌≡◌, ℕ, map, take, ap, sym, ◌∙◌, arith}
 use Rattle.std.proofs.lemmas.Grind.{common_steps}
 use Rattle.std.specs.List.{fold}
-use Rattle.ul_core.specs.Hashes.{tree_hash, hash_step, mixed}
+use Rattle.ul_core.specs.Hashes.{tree_hash, node_hash, next_hash}
 use Rattle.ul_core.specs.declared.trees.Tree.TheViews.{out-Tree, out-roll-Tree}
 use Rattle.ul_core.specs.declared.trees.Tree.TheFolds.{fold_out-Tree}
 use Rattle.ul_core.proofs.plants.+structural_hash.Goals as goal
@@ -16,4 +16,4 @@ returns g t c =
     let all : take c.loop-part.part-index c.deref-part-items.result.now ≡ c.deref-part-items.result.now = grind (arith, common_steps) in
     let kept = ap (λ z. z.parts) (out-roll-Tree _ record { label = c.plant.inside.label; parts = c.plant.inside.parts.items }) in
     let row : c.deref-part-items.result.now ≡ (out-Tree _ c.args.plant.now).parts = c.deref-part-items.ensures.value ∙ (sym kept ∙ ap (λ z. (out-Tree _ z).parts) c.plant.view_is) in
-    c.loop-part.invariant ∙ (ap (λ xs. fold mixed (f (out-Tree _ c.args.plant.now).label) (map (tree_hash f) xs)) (all ∙ row) ∙ sym (fold_out-Tree _ ℕ (hash_step f) c.args.plant.now))
+    c.loop-part.invariant ∙ (ap (λ xs. fold next_hash (f (out-Tree _ c.args.plant.now).label) (map (tree_hash f) xs)) (all ∙ row) ∙ sym (fold_out-Tree _ ℕ (node_hash f) c.args.plant.now))

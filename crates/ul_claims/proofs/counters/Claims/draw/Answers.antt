@@ -32,11 +32,12 @@ returns-then-number-seat-clause-drawn c =
     let now = ap (λ m. m.0.drawn) c.fetch_add-number.ensures.2.0 in
     rw (← c.seat.view_is) record {
       number = c.fetch_add-number.result;
+      word = c.fetch_add-number.ensures.2.3;
       claim = c.fetch_add-number.ensures.2.2;
-      added = search rules;
+      list = search rules;
       greater = c.fetch_add-number.ensures.2.1;
       few = few_so_far _ _ c.seat.invariant.rising c.fetch_add-number.ensures.2.1 _ now;
-      answered = c.if-number-seat.true;
+      reply = c.if-number-seat.true;
     }
 
 pub returns-clause-drawn : goal.returns-clause-drawn
@@ -44,9 +45,10 @@ returns-clause-drawn c =
     let now = ap (λ m. m.0.drawn) c.fetch_add-number.ensures.2.0 in
     rw (← c.seat.view_is) record {
       number = c.fetch_add-number.result;
+      word = c.fetch_add-number.ensures.2.3;
       claim = c.fetch_add-number.ensures.2.2;
-      added = search rules;
+      list = search rules;
       greater = c.fetch_add-number.ensures.2.1;
       few = few_so_far _ _ c.seat.invariant.rising c.fetch_add-number.ensures.2.1 _ now;
-      answered = (refl, c.if-number-seat.false);
+      reply = (refl, c.if-number-seat.false);
     }

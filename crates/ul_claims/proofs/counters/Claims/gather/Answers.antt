@@ -18,26 +18,20 @@ loop-seat-preserved c =
 pub load-requires : goal.load-requires
 load-requires c = (search rules, search rules, looks _ _ _)
 
-pub returns-clause-rising : goal.returns-clause-rising
-returns-clause-rising c =
-    let drawn : List ℕ = c.loop-seat.all.me.0.drawn in
-    sorted_rises c.args.self.limit drawn _ _ c.loop-seat.invariant.joined.kept c.load.ensures.2.1 c.sort_unstable.ensures.permutation c.sort_unstable.ensures.sorted
-
-pub returns-clause-exact : goal.returns-clause-exact
-returns-clause-exact c n =
-    let drawn : List ℕ = c.loop-seat.all.me.0.drawn in
-    let none : c.loop-seat.seats.items ≡ [] = search rules in
-    let same : times n drawn ≡ times_drawn n c.args.seats.items = joined_drawn _ _ _ _ _ _ c.loop-seat.invariant.joined none n in
-    let has : Contains c.sort_unstable.new.self.items n ↔ ((n < c.args.self.limit) × (0 < times n drawn)) = sorted_has c.args.self.limit drawn _ _ c.loop-seat.invariant.joined.kept c.sort_unstable.ensures.permutation n in (
-      (λ h. let d = has.0 h in (d.0, drawn_from_times n c.args.seats.items (omega (arith, d.1)))),
-      (λ h. has.1 (h.0, omega (arith, times_from_drawn n c.args.seats.items h.1))),
-    )
-
-pub returns-clause-whole : goal.returns-clause-whole
-returns-clause-whole c every refused n low =
+pub returns : goal.returns
+returns c =
     let drawn : List ℕ = c.loop-seat.all.me.0.drawn in
     let none : c.loop-seat.seats.items ≡ [] = search rules in
     let joined = c.loop-seat.invariant.joined in
-    let counted : (x : ℕ) → times x drawn ≡ once_below x c.load.result = c.load.ensures.2.2 (joined_parts _ _ _ _ _ _ joined none every) in
-    let has : Contains c.sort_unstable.new.self.items n ↔ ((n < c.args.self.limit) × (0 < times n drawn)) = sorted_has c.args.self.limit drawn _ _ joined.kept c.sort_unstable.ensures.permutation n in
-    has.1 (low, all_drawn c.args.self c.args.seats.items drawn c.load.result c.requires.own (joined_drawn _ _ _ _ _ _ joined none) counted refused n low)
+    let same : (n : ℕ) → times n drawn ≡ times_drawn n c.args.seats.items = λ n. joined_drawn _ _ _ _ _ _ joined none n in
+    let has : (n : ℕ) → Contains c.sort_unstable.new.self.items n ↔ ((n < c.args.self.limit) × (0 < times n drawn)) = λ n. sorted_has c.args.self.limit drawn _ _ joined.kept c.sort_unstable.ensures.permutation n in record {
+      rising = sorted_rises c.args.self.limit drawn _ _ joined.kept c.load.ensures.2.1 c.sort_unstable.ensures.permutation c.sort_unstable.ensures.sorted;
+      exact = λ n. (
+        (λ h. let d = (has n).0 h in (d.0, drawn_from_times n c.args.seats.items (omega (arith, d.1, same n)))),
+        (λ h. (has n).1 (h.0, omega (arith, times_from_drawn n c.args.seats.items h.1, same n))),
+      );
+      apart = λ n. omega (arith, c.load.ensures.2.1 n, same n);
+      whole = λ every refused n low.
+          let counted : (x : ℕ) → times x drawn ≡ once_below x c.load.result = c.load.ensures.2.2 (joined_parts _ _ _ _ _ _ joined none every) in
+          (has n).1 (low, all_drawn c.args.self c.args.seats.items drawn c.load.result c.requires.own same counted refused n low);
+    }

@@ -1,0 +1,69 @@
+"""The whole walk: wheels, tools/index, unilock lock, pip install of what is locked, pip check.
+
+The command `env` isn't built yet, so the versions to install are read from the lock itself, and the project has pins alone.
+"""
+
+from __future__ import annotations
+
+import os
+import re
+import subprocess
+import sys
+import tempfile
+import unittest
+from pathlib import Path
+
+from making import TOP, plain_wheel
+
+PROGRAM = TOP / "crates" / "unilock" / "out" / "unilock"
+PROJECT = """[project]
+name = "walk"
+version = "1"
+dependencies = ["alpha==1.2", "Beta_Tools==2.0"]
+"""
+
+
+def locked(text: str) -> list:
+    """The packages of a lock but its root, as pip takes them."""
+    pairs = re.findall(r'^\[\[package\]\]\nname = "([^"]+)"\nversion = "([^"]+)"$', text, re.MULTILINE)
+    return [f"{name}=={version}" for name, version in pairs if name != "walk"]
+
+
+class Walk(unittest.TestCase):
+    def setUp(self) -> None:
+        if not PROGRAM.exists():
+            self.skipTest("the program isn't built; ./unilock builds it")
+        if subprocess.run([sys.executable, "-c", "import ensurepip, venv"], capture_output=True).returncode:
+            self.skipTest("venv and pip aren't there")
+        held = tempfile.TemporaryDirectory()
+        self.addCleanup(held.cleanup)
+        self.top = Path(held.name)
+
+    def ran(self, *words: object) -> str:
+        done = subprocess.run([str(it) for it in words], cwd=self.top, capture_output=True, text=True, env={**os.environ, "PIP_CONFIG_FILE": os.devnull})
+        self.assertEqual(done.returncode, 0, f"{words}: {done.stdout}{done.stderr}")
+        return done.stdout
+
+    def test_from_wheels_to_an_installation(self) -> None:
+        wheels = self.top / "wheels"
+        wheels.mkdir()
+        plain_wheel(wheels, "alpha", "1.2", ["gamma==0.3"])
+        plain_wheel(wheels, "alpha", "1.3", ["gamma==0.4"])
+        plain_wheel(wheels, "beta-tools", "2.0", ["gamma==0.3"])
+        plain_wheel(wheels, "gamma", "0.3")
+        plain_wheel(wheels, "gamma", "0.4")
+        (self.top / "pyproject.toml").write_text(PROJECT)
+        self.ran(sys.executable, TOP / "tools" / "index", "wheels", "ix")
+        wanted = locked(self.ran(PROGRAM, "lock", "pyproject.toml", "ix", "1"))
+        self.assertEqual(wanted, ["alpha==1.2", "beta-tools==2.0", "gamma==0.3"])
+        (self.top / "requirements.txt").write_text("\n".join(wanted) + "\n")
+        self.ran(sys.executable, "-m", "venv", "venv")
+        python = self.top / "venv" / "bin" / "python"
+        self.ran(python, "-m", "pip", "install", "--no-index", "--no-deps", "--find-links", "wheels", "-r", "requirements.txt")
+        self.ran(python, "-m", "pip", "check")
+        installed = self.ran(python, "-m", "pip", "list", "--format=freeze").splitlines()
+        self.assertEqual([it for it in installed if it in wanted], wanted)
+
+
+if __name__ == "__main__":
+    unittest.main()
