@@ -7,16 +7,15 @@ use Rattle.std.proofs.lemmas.Option.{same_Some, none-some, slice_get_read}
 use Rattle.std.proofs.lemmas.List.{append-nil}
 use Rattle.ul_ranges.specs.Flags.{has}
 use Rattle.ul_problem.specs.Terms.{Selection, is_among}
-use Rattle.ul_problem.specs.Plain.{Plain, size_of, size_in, base_of, barred_of, needs_of}
+use Rattle.ul_problem.specs.Plain.{Plain, size_of, size_in, base_of, barred_of, needs_of, order_of, order_in}
 use Rattle.ul_problem.specs.Serving.{Serves, IsOneOf}
 use Rattle.ul_problem.specs.Problems.{IsWellFormed}
-use Rattle.ul_problem.specs.Best.{Picks, order_of, order_in, next_of, wanted, Agrees, Extends, IsFirst, IsBestFrom, IsBest, IsChain}
+use Rattle.ul_problem.specs.Best.{Picks, next_of, wanted, Agrees, Extends, IsFirst, IsBestFrom, IsBest, IsChain}
 use Rattle.ul_problem.specs.declared.problem.Need.{Need}
-use Rattle.ul_problem.proofs.Rules.{at_node, node_whole}
-use Rattle.ul_problem.proofs.BestLaws.{open_one}
+use Rattle.ul_problem.proofs.ForCallers.{at_node, node_whole, open_one}
 use Rattle.ul_trail.specs.Counts.{sizes_of}
 use Rattle.ul_trail.specs.Propagation.{IsOption}
-use Rattle.ul_trail.proofs.Propagating.{sizes_at, sizes_length}
+use Rattle.ul_trail.proofs.ForCallers.{sizes_at, sizes_length}
 use Rattle.ul_solver.proofs.Starting.{one_split, next_within}
 use Rattle.ul_solver.proofs.Possible.{asked_by}
 use Rattle.ul_solver.proofs.Room.{chain_room, in_range}
@@ -98,8 +97,9 @@ outside (o ∷ os) (suc n) h = outside os n (omega arith)
 -- of each node with a version
 picked : (σ : Selection) (N : ℕ) → ((n : ℕ) → N ≤ n → σ n ≡ None) → (P : ℕ → ℕ → Type 0) → ((n v : ℕ) → Decided (P n v)) → Decided ((n v : ℕ) → σ n ≡ Some v → P n v)
 picked σ N out P d = elim (all_below (λ (n : ℕ). (v : ℕ) → σ n ≡ Some v → P n v) (λ n. at n (σ n) refl) N) [
-      inl h ↦ inl (λ n v e. elim (cases_lt n N) [ inl l ↦ h n l v e | inr g ↦ absurd (none-some v (sym (out n g) ∙ e)) ])
-    | inr z ↦ inr (λ h. z (λ n l v e. h n v e)) ]
+  | inl h ↦ inl (λ n v e. elim (cases_lt n N) [ inl l ↦ h n l v e | inr g ↦ absurd (none-some v (sym (out n g) ∙ e)) ])
+  | inr z ↦ inr (λ h. z (λ n l v e. h n v e))
+]
   where
     at : (n : ℕ) (o : Option ℕ) → σ n ≡ o → Decided ((v : ℕ) → σ n ≡ Some v → P n v)
     at n None e = inl (λ v f. absurd (none-some v (sym e ∙ f)))
@@ -123,10 +123,11 @@ serves_decided p σ N out =
     let c = picked σ N out (λ n v. has v (barred_of p n) ≡ false) (λ n v. bool_decided (has v (barred_of p n)) false) in
     let d = picked σ N out (λ n v. (b : ℕ) → base_of p n ≡ Some b → σ b ≡ Some v) (based_decided p σ) in
     let e = picked σ N out (λ n v. (need : Need) → IsOneOf need (needs_of p n v) → is_among (σ need.node) need.permitted ≡ true)
-              (λ n v. all_members (λ (need : Need). is_among (σ need.node) need.permitted ≡ true) (λ need. bool_decided (is_among (σ need.node) need.permitted) true) (needs_of p n v)) in
+    (λ n v. all_members (λ (need : Need). is_among (σ need.node) need.permitted ≡ true) (λ need. bool_decided (is_among (σ need.node) need.permitted) true) (needs_of p n v)) in
     elim (both_decided a (both_decided b (both_decided c (both_decided d e)))) [
-      inl h ↦ inl (record { within = h.0; rooted = h.1.0; fit = h.1.1.0; based = λ n v b i j. h.1.1.1.0 n v i b j; met = λ n v i need j. h.1.1.1.1 n v i need j })
-    | inr z ↦ inr (λ s. z (s.within, (s.rooted, (s.fit, ((λ n v i b j. s.based n v b i j), (λ n v i need j. s.met n v i need j)))))) ]
+      | inl h ↦ inl (record { within = h.0; rooted = h.1.0; fit = h.1.1.0; based = λ n v b i j. h.1.1.1.0 n v i b j; met = λ n v i need j. h.1.1.1.1 n v i need j })
+      | inr z ↦ inr (λ s. z (s.within, (s.rooted, (s.fit, ((λ n v i b j. s.based n v b i j), (λ n v i need j. s.met n v i need j))))))
+    ]
 
 agrees_decided : (σ : Selection) (d : Picks) → Decided (Agrees σ d)
 agrees_decided σ [] = inl tt
@@ -154,8 +155,9 @@ options_decided : (ss : List ℕ) (P : List (Option ℕ) → Type 0) → ((os : 
 options_decided [] P d = elim (d []) [ inl h ↦ inl ([], refl, h) | inr z ↦ inr (λ x. z (subst P x.1 x.2)) ]
 options_decided (s ∷ ss) P d =
     elim (option_decided s (λ (o : Option ℕ). (os : List (Option ℕ)) × AreOptions ss os × P (o ∷ os)) (λ o. options_decided ss (λ (os : List (Option ℕ)). P (o ∷ os)) (λ os. d (o ∷ os)))) [
-      inl h ↦ inl (h.0 ∷ h.2.0, (h.1, h.2.1), h.2.2)
-    | inr z ↦ inr (λ x. z (split x)) ]
+      | inl h ↦ inl (h.0 ∷ h.2.0, (h.1, h.2.1), h.2.2)
+      | inr z ↦ inr (λ x. z (split x))
+    ]
   where
     split : ((os : List (Option ℕ)) × AreOptions (s ∷ ss) os × P os) → (o : Option ℕ) × IsOption s o × ((os : List (Option ℕ)) × AreOptions ss os × P (o ∷ os))
     split ([], a, h) = absurd a
@@ -168,9 +170,10 @@ options_of σ (s ∷ ss) n = σ n ∷ options_of σ ss (suc n)
 
 are_options : (σ : Selection) (ss : List ℕ) (n : ℕ) → ((k : ℕ) → IsOption (get_or ss k 0) (σ (n + k)) ⊎ (length ss ≤ k)) → AreOptions ss (options_of σ ss n)
 are_options σ [] n h = refl
-are_options σ (s ∷ ss) n h =
-    (elim (h 0) [ inl i ↦ subst (λ (k : ℕ). IsOption s (σ k)) (omega arith) i | inr l ↦ absurd (omega arith) ],
-     are_options σ ss (suc n) (λ k. elim (h (suc k)) [ inl i ↦ inl (subst (λ (j : ℕ). IsOption (get_or ss k 0) (σ j)) (omega arith) i) | inr l ↦ inr (omega arith) ]))
+are_options σ (s ∷ ss) n h = (
+  elim (h 0) [ inl i ↦ subst (λ (k : ℕ). IsOption s (σ k)) (omega arith) i | inr l ↦ absurd (omega arith) ],
+  are_options σ ss (suc n) (λ k. elim (h (suc k)) [ inl i ↦ inl (subst (λ (j : ℕ). IsOption (get_or ss k 0) (σ j)) (omega arith) i) | inr l ↦ inr (omega arith) ]),
+)
 
 listed : (σ : Selection) (ss : List ℕ) (n k : ℕ) → k < length ss → σ (n + k) ≡ selection_of (options_of σ ss n) k
 listed σ [] n k h = absurd (omega arith)
@@ -184,12 +187,12 @@ options_length σ (s ∷ ss) n = ap suc (options_length σ ss (suc n))
 -- equal selections serve and agree alike
 serves_same : (p : Plain) (σ τ : Selection) → ((n : ℕ) → σ n ≡ τ n) → Serves p σ → Serves p τ
 serves_same p σ τ same s = record {
-    within = λ n v e. s.within n v (same n ∙ e);
-    rooted = λ n h. (let r = s.rooted n h in (r.0, sym (same n) ∙ r.1));
-    fit = λ n v e. s.fit n v (same n ∙ e);
-    based = λ n v b e f. sym (same b) ∙ s.based n v b (same n ∙ e) f;
-    met = λ n v e need i. ap (λ (o : Option ℕ). is_among o need.permitted) (sym (same need.node)) ∙ s.met n v (same n ∙ e) need i
-  }
+  within = λ n v e. s.within n v (same n ∙ e);
+  rooted = λ n h. (let r = s.rooted n h in (r.0, sym (same n) ∙ r.1));
+  fit = λ n v e. s.fit n v (same n ∙ e);
+  based = λ n v b e f. sym (same b) ∙ s.based n v b (same n ∙ e) f;
+  met = λ n v e need i. ap (λ (o : Option ℕ). is_among o need.permitted) (sym (same need.node)) ∙ s.met n v (same n ∙ e) need i;
+}
 
 agrees_same : (σ τ : Selection) (d : Picks) → ((n : ℕ) → σ n ≡ τ n) → Agrees σ d → Agrees τ d
 agrees_same σ τ [] same a = tt
@@ -204,8 +207,9 @@ from_zero n = omega arith
 
 same_listed : (p : Plain) (σ : Selection) → Serves p σ → (n : ℕ) → σ n ≡ selection_of (options_of σ (sizes_of p) 0) n
 same_listed p σ s n = elim (cases_lt n (length (sizes_of p))) [
-      inl l ↦ subst (λ (j : ℕ). σ j ≡ selection_of (options_of σ (sizes_of p) 0) n) (from_zero n) (listed σ (sizes_of p) 0 n l)
-    | inr g ↦ (none_here (σ n) refl g ∙ sym (outside (options_of σ (sizes_of p) 0) n (let e = options_length σ (sizes_of p) 0 in omega arith))) ]
+  | inl l ↦ subst (λ (j : ℕ). σ j ≡ selection_of (options_of σ (sizes_of p) 0) n) (from_zero n) (listed σ (sizes_of p) 0 n l)
+  | inr g ↦ (none_here (σ n) refl g ∙ sym (outside (options_of σ (sizes_of p) 0) n (let e = options_length σ (sizes_of p) 0 in omega arith)))
+]
   where
     none_here : (o : Option ℕ) → σ n ≡ o → length (sizes_of p) ≤ n → σ n ≡ None
     none_here None e g = e
@@ -213,11 +217,14 @@ same_listed p σ s n = elim (cases_lt n (length (sizes_of p))) [
 
 extends_decided : (p : Plain) (d : Picks) → Decided (Extends p d)
 extends_decided p d = elim (options_decided (sizes_of p) (λ (os : List (Option ℕ)). Serves p (selection_of os) × Agrees (selection_of os) d)
-      (λ os. both_decided (serves_decided p (selection_of os) (length os) (outside os)) (agrees_decided (selection_of os) d))) [
-      inl h ↦ inl (selection_of h.0, h.2.0, h.2.1)
-    | inr z ↦ inr (λ x. z (options_of x.0 (sizes_of p) 0,
-          are_options x.0 (sizes_of p) 0 (λ k. inl (subst (λ (j : ℕ). IsOption (get_or (sizes_of p) k 0) (x.0 j)) (sym (from_zero k)) (subst (λ (m : ℕ). IsOption m (x.0 k)) (sym (sizes_at p k)) (option_of p x.0 k (x.0 k) x.1 refl)))),
-          (serves_same p x.0 _ (same_listed p x.0 x.1) x.1, agrees_same x.0 _ d (same_listed p x.0 x.1) x.2))) ]
+    (λ os. both_decided (serves_decided p (selection_of os) (length os) (outside os)) (agrees_decided (selection_of os) d))) [
+      | inl h ↦ inl (selection_of h.0, h.2.0, h.2.1)
+      | inr z ↦ inr (λ x. z (
+        options_of x.0 (sizes_of p) 0,
+        are_options x.0 (sizes_of p) 0 (λ k. inl (subst (λ (j : ℕ). IsOption (get_or (sizes_of p) k 0) (x.0 j)) (sym (from_zero k)) (subst (λ (m : ℕ). IsOption m (x.0 k)) (sym (sizes_at p k)) (option_of p x.0 k (x.0 k) x.1 refl)))),
+        (serves_same p x.0 _ (same_listed p x.0 x.1) x.1, agrees_same x.0 _ d (same_listed p x.0 x.1) x.2),
+      ))
+    ]
 
 -- a serving selection that agrees with decisions has what they ask for
 among_some : (o : Option ℕ) (s : List Bool) → is_among o s ≡ true → (v : ℕ) × (o ≡ Some v)
@@ -259,8 +266,9 @@ take_decided p d n i = at (slice_get (order_of p n) i) refl
     at : (o : Option ℕ) → slice_get (order_of p n) i ≡ o → Decided (CanTake p d n i)
     at None e = inr (λ h. none-some h.0 (sym e ∙ h.1))
     at (Some w) e = elim (extends_decided p (d ++ (n, w) ∷ [])) [
-          inl h ↦ inl (w, e, h)
-        | inr z ↦ inr (λ h. z (subst (λ (u : ℕ). Extends p (d ++ (n, u) ∷ [])) (same_Some h.0 w (sym h.1 ∙ e)) h.2)) ]
+      | inl h ↦ inl (w, e, h)
+      | inr z ↦ inr (λ h. z (subst (λ (u : ℕ). Extends p (d ++ (n, u) ∷ [])) (same_Some h.0 w (sym h.1 ∙ e)) h.2))
+    ]
 
 first_version : (p : Plain) (d : Picks) (n v : ℕ) → IsWellFormed p → n < length p.nodes → v < size_of p n → Extends p (d ++ (n, v) ∷ []) → (w : ℕ) × IsFirst p d n w
 first_version p d n v wf l h x =
@@ -283,11 +291,11 @@ best_from : (p : Plain) (k : ℕ) (d : Picks) (σ : Selection) → IsWellFormed 
 best_from p zero d σ wf s a c h = best_step p d (next_of p d) refl (λ n e. absurd (let r = best_room p d σ n wf s a c e in omega arith))
 best_from p (suc j) d σ wf s a c h = best_step p d (next_of p d) refl (λ n e.
     (let v = next_picked p d n σ s a e in
-     let f = first_version p d n v.0 wf (next_within p d n wf e) (s.within n v.0 v.1) (σ, s, agrees_more σ d (n, v.0) a v.1) in
-     let x = f.1.2 in
-     let len : length (d ++ (n, f.0) ∷ []) ≡ length d + 1 = length-append d ((n, f.0) ∷ []) in
-     let r = best_from p j (d ++ (n, f.0) ∷ []) x.0 wf x.1 x.2 (chain_more p [] d (n, f.0) c e) (omega arith) in
-     ((n, f.0) ∷ r.0, (e, f.1, r.1))))
+    let f = first_version p d n v.0 wf (next_within p d n wf e) (s.within n v.0 v.1) (σ, s, agrees_more σ d (n, v.0) a v.1) in
+    let x = f.1.2 in
+    let len : length (d ++ (n, f.0) ∷ []) ≡ length d + 1 = length-append d ((n, f.0) ∷ []) in
+    let r = best_from p j (d ++ (n, f.0) ∷ []) x.0 wf x.1 x.2 (chain_more p [] d (n, f.0) c e) (omega arith) in
+    ((n, f.0) ∷ r.0, (e, f.1, r.1))))
 
 pub best_exists : (p : Plain) (σ : Selection) → IsWellFormed p → Serves p σ → (d : Picks) × IsBest p d
 best_exists p σ wf s = best_from p (length p.nodes) [] σ wf s tt tt (omega arith)

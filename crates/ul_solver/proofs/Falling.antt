@@ -4,7 +4,7 @@ use Rattle.std.proofs.lemmas.Bool.{le-leb, lt-leb, cases_order}
 use Rattle.ul_trail.specs.declared.fact.Fact.{Fact}
 use Rattle.ul_trail.specs.Counts.{open_in, level_number, level_numbers, levels_of}
 use Rattle.ul_trail.specs.Facts.{up_to, level_of}
-use Rattle.ul_trail.proofs.Levels.{open_le}
+use Rattle.ul_trail.proofs.ForCallers.{open_le}
 use Rattle.ul_solver.specs.Measure.{AreBelow, IsLower, number_of}
 use Rattle.ul_solver.specs.State.{measure_of}
 use Rattle.ul_solver.proofs.MeasureLaws.{number_falls}

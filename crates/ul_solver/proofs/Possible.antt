@@ -4,30 +4,26 @@ use Rattle.std.specs.Prelude.{Contains}
 use Rattle.std.proofs.lemmas.Bool.{cases_eq, cases_Bool, true≢false, ltb-false}
 use Rattle.std.proofs.lemmas.Option.{same_Some}
 use Rattle.ul_ranges.specs.Flags.{has, is_blank, first_in}
-use Rattle.ul_ranges.proofs.FlagLaws.{blank_none, first_none}
+use Rattle.ul_ranges.proofs.ForCallers.{blank_none, first_none}
 use Rattle.ul_problem.specs.Terms.{node_of, allows, is_among, meet_of}
-use Rattle.ul_problem.specs.Plain.{Plain, node_at, size_of, size_in, needs_of}
+use Rattle.ul_problem.specs.Plain.{Plain, node_at, size_of, size_in, needs_of, order_of, order_in}
 use Rattle.ul_problem.specs.Serving.{IsOneOf}
 use Rattle.ul_problem.specs.Problems.{IsWellFormed}
 use Rattle.ul_problem.specs.Steps.{says, pair_of, written, with_term}
-use Rattle.ul_problem.specs.Best.{Picks, next_of, wanted, targets, order_of, order_in, is_decided}
+use Rattle.ul_problem.specs.Best.{Picks, next_of, wanted, targets, is_decided}
 use Rattle.ul_problem.specs.declared.term.Term.{Term}
 use Rattle.ul_problem.specs.declared.term.Term.TheVariants.{In, NotIn}
 use Rattle.ul_problem.specs.declared.problem.Need.{Need}
 use Rattle.ul_problem.specs.declared.step.Step.{Step}
 use Rattle.ul_problem.specs.declared.step.Step.TheVariants.{Need as NeedStep}
-use Rattle.ul_problem.proofs.Rules.{one_place, need_fits, at_node, node_whole, root_single}
-use Rattle.ul_problem.proofs.Soundness.{has_within}
-use Rattle.ul_problem.proofs.BestLaws.{open_one, not_decided}
+use Rattle.ul_problem.proofs.ForCallers.{one_place, need_fits, at_node, node_whole, root_single, has_within, open_one, not_decided}
 use Rattle.ul_trail.specs.Track.{Track}
 use Rattle.ul_trail.specs.declared.fact.Fact.{Fact}
 use Rattle.ul_trail.specs.Facts.{is_open, IsHeld, IsFailed, AreHeld, AreHeldBut, one_of, picks_of, IsAllowed}
 use Rattle.ul_trail.specs.Propagation.{IsTrailOf, IsQuiet, IsQuietAt, root_fact, root_facts}
 use Rattle.ul_trail.specs.Moves.{HasSteps}
-use Rattle.ul_trail.proofs.Following.{one_has}
-use Rattle.ul_trail.proofs.Decided.{place_decided}
+use Rattle.ul_trail.proofs.ForCallers.{one_has, place_decided, HasFact, pick_fact, held_in, pair_held, open_one_version}
 use Rattle.ul_solver.specs.State.{IsState}
-use Rattle.ul_trail.proofs.Finished.{HasFact, pick_fact, held_in, pair_held, open_one_version}
 use Rattle.ul_solver.proofs.Starting.{one_split, next_within}
 
 -- which pick asks for a node

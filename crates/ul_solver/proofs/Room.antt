@@ -13,8 +13,8 @@ use Rattle.ul_trail.specs.declared.fact.Fact.{Fact}
 use Rattle.ul_trail.specs.Facts.{picks_of, pick_with, level_of, first_of}
 use Rattle.ul_problem.specs.Terms.{node_of, set_of}
 use Rattle.ul_solver.specs.State.{IsState, IsSteered, IsChosen}
-use Rattle.ul_problem.proofs.BestLaws.{not_decided}
-use Rattle.ul_trail.proofs.Finished.{pick_fact}
+use Rattle.ul_problem.proofs.ForCallers.{not_decided}
+use Rattle.ul_trail.proofs.ForCallers.{pick_fact}
 use Rattle.ul_solver.proofs.Shown.{picks_append}
 use Rattle.ul_solver.proofs.States.{level_counted}
 use Rattle.std.proofs.lemmas.List.{append-nil}
@@ -92,11 +92,13 @@ chain_room p d n chain within next there =
     let c = chain_distinct p [] d [] (λ q h. tt) tt chain in
     let all : IsDistinct eqb (n ∷ nodes_onto [] d) = (c.1 n (not_decided p d n next), c.0) in
     let low : (q : ℕ) → list_any (eqb q) (n ∷ nodes_onto [] d) ≡ true → q < length p.nodes = λ q h.
-          (elim (or_cases (eqb q n) (list_any (eqb q) (nodes_onto [] d)) h) [
-              inl j ↦ (let same : q ≡ n = eqb-true q n j in omega arith)
-            | inr j ↦ (elim (onto_from q [] d j) [
-                  inl k ↦ absurd (true≢false (sym k))
-                | inr k ↦ within q k.0 k.1 ]) ]) in
+    (elim (or_cases (eqb q n) (list_any (eqb q) (nodes_onto [] d)) h) [
+      | inl j ↦ (let same : q ≡ n = eqb-true q n j in omega arith)
+      | inr j ↦ (elim (onto_from q [] d j) [
+        | inl k ↦ absurd (true≢false (sym k))
+        | inr k ↦ within q k.0 k.1
+      ])
+    ]) in
     let fits = length-le_from_distinct_below (n ∷ nodes_onto [] d) (length p.nodes) all low in
     let l = long [] d in
     omega (arith, fits, l)
@@ -106,6 +108,6 @@ pub room : (p : Plain) (t : Track) (n v : ℕ) → IsState p t → next_of p (pi
 room p t n v st next below =
     let d : Picks = picks_of t.facts in
     let r = chain_room p d n (steered_chain p [] t.facts st.steered)
-              (λ q u i. (let f = pick_fact p t.steps [] t.facts q u st.right.follow.derived i in in_range p q u f.0)) next (in_range p n v below) in
+    (λ q u i. (let f = pick_fact p t.steps [] t.facts q u st.right.follow.derived i in in_range p q u f.0)) next (in_range p n v below) in
     let k = level_counted p [] t.facts st.steered in
     omega (arith, k)

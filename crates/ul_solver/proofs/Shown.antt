@@ -2,22 +2,22 @@
 use Rattle.std.proofs.Common.{◌≡◌, ℕ, List, [], ◌∷◌, ◌++◌, Bool, true, false, Option, Some, None, refl, ap, ◌∙◌, sym, subst, append_assoc}
 use Rattle.std.proofs.lemmas.List.{append-nil}
 use Rattle.ul_problem.specs.Terms.{node_of, set_of}
-use Rattle.ul_problem.specs.Plain.{Plain}
+use Rattle.ul_problem.specs.Plain.{Plain, order_of}
 use Rattle.ul_problem.specs.Serving.{Serves}
 use Rattle.ul_problem.specs.Problems.{IsWellFormed}
-use Rattle.ul_problem.specs.Best.{Picks, next_of, Agrees, Extends, ArePassed, IsTrailed, IsChain, IsBest, version_in, is_decided, first_open, order_of}
+use Rattle.ul_problem.specs.Best.{Picks, next_of, Agrees, Extends, ArePassed, IsTrailed, IsChain, IsBest, version_in, is_decided, first_open}
 use Rattle.ul_problem.specs.declared.term.Term.{Term}
 use Rattle.ul_trail.specs.Track.{Track}
 use Rattle.ul_trail.specs.declared.fact.Fact.{Fact}
 use Rattle.ul_trail.specs.Facts.{picks_of, pick_with, first_of, is_open}
 use Rattle.ul_trail.specs.Propagation.{IsTrailOf, NoConflict}
 use Rattle.ul_trail.specs.Moves.{HasSteps}
-use Rattle.ul_trail.proofs.Following.{excluded_passed}
+use Rattle.ul_trail.proofs.ForCallers.{excluded_passed, finished_serves}
 use Rattle.ul_solver.specs.State.{IsSteered, IsChosen, IsState}
-use Rattle.ul_problem.proofs.BestLaws.{trailed_best, agrees_more, not_decided}
-use Rattle.ul_solver.specs.Answers.{IsTurn, IsShown}
+use Rattle.ul_problem.proofs.ForCallers.{trailed_best, agrees_more, best_serves, not_decided}
+use Rattle.ul_solver.specs.Turns.{IsTurn}
+use Rattle.ul_solver.specs.Headline.{IsBestShown}
 use Rattle.ul_solver.specs.declared.solver.Turn.TheVariants.{Finished}
-use Rattle.ul_trail.proofs.Finished.{finished_serves}
 
 pick_append : (c : Option ℕ) (t : Term) (a b rest : Picks) → a ≡ b ++ rest → pick_with c t a ≡ pick_with c t b ++ rest
 pick_append None t a b rest e = ap (λ (l : Picks). (node_of t, first_of (set_of t)) ∷ l) e
@@ -62,9 +62,18 @@ finished_best p t wf st end calm =
     (finished_serves p t wf st.right st.held calm chain end)
     (chain_agrees p [] (picks_of t.facts) chain tt) trailed
 
-pub finished_answer : (p : Plain) (before now : Track) (picks : Picks) → IsWellFormed p → IsState p before → IsTurn p before now Finished → picks ≡ picks_of now.facts → IsBest p picks × IsShown p picks now
+pub finished_answer : (p : Plain) (before now : Track) (picks : Picks) → IsWellFormed p → IsState p before → IsTurn p before now Finished → picks ≡ picks_of now.facts → IsBestShown p picks now
 finished_answer p before now picks wf st e shown =
     let same : picks ≡ picks_of before.facts = shown ∙ ap (λ (t : Track). picks_of t.facts) e.0 in
     let best : IsBest p (picks_of before.facts) = finished_best p before wf st e.1 e.2 in
-    let there : IsShown p (picks_of before.facts) before = record { right = st.right; held = st.held; steered = st.steered; shown = refl; end = e.1; calm = e.2 } in
-    (subst (IsBest p) (sym same) best, subst (λ (t : Track). IsShown p picks t) (sym e.0) (subst (λ (l : Picks). IsShown p l before) (sym same) there))
+    let there : IsBestShown p (picks_of before.facts) before = record {
+      best = best;
+      serves = best_serves p (picks_of before.facts) wf best;
+      right = st.right;
+      held = st.held;
+      shown = refl;
+      steered = st.steered;
+      end = e.1;
+      calm = e.2;
+    } in
+    subst (λ (t : Track). IsBestShown p picks t) (sym e.0) (subst (λ (l : Picks). IsBestShown p l before) (sym same) there)

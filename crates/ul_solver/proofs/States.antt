@@ -4,10 +4,10 @@ use Rattle.std.proofs.lemmas.List.{append-nil, length-append}
 use Rattle.ul_solver.proofs.Shown.{picks_append}
 use Rattle.std.proofs.lemmas.Bool.{le-leb, lt-leb, cases_order, cases_lt}
 use Rattle.ul_problem.specs.Terms.{node_of, set_of, allows}
-use Rattle.ul_problem.specs.Plain.{Plain, size_of, base_of, barred_of, needs_of}
+use Rattle.ul_problem.specs.Plain.{Plain, size_of, base_of, barred_of, needs_of, order_of}
 use Rattle.ul_problem.specs.Serving.{IsOneOf}
 use Rattle.ul_problem.specs.Steps.{says}
-use Rattle.ul_problem.specs.Best.{order_of, next_of}
+use Rattle.ul_problem.specs.Best.{next_of}
 use Rattle.ul_problem.specs.declared.term.Term.{Term}
 use Rattle.ul_problem.specs.declared.term.Term.TheVariants.{In, NotIn}
 use Rattle.ul_problem.specs.declared.step.Step.{Step}
@@ -19,15 +19,12 @@ use Rattle.ul_trail.specs.Propagation.{IsTrailOf, AreLevels, HasGrown, AreNewAft
 use Rattle.ul_trail.specs.declared.fact.Progress.{Progress}
 use Rattle.ul_trail.specs.declared.fact.Progress.TheVariants.{Quiet, Conflict}
 use Rattle.ul_trail.specs.Moves.{HasSteps, decision_at}
-use Rattle.ul_trail.proofs.Following.{one_first}
-use Rattle.ul_trail.proofs.Levels.{IsWithin, append_within, new_lowers, open_le, up_to-append, up_to-later, up_to-now, up_to-all, up_to-up_to, level_of-append, level_of-at}
-use Rattle.ul_trail.proofs.Keeping.{none_up_to, front_of, get_cases}
+use Rattle.ul_trail.proofs.ForCallers.{one_first, get_last, IsWithin, append_within, new_lowers, open_le, up_to-append, up_to-later, up_to-now, up_to-all, up_to-up_to, level_of-append, level_of-at, none_up_to, front_of, get_cases, sizes_length, sizes_at}
 use Rattle.ul_solver.specs.State.{IsFirstOpen, IsChosen, IsSteered, cut_at, IsState, measure_of}
-use Rattle.ul_conflict.specs.Outcomes.{IsBackjump}
+use Rattle.ul_conflict.specs.Headline.{IsBackjump}
 use Rattle.ul_trail.specs.Standing.{IsFresh}
-use Rattle.ul_trail.proofs.Propagating.{sizes_length, sizes_at}
 use Rattle.ul_solver.proofs.Falling.{measure_falls}
-use Rattle.ul_problem.proofs.BestLaws.{one_left}
+use Rattle.ul_problem.proofs.ForCallers.{one_left}
 
 pub new_at : (p : Plain) (m : ℕ) (xs ys : List Fact) → AreNewAfter p m xs ys → AreAt m ys
 new_at p m xs [] h = tt
@@ -106,20 +103,22 @@ unmoved p t1 t2 Quiet h s f loud calm = loud (λ k x e. subst (λ (z : List Fact
 unmoved p t1 t2 (Conflict k) h s f loud calm = calm k (h.0, subst (λ (z : List Step). slice_get z k ≡ Some h.0) s h.1, subst (λ (z : List Fact). AreHeld z (says p h.0)) f h.2)
 
 -- a backjump
-pub backward_kept : (p : Plain) (t t1 t2 : Track) (conflict level : ℕ) (learned : List Step)
-    → IsState p t → IsBackjump p t conflict level learned → t1.steps ≡ t.steps ++ learned → t1.facts ≡ up_to level t.facts
+pub backward_kept : (p : Plain) (t t1 t2 : Track) (level : ℕ) (learned : List Step)
+    → IsState p t → IsBackjump p t level learned → t1.steps ≡ t.steps ++ learned → t1.facts ≡ up_to level t.facts
     → IsTrailOf p t2 → t2.steps ≡ t1.steps → HasGrown p t1.facts t2.facts → (g : Progress) → IsProgress p t2 g
     → IsState p t2 × (measure_of (sizes_of p) t2.facts < measure_of (sizes_of p) t.facts)
-backward_kept p t t1 t2 conflict level learned st jump s1 f1 k2 s2 g2 g progress =
+backward_kept p t t1 t2 level learned st jump s1 f1 k2 s2 g2 g progress =
     let front : List Fact = up_to level t.facts in
     let at_level : level_of front ≡ level = st.reached level (omega (arith, jump.lower)) in
     let grown : HasGrown p front t2.facts = subst (λ (z : List Fact). HasGrown p z t2.facts) f1 g2 in
     let steps : t2.steps ≡ t.steps ++ learned = s2 ∙ s1 in
     let loud : IsQuiet p t1 → ⊥ = λ q.
     (let d = jump.derives in
-    let at : slice_get t1.steps d.place ≡ Some d.step = subst (λ (z : List Step). slice_get z d.place ≡ Some d.step) (sym s1) d.is in
-    let fails = (q d.place d.step at).1 d.term (subst (λ (z : List Fact). AreHeldBut z d.term (says p d.step)) (sym f1) d.but) in
-    d.open' (subst (λ (z : List Fact). IsFailed z d.term) f1 fails)) in
+    let place : ℕ = length (t.steps ++ d.front) in
+    let all : t1.steps ≡ (t.steps ++ d.front) ++ d.step ∷ [] = s1 ∙ (ap (λ (z : List Step). t.steps ++ z) d.last ∙ sym (append_assoc t.steps d.front (d.step ∷ []))) in
+    let at : slice_get t1.steps place ≡ Some d.step = subst (λ (z : List Step). slice_get z place ≡ Some d.step) (sym all) (get_last (t.steps ++ d.front) d.step) in
+    let fails = (q place d.step at).1 d.term (subst (λ (z : List Fact). AreHeldBut z d.term (says p d.step)) (sym f1) d.but) in
+    d.possible (subst (λ (z : List Fact). IsFailed z d.term) f1 fails)) in
     let calm : NoConflict p t1 = λ k c.
     (let held : AreHeld front (says p c.0) = subst (λ (z : List Fact). AreHeld z (says p c.0)) f1 c.2 in
     let at : slice_get (t.steps ++ learned) k ≡ Some c.0 = ap (λ (z : List Step). slice_get z k) (sym s1) ∙ c.1 in

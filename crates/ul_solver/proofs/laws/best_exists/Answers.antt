@@ -1,5 +1,5 @@
 use Rattle.ul_problem.specs.Best.{version_in}
-use Rattle.ul_problem.proofs.BestLaws.{best_serves}
+use Rattle.ul_problem.proofs.ForCallers.{best_serves}
 use Rattle.ul_solver.proofs.Existing.{best_exists}
 use Rattle.ul_solver.proofs.laws.best_exists.Goals as goal
 

@@ -1,5 +1,5 @@
 use Rattle.std.proofs.Common.{[]}
-use Rattle.ul_problem.proofs.BestLaws.{best_one_from}
+use Rattle.ul_problem.proofs.ForCallers.{best_one_from}
 use Rattle.ul_solver.proofs.laws.best_is_one.Goals as goal
 
 pub returns : goal.returns

@@ -1,6 +1,6 @@
 use Rattle.std.proofs.Common.{subst}
-use Rattle.ul_problem.proofs.Soundness.{accepted_none}
-use Rattle.ul_solver.specs.Answers.{IsTurn}
+use Rattle.ul_problem.proofs.ForCallers.{accepted_none}
+use Rattle.ul_solver.specs.Turns.{IsTurn}
 use Rattle.ul_solver.specs.declared.solver.Turn.{Turn}
 use Rattle.ul_solver.proofs.Shown.{finished_answer}
 use Rattle.ul_solver.proofs.solver.solve.Goals as goal
@@ -14,4 +14,4 @@ returns-in-Finished c =
 pub returns-in-Refused : goal.returns-in-Refused
 returns-in-Refused c =
     let a = subst (λ (r : Turn). IsTurn c.args.problem.now c.loop-trail.trail c.advance.new.trail r) c.in-Refused.is c.in_ok-next.ensures in
-    (a, accepted_none c.args.problem.now c.in-Refused.derivation c.roots.ensures.whole a)
+    (accepted_none c.args.problem.now c.in-Refused.derivation c.roots.ensures.whole a, a)
