@@ -1,0 +1,128 @@
+-- The next node has a version that no fact excludes.
+use Rattle.std.proofs.Common.{◌≡◌, ℕ, zero, suc, List, [], ◌∷◌, ◌++◌, Bool, true, false, cond, not, Option, Some, None, refl, ap, ◌∙◌, sym, subst, ◌<◌, ◌≤◌, ◌⊎◌, inl, inr, arith, nat_lt, slice_get, get_or, length}
+use Rattle.std.specs.Prelude.{Contains}
+use Rattle.std.proofs.lemmas.Bool.{cases_eq, cases_Bool, true≢false, ltb-false}
+use Rattle.std.proofs.lemmas.Option.{same_Some}
+use Rattle.ul_ranges.specs.Flags.{has, is_blank, first_in}
+use Rattle.ul_ranges.proofs.ForCallers.{blank_none, first_none}
+use Rattle.ul_problem.specs.Terms.{node_of, allows, is_among, meet_of}
+use Rattle.ul_problem.specs.Plain.{Plain, node_at, size_of, size_in, needs_of, order_of, order_in}
+use Rattle.ul_problem.specs.Serving.{IsOneOf}
+use Rattle.ul_problem.specs.Problems.{IsWellFormed}
+use Rattle.ul_problem.specs.Steps.{says, pair_of, written, with_term}
+use Rattle.ul_problem.specs.Best.{Picks, next_of, wanted, targets, is_decided}
+use Rattle.ul_problem.specs.declared.term.Term.{Term}
+use Rattle.ul_problem.specs.declared.term.Term.TheVariants.{In, NotIn}
+use Rattle.ul_problem.specs.declared.problem.Need.{Need}
+use Rattle.ul_problem.specs.declared.step.Step.{Step}
+use Rattle.ul_problem.specs.declared.step.Step.TheVariants.{Need as NeedStep}
+use Rattle.ul_problem.proofs.ForCallers.{one_place, need_fits, at_node, node_whole, root_single, has_within, open_one, not_decided}
+use Rattle.ul_trail.specs.Track.{Track}
+use Rattle.ul_trail.specs.declared.fact.Fact.{Fact}
+use Rattle.ul_trail.specs.Facts.{is_open, IsHeld, IsFailed, AreHeld, AreHeldBut, one_of, picks_of, IsAllowed}
+use Rattle.ul_trail.specs.Propagation.{IsTrailOf, IsQuiet, IsQuietAt, root_fact, root_facts}
+use Rattle.ul_trail.specs.Moves.{HasSteps}
+use Rattle.ul_trail.proofs.ForCallers.{one_has, place_decided, HasFact, pick_fact, held_in, pair_held, open_one_version}
+use Rattle.ul_solver.specs.State.{IsState}
+use Rattle.ul_solver.proofs.Starting.{one_split, next_within}
+
+-- which pick asks for a node
+target_need : (needs : List Need) (n : ℕ) → IsOneOf n (targets needs) → (need : Need) × IsOneOf need needs × (need.node ≡ n)
+target_need [] n h = absurd h
+target_need (x ∷ xs) n (inl e) = (x, inl refl, e)
+target_need (x ∷ xs) n (inr h) = let r = target_need xs n h in (r.0, inr r.1, r.2)
+
+pub asked_by : (p : Plain) (d : Picks) (n : ℕ) → IsOneOf n (wanted p d) → (e : ℕ × ℕ) × IsOneOf e d × ((need : Need) × IsOneOf need (needs_of p e.0 e.1) × (need.node ≡ n))
+asked_by p [] n h = absurd h
+asked_by p (e ∷ d) n h = elim (one_split n (targets (needs_of p e.0 e.1)) (wanted p d) h) [
+  | inl i ↦ (e, inl refl, target_need (needs_of p e.0 e.1) n i)
+  | inr i ↦ (let r = asked_by p d n i in (r.0, inr r.1, r.2))
+]
+
+but_pair : (facts : List Fact) (t u : Term) → (node_of t ≡ node_of u → ⊥) → IsHeld facts t → written t ≡ Some t → written u ≡ Some u → AreHeldBut facts u (pair_of t u)
+but_pair facts t u n h wt wu = which (nat_lt (node_of t) (node_of u)) (nat_lt (node_of u) (node_of t)) refl refl
+  where
+    which : (b c : Bool) → nat_lt (node_of t) (node_of u) ≡ b → nat_lt (node_of u) (node_of t) ≡ c
+        → AreHeldBut facts u (cond b (with_term (written t) (with_term (written u) [])) (cond c (with_term (written u) (with_term (written t) [])) (with_term (written (meet_of t u)) [])))
+    which true c e f = subst (λ (o : Option Term). AreHeldBut facts u (with_term o (with_term (written u) []))) (sym wt) (subst (λ (o : Option Term). AreHeldBut facts u (t ∷ with_term o [])) (sym wu) (inr (h, inl (refl, tt))))
+    which false true e f = subst (λ (o : Option Term). AreHeldBut facts u (with_term (written u) (with_term o []))) (sym wt) (subst (λ (o : Option Term). AreHeldBut facts u (with_term o (t ∷ []))) (sym wu) (inl (refl, (h, tt))))
+    which false false e f = absurd (let a = ltb-false (node_of t) (node_of u) e in let b = ltb-false (node_of u) (node_of t) f in n (omega arith))
+
+in_set : (o : Option ℕ) (n : ℕ) (w : List Bool) → allows (NotIn n w) o ≡ false → (v : ℕ) × (o ≡ Some v) × (has v w ≡ true)
+in_set None n w h = cc
+in_set (Some v) n w h = (v, refl, which (has v w) h)
+  where
+    which : (b : Bool) → not b ≡ false → b ≡ true
+    which true e = refl
+    which false e = sym e
+
+-- the open option of the next node is one of its versions
+pub record HasVersion (p : Plain) (facts : List Fact) (n : ℕ) : Type 0 where
+  pub version : ℕ
+  pub there : version < size_of p n
+  pub is : is_open facts n (Some version) ≡ true
+
+asked_version : (p : Plain) (t : Track) (m v n : ℕ) (need : Need) → IsWellFormed p → IsState p t → IsQuiet p t → HasFact p t.facts m v → IsOneOf need (needs_of p m v) → need.node ≡ n → (m ≡ n → ⊥) → HasVersion p t.facts n
+asked_version p t m v n need wf st quiet fact one e apart =
+    let below : v < size_of p m = fact.0 in
+    let w : List Bool = need.permitted in
+    let step : Step = NeedStep m (one_of (size_of p m) v) need.node need.permitted in
+    let held : IsHeld t.facts (In m (one_of (size_of p m) v)) = held_in p t.facts m v (one_of (size_of p m) v) fact (one_has (size_of p m) v below) in
+    let k = one_place t.steps step (st.held.needs m v need below one) in
+    let q : IsQuietAt p t.facts step = quiet k.0 step k.1 in
+    let al = st.right.alive.at need.node in
+    let fits = need_fits p m v need wf one in
+    elim (cases_blank w) [
+      | inl b ↦ absurd (q.0 (pair_held t.facts (In m (one_of (size_of p m) v)) (NotIn need.node need.permitted) held (λ o i. blank_allows o need.node need.permitted b)))
+      | inr b ↦ (let failed = q.1 (NotIn need.node need.permitted) (but_pair t.facts (In m (one_of (size_of p m) v)) (NotIn need.node need.permitted) (λ x. apart (x ∙ e)) held refl (ap (λ (c : Bool). cond c None (Some (NotIn need.node need.permitted))) b)) in
+          let r = in_set al.0 need.node need.permitted (failed al.0 al.1) in
+          record {
+            version = r.0;
+            there = let x = has_within need.permitted r.0 r.2 in let y = fits.1 in let z : size_of p need.node ≡ size_of p n = ap (size_of p) e in omega arith;
+            is = subst (λ (j : ℕ). is_open t.facts j (Some r.0) ≡ true) e (subst (λ (o : Option ℕ). is_open t.facts need.node o ≡ true) r.1 al.1);
+          })
+    ]
+  where
+    cases_blank : (s : List Bool) → (is_blank s ≡ true) ⊎ (is_blank s ≡ false)
+    cases_blank s = cases_Bool (is_blank s)
+
+    blank_allows : (o : Option ℕ) (j : ℕ) (s : List Bool) → is_blank s ≡ true → allows (NotIn j s) o ≡ true
+    blank_allows None j s b = refl
+    blank_allows (Some u) j s b = ap not (blank_none s b u)
+
+root_one : (p : Plain) (ns : List ℕ) (n : ℕ) (rest : List Fact) → IsOneOf n ns → IsOneOf (root_fact p n) (root_facts p ns ++ rest)
+root_one p [] n rest h = absurd h
+root_one p (x ∷ xs) n rest (inl e) = inl (ap (root_fact p) e)
+root_one p (x ∷ xs) n rest (inr h) = inr (root_one p xs n rest h)
+
+root_version : (p : Plain) (t : Track) (n : ℕ) → IsWellFormed p → IsState p t → IsOneOf n p.roots → HasVersion p t.facts n
+root_version p t n wf st i =
+    let s = root_single p n wf i in
+    let z : 0 < size_of p n = omega arith in
+    let al = st.right.alive.at n in
+    let fact : HasFact p t.facts n 0 = (z, (root_fact p n, subst (IsOneOf (root_fact p n)) (sym st.right.begun.is) (root_one p p.roots n st.right.begun.rest i), refl)) in
+    let e : al.0 ≡ Some 0 = open_one_version p t.facts n 0 al.0 fact al.1 in
+    record { version = 0; there = z; is = subst (λ (o : Option ℕ). is_open t.facts n o ≡ true) e al.1 }
+
+pub next_version : (p : Plain) (t : Track) (n : ℕ) → IsWellFormed p → IsState p t → IsQuiet p t → next_of p (picks_of t.facts) ≡ Some n → HasVersion p t.facts n
+next_version p t n wf st quiet next = elim (one_split n p.roots (wanted p (picks_of t.facts)) (open_one (picks_of t.facts) (p.roots ++ wanted p (picks_of t.facts)) n next)) [
+  | inl i ↦ root_version p t n wf st i
+  | inr i ↦ (let a = asked_by p (picks_of t.facts) n i in
+      let k = one_place (picks_of t.facts) a.0 a.1 in
+      let nd = not_decided p (picks_of t.facts) n next in
+      asked_version p t a.0.0 a.0.1 n a.2.0 wf st quiet (pick_fact p t.steps [] t.facts a.0.0 a.0.1 st.right.follow.derived a.1) a.2.1 a.2.2
+      (λ e. true≢false (sym (place_decided n (picks_of t.facts) k.0 a.0 k.1 e) ∙ nd)))
+]
+
+pub never_none : (p : Plain) (t : Track) (n : ℕ) (s : List Bool) (order : List ℕ) → IsWellFormed p → IsState p t → IsQuiet p t → next_of p (picks_of t.facts) ≡ Some n → order ≡ order_of p n → IsAllowed t.facts n (size_of p n) s → None ≡ first_in order s → ⊥
+never_none p t n s order wf st quiet next eo a e =
+    let h = next_version p t n wf st quiet next in
+    let f = at_node p n (next_within p (picks_of t.facts) n wf next) in
+    let w = node_whole p n f.0 wf f.1 in
+    let es : size_of p n ≡ length f.0.versions = ap size_in f.1 in
+    let low = h.there in
+    let c : Contains f.0.order h.version = w.ordered.2 h.version (omega arith) in
+    let eq : order ≡ f.0.order = eo ∙ ap order_in f.1 in
+    let none = first_none (λ k. has k s) order (sym e) in
+    let c' : Contains order h.version = subst (λ (x : List ℕ). Contains x h.version) (sym eq) c in
+    true≢false (sym (a.each h.version h.there ∙ h.is) ∙ subst (λ (z : ℕ). has z s ≡ false) c'.2 (none c'.0 h.version c'.1))

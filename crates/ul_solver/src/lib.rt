@@ -1,0 +1,7 @@
+//! The solver.
+#![tactic(auto)]
+
+pub mod laws;
+mod solver;
+
+pub use solver::{Answer, solve};

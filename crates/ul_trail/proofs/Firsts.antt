@@ -1,0 +1,154 @@
+-- The steps that a problem gives are right, and are all that a trail begins with.
+use Rattle.std.proofs.Common.{◌≡◌, ℕ, zero, suc, ◌+◌, List, [], ◌∷◌, ◌++◌, Bool, true, false, cond, Option, Some, None, refl, ap, ◌∙◌, sym, subst, ◌<◌, ◌≤◌, ◌⊎◌, inl, inr, arith, slice_get, get_or, length, take, append_assoc, add-one}
+use Rattle.std.proofs.lemmas.Bool.{cases_eq, cases_lt, true≢false, eqb-true, eqb-false}
+use Rattle.std.proofs.lemmas.List.{append-nil}
+use Rattle.std.proofs.lemmas.Option.{none-some, same_Some, slice_get_within, slice_get_read, slice_get-get_or}
+use Rattle.ul_ranges.specs.Flags.{has, is_blank}
+use Rattle.ul_ranges.proofs.ForCallers.{blank_none}
+use Rattle.ul_problem.specs.Plain.{Plain, node_at, size_of, base_of, barred_of, needs_of, size_in, base_in, barred_in, needs_in}
+use Rattle.ul_problem.specs.Serving.{IsOneOf, Forbids}
+use Rattle.ul_problem.specs.Problems.{IsWellFormed}
+use Rattle.ul_problem.specs.Steps.{says, IsRight, HasNeed, AreRightAfter}
+use Rattle.ul_problem.specs.declared.problem.Need.{Need}
+use Rattle.ul_problem.specs.declared.problem.NodeFacts.{NodeFacts}
+use Rattle.ul_problem.specs.declared.step.Step.{Step}
+use Rattle.ul_problem.specs.declared.step.Step.TheVariants.{Need as NeedStep, Python, Base, Cut}
+use Rattle.ul_problem.proofs.ForCallers.{node_whole, node_of_size, node_of_base, need_fits, one_place, barred_size, one_left, one_right, step_sound, has_within}
+use Rattle.ul_trail.specs.Facts.{one_of}
+use Rattle.ul_trail.specs.Propagation.{AreForbidden}
+use Rattle.ul_trail.specs.Moves.{HasSteps}
+use Rattle.ul_trail.specs.First.{need_steps, base_steps, python_steps, version_steps, versions_steps, node_steps, steps_at, first_steps}
+use Rattle.ul_trail.proofs.Places.{take_next}
+use Rattle.ul_trail.proofs.Following.{one_has}
+use Rattle.ul_trail.proofs.Singles.{one_length, one_other}
+
+needs_append : (n : ℕ) (s : List Bool) (xs : List Need) (x : Need) → need_steps n s (xs ++ x ∷ []) ≡ need_steps n s xs ++ NeedStep n s x.node x.permitted ∷ []
+needs_append n s [] x = refl
+needs_append n s (y ∷ xs) x = ap (λ (l : List Step). NeedStep n s y.node y.permitted ∷ l) (needs_append n s xs x)
+
+pub needs_next : (n : ℕ) (s t w : List Bool) (start steps now : List Step) (needs : List Need) (i : ℕ) (x : Need) → slice_get needs i ≡ Some x → steps ≡ start ++ need_steps n s (take i needs) → t ≡ s → w ≡ x.permitted → now ≡ steps ++ NeedStep n t x.node w ∷ [] → now ≡ start ++ need_steps n s (take (i + 1) needs)
+needs_next n s t w start steps now needs i x e q et ew g =
+    g ∙ (ap (λ (l : List Bool). steps ++ NeedStep n l x.node w ∷ []) et ∙ (ap (λ (l : List Bool). steps ++ NeedStep n s x.node l ∷ []) ew ∙ (ap (λ (l : List Step). l ++ NeedStep n s x.node x.permitted ∷ []) q
+    ∙ (append_assoc start (need_steps n s (take i needs)) (NeedStep n s x.node x.permitted ∷ []) ∙ ap (λ (l : List Step). start ++ l) (sym (ap (need_steps n s) (take_next needs x i e) ∙ needs_append n s (take i needs) x))))))
+
+-- members
+in_needs : (n : ℕ) (s : List Bool) (needs : List Need) (need : Need) → IsOneOf need needs → IsOneOf (NeedStep n s need.node need.permitted) (need_steps n s needs)
+in_needs n s [] need h = absurd h
+in_needs n s (x ∷ xs) need (inl e) = inl (ap (λ (y : Need). NeedStep n s y.node y.permitted) e)
+in_needs n s (x ∷ xs) need (inr h) = inr (in_needs n s xs need h)
+
+in_versions : (f : NodeFacts) (n v k : ℕ) (s : Step) → v < k → IsOneOf s (version_steps f n v) → IsOneOf s (versions_steps f n k)
+in_versions f n v zero s h i = absurd (omega arith)
+in_versions f n v (suc k) s h i = elim (cases_eq v k) [
+  | inl e ↦ one_right s (versions_steps f n k) (version_steps f n k) (subst (λ (j : ℕ). IsOneOf s (version_steps f n j)) e i)
+  | inr d ↦ one_left s (versions_steps f n k) (version_steps f n k) (in_versions f n v k s (omega arith) i)
+]
+
+in_nodes : (nodes : List NodeFacts) (n k : ℕ) (f : NodeFacts) (s : Step) → slice_get nodes n ≡ Some f → n < k → IsOneOf s (node_steps f n) → IsOneOf s (first_steps nodes k)
+in_nodes nodes n zero f s e h i = absurd (omega arith)
+in_nodes nodes n (suc k) f s e h i = elim (cases_eq n k) [
+  | inl q ↦ one_right s (first_steps nodes k) (steps_at (slice_get nodes k) k) (subst (λ (j : ℕ). IsOneOf s (steps_at (slice_get nodes j) j)) q (subst (λ (o : Option NodeFacts). IsOneOf s (steps_at o n)) (sym e) i))
+  | inr d ↦ one_left s (first_steps nodes k) (steps_at (slice_get nodes k) k) (in_nodes nodes n k f s e (omega arith) i)
+]
+
+base_one : (n b : ℕ) (s : List Bool) (o : Option ℕ) → o ≡ Some b → IsOneOf (Base n s) (base_steps n s o)
+base_one n b s None e = absurd (none-some b e)
+base_one n b s (Some c) e = inl refl
+
+python_one : (n v : ℕ) (s : List Bool) → has v s ≡ true → IsOneOf (Python n s) (python_steps n s)
+python_one n v s h = which (is_blank s) refl
+  where
+    which : (b : Bool) → is_blank s ≡ b → IsOneOf (Python n s) (cond b [] (Python n s ∷ []))
+    which true e = absurd (true≢false (sym h ∙ blank_none s e v))
+    which false e = inl refl
+
+-- what is known of a node, read off the problem
+pub first_has : (p : Plain) → IsWellFormed p → HasSteps p (first_steps p.nodes (length p.nodes))
+first_has p wf = record {
+  needs = λ n v need h i. (let f = node_of_size p n v h in
+      let es : size_of p n ≡ length f.0.versions = ap size_in f.1 in
+      let en : needs_of p n v ≡ get_or f.0.needs v [] = ap (λ (o : Option NodeFacts). needs_in o v) f.1 in
+      in_nodes p.nodes n (length p.nodes) f.0 _ f.1 (slice_get_within p.nodes n f.0 f.1)
+      (one_right _ (python_steps n f.0.barred) (versions_steps f.0 n (length f.0.versions)) (in_versions f.0 n v (length f.0.versions) _ (subst (λ (z : ℕ). v < z) es h)
+      (one_right _ (base_steps n (one_of (length f.0.versions) v) f.0.base) (need_steps n (one_of (length f.0.versions) v) (get_or f.0.needs v []))
+      (subst (λ (z : ℕ). IsOneOf (NeedStep n (one_of z v) need.node need.permitted) (need_steps n (one_of (length f.0.versions) v) (get_or f.0.needs v []))) (sym es) (in_needs n (one_of (length f.0.versions) v) (get_or f.0.needs v []) need (subst (IsOneOf need) en i)))))));
+  bases = λ n v b h e. (let f = node_of_size p n v h in
+      let es : size_of p n ≡ length f.0.versions = ap size_in f.1 in
+      let eb : f.0.base ≡ Some b = sym (ap base_in f.1) ∙ e in
+      in_nodes p.nodes n (length p.nodes) f.0 _ f.1 (slice_get_within p.nodes n f.0 f.1)
+      (one_right _ (python_steps n f.0.barred) (versions_steps f.0 n (length f.0.versions)) (in_versions f.0 n v (length f.0.versions) _ (subst (λ (z : ℕ). v < z) es h)
+      (one_left _ (base_steps n (one_of (length f.0.versions) v) f.0.base) (need_steps n (one_of (length f.0.versions) v) (get_or f.0.needs v []))
+      (subst (λ (z : ℕ). IsOneOf (Base n (one_of z v)) (base_steps n (one_of (length f.0.versions) v) f.0.base)) (sym es) (base_one n b (one_of (length f.0.versions) v) f.0.base eb))))));
+  pythons = λ n v h. (let w = has_within (barred_of p n) v h in let z = barred_size p n wf in
+      let f = node_of_size p n v (omega arith) in
+      let eb : barred_of p n ≡ f.0.barred = ap barred_in f.1 in
+      in_nodes p.nodes n (length p.nodes) f.0 _ f.1 (slice_get_within p.nodes n f.0 f.1)
+      (one_left _ (python_steps n f.0.barred) (versions_steps f.0 n (length f.0.versions)) (subst (λ (s : List Bool). IsOneOf (Python n s) (python_steps n f.0.barred)) (sym eb) (python_one n v f.0.barred (subst (λ (s : List Bool). has v s ≡ true) eb h)))));
+}
+
+-- each is right, whatever stands before it
+abbrev pub AreFirst : Plain → List Step → Type 0
+AreFirst p [] = Unit {0}
+AreFirst p (s ∷ ss) = ((earlier : List Step) → IsRight p earlier s) × AreFirst p ss
+
+first_join : (p : Plain) (xs ys : List Step) → AreFirst p xs → AreFirst p ys → AreFirst p (xs ++ ys)
+first_join p [] ys h i = i
+first_join p (x ∷ xs) ys h i = (h.0, first_join p xs ys h.1 i)
+
+first_right : (p : Plain) (earlier steps : List Step) → AreFirst p steps → AreRightAfter p earlier steps
+first_right p earlier [] h = tt
+first_right p earlier (s ∷ ss) h = (h.0 earlier, first_right p (earlier ++ s ∷ []) ss h.1)
+
+first_forbidden : (p : Plain) (steps : List Step) → AreFirst p steps → AreForbidden p steps
+first_forbidden p [] h k s e = absurd (none-some s e)
+first_forbidden p (x ∷ xs) h zero s e = subst (λ (y : Step). Forbids p (says p y)) (same_Some x s e) (step_sound p [] x (λ k t g. absurd (none-some t g)) (h.0 [])).1
+first_forbidden p (x ∷ xs) h (suc k) s e = first_forbidden p xs h.1 k s e
+
+one_only : (size v k : ℕ) → has k (one_of size v) ≡ true → k ≡ v
+one_only size v k h = elim (cases_eq v k) [ inl e ↦ sym e | inr d ↦ absurd (true≢false (sym h ∙ one_other size v k d)) ]
+
+needs_right : (p : Plain) (n v : ℕ) (needs : List Need) → IsWellFormed p → n < length p.nodes → ((need : Need) → IsOneOf need needs → IsOneOf need (needs_of p n v)) → AreFirst p (need_steps n (one_of (size_of p n) v) needs)
+needs_right p n v [] wf l h = tt
+needs_right p n v (x ∷ xs) wf l h =
+    let fits = need_fits p n v x wf (h x (inl refl)) in (
+      (λ earlier. (l, fits.0, one_length (size_of p n) v, fits.1, (λ u g. (x, subst (λ (k : ℕ). IsOneOf x (needs_of p n k)) (sym (one_only (size_of p n) v u g)) (h x (inl refl)), refl, (λ z y. y))))),
+      needs_right p n v xs wf l (λ need i. h need (inr i)),
+    )
+
+base_right : (p : Plain) (n v : ℕ) (o : Option ℕ) → n < length p.nodes → base_of p n ≡ o → AreFirst p (base_steps n (one_of (size_of p n) v) o)
+base_right p n v None l e = tt
+base_right p n v (Some b) l e = ((λ earlier. (l, one_length (size_of p n) v, (b, e))), tt)
+
+python_right : (p : Plain) (n : ℕ) (s : List Bool) → IsWellFormed p → n < length p.nodes → barred_of p n ≡ s → AreFirst p (python_steps n s)
+python_right p n s wf l e = which (is_blank s)
+  where
+    which : (b : Bool) → AreFirst p (cond b [] (Python n s ∷ []))
+    which true = tt
+    which false = ((λ earlier. (l, ap (λ (z : List Bool). length z) (sym e) ∙ barred_size p n wf, (λ v h. subst (λ (z : List Bool). has v z ≡ true) (sym e) h))), tt)
+
+versions_right : (p : Plain) (n k : ℕ) (f : NodeFacts) → IsWellFormed p → node_at p n ≡ Some f → AreFirst p (versions_steps f n k)
+versions_right p n zero f wf e = tt
+versions_right p n (suc k) f wf e =
+    let es : size_of p n ≡ length f.versions = ap size_in e in
+    let en : needs_of p n k ≡ get_or f.needs k [] = ap (λ (o : Option NodeFacts). needs_in o k) e in
+    let eb : base_of p n ≡ f.base = ap base_in e in
+    let l = slice_get_within p.nodes n f e in
+    first_join p (versions_steps f n k) (version_steps f n k) (versions_right p n k f wf e)
+    (first_join p (base_steps n (one_of (length f.versions) k) f.base) (need_steps n (one_of (length f.versions) k) (get_or f.needs k []))
+    (subst (λ (z : ℕ). AreFirst p (base_steps n (one_of z k) f.base)) es (base_right p n k f.base l eb))
+    (subst (λ (z : ℕ). AreFirst p (need_steps n (one_of z k) (get_or f.needs k []))) es (needs_right p n k (get_or f.needs k []) wf l (λ need i. subst (IsOneOf need) (sym en) i))))
+
+nodes_right : (p : Plain) (k : ℕ) → IsWellFormed p → AreFirst p (first_steps p.nodes k)
+nodes_right p zero wf = tt
+nodes_right p (suc k) wf = first_join p (first_steps p.nodes k) (steps_at (slice_get p.nodes k) k) (nodes_right p k wf) (here (slice_get p.nodes k) refl)
+  where
+    here : (o : Option NodeFacts) → slice_get p.nodes k ≡ o → AreFirst p (steps_at o k)
+    here None e = tt
+    here (Some f) e = first_join p (python_steps k f.barred) (versions_steps f k (length f.versions))
+        (python_right p k f.barred wf (slice_get_within p.nodes k f e) (ap barred_in e)) (versions_right p k (length f.versions) f wf e)
+
+pub first_are_right : (p : Plain) → IsWellFormed p → AreRightAfter p [] (first_steps p.nodes (length p.nodes))
+first_are_right p wf = first_right p [] (first_steps p.nodes (length p.nodes)) (nodes_right p (length p.nodes) wf)
+
+pub first_are_forbidden : (p : Plain) → IsWellFormed p → AreForbidden p (first_steps p.nodes (length p.nodes))
+first_are_forbidden p wf = first_forbidden p (first_steps p.nodes (length p.nodes)) (nodes_right p (length p.nodes) wf)

@@ -1,0 +1,115 @@
+//! The steps that a problem gives.
+ghost use Rattle.std.specs.Prelude.{◌≡◌, ◌<◌, ◌++◌, [], length, get_or, IfOk};
+ghost use Rattle.ul_trail.specs.Facts.{one_of};
+ghost use Rattle.ul_trail.specs.First.{base_steps, first_steps, need_steps, node_steps, python_steps, version_steps};
+
+use crate::deciding::single;
+use std::alloc::{AllocError, Global};
+use ul_problem::{Need, NodeFacts, Problem, Step};
+use ul_ranges::Ordinals;
+
+fn push_needs(
+    alloc: Global,
+    steps: &mut Vec<Step>,
+    node: u64,
+    versions: &Ordinals,
+    needs: &[Need],
+) -> Result<(), AllocError>
+    ensures { IfOk result (λ _. steps.new.items ≡ steps.old.items ++ need_steps node versions.now needs.now) }
+{
+    for need in needs {
+        let versions = versions.copy(alloc)?;
+        let permitted = need.permitted.copy(alloc)?;
+        steps.push(Step::Need {
+            node,
+            versions,
+            target: need.node,
+            permitted,
+        })?;
+    }
+    Ok(())
+}
+
+fn push_version(
+    alloc: Global,
+    steps: &mut Vec<Step>,
+    facts: &NodeFacts,
+    node: u64,
+    version: u32,
+) -> Result<(), AllocError>
+    requires barred { length facts.now.barred ≡ length facts.now.versions }
+    requires rows { length facts.now.needs ≡ length facts.now.versions }
+    requires version { version < length facts.now.versions }
+    ensures { IfOk result (λ _. steps.new.items ≡ steps.old.items ++ version_steps facts.now node version) }
+{
+    let versions = single(facts.barred.size(), version);
+    push_base(alloc, steps, node, &versions, facts.base)?;
+    let rows = facts.needs.as_slice();
+    push_needs(
+        alloc,
+        steps,
+        node,
+        &versions,
+        rows[version as usize].as_slice(),
+    )
+}
+
+fn push_node(
+    alloc: Global,
+    steps: &mut Vec<Step>,
+    facts: &NodeFacts,
+    node: u64,
+) -> Result<(), AllocError>
+    requires barred { length facts.now.barred ≡ length facts.now.versions }
+    requires rows { length facts.now.needs ≡ length facts.now.versions }
+    ensures { IfOk result (λ _. steps.new.items ≡ steps.old.items ++ node_steps facts.now node) }
+{
+    push_barred(alloc, steps, node, &facts.barred)?;
+    for version in 0..facts.barred.size() {
+        push_version(alloc, steps, facts, node, version)?;
+    }
+    Ok(())
+}
+
+/// The steps that a problem gives.
+pub fn steps_of(alloc: Global, problem: &Problem) -> Result<Vec<Step>, AllocError>
+    ensures { IfOk result (λ v. v.items ≡ first_steps problem.now.nodes (length problem.now.nodes)) }
+{
+    let nodes = problem.nodes();
+    let mut steps = Vec::new(alloc);
+    for node in 0..nodes.len() {
+        push_node(alloc, &mut steps, &nodes[node], node as u64)?;
+    }
+    Ok(steps)
+}
+
+fn push_base(
+    alloc: Global,
+    steps: &mut Vec<Step>,
+    node: u64,
+    versions: &Ordinals,
+    base: Option<u64>,
+) -> Result<(), AllocError>
+    ensures { IfOk result (λ _. steps.new.items ≡ steps.old.items ++ base_steps node versions.now base) }
+{
+    if base.is_some() {
+        let versions = versions.copy(alloc)?;
+        steps.push(Step::Base { node, versions })?;
+    }
+    Ok(())
+}
+
+fn push_barred(
+    alloc: Global,
+    steps: &mut Vec<Step>,
+    node: u64,
+    barred: &Ordinals,
+) -> Result<(), AllocError>
+    ensures { IfOk result (λ _. steps.new.items ≡ steps.old.items ++ python_steps node barred.now) }
+{
+    if !barred.is_empty() {
+        let versions = barred.copy(alloc)?;
+        steps.push(Step::Python { node, versions })?;
+    }
+    Ok(())
+}
