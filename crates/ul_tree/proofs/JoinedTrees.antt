@@ -26,7 +26,7 @@ pub seen_extra : (a : Plain) → IsReduced a → Seen extra_level a
 seen_extra (truth b) h = seen_truth extra_level b
 seen_extra (node k d bs) h = seen_node extra_level k d bs [] h (first_level k h.0)
 
-part_fits : (a : Plain) (x : List ℕ) → IsReduced a → Fits (at_extra_of a x) extra_level
+pub part_fits : (a : Plain) (x : List ℕ) → IsReduced a → Fits (at_extra_of a x) extra_level
 part_fits a x h = let s = seen_extra a h in fits_pick (branches_at extra_level a) extra_level x (rest_at extra_level a) s.rest s.branches
 
 pub below_extra : (w : WorldFields) (x y : List ℕ) (k : List ℕ) → text_cmp extra_level k ≡ Less → value_of w y k ≡ value_of w x k

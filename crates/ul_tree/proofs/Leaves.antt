@@ -66,7 +66,7 @@ extra_key (b ∷ bs) is h = let e = reads_itself (b ∷ bs) h in inr (e ∙ ap (
 pub extra_reduced : (literal : List ℕ) (equal : Bool) → IsExtra literal → IsReduced (pointed extra_level literal equal)
 extra_reduced literal equal is = pointed_reduced extra_level literal equal refl is
 
-turned : (k j : List ℕ) → is_eq (text_cmp k j) ≡ is_eq (text_cmp j k)
+pub turned : (k j : List ℕ) → is_eq (text_cmp k j) ≡ is_eq (text_cmp j k)
 turned k j = go (text_cmp k j) refl
   where
     go : (o : Ordering) → text_cmp k j ≡ o → is_eq (text_cmp k j) ≡ is_eq (text_cmp j k)
@@ -89,7 +89,7 @@ extra_none literal equal x none = denied equal ∙ ap (as_asked equal) (ap (λ b
 
 -- ---- texts
 
-text_below : (v : Variable) → is_text v ≡ true → text_number v < 8
+pub text_below : (v : Variable) → is_text v ≡ true → text_number v < 8
 text_below OsName h = omega arith
 text_below SysPlatform h = omega arith
 text_below PlatformMachine h = omega arith
@@ -115,7 +115,7 @@ text_holds v literal equal w x =
 pub opaque_reduced : (a : AtomFields) (positive : Bool) → IsAtom a → IsReduced (pointed (atom_level a) (1 ∷ []) positive)
 opaque_reduced a positive is = pointed_reduced (atom_level a) (1 ∷ []) positive refl ((a, is, refl), refl)
 
-mark_eq : (b : Bool) → is_eq (text_cmp (mark_of b) (1 ∷ [])) ≡ b
+pub mark_eq : (b : Bool) → is_eq (text_cmp (mark_of b) (1 ∷ [])) ≡ b
 mark_eq true = refl
 mark_eq false = refl
 

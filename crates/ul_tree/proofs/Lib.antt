@@ -19,6 +19,7 @@ pub mod Leaves
 pub mod Joint
 pub mod Merged
 pub mod Made
+pub mod Viewed
 pub mod Pieces
 pub mod Smaller
 pub mod Steps
@@ -40,3 +41,10 @@ pub mod Exists
 pub mod Lowering
 pub mod SimplifySteps
 pub mod PiecesInCode
+pub mod Shortcuts
+pub mod Tools
+pub mod Counted
+pub mod FanTrees
+pub mod Truths
+pub mod TreeTruths
+pub mod ForCallers

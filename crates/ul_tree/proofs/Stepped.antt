@@ -41,7 +41,7 @@ steps_hold held lo n (s ∷ ss) f u = elim (cases_lt n s) [
   ])
 ]
 
-stepped_holds : (held : Bool) (n : ℕ) (ss : List ℕ) (f : List ℕ → List ℕ) → f python_level ≡ n ∷ [] → Climb 0 ss → holds_of (stepped_of held ss) f ≡ flipped_at held ss n
+pub stepped_holds : (held : Bool) (n : ℕ) (ss : List ℕ) (f : List ℕ → List ℕ) → f python_level ≡ n ∷ [] → Climb 0 ss → holds_of (stepped_of held ss) f ≡ flipped_at held ss n
 stepped_holds held n [] f e u = refl
 stepped_holds held n (s ∷ ss) f e u = rw e (steps_hold held 0 n (s ∷ ss) f u)
 
@@ -55,7 +55,7 @@ truths_differ : (b : Bool) → truth (not b) ≡ truth b → ⊥
 truths_differ true h = cc
 truths_differ false h = cc
 
-steps_fit : (held : Bool) (lo : ℕ) (ss : List ℕ) → Climb lo ss → FitsAll (steps_of held ss) python_level (truth held)
+pub steps_fit : (held : Bool) (lo : ℕ) (ss : List ℕ) → Climb lo ss → FitsAll (steps_of held ss) python_level (truth held)
 steps_fit held lo [] u = tt
 steps_fit held lo (s ∷ ss) u = ((s, refl, omega (arith, u.0), u.1), steps_after (not held) s ss u.2, tt, truths_differ held, steps_fit (not held) s ss u.2)
 

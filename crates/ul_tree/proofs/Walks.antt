@@ -21,7 +21,7 @@ use Rattle.ul_tree.proofs.RealWorlds.{number_moved}
 
 -- ---- levels of atoms read back
 
-variable_back : (v : Variable) → variable_of (variable_number v) ≡ v
+pub variable_back : (v : Variable) → variable_of (variable_number v) ≡ v
 variable_back OsName = refl
 variable_back SysPlatform = refl
 variable_back PlatformMachine = refl
@@ -34,7 +34,7 @@ variable_back PythonFullVersion = refl
 variable_back ImplementationName = refl
 variable_back ImplementationVersion = refl
 
-kind_back : (k : AtomKind) → kind_of (kind_number k) ≡ k
+pub kind_back : (k : AtomKind) → kind_of (kind_number k) ≡ k
 kind_back Contains = refl
 kind_back Within = refl
 kind_back Below = refl
@@ -49,10 +49,10 @@ atom_back a =
     let q : second ≡ a = ap (λ k. record { variable = a.variable; kind = k; literal = a.literal }) (kind_back a.kind) in
     p ∙ q
 
-level_back : (l : List ℕ) → IsAtomLevel l → atom_level (atom_of l) ≡ l
+pub level_back : (l : List ℕ) → IsAtomLevel l → atom_level (atom_of l) ≡ l
 level_back l o = ap (λ z. atom_level (atom_of z)) o.2 ∙ ap atom_level (atom_back o.0) ∙ sym o.2
 
-atom_found : (l : List ℕ) → IsAtomLevel l → IsAtom (atom_of l)
+pub atom_found : (l : List ℕ) → IsAtomLevel l → IsAtom (atom_of l)
 atom_found l o = subst IsAtom (sym (ap atom_of o.2 ∙ atom_back o.0)) o.1
 
 -- ---- steps that a world can have

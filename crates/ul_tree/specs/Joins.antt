@@ -2,12 +2,10 @@
 use Rattle.std.specs.Prelude.{ℕ, ◌+◌, ◌<◌, List, [], ◌∷◌, Bool, true, false, not, ◌≡◌}
 use Rattle.ul_tree.specs.Plain.{Plain, Branches, done, branch, carried}
 use Rattle.ul_tree.specs.Apply.{size, apply, both, either}
-use Rattle.ul_tree.specs.Views.{tree_view}
 use Rattle.ul_tree.specs.Keys.{key_view, then_branches}
 use Rattle.ul_tree.specs.declared.level.Key.{Key}
 use Rattle.ul_tree.specs.declared.join.Join.{Join}
 use Rattle.ul_tree.specs.declared.join.Join.TheVariants.{Both, Either, NotFirst}
-use Rattle.ul_tree.specs.declared.tree.Tree.{Tree}
 
 -- `and`, `or`, and `not` of the first
 abbrev pub truth_of : Join → Bool → Bool → Bool
@@ -19,10 +17,10 @@ truth_of NotFirst = λ x y. not x
 abbrev pub IsJoined : Join → Plain → Plain → Plain → Type 0
 IsJoined op a b t = (n : ℕ) → size a + size b < n → t ≡ apply (truth_of op) n a b
 
--- branches that were made
-abbrev pub made_view : List (Key × Tree) → Branches
-made_view [] = done
-made_view (p ∷ ps) = branch (key_view p.0) (tree_view p.1) (made_view ps)
+-- branches that were made, of parts that stand for plain trees
+abbrev pub made_view : {A : Type 0} → (A → Plain) → List (Key × A) → Branches
+made_view view [] = done
+made_view view (p ∷ ps) = branch (key_view p.0) (view p.1) (made_view view ps)
 
 -- the part that stands after branches: at the interpreter that of the last branch, elsewhere the other part
 abbrev pub stands : Bool → Branches → Plain → Plain

@@ -4,8 +4,16 @@ pub mod Reduced
 pub mod Values
 pub mod Apply
 pub mod Laws
+pub mod JoinSteps
 pub mod Views
 pub mod Paths
+pub mod PathList
+pub mod Comparisons
+pub mod PathTruth
+pub mod Fans
+pub mod PathLaws
+pub mod Regions
+pub mod PlainCode
 pub mod Keys
 pub mod Pieces
 pub mod Leaves

@@ -16,17 +16,17 @@ abbrev pub Results : Type 0
 Results = List (List ℕ × Option Plain)
 
 -- a piece's own result, or another where it has none
-abbrev pub own_or : Option Plain → Plain → Plain
+abbrev pub own_or : {A : Type 0} → Option A → A → A
 own_or (Some t) z = t
 own_or None z = z
 
 -- the first result, or z where there is none
-abbrev pub first_result : Results → Plain → Plain
+abbrev pub first_result : {K A : Type 0} → List (K × Option A) → A → A
 first_result [] z = z
 first_result (r ∷ rs) z = own_or r.1 (first_result rs z)
 
 -- the last result, or z where there is none
-abbrev pub last_result : Results → Plain → Plain
+abbrev pub last_result : {K A : Type 0} → List (K × Option A) → A → A
 last_result [] z = z
 last_result (r ∷ rs) z = last_result rs (own_or r.1 z)
 
@@ -37,12 +37,12 @@ filled (r ∷ rs) z = (r.0, own_or r.1 z) ∷ filled rs (own_or r.1 z)
 
 -- the first result of all pieces, which serves those before it; o is that of the piece without a key, which is the
 -- first at the interpreter and the last at other levels
-abbrev pub earliest : Bool → Results → Option Plain → Plain → Plain
+abbrev pub earliest : {K A : Type 0} → Bool → List (K × Option A) → Option A → A → A
 earliest true rs o z = own_or o (first_result rs z)
 earliest false rs o z = first_result rs (own_or o z)
 
 -- the last result before the piece without a key, z where that piece is the first
-abbrev pub latest : Bool → Results → Plain → Plain
+abbrev pub latest : {K A : Type 0} → Bool → List (K × Option A) → A → A
 latest true rs z = z
 latest false rs z = last_result rs z
 

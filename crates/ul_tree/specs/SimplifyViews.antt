@@ -3,24 +3,32 @@ use Rattle.std.specs.Prelude.{ℕ, List, [], ◌∷◌, map, Bool, true, false, 
 use Rattle.std.specs.Ordering.{is_lt}
 use Rattle.ul_tree.specs.Plain.{Plain, truth, node, Branches, text_cmp}
 use Rattle.ul_tree.specs.Reduced.{IsReduced, Fits}
-use Rattle.ul_tree.specs.Views.{tree_view}
 use Rattle.ul_tree.specs.Keys.{key_view, has_kind}
 use Rattle.ul_tree.specs.Simplify.{Results, Simplifies}
 use Rattle.ul_tree.specs.declared.level.Key.{Key}
-use Rattle.ul_tree.specs.declared.tree.Tree.{Tree}
 
 -- pieces in a row, each with its key and its result
-abbrev pub results_view : List (Key × Option Tree) → Results
-results_view = map (λ r. (key_view r.0, option_map tree_view r.1))
+abbrev pub results_view : {A : Type 0} → (A → Plain) → List (Key × Option A) → Results
+results_view view = map (λ r. (key_view r.0, option_map view r.1))
 
 -- parts in a row, each with its key
-abbrev pub parts_view : List (Key × Tree) → List (List ℕ × Plain)
-parts_view = map (λ p. (key_view p.0, tree_view p.1))
+abbrev pub parts_view : {A : Type 0} → (A → Plain) → List (Key × A) → List (List ℕ × Plain)
+parts_view view = map (λ p. (key_view p.0, view p.1))
 
 -- the last part, or z where there is none
-abbrev pub last_part : List (List ℕ × Plain) → Plain → Plain
+abbrev pub last_part : {K A : Type 0} → List (K × A) → A → A
 last_part [] z = z
 last_part (p ∷ ps) z = last_part ps p.1
+
+-- the part that stands after branches: at the interpreter that of the last branch, elsewhere the other part
+abbrev pub standing_part : {K A : Type 0} → Bool → List (K × A) → A → A
+standing_part true parts other = last_part parts other
+standing_part false parts other = other
+
+-- a fact of what there is, if there is something
+abbrev pub IfSome : {A : Type 0} → (A → Type 0) → Option A → Type 0
+IfSome P None = Unit {0}
+IfSome P (Some x) = P x
 
 -- what pieces become is reduced, with every level after l
 abbrev pub ResultFits : Option Plain → List ℕ → Type 0
@@ -47,9 +55,9 @@ is_above l (truth b) = false
 is_above l (node k e cs) = is_lt (text_cmp k l)
 
 -- a tree that was made, or else the one that stands
-abbrev pub region_view : Option Tree → Plain → Plain
-region_view None c = c
-region_view (Some t) c = tree_view t
+abbrev pub region_view : {A : Type 0} → (A → Plain) → Option A → Plain → Plain
+region_view view None c = c
+region_view view (Some t) c = view t
 
 -- r is what stays of the region c when levels above l are taken away
 pub record Lowers (l : List ℕ) (c r : Plain) : Type 0 where

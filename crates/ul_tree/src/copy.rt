@@ -33,7 +33,7 @@ impl Tree {
 
 /// An equal tree.
 #[cycle(copy)]
-pub(crate) fn copy(alloc: Global, tree: &Tree) -> Result<Tree, AllocError>
+pub fn copy(alloc: Global, tree: &Tree) -> Result<Tree, AllocError>
     ensures { IfOk result (λ t. tree_view t ≡ tree_view tree.now) }
 {
     match tree {
@@ -96,7 +96,7 @@ fn copy_parts(alloc: Global, parts: &[Tree]) -> Result<Vec<Tree>, AllocError>
 }
 
 /// Whether two trees are equal.
-pub(crate) fn same(a: &Tree, b: &Tree) -> bool
+pub fn same(a: &Tree, b: &Tree) -> bool
     requires a_reduced { IsReduced (tree_view a.now) }
     requires b_reduced { IsReduced (tree_view b.now) }
     ensures { result ≡ same_plain (tree_view a.now) (tree_view b.now) }

@@ -11,14 +11,15 @@ ghost use Rattle.ul_tree.specs.Joins.{truth_of, IsJoined, made_view, stands, add
 use crate::Tree;
 use crate::copy::same;
 use crate::level::{Key, Level};
-use crate::part::{keys_at, known, level_of, part_at, rest_at};
+use crate::nodes::{first_level, level_keys, part_at, rest_at};
+use crate::part::{Trees, known};
+use crate::results::standing;
 use std::alloc::{AllocError, Global};
-use std::cmp::Ordering;
 use ul_marker::Atom;
 
 /// How two truths are joined.
 #[derive(Clone, Copy)]
-pub(crate) enum Join {
+pub enum Join {
     Both,
     Either,
     NotFirst,
@@ -36,71 +37,8 @@ impl Join {
     }
 }
 
-// The first level of two trees.
-fn first_level<'a>(a: &'a Tree, b: &'a Tree) -> Option<Level<'a>>
-    ensures { option_map level_view result ≡ first_of (tree_view a.now) (tree_view b.now) }
-{
-    match level_of(a) {
-        None => level_of(b),
-        Some(own) => match level_of(b) {
-            None => Some(own),
-            Some(found) => match own.cmp(found) {
-                Ordering::Less => Some(own),
-                Ordering::Equal => Some(own),
-                Ordering::Greater => Some(found),
-            },
-        },
-    }
-}
-
-// The keys of both, in order, each once.
-fn merged_keys<'a>(alloc: Global, a: &[Key<'a>], b: &[Key<'a>]) -> Result<Vec<Key<'a>>, AllocError>
-    ensures keys { IfOk result (λ ks. keys_view ks.items ≡ merged (keys_view a.now) (keys_view b.now)) }
-    ensures kinds { IfOk result (λ ks. (l : List ℕ) → All (λ k. has_kind l k ≡ true) a.now → All (λ k. has_kind l k ≡ true) b.now → All (λ k. has_kind l k ≡ true) ks.items) }
-{
-    let mut made = Vec::new(alloc);
-    let mut i = 0;
-    let mut j = 0;
-    while i < a.len() && j < b.len() {
-        match a[i].cmp(b[j]) {
-            Ordering::Less => {
-                made.push(a[i])?;
-                i += 1;
-                continue;
-            }
-            Ordering::Equal => {
-                made.push(a[i])?;
-                i += 1;
-                j += 1;
-                continue;
-            }
-            Ordering::Greater => {
-                made.push(b[j])?;
-                j += 1;
-                continue;
-            }
-        }
-    }
-    made.extend_from_slice(&a[i..])?;
-    made.extend_from_slice(&b[j..])?;
-    Ok(made)
-}
-
-// The part that stands after branches: at the interpreter that of the last, elsewhere the other part.
-fn standing<'a>(made: &'a [(Key<'_>, Tree)], other: &'a Tree, carried: bool) -> &'a Tree
-    ensures { tree_view result.now ≡ stands carried (made_view made.now) (tree_view other.now) }
-{
-    if !carried {
-        return other;
-    }
-    match made.last() {
-        Some(branch) => &branch.1,
-        None => other,
-    }
-}
-
 // A branch more, unless its part is the one that stands.
-pub(crate) fn add<'a>(
+pub fn add<'a>(
     made: &mut Vec<(Key<'a>, Tree)>,
     other: &Tree,
     carried: bool,
@@ -108,8 +46,8 @@ pub(crate) fn add<'a>(
     next: Tree,
 ) -> Result<(), AllocError>
     requires next_reduced { IsReduced (tree_view next) }
-    requires stands_reduced { IsReduced (stands carried (made_view made.old.items) (tree_view other.now)) }
-    ensures made { IfOk result (λ u. made_view made.new.items ≡ added (same_plain (tree_view next) (stands carried (made_view made.old.items) (tree_view other.now))) (made_view made.old.items) (key_view key.entry) (tree_view next)) }
+    requires stands_reduced { IsReduced (stands carried (made_view tree_view made.old.items) (tree_view other.now)) }
+    ensures made { IfOk result (λ u. made_view tree_view made.new.items ≡ added (same_plain (tree_view next) (stands carried (made_view tree_view made.old.items) (tree_view other.now))) (made_view tree_view made.old.items) (key_view key.entry) (tree_view next)) }
     ensures kinds { IfOk result (λ u. (l : List ℕ) → All (λ e. has_kind l e.0 ≡ true) made.old.items → has_kind l key.entry ≡ true → All (λ e. has_kind l e.0 ≡ true) made.new.items) }
 {
     if same(&next, standing(made, other, carried)) {
@@ -122,7 +60,7 @@ pub(crate) fn add<'a>(
 // Points of branches.
 fn points_of(alloc: Global, made: Vec<(Key<'_>, Tree)>) -> Result<Vec<(String, Tree)>, AllocError>
     requires { All (λ e. is_literal_key e.0 ≡ true) made.items }
-    ensures { IfOk result (λ ps. points_view ps.items ≡ made_view made.entry.items) }
+    ensures { IfOk result (λ ps. points_view ps.items ≡ made_view tree_view made.entry.items) }
 {
     let mut points = Vec::new(alloc);
     for (key, part) in made {
@@ -138,7 +76,7 @@ fn points_of(alloc: Global, made: Vec<(Key<'_>, Tree)>) -> Result<Vec<(String, T
 // The node of the interpreter that has these branches.
 fn pieces_of(alloc: Global, other: Tree, made: Vec<(Key<'_>, Tree)>) -> Result<Tree, AllocError>
     requires { All (λ e. is_number_key e.0 ≡ true) made.items }
-    ensures { IfOk result (λ t. tree_view t ≡ node python_level (tree_view other) (made_view made.entry.items)) }
+    ensures { IfOk result (λ t. tree_view t ≡ node python_level (tree_view other) (made_view tree_view made.entry.items)) }
 {
     let mut starts = Vec::new(alloc);
     let mut parts = Vec::new(alloc);
@@ -164,8 +102,8 @@ fn marked(
     other: Tree,
     made: Vec<(Key<'_>, Tree)>,
 ) -> Result<Tree, AllocError>
-    requires { IsReduced (node (atom_level atom.now) (tree_view other) (made_view made.items)) }
-    ensures { IfOk result (λ t. tree_view t ≡ node (atom_level atom.now) (tree_view other) (made_view made.entry.items)) }
+    requires { IsReduced (node (atom_level atom.now) (tree_view other) (made_view tree_view made.items)) }
+    ensures { IfOk result (λ t. tree_view t ≡ node (atom_level atom.now) (tree_view other) (made_view tree_view made.entry.items)) }
 {
     let mut made = made;
     match made.pop() {
@@ -180,15 +118,15 @@ fn marked(
 }
 
 // A node of a level that has these branches; its other part where it has none.
-pub(crate) fn closed(
+pub fn closed(
     alloc: Global,
     level: Level<'_>,
     other: Tree,
     made: Vec<(Key<'_>, Tree)>,
 ) -> Result<Tree, AllocError>
     requires kinds { All (λ e. has_kind (level_view level) e.0 ≡ true) made.items }
-    requires reduced { IsReduced (close (level_view level) (tree_view other) (made_view made.items)) }
-    ensures { IfOk result (λ t. tree_view t ≡ close (level_view level.entry) (tree_view other) (made_view made.entry.items)) }
+    requires reduced { IsReduced (close (level_view level) (tree_view other) (made_view tree_view made.items)) }
+    ensures { IfOk result (λ t. tree_view t ≡ close (level_view level.entry) (tree_view other) (made_view tree_view made.entry.items)) }
 {
     if made.is_empty() {
         return Ok(other);
@@ -214,43 +152,35 @@ pub(crate) fn closed(
 }
 
 /// The tree that has the joined truth of two.
-pub(crate) fn joined(alloc: Global, op: Join, a: &Tree, b: &Tree) -> Result<Tree, AllocError>
+pub fn joined(alloc: Global, op: Join, a: &Tree, b: &Tree) -> Result<Tree, AllocError>
     requires a_reduced { IsReduced (tree_view a.now) }
     requires b_reduced { IsReduced (tree_view b.now) }
     ensures joined { IfOk result (λ t. IsJoined op (tree_view a.now) (tree_view b.now) (tree_view t)) }
     ensures reduced { IfOk result (λ t. IsReduced (tree_view t)) }
 {
-    match first_level(a, b) {
+    match first_level::<Trees>(a, b) {
         None => Ok(Tree::Truth(op.truth(known(a), known(b)))),
         Some(level) => {
-            let keys = level_keys(alloc, level, a, b)?;
-            let other = joined(alloc, op, rest_at(a, level), rest_at(b, level))?;
+            let keys = level_keys::<Trees>(alloc, level, a, b)?;
+            let other = joined(
+                alloc,
+                op,
+                rest_at::<Trees>(a, level),
+                rest_at::<Trees>(b, level),
+            )?;
             let carried = level.is_carried();
             let mut made: Vec<(Key<'_>, Tree)> = Vec::new(alloc);
             for key in &keys {
-                let next = joined(alloc, op, part_at(a, level, *key), part_at(b, level, *key))?;
+                let next = joined(
+                    alloc,
+                    op,
+                    part_at::<Trees>(a, level, *key),
+                    part_at::<Trees>(b, level, *key),
+                )?;
                 add(&mut made, &other, carried, *key, next)?;
             }
             let tree = closed(alloc, level, other, made)?;
             Ok(tree)
         }
     }
-}
-
-// The keys of two trees at a level, in order, each once.
-pub(crate) fn level_keys<'a>(
-    alloc: Global,
-    level: Level<'_>,
-    a: &'a Tree,
-    b: &'a Tree,
-) -> Result<Vec<Key<'a>>, AllocError>
-    requires a_reduced { IsReduced (tree_view a.now) }
-    requires b_reduced { IsReduced (tree_view b.now) }
-    ensures keys { IfOk result (λ ks. keys_view ks.items ≡ merged (keys (branches_at (level_view level.entry) (tree_view a.now))) (keys (branches_at (level_view level.entry) (tree_view b.now)))) }
-    ensures kinds { IfOk result (λ ks. All (λ k. has_kind (level_view level.entry) k ≡ true) ks.items) }
-{
-    let of_a = keys_at(alloc, a, level)?;
-    let of_b = keys_at(alloc, b, level)?;
-    let keys = merged_keys(alloc, &of_a, &of_b)?;
-    Ok(keys)
 }

@@ -1,5 +1,8 @@
 //! Laws of trees, and worked examples: each function's contract is proved, and its body does nothing.
 ghost use Rattle.ul_tree.specs.Laws.{OneTruthOneTree, Operations};
+ghost use Rattle.ul_tree.specs.JoinSteps.{ApplySteps, ImpliesByJoin, JoinShortcuts};
+ghost use Rattle.ul_tree.specs.PathLaws.{ListedAreCounted, PathsTellTruth, TreeOfPaths};
+ghost use Rattle.ul_tree.specs.Regions.{NoExtra};
 ghost use Rattle.ul_tree.specs.Sample.{SampleHolds, HoldsSomewhere};
 ghost use Rattle.ul_tree.specs.SampleVectors.{SampleExamples};
 ghost use Rattle.ul_tree.specs.SimplifyLaws.{SimplifyExamples, SimplifyLaws};
@@ -12,6 +15,42 @@ pub fn one_truth()
 /// Trees joined, and a tree at an extra, are reduced and have the truth that is asked for.
 pub fn tree_operations()
     ensures { Operations }
+{}
+
+/// An operation on two nodes is the operation on their parts, which are smaller, and a reduced tree of the joined
+/// truth is the joined tree.
+pub fn apply_steps()
+    ensures { ApplySteps }
+{}
+
+/// A joined tree that is known at once: an absorbing or a neutral truth, equal sides, a double negation.
+pub fn join_shortcuts()
+    ensures { JoinShortcuts }
+{}
+
+/// One tree implies another exactly where the first without the second is false.
+pub fn implies_by_join()
+    ensures { ImpliesByJoin }
+{}
+
+/// A reduced tree whose truth doesn't depend on the extra asks for none.
+pub fn no_extra()
+    ensures { NoExtra }
+{}
+
+/// As many paths to true are listed as are counted.
+pub fn listed_are_counted()
+    ensures { ListedAreCounted }
+{}
+
+/// A tree is true exactly where all comparisons of some path to true hold.
+pub fn paths_tell_truth()
+    ensures { PathsTellTruth }
+{}
+
+/// A reduced tree is the tree of its paths to true.
+pub fn tree_of_paths()
+    ensures { TreeOfPaths }
 {}
 
 /// The sample of a reduced tree that isn't false and asks for no extra is a world, and the tree holds there with

@@ -18,7 +18,7 @@ use ul_marker::{Atom, Variable};
 
 /// The tree of the extras that equal a literal, or don't. A literal that is neither empty nor a name equals
 /// none.
-pub(crate) fn extra_tree(alloc: Global, literal: &str, equal: bool) -> Result<Tree, AllocError>
+pub fn extra_tree(alloc: Global, literal: &str, equal: bool) -> Result<Tree, AllocError>
     requires { IsExtraLiteral literal.now }
     ensures reduced { IfOk result (λ t. IsReduced (tree_view t)) }
     ensures truth { IfOk result (λ t. (w : WorldFields) (x : List ℕ) → tree_holds (tree_view t) w x ≡ as_asked equal (equals_extra literal.now x)) }
@@ -49,7 +49,7 @@ fn may_be_extra(alloc: Global, text: &str) -> Result<bool, AllocError>
 }
 
 /// The tree of the worlds at which a text variable equals a literal, or doesn't.
-pub(crate) fn text_tree(
+pub fn text_tree(
     alloc: Global,
     variable: Variable,
     literal: &str,
@@ -70,7 +70,7 @@ pub(crate) fn text_tree(
 }
 
 /// The tree of the worlds at which an opaque comparison holds, or doesn't.
-pub(crate) fn opaque_tree(alloc: Global, atom: &Atom, positive: bool) -> Result<Tree, AllocError>
+pub fn opaque_tree(alloc: Global, atom: &Atom, positive: bool) -> Result<Tree, AllocError>
     requires { IsAtom atom.now }
     ensures reduced { IfOk result (λ t. IsReduced (tree_view t)) }
     ensures truth { IfOk result (λ t. (w : WorldFields) (x : List ℕ) → tree_holds (tree_view t) w x ≡ as_asked positive (has_atom w.truths atom.now)) }

@@ -8,7 +8,7 @@ use ul_marker::{Atom, Variable};
 
 /// A level of trees: what a node's parts depend on. Contracts see it as a list of numbers, `level_view`.
 #[derive(Clone, Copy)]
-pub(crate) enum Level<'a> {
+pub enum Level<'a> {
     Extra,
     Python,
     Text(Variable),
@@ -18,7 +18,7 @@ pub(crate) enum Level<'a> {
 /// A key of a node's branch: a text, the number of an interpreter, or that an opaque comparison holds.
 /// Contracts see it as a list of numbers, `key_view`.
 #[derive(Clone, Copy)]
-pub(crate) enum Key<'a> {
+pub enum Key<'a> {
     Literal(&'a str),
     Number(u128),
     Holds,
@@ -54,14 +54,14 @@ impl<'a> Level<'a> {
     }
 
     /// The order of levels.
-    pub(crate) fn cmp(self, other: Level<'_>) -> Ordering
+    pub fn cmp(self, other: Level<'_>) -> Ordering
         ensures { result ≡ text_cmp (level_view self.entry) (level_view other.entry) }
     {
         self.rank().cmp(&other.rank()).then(self.cmp_rest(other))
     }
 
     /// Whether a branch of this level reaches up to the next, as the pieces of the interpreter do.
-    pub(crate) fn is_carried(self) -> bool
+    pub fn is_carried(self) -> bool
         ensures { result ≡ carries (level_view self.entry) }
     {
         match self {
@@ -75,7 +75,7 @@ impl<'a> Level<'a> {
 
 impl<'a> Key<'a> {
     /// The order of keys.
-    pub(crate) fn cmp(self, other: Key<'_>) -> Ordering
+    pub fn cmp(self, other: Key<'_>) -> Ordering
         ensures { result ≡ text_cmp (key_view self.entry) (key_view other.entry) }
     {
         match self {

@@ -1,15 +1,17 @@
 //! Decision trees over environments: one truth, one tree.
 #![tactic(auto)]
 
-mod copy;
-mod join;
+pub mod copy;
+pub mod join;
 pub mod laws;
-mod leaf;
-mod level;
-mod markers;
+pub mod leaf;
+pub mod level;
+pub mod markers;
+pub mod nodes;
 mod operations;
-mod part;
-mod python;
+pub mod part;
+pub mod python;
+pub mod results;
 mod samples;
 mod settle;
 mod simplify;
@@ -22,12 +24,3 @@ pub use samples::sample;
 pub use simplify::plain_simplify;
 pub use tree::Tree;
 pub use truth::{holds, paths};
-
-#[cfg(test)]
-mod marker_tests;
-#[cfg(test)]
-mod sample_tests;
-#[cfg(test)]
-mod simplify_tests;
-#[cfg(test)]
-mod tests;

@@ -127,7 +127,7 @@ fn version_tree(alloc: Global, version: &Version, full: bool) -> Result<Tree, Al
 }
 
 // The tree that is true where all trees are, or where some tree is.
-fn joined(alloc: Global, all: bool, trees: &[Tree]) -> Result<Tree, AllocError>
+pub fn joined(alloc: Global, all: bool, trees: &[Tree]) -> Result<Tree, AllocError>
     requires { All (λ t. IsReduced (tree_view t)) trees.now }
     ensures reduced { IfOk result (λ t. IsReduced (tree_view t)) }
     ensures truth { IfOk result (λ t. (w : WorldFields) (x : List ℕ) → tree_holds (tree_view t) w x ≡ joint all (truths_of trees.now w x)) }

@@ -10,7 +10,8 @@ use crate::Tree;
 use crate::copy::copy;
 use crate::join::{Join, joined};
 use crate::level::{Key, Level};
-use crate::part::part_at;
+use crate::nodes::part_at;
+use crate::part::Trees;
 use std::alloc::{AllocError, Global};
 
 /// The tree that is true where both are.
@@ -67,6 +68,9 @@ pub fn plain_at_extra(alloc: Global, a: &Tree, extra: &str) -> Result<Tree, Allo
     ensures reduced { IfOk result (λ t. IsReduced (tree_view t)) }
     ensures truth { IfOk result (λ t. (w : WorldFields) (y : List ℕ) → tree_holds (tree_view t) w y ≡ tree_holds (tree_view a.now) w extra.now) }
 {
-    let tree = copy(alloc, part_at(a, Level::Extra, Key::Literal(extra)))?;
+    let tree = copy(
+        alloc,
+        part_at::<Trees>(a, Level::Extra, Key::Literal(extra)),
+    )?;
     Ok(tree)
 }

@@ -1,26 +1,50 @@
-//! What a tree is at a level: its top level, its parts, and the part that a value takes.
-ghost use Rattle.std.specs.Prelude.{◌≡◌, ◌<◌, suc, length, option_map, IfOk, All, true};
-ghost use Rattle.ul_tree.specs.Plain.{branch, carries, pick};
+//! Trees as nodes: the top level, the part without a key, and the branches.
+ghost use Rattle.std.specs.Prelude.{◌≡◌, ◌<◌, suc, length, option_map, true};
+ghost use Rattle.ul_tree.specs.Plain.{branch};
 ghost use Rattle.ul_tree.specs.Reduced.{IsReduced};
-ghost use Rattle.ul_tree.specs.Apply.{known as known_plain, keys, rest_at, branches_at, part_at};
+ghost use Rattle.ul_tree.specs.Apply.{known as known_plain};
 ghost use Rattle.ul_tree.specs.FirstParts.{is_false as is_false_plain};
+ghost use Rattle.ul_tree.specs.Sample.{asks_extra as asks_extra_plain};
 ghost use Rattle.ul_tree.specs.Views.{tree_view, points_view};
-ghost use Rattle.ul_tree.specs.Keys.{level_view, key_view, keys_view, top_of, rest_of, branches_of, branch_count, branches_from, is_level, has_kind, is_key_of, is_literal_key};
+ghost use Rattle.ul_tree.specs.Keys.{level_view, key_view, top_of, rest_of, branches_of, branch_count, branches_from, is_key_of, is_literal_key};
 
 use crate::Tree;
 use crate::level::{Key, Level};
-use std::alloc::{AllocError, Global};
-use std::cmp::Ordering;
+use crate::nodes::{Branch, Nodes};
 
-/// A branch of a node: its key, and the part that it leads to.
-#[derive(Clone, Copy)]
-pub(crate) struct Branch<'a> {
-    pub(crate) key: Key<'a>,
-    pub(crate) part: &'a Tree,
+/// Trees, as nodes of decision trees.
+pub struct Trees;
+
+impl Nodes for Trees {
+    ghost use Rattle.ul_tree.specs.Views.{tree_view};
+
+    type Node = Tree;
+
+    ghost tree = { tree_view };
+
+    ghost below = { λ t p. Unit {0} };
+
+    ghost below_itself = { λ t. tt };
+
+    fn level_of(node: &Tree) -> Option<Level<'_>> {
+        level_of(node)
+    }
+
+    fn rest_of(node: &Tree) -> &Tree {
+        rest_of(node)
+    }
+
+    fn branch_count(node: &Tree) -> usize {
+        branch_count(node)
+    }
+
+    fn branch_at(node: &Tree, index: usize) -> Branch<'_, Tree> {
+        branch_at(node, index)
+    }
 }
 
 /// The truth that a tree is; false for a node.
-pub(crate) fn known(tree: &Tree) -> bool
+pub fn known(tree: &Tree) -> bool
     ensures { result ≡ known_plain (tree_view tree.now) }
 {
     match tree {
@@ -33,14 +57,21 @@ pub(crate) fn known(tree: &Tree) -> bool
 }
 
 /// Whether a tree is false.
-pub(crate) fn is_false(tree: &Tree) -> bool
+pub fn is_false(tree: &Tree) -> bool
     ensures { result ≡ is_false_plain (tree_view tree.now) }
 {
     matches!(tree, Tree::Truth(false))
 }
 
+/// Whether a tree asks for the extra.
+pub fn asks_extra(tree: &Tree) -> bool
+    ensures { result ≡ asks_extra_plain (tree_view tree.now) }
+{
+    matches!(tree, Tree::Extra { .. })
+}
+
 /// The top level of a tree, if it is a node.
-pub(crate) fn level_of(tree: &Tree) -> Option<Level<'_>>
+pub fn level_of(tree: &Tree) -> Option<Level<'_>>
     ensures { option_map level_view result ≡ top_of (tree_view tree.now) }
 {
     match tree {
@@ -53,7 +84,7 @@ pub(crate) fn level_of(tree: &Tree) -> Option<Level<'_>>
 }
 
 /// The part without a key; a truth is its own part.
-pub(crate) fn rest_of(tree: &Tree) -> &Tree
+pub fn rest_of(tree: &Tree) -> &Tree
     requires { IsReduced (tree_view tree.now) }
     ensures { tree_view result.now ≡ rest_of (tree_view tree.now) }
 {
@@ -67,7 +98,7 @@ pub(crate) fn rest_of(tree: &Tree) -> &Tree
 }
 
 /// How many branches a tree has beside the part without a key.
-pub(crate) fn branch_count(tree: &Tree) -> usize
+pub fn branch_count(tree: &Tree) -> usize
     requires { IsReduced (tree_view tree.now) }
     ensures { result ≡ branch_count (branches_of (tree_view tree.now)) }
 {
@@ -81,7 +112,7 @@ pub(crate) fn branch_count(tree: &Tree) -> usize
 }
 
 /// The branch at a place.
-pub(crate) fn branch_at(tree: &Tree, index: usize) -> Branch<'_>
+pub fn branch_at(tree: &Tree, index: usize) -> Branch<'_, Tree>
     requires reduced { IsReduced (tree_view tree.now) }
     requires within { index < branch_count (branches_of (tree_view tree.now)) }
     ensures found { branches_from index (branches_of (tree_view tree.now)) ≡ branch (key_view result.key) (tree_view result.part.now) (branches_from (suc index) (branches_of (tree_view tree.now))) }
@@ -106,7 +137,7 @@ pub(crate) fn branch_at(tree: &Tree, index: usize) -> Branch<'_>
 }
 
 // The branch of a point.
-fn point_at(points: &[(String, Tree)], index: usize) -> Branch<'_>
+fn point_at(points: &[(String, Tree)], index: usize) -> Branch<'_, Tree>
     requires { index < length points.now }
     ensures found { branches_from index (points_view points.now) ≡ branch (key_view result.key) (tree_view result.part.now) (branches_from (suc index) (points_view points.now)) }
     ensures kind { is_literal_key result.key ≡ true }
@@ -116,93 +147,4 @@ fn point_at(points: &[(String, Tree)], index: usize) -> Branch<'_>
         key: Key::Literal(point.0.as_str()),
         part: &point.1,
     }
-}
-
-// Whether a tree's top level is this one.
-fn is_at(tree: &Tree, level: Level<'_>) -> bool
-    ensures { result ≡ is_level (level_view level.entry) (tree_view tree.now) }
-{
-    match level_of(tree) {
-        None => false,
-        Some(own) => level.cmp(own).is_eq(),
-    }
-}
-
-/// The part without a key at a level; a tree of other levels is its own part.
-pub(crate) fn rest_at<'a>(tree: &'a Tree, level: Level<'_>) -> &'a Tree
-    requires { IsReduced (tree_view tree.now) }
-    ensures { tree_view result.now ≡ rest_at (level_view level.entry) (tree_view tree.now) }
-{
-    if is_at(tree, level) {
-        return rest_of(tree);
-    }
-    tree
-}
-
-/// The keys of a tree at a level, in order; none where its top level is another.
-pub(crate) fn keys_at<'a>(
-    alloc: Global,
-    tree: &'a Tree,
-    level: Level<'_>,
-) -> Result<Vec<Key<'a>>, AllocError>
-    requires { IsReduced (tree_view tree.now) }
-    ensures keys { IfOk result (λ ks. keys_view ks.items ≡ keys (branches_at (level_view level.entry) (tree_view tree.now))) }
-    ensures kinds { IfOk result (λ ks. All (λ k. has_kind (level_view level.entry) k ≡ true) ks.items) }
-{
-    if is_at(tree, level) {
-        return all_keys(alloc, tree);
-    }
-    Ok(Vec::new(alloc))
-}
-
-// The keys of a tree's branches, in order.
-fn all_keys(alloc: Global, tree: &Tree) -> Result<Vec<Key<'_>>, AllocError>
-    requires { IsReduced (tree_view tree.now) }
-    ensures keys { IfOk result (λ ks. keys_view ks.items ≡ keys (branches_of (tree_view tree.now))) }
-    ensures kinds { IfOk result (λ ks. All (λ k. is_key_of (tree_view tree.now) k ≡ true) ks.items) }
-{
-    let mut made = Vec::new(alloc);
-    for index in 0..branch_count(tree) {
-        made.push(branch_at(tree, index).key)?;
-    }
-    Ok(made)
-}
-
-/// The part that a value of a level takes; a tree of other levels is its own part.
-pub(crate) fn part_at<'a>(tree: &'a Tree, level: Level<'_>, value: Key<'_>) -> &'a Tree
-    requires { IsReduced (tree_view tree.now) }
-    ensures { tree_view result.now ≡ part_at (level_view level.entry) (key_view value.entry) (tree_view tree.now) }
-{
-    if is_at(tree, level) {
-        return part_of(tree, level.is_carried(), value);
-    }
-    tree
-}
-
-// The part that a value takes among a tree's branches, found by halves.
-fn part_of<'a>(tree: &'a Tree, carried: bool, value: Key<'_>) -> &'a Tree
-    requires { IsReduced (tree_view tree.now) }
-    ensures { tree_view result.now ≡ pick (branches_of (tree_view tree.now)) carried (key_view value.entry) (rest_of (tree_view tree.now)) }
-{
-    let rest = rest_of(tree);
-    let mut found = rest;
-    let mut low = 0;
-    let mut high = branch_count(tree);
-    while low < high {
-        let middle = low + (high - low) / 2;
-        let branch = branch_at(tree, middle);
-        match value.cmp(branch.key) {
-            Ordering::Less => {
-                high = middle;
-                continue;
-            }
-            Ordering::Equal => return branch.part,
-            Ordering::Greater => {
-                low = middle + 1;
-                found = if carried { branch.part } else { rest };
-                continue;
-            }
-        }
-    }
-    found
 }

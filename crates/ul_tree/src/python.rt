@@ -24,7 +24,7 @@ const END: u128 = 1 << 96;
 /// The tree of the interpreters whose `python_full_version`, or else `python_version`, meets a clause.
 ///
 /// The clause is evaluated at each interpreter where its truth may change, and the tree has those where it does.
-pub(crate) fn clause_tree(alloc: Global, clause: &Clause, full: bool) -> Result<Tree, AllocError>
+pub fn clause_tree(alloc: Global, clause: &Clause, full: bool) -> Result<Tree, AllocError>
     ensures reduced { IfOk result (λ t. IsReduced (tree_view t)) }
     ensures truth { IfOk result (λ t. (w : WorldFields) (x : List ℕ) → IsWorld w → tree_holds (tree_view t) w x ≡ meets_clause clause.now (plain (python_release full w))) }
 {
@@ -106,7 +106,7 @@ fn starts(alloc: Global, clause: &Clause, full: bool) -> Result<Vec<u128>, Alloc
 }
 
 // The tree of a truth that changes at each start.
-fn stepped(alloc: Global, first: bool, starts: &[u128]) -> Result<Tree, AllocError>
+pub fn stepped(alloc: Global, first: bool, starts: &[u128]) -> Result<Tree, AllocError>
     ensures { IfOk result (λ t. tree_view t ≡ stepped_of first starts.now) }
 {
     if starts.is_empty() {

@@ -11,9 +11,10 @@ ghost use Rattle.ul_tree.specs.SimplifyViews.{is_above as is_above_plain, region
 
 use crate::Tree;
 use crate::copy::copy;
-use crate::join::{Join, joined, level_keys};
+use crate::join::{Join, joined};
 use crate::level::{Key, Level};
-use crate::part::{branch_at, branch_count, is_false, known, level_of, part_at, rest_at, rest_of};
+use crate::nodes::{level_keys, part_at, rest_at};
+use crate::part::{Trees, branch_at, branch_count, is_false, known, level_of, rest_of};
 use crate::settle::settled;
 use std::alloc::{AllocError, Global};
 
@@ -71,7 +72,7 @@ fn union(alloc: Global, tree: &Tree) -> Result<Tree, AllocError>
 fn lowered(alloc: Global, region: &Tree, level: Level<'_>) -> Result<Option<Tree>, AllocError>
     requires reduced { IsReduced (tree_view region.now) }
     requires not_false { tree_view region.now ≡ truth false → ⊥ }
-    ensures { IfOk result (λ r. Lowered (level_view level.entry) (tree_view region.now) (region_view r (tree_view region.now))) }
+    ensures { IfOk result (λ r. Lowered (level_view level.entry) (tree_view region.now) (region_view tree_view r (tree_view region.now))) }
 {
     if !is_above(region, level) {
         return Ok(None);
@@ -90,7 +91,7 @@ fn lowered(alloc: Global, region: &Tree, level: Level<'_>) -> Result<Option<Tree
 
 // A tree that was made, or else the one that stands.
 fn region<'a>(made: &'a Option<Tree>, stands: &'a Tree) -> &'a Tree
-    ensures { tree_view result.now ≡ region_view made.now (tree_view stands.now) }
+    ensures { tree_view result.now ≡ region_view tree_view made.now (tree_view stands.now) }
 {
     match made {
         Some(tree) => tree,
@@ -138,10 +139,14 @@ fn simplified_at<'x>(
         let tree = copy(alloc, f)?;
         return Ok(tree);
     }
-    let keys = level_keys(alloc, level, f, region)?;
+    let keys = level_keys::<Trees>(alloc, level, f, region)?;
     let results = results(alloc, f, region, level, &keys)?;
-    let rest = piece(alloc, rest_at(f, level), rest_at(region, level))?;
-    let tree = settled(alloc, level, results, rest, rest_at(f, level))?;
+    let rest = piece(
+        alloc,
+        rest_at::<Trees>(f, level),
+        rest_at::<Trees>(region, level),
+    )?;
+    let tree = settled(alloc, level, results, rest, rest_at::<Trees>(f, level))?;
     Ok(tree)
 }
 
@@ -159,12 +164,16 @@ fn results<'x>(
     requires region_reduced { IsReduced (tree_view region.now) }
     requires not_above { is_above_plain (level_view level) (tree_view region.now) ≡ false }
     requires kinds { All (λ k. has_kind (level_view level) k ≡ true) keys.now }
-    ensures pieces { IfOk result (λ rs. Pieces (level_view level.entry) (tree_view f.now) (tree_view region.now) (keys_view keys.now) (results_view rs.items)) }
+    ensures pieces { IfOk result (λ rs. Pieces (level_view level.entry) (tree_view f.now) (tree_view region.now) (keys_view keys.now) (results_view tree_view rs.items)) }
     ensures kinds { IfOk result (λ rs. KeysOf (level_view level.entry) rs.items) }
 {
     let mut made = Vec::new(alloc);
     for key in keys {
-        let result = piece(alloc, part_at(f, level, *key), part_at(region, level, *key))?;
+        let result = piece(
+            alloc,
+            part_at::<Trees>(f, level, *key),
+            part_at::<Trees>(region, level, *key),
+        )?;
         made.push((*key, result))?;
     }
     Ok(made)

@@ -8,7 +8,8 @@ ghost use Rattle.ul_tree.specs.Keys.{level_view, key_view};
 
 use crate::Tree;
 use crate::level::{Key, Level};
-use crate::part::{branch_at, branch_count, known, level_of, part_at, rest_of};
+use crate::nodes::part_at;
+use crate::part::{Trees, branch_at, branch_count, known, level_of, rest_of};
 use ul_marker::World;
 
 // The count at which paths are no longer counted.
@@ -21,7 +22,7 @@ pub fn holds(t: &Tree, world: &World, extra: &str) -> bool
 {
     let mut tree = t;
     while let Some(level) = level_of(tree) {
-        tree = part_at(tree, level, value_at(world, extra, level));
+        tree = part_at::<Trees>(tree, level, value_at(world, extra, level));
     }
     known(tree)
 }

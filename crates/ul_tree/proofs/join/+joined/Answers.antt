@@ -20,10 +20,10 @@ joined-requires t c =
     let a = tree_view c.args.a.now in
     let b = tree_view c.args.b.now in
     let l = level_view c.in-Some.level in
-    let m : size (tree_view c.rest_at.result.now) + size (tree_view c.rest_at-in-Some.result.now) < size a + size b = rw (c.rest_at.ensures, c.rest_at-in-Some.ensures) (rests_smaller a b l c.in-Some.ensures) in
+    let m : size (tree_view c.rest_at.result.now) + size (tree_view c.rest_at-in-Some.result.now) < size a + size b = rw (c.rest_at.ensures.part, c.rest_at-in-Some.ensures.part) (rests_smaller a b l c.in-Some.ensures) in
     let d = c.decreases in (
       omega (arith, m, d),
-      (subst (λ (z : Plain). IsReduced z) (sym c.rest_at.ensures) (rest_at_reduced l a c.requires.a_reduced), subst (λ (z : Plain). IsReduced z) (sym c.rest_at-in-Some.ensures) (rest_at_reduced l b c.requires.b_reduced)),
+      (subst (λ (z : Plain). IsReduced z) (sym c.rest_at.ensures.part) (rest_at_reduced l a c.requires.a_reduced), subst (λ (z : Plain). IsReduced z) (sym c.rest_at-in-Some.ensures.part) (rest_at_reduced l b c.requires.b_reduced)),
     )
 
 pub joined-requires-in-loop-key : goal.joined-requires-in-loop-key
@@ -32,10 +32,10 @@ joined-requires-in-loop-key t c =
     let b = tree_view c.args.b.now in
     let l = level_view c.in-Some.level in
     let v = key_view (get_or c.deref-key-items.result.now c.loop-key.key-index no_key) in
-    let m : size (tree_view c.part_at.result.now) + size (tree_view c.part_at-in-loop-key.result.now) < size a + size b = rw (c.part_at.ensures, c.part_at-in-loop-key.ensures) (parts_smaller a b l v c.in-Some.ensures) in
+    let m : size (tree_view c.part_at.result.now) + size (tree_view c.part_at-in-loop-key.result.now) < size a + size b = rw (c.part_at.ensures.part, c.part_at-in-loop-key.ensures.part) (parts_smaller a b l v c.in-Some.ensures) in
     let d = c.decreases in (
       omega (arith, m, d),
-      (subst (λ (z : Plain). IsReduced z) (sym c.part_at.ensures) (part_at_reduced l v a c.requires.a_reduced), subst (λ (z : Plain). IsReduced z) (sym c.part_at-in-loop-key.ensures) (part_at_reduced l v b c.requires.b_reduced)),
+      (subst (λ (z : Plain). IsReduced z) (sym c.part_at.ensures.part) (part_at_reduced l v a c.requires.a_reduced), subst (λ (z : Plain). IsReduced z) (sym c.part_at-in-loop-key.ensures.part) (part_at_reduced l v b c.requires.b_reduced)),
     )
 
 pub loop-key-preserved : goal.loop-key-preserved
@@ -46,17 +46,17 @@ loop-key-preserved t c =
     let items = c.deref-key-items.result.now in
     let i = c.loop-key.key-index in
     let v = key_view (get_or items i no_key) in
-    let m : size (tree_view c.part_at.result.now) + size (tree_view c.part_at-in-loop-key.result.now) < size a + size b = rw (c.part_at.ensures, c.part_at-in-loop-key.ensures) (parts_smaller a b l v c.in-Some.ensures) in
+    let m : size (tree_view c.part_at.result.now) + size (tree_view c.part_at-in-loop-key.result.now) < size a + size b = rw (c.part_at.ensures.part, c.part_at-in-loop-key.ensures.part) (parts_smaller a b l v c.in-Some.ensures) in
     record {
       stays = c.loop-key.invariant.stays;
       made = λ n h.
           let made = c.in_ok-next-in-Some.ensures.joined n (omega (arith, m, h)) in
           let left = keys_left items i no_key c.loop-key-test.true in
-          step_kept (λ v. apply (truth_of c.args.op) n (part_at l v a) (part_at l v b)) c.is_carried-carried.result (made_view c.loop-key.made.items) _ _ (tree_view c.in_ok-next-in-Some.next) v (keys_view (drop (i + 1) items)) _
-          (rw (c.part_at.ensures, c.part_at-in-loop-key.ensures) at made)
+          step_kept (λ v. apply (truth_of c.args.op) n (part_at l v a) (part_at l v b)) c.is_carried-carried.result (made_view tree_view c.loop-key.made.items) _ _ (tree_view c.in_ok-next-in-Some.next) v (keys_view (drop (i + 1) items)) _
+          (rw (c.part_at.ensures.part, c.part_at-in-loop-key.ensures.part) at made)
           c.in_ok-add-in-Some.ensures.made
           (rw left at (c.loop-key.invariant.made n h));
-      stands_reduced = stands_kept _ c.is_carried-carried.result (made_view c.loop-key.made.items) _ v (tree_view c.in_ok-next-in-Some.next) _ c.in_ok-add-in-Some.ensures.made c.in_ok-next-in-Some.ensures.reduced c.loop-key.invariant.stands_reduced;
+      stands_reduced = stands_kept _ c.is_carried-carried.result (made_view tree_view c.loop-key.made.items) _ v (tree_view c.in_ok-next-in-Some.next) _ c.in_ok-add-in-Some.ensures.made c.in_ok-next-in-Some.ensures.reduced c.loop-key.invariant.stands_reduced;
       kinds = c.in_ok-add-in-Some.ensures.kinds l c.loop-key.invariant.kinds
           (subst (λ (z : List Key). All (λ k. has_kind l k ≡ true) z) (sym c.deref-key-items.ensures.value) c.in_ok-keys-in-Some.ensures.kinds i no_key c.loop-key-test.true);
     }
@@ -69,14 +69,14 @@ closed-requires-clause-reduced t c =
     let items = c.deref-key-items.result.now in
     let n = size a + size b in
     let small : n < suc n = omega arith in
-    let m : size (tree_view c.rest_at.result.now) + size (tree_view c.rest_at-in-Some.result.now) < n = rw (c.rest_at.ensures, c.rest_at-in-Some.ensures) (rests_smaller a b l c.in-Some.ensures) in
+    let m : size (tree_view c.rest_at.result.now) + size (tree_view c.rest_at-in-Some.result.now) < n = rw (c.rest_at.ensures.part, c.rest_at-in-Some.ensures.part) (rests_smaller a b l c.in-Some.ensures) in
     let end = c.in_ok-other-in-Some.ensures.joined n m in
     let all = c.loop-key.invariant.made n small in
     let none = drop_all c.loop-key.key-index items (omega arith) in
-    closed_reduced (truth_of c.args.op) n a b l _ (made_view c.loop-key.made.items) (keys_view items) small c.requires.a_reduced c.requires.b_reduced c.in-Some.ensures
-    (c.loop-key.invariant.stays ∙ rw (c.rest_at.ensures, c.rest_at-in-Some.ensures) at end)
+    closed_reduced (truth_of c.args.op) n a b l _ (made_view tree_view c.loop-key.made.items) (keys_view items) small c.requires.a_reduced c.requires.b_reduced c.in-Some.ensures
+    (c.loop-key.invariant.stays ∙ rw (c.rest_at.ensures.part, c.rest_at-in-Some.ensures.part) at end)
     (ap keys_view c.deref-key-items.ensures.value ∙ c.in_ok-keys-in-Some.ensures.keys)
-    (sym (then_none (made_view c.loop-key.made.items)) ∙ rw (none, c.is_carried-carried.ensures) at all)
+    (sym (then_none (made_view tree_view c.loop-key.made.items)) ∙ rw (none, c.is_carried-carried.ensures) at all)
 
 pub returns-in_ok-tree-in-Some-clause-joined : goal.returns-in_ok-tree-in-Some-clause-joined
 returns-in_ok-tree-in-Some-clause-joined t c zero h = absurd (omega arith)
@@ -85,14 +85,14 @@ returns-in_ok-tree-in-Some-clause-joined t c (suc n) h =
     let b = tree_view c.args.b.now in
     let l = level_view c.in-Some.level in
     let items = c.deref-key-items.result.now in
-    let m : size (tree_view c.rest_at.result.now) + size (tree_view c.rest_at-in-Some.result.now) < size a + size b = rw (c.rest_at.ensures, c.rest_at-in-Some.ensures) (rests_smaller a b l c.in-Some.ensures) in
+    let m : size (tree_view c.rest_at.result.now) + size (tree_view c.rest_at-in-Some.result.now) < size a + size b = rw (c.rest_at.ensures.part, c.rest_at-in-Some.ensures.part) (rests_smaller a b l c.in-Some.ensures) in
     let end = c.in_ok-other-in-Some.ensures.joined n (omega (arith, m, h)) in
     let all = c.loop-key.invariant.made n h in
     let none = drop_all c.loop-key.key-index items (omega arith) in
-    applied_is (truth_of c.args.op) n a b l (tree_view c.in_ok-tree-in-Some.tree) _ (made_view c.loop-key.made.items) (keys_view items) c.in-Some.ensures
-    (c.loop-key.invariant.stays ∙ rw (c.rest_at.ensures, c.rest_at-in-Some.ensures) at end)
+    applied_is (truth_of c.args.op) n a b l (tree_view c.in_ok-tree-in-Some.tree) _ (made_view tree_view c.loop-key.made.items) (keys_view items) c.in-Some.ensures
+    (c.loop-key.invariant.stays ∙ rw (c.rest_at.ensures.part, c.rest_at-in-Some.ensures.part) at end)
     (ap keys_view c.deref-key-items.ensures.value ∙ c.in_ok-keys-in-Some.ensures.keys)
-    (sym (then_none (made_view c.loop-key.made.items)) ∙ rw (none, c.is_carried-carried.ensures) at all)
+    (sym (then_none (made_view tree_view c.loop-key.made.items)) ∙ rw (none, c.is_carried-carried.ensures) at all)
     c.in_ok-tree-in-Some.ensures
 
 pub returns-in_ok-tree-in-Some-clause-reduced : goal.returns-in_ok-tree-in-Some-clause-reduced

@@ -14,8 +14,8 @@ abbrev pub invariant-loop-key : goal.invariant-loop-key
 invariant-loop-key l = record {
   stays : tree_view l.other ≡ tree_view l.initial.other;
   made : (n : ℕ) → size (tree_view l.a) + size (tree_view l.b) < suc n
-      → then_branches (made_view l.made.items) (outs (λ v. apply (truth_of l.op) n (part_at (level_view l.level) v (tree_view l.a)) (part_at (level_view l.level) v (tree_view l.b))) l.carried (keys_view (drop l.key-index l.key-items)) (stands l.carried (made_view l.made.items) (tree_view l.other)))
+      → then_branches (made_view tree_view l.made.items) (outs (λ v. apply (truth_of l.op) n (part_at (level_view l.level) v (tree_view l.a)) (part_at (level_view l.level) v (tree_view l.b))) l.carried (keys_view (drop l.key-index l.key-items)) (stands l.carried (made_view tree_view l.made.items) (tree_view l.other)))
       ≡ outs (λ v. apply (truth_of l.op) n (part_at (level_view l.level) v (tree_view l.a)) (part_at (level_view l.level) v (tree_view l.b))) l.carried (keys_view l.key-items) (tree_view l.other);
-  stands_reduced : IsReduced (stands l.carried (made_view l.made.items) (tree_view l.other));
+  stands_reduced : IsReduced (stands l.carried (made_view tree_view l.made.items) (tree_view l.other));
   kinds : All (λ e. has_kind (level_view l.level) e.0 ≡ true) l.made.items;
 }

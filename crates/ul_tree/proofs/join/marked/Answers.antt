@@ -14,4 +14,4 @@ returns c =
     ∙ ap (λ b. node (atom_level b) (tree_view c.in_ok-no-in-Some.no.value) (branch (1 ∷ []) (tree_view c.in_ok-yes-in-Some.yes.value) done)) c.in_ok-atom-in-Some.ensures
     ∙ ap (λ t. node (atom_level a) (tree_view t) (branch (1 ∷ []) (tree_view c.in_ok-yes-in-Some.yes.value) done)) c.in_ok-no-in-Some.ensures.ok
     ∙ ap (λ t. node (atom_level a) d (branch (1 ∷ []) (tree_view t) done)) c.in_ok-yes-in-Some.ensures.ok
-    ∙ ap (node (atom_level a) d) (sym (one_mark a d c.args.made.items c.pop.new.self.items (c.in-Some.field-0-0, c.in-Some.part) c.requires c.in-Some.ensures.items))
+    ∙ ap (node (atom_level a) d) (sym (one_mark tree_view a d c.args.made.items c.pop.new.self.items (c.in-Some.field-0-0, c.in-Some.part) c.requires c.in-Some.ensures.items))

@@ -15,7 +15,7 @@ next_is c = first_of (λ e. is_number_key e.0 ≡ true) (c.in-Some.key, c.in-Som
 
 pub loop-key-preserved : goal.loop-key-preserved
 loop-key-preserved c = record {
-  made = piece_kept c.loop-key.starts.items _ c.loop-key.parts.items _ c.in-Number.number c.in-Some.key c.in-Some.part (tree_view c.args.other) c.loop-key.key-iterator.rest.items c.next.new.self.rest.items (made_view c.args.made.items)
+  made = piece_kept c.loop-key.starts.items _ c.loop-key.parts.items _ c.in-Number.number c.in-Some.key c.in-Some.part (tree_view c.args.other) c.loop-key.key-iterator.rest.items c.next.new.self.rest.items (made_view tree_view c.args.made.items)
       c.in_ok-push-in-Number.ensures.items c.in_ok-push-in-Number-2.ensures.items (ap key_view c.in-Number.is) c.in-Some.ensures.steps.0 c.loop-key.invariant.made;
   kinds = (next_is (goal.at.loop-key-preserved c).In-Some).1;
 }
@@ -29,5 +29,5 @@ unreachable-requires-in-Holds c = let r : true ≡ false = sym (next_is (goal.at
 pub returns : goal.returns
 returns c =
     view_python c.loop-key.starts c.loop-key.parts
-    ∙ pieces_end c.loop-key.starts.items c.loop-key.parts.items (tree_view c.args.other) c.loop-key.key-iterator.rest.items (made_view c.args.made.items)
+    ∙ pieces_end c.loop-key.starts.items c.loop-key.parts.items (tree_view c.args.other) c.loop-key.key-iterator.rest.items (made_view tree_view c.args.made.items)
     (omega (arith, c.in-None.ensures.steps.0, c.loop-key.key-iterator.rest.ok)) c.loop-key.invariant.made

@@ -8,6 +8,6 @@ use Rattle.ul_tree.proofs.join.pieces_of.Given as goal
 
 abbrev pub invariant-loop-key : goal.invariant-loop-key
 invariant-loop-key l = record {
-  made : HasMade l.starts.items l.parts.items (tree_view l.fn.other) (made_view l.key-iterator.rest.items) (made_view l.fn.made.items);
+  made : HasMade l.starts.items l.parts.items (tree_view l.fn.other) (made_view tree_view l.key-iterator.rest.items) (made_view tree_view l.fn.made.items);
   kinds : All (λ e. is_number_key e.0 ≡ true) l.key-iterator.rest.items;
 }

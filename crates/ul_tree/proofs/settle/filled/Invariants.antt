@@ -6,6 +6,6 @@ use Rattle.ul_tree.proofs.settle.filled.Given as goal
 
 abbrev pub invariant-loop-key : goal.invariant-loop-key
 invariant-loop-key l = record {
-  left : parts_view l.parts.items ++ filled (results_view l.key-iterator.rest.items) (last_part (parts_view l.parts.items) (tree_view l.first)) ≡ filled (results_view l.fn.results.items) (tree_view l.first);
+  left : parts_view tree_view l.parts.items ++ filled (results_view tree_view l.key-iterator.rest.items) (last_part (parts_view tree_view l.parts.items) (tree_view l.first)) ≡ filled (results_view tree_view l.fn.results.items) (tree_view l.first);
   kinds : (i : List ℕ) → KeysOf i l.fn.results.items → KeysOf i l.parts.items × KeysOf i l.key-iterator.rest.items;
 }

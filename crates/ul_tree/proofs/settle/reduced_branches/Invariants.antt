@@ -9,9 +9,9 @@ use Rattle.ul_tree.proofs.settle.reduced_branches.Given as goal
 
 abbrev pub invariant-loop-key : goal.invariant-loop-key
 invariant-loop-key l = record {
-  left : then_branches (made_view l.made.items) (reduced_branches l.carried (parts_view l.key-iterator.rest.items) (stands l.carried (made_view l.made.items) (tree_view l.other)))
-      ≡ reduced_branches l.carried (parts_view l.fn.parts.items) (tree_view l.other);
-  reduced : PartsFit (parts_view l.key-iterator.rest.items) [];
-  standing : IsReduced (stands l.carried (made_view l.made.items) (tree_view l.other));
+  left : then_branches (made_view tree_view l.made.items) (reduced_branches l.carried (parts_view tree_view l.key-iterator.rest.items) (stands l.carried (made_view tree_view l.made.items) (tree_view l.other)))
+      ≡ reduced_branches l.carried (parts_view tree_view l.fn.parts.items) (tree_view l.other);
+  reduced : PartsFit (parts_view tree_view l.key-iterator.rest.items) [];
+  standing : IsReduced (stands l.carried (made_view tree_view l.made.items) (tree_view l.other));
   kinds : (i : List ℕ) → KeysOf i l.fn.parts.items → KeysOf i l.made.items × KeysOf i l.key-iterator.rest.items;
 }

@@ -24,25 +24,25 @@ results-piece-requires t c =
     let l = level_view c.args.level in
     let f = tree_view c.args.f.now in
     let r = tree_view c.args.region.now in
-    let m : size (tree_view c.part_at.result.now) < size f = part_smaller l _ f (tree_view c.part_at.result.now) c.requires.top c.part_at.ensures in
+    let m : size (tree_view c.part_at.result.now) < size f = part_smaller l _ f (tree_view c.part_at.result.now) c.requires.top c.part_at.ensures.part in
     let d = c.decreases in (
       omega (arith, m, d),
       (
-        subst (λ (z : Plain). IsReduced z) (sym c.part_at.ensures) (tree_part l _ f c.requires.top c.requires.f_reduced),
-        subst (λ (z : Plain). IsReduced z) (sym c.part_at-in-loop-key.ensures) (region_part l _ r c.requires.not_above c.requires.region_reduced),
+        subst (λ (z : Plain). IsReduced z) (sym c.part_at.ensures.part) (tree_part l _ f c.requires.top c.requires.f_reduced),
+        subst (λ (z : Plain). IsReduced z) (sym c.part_at-in-loop-key.ensures.part) (region_part l _ r c.requires.not_above c.requires.region_reduced),
       ),
     )
 
 pub results-loop-key-preserved : goal.results-loop-key-preserved
 results-loop-key-preserved t c = record {
-  pieces = results_step (level_view c.args.level) (tree_view c.args.f.now) (tree_view c.args.region.now) c.args.keys.now c.loop-key.key-index _ c.in_ok-result.result c.loop-key.made.items c.push.new.self.items
-      (tree_view c.part_at.result.now) (tree_view c.part_at-in-loop-key.result.now) c.loop-key-test.true c.in_ok-push.ensures.items c.part_at.ensures c.part_at-in-loop-key.ensures c.in_ok-result.ensures c.loop-key.invariant.pieces;
+  pieces = results_step tree_view (level_view c.args.level) (tree_view c.args.f.now) (tree_view c.args.region.now) c.args.keys.now c.loop-key.key-index _ c.in_ok-result.result c.loop-key.made.items c.push.new.self.items
+      (tree_view c.part_at.result.now) (tree_view c.part_at-in-loop-key.result.now) c.loop-key-test.true c.in_ok-push.ensures.items c.part_at.ensures.part c.part_at-in-loop-key.ensures.part c.in_ok-result.ensures c.loop-key.invariant.pieces;
   kinds = kind_step (level_view c.args.level) c.args.keys.now c.loop-key.key-index _ c.in_ok-result.result c.loop-key.made.items c.push.new.self.items c.loop-key-test.true c.in_ok-push.ensures.items c.requires.kinds c.loop-key.invariant.kinds;
 }
 
 pub results-returns-clause-pieces : goal.results-returns-clause-pieces
 results-returns-clause-pieces t c =
-    results_end (level_view c.args.level) (tree_view c.args.f.now) (tree_view c.args.region.now) c.args.keys.now c.loop-key.key-index c.loop-key.made.items (omega arith) c.loop-key.invariant.pieces
+    results_end tree_view (level_view c.args.level) (tree_view c.args.f.now) (tree_view c.args.region.now) c.args.keys.now c.loop-key.key-index c.loop-key.made.items (omega arith) c.loop-key.invariant.pieces
 
 pub simplified-returns-in_ok-tree-in-None : goal.simplified-returns-in_ok-tree-in-None
 simplified-returns-in_ok-tree-in-None t c = truth_done (tree_view c.args.f.now) (tree_view c.args.c.now) (tree_view c.in_ok-tree-in-None.tree) c.in-None.ensures c.in_ok-tree-in-None.ensures
@@ -55,35 +55,35 @@ simplified_at-piece-requires t c =
     let l = level_view c.args.level in
     let f = tree_view c.args.f.now in
     let r = tree_view c.args.region.now in
-    let m = rest_smaller l f (tree_view c.rest_at.result.now) c.requires.top c.rest_at.ensures in
+    let m = rest_smaller l f (tree_view c.rest_at.result.now) c.requires.top c.rest_at.ensures.part in
     let d = c.decreases in (
       omega (arith, m, d),
       (
-        subst (λ (z : Plain). IsReduced z) (sym c.rest_at.ensures) (tree_rest l f c.requires.top c.requires.f_reduced),
-        subst (λ (z : Plain). IsReduced z) (sym c.rest_at-2.ensures) (region_rest l r c.requires.not_above c.requires.region_reduced),
+        subst (λ (z : Plain). IsReduced z) (sym c.rest_at.ensures.part) (tree_rest l f c.requires.top c.requires.f_reduced),
+        subst (λ (z : Plain). IsReduced z) (sym c.rest_at-2.ensures.part) (region_rest l r c.requires.not_above c.requires.region_reduced),
       ),
     )
 
 -- the level put together from the results
 settles : (t : ℕ) (c : simplified_at-In_ok-rest t) → Simplifies (tree_view c.args.f.now) (tree_view c.args.region.now)
-    (settled (level_view c.args.level) (results_view c.in_ok-results.results.items) (option_map tree_view c.in_ok-rest.rest) (rest_at (level_view c.args.level) (tree_view c.args.f.now)))
+    (settled (level_view c.args.level) (results_view tree_view c.in_ok-results.results.items) (option_map tree_view c.in_ok-rest.rest) (rest_at (level_view c.args.level) (tree_view c.args.f.now)))
 settles t c =
     let l = level_view c.args.level in
     let f = tree_view c.args.f.now in
     let r = tree_view c.args.region.now in
-    let rs = results_view c.in_ok-results.results.items in
+    let rs = results_view tree_view c.in_ok-results.results.items in
     let o = option_map tree_view c.in_ok-rest.rest in
     level_done f r (settled l rs o (rest_at l f)) l (keys_view c.in_ok-keys.keys.items) rs o c.requires.top c.requires.not_above c.requires.not_false
     (sym c.known.ensures ∙ c.if-known.false) c.in_ok-keys.ensures.keys
     (subst (λ (z : List Key). Pieces l f r (keys_view z) rs) c.deref.ensures.value c.in_ok-results.ensures.pieces)
-    (subst (λ (z : Plain). Piece z (rest_at l r) o) c.rest_at.ensures (subst (λ (z : Plain). Piece (tree_view c.rest_at.result.now) z o) c.rest_at-2.ensures c.in_ok-rest.ensures))
+    (subst (λ (z : Plain). Piece z (rest_at l r) o) c.rest_at.ensures.part (subst (λ (z : Plain). Piece (tree_view c.rest_at.result.now) z o) c.rest_at-2.ensures.part c.in_ok-rest.ensures))
     refl
 
 pub simplified_at-returns : goal.simplified_at-returns
 simplified_at-returns t c =
     let l = level_view c.args.level in
     subst (λ (z : Plain). Simplifies (tree_view c.args.f.now) (tree_view c.args.region.now) z)
-    (sym (c.in_ok-tree-2.ensures ∙ ap (settled l (results_view c.in_ok-results.results.items) (option_map tree_view c.in_ok-rest.rest)) c.rest_at-3.ensures))
+    (sym (c.in_ok-tree-2.ensures ∙ ap (settled l (results_view tree_view c.in_ok-results.results.items) (option_map tree_view c.in_ok-rest.rest)) c.rest_at-3.ensures.part))
     (settles t (goal.at.simplified_at-returns t c).In_ok-rest)
 
 pub simplified_at-settled-requires-clause-results_reduced : goal.simplified_at-settled-requires-clause-results_reduced
@@ -99,18 +99,18 @@ simplified_at-settled-requires-clause-rest_reduced t c =
     let f = tree_view c.args.f.now in
     let r = tree_view c.args.region.now in
     result_reduced (tree_view c.rest_at.result.now) (tree_view c.rest_at-2.result.now) (option_map tree_view c.in_ok-rest.rest) c.in_ok-rest.ensures
-    (subst (λ (z : Plain). IsReduced z) (sym c.rest_at.ensures) (tree_rest l f c.requires.top c.requires.f_reduced))
-    (subst (λ (z : Plain). IsReduced z) (sym c.rest_at-2.ensures) (region_rest l r c.requires.not_above c.requires.region_reduced))
+    (subst (λ (z : Plain). IsReduced z) (sym c.rest_at.ensures.part) (tree_rest l f c.requires.top c.requires.f_reduced))
+    (subst (λ (z : Plain). IsReduced z) (sym c.rest_at-2.ensures.part) (region_rest l r c.requires.not_above c.requires.region_reduced))
 
 pub simplified_at-settled-requires-clause-otherwise_reduced : goal.simplified_at-settled-requires-clause-otherwise_reduced
 simplified_at-settled-requires-clause-otherwise_reduced t c =
-    subst (λ (z : Plain). IsReduced z) (sym c.rest_at-3.ensures) (tree_rest (level_view c.args.level) (tree_view c.args.f.now) c.requires.top c.requires.f_reduced)
+    subst (λ (z : Plain). IsReduced z) (sym c.rest_at-3.ensures.part) (tree_rest (level_view c.args.level) (tree_view c.args.f.now) c.requires.top c.requires.f_reduced)
 
 pub simplified_at-settled-requires-clause-reduced : goal.simplified_at-settled-requires-clause-reduced
 simplified_at-settled-requires-clause-reduced t c =
     let l = level_view c.args.level in
-    let rs = results_view c.in_ok-results.results.items in
+    let rs = results_view tree_view c.in_ok-results.results.items in
     let o = option_map tree_view c.in_ok-rest.rest in
-    subst (λ (z : Plain). IsReduced (settled l rs o z)) (sym c.rest_at-3.ensures)
+    subst (λ (z : Plain). IsReduced (settled l rs o z)) (sym c.rest_at-3.ensures.part)
     (simpler_reduced (tree_view c.args.f.now) (tree_view c.args.region.now) (settled l rs o (rest_at l (tree_view c.args.f.now)))
     (settles t (goal.at.simplified_at-settled-requires-clause-reduced t c).In_ok-rest) c.requires.f_reduced c.requires.region_reduced)

@@ -21,6 +21,6 @@ decreases-results l = 4 * size (tree_view l.f.now)
 abbrev pub invariant-results-loop-key : goal.invariant-results-loop-key
 invariant-results-loop-key l = record {
   pieces : (rs : Results) → Pieces (level_view l.level) (tree_view l.f) (tree_view l.region) (keys_view (drop l.key-index l.keys)) rs
-      → Pieces (level_view l.level) (tree_view l.f) (tree_view l.region) (keys_view l.keys) (results_view l.made.items ++ rs);
+      → Pieces (level_view l.level) (tree_view l.f) (tree_view l.region) (keys_view l.keys) (results_view tree_view l.made.items ++ rs);
   kinds : KeysOf (level_view l.level) l.made.items;
 }

@@ -11,7 +11,7 @@ use Rattle.ul_tree.proofs.truth.holds.Goals.{After-part_at-tree}
 
 -- the part that is gone on with
 part_is : (c : After-part_at-tree) → tree_view c.part_at-tree.result.now ≡ part_at (level_view c.in-Some.level) (value_of c.args.world.now c.args.extra.now (level_view c.in-Some.level)) (tree_view c.loop-level.tree.now)
-part_is c = c.part_at-tree.ensures ∙ ap (λ v. part_at (level_view c.in-Some.level) v (tree_view c.loop-level.tree.now)) c.value_at.ensures
+part_is c = c.part_at-tree.ensures.part ∙ ap (λ v. part_at (level_view c.in-Some.level) v (tree_view c.loop-level.tree.now)) c.value_at.ensures
 
 pub loop-level-smaller : goal.loop-level-smaller
 loop-level-smaller c =

@@ -1,0 +1,223 @@
+//! Decision trees of any kind of node: the part of a node at a level, its keys there, and the first level of two.
+//!
+//! `Tree` is one kind of node; shared diagrams are another. What is said of a node is said of the plain tree that
+//! it stands for.
+ghost use Rattle.std.specs.Prelude.{◌≡◌, ◌<◌, ℕ, suc, List, option_map, IfOk, All, true};
+ghost use Rattle.ul_tree.specs.Plain.{Plain, branch, pick};
+ghost use Rattle.ul_tree.specs.Reduced.{IsReduced};
+ghost use Rattle.ul_tree.specs.Apply.{first_of, keys, merged, rest_at, branches_at, part_at};
+ghost use Rattle.ul_tree.specs.Keys.{level_view, key_view, keys_view, top_of, rest_of, branches_of, branch_count, branches_from, is_level, has_kind, is_key_of};
+
+use crate::level::{Key, Level};
+use std::alloc::{AllocError, Global};
+use std::cmp::Ordering;
+
+/// A branch of a node: its key, and the part that it leads to.
+#[derive(Drop)]
+pub struct Branch<'a, T> {
+    pub key: Key<'a>,
+    pub part: &'a T,
+}
+
+/// How nodes are read.
+pub trait Nodes {
+    type Node: Drop;
+
+    ghost tree: { Self.Node → Plain };
+
+    // what is known of a node is known of a part of it
+    ghost below: { Self.Node → Self.Node → Type 0 };
+
+    /// The top level of a node; none of a truth.
+    fn level_of(node: &Self::Node) -> Option<Level<'_>>
+        requires { IsReduced (tree node.now) }
+        ensures { option_map level_view result ≡ top_of (tree node.now) };
+
+    /// The part without a key; a truth is its own part.
+    fn rest_of(node: &Self::Node) -> &Self::Node
+        requires { IsReduced (tree node.now) }
+        ensures part { tree result.now ≡ rest_of (tree node.now) }
+        ensures below { below node.now result.now };
+
+    /// How many branches a node has beside the part without a key.
+    fn branch_count(node: &Self::Node) -> usize
+        requires { IsReduced (tree node.now) }
+        ensures { result ≡ branch_count (branches_of (tree node.now)) };
+
+    /// The branch at a place.
+    fn branch_at(node: &Self::Node, index: usize) -> Branch<'_, Self::Node>
+        requires reduced { IsReduced (tree node.now) }
+        requires within { index < branch_count (branches_of (tree node.now)) }
+        ensures found { branches_from index (branches_of (tree node.now)) ≡ branch (key_view result.key) (tree result.part.now) (branches_from (suc index) (branches_of (tree node.now))) }
+        ensures kind { is_key_of (tree node.now) result.key ≡ true }
+        ensures below { below node.now result.part.now };
+
+    ghost below_itself: { (node : Self.Node) → below node node };
+}
+
+/// Whether a node's top level is this one.
+pub fn is_at<N: Nodes>(node: &N::Node, level: Level<'_>) -> bool
+    requires { IsReduced (N.tree node.now) }
+    ensures { result ≡ is_level (level_view level.entry) (N.tree node.now) }
+{
+    match N::level_of(node) {
+        None => false,
+        Some(own) => level.cmp(own).is_eq(),
+    }
+}
+
+/// The part without a key at a level; a node of other levels is its own part.
+pub fn rest_at<'a, N: Nodes>(node: &'a N::Node, level: Level<'_>) -> &'a N::Node
+    requires { IsReduced (N.tree node.now) }
+    ensures part { N.tree result.now ≡ rest_at (level_view level.entry) (N.tree node.now) }
+    ensures below { N.below node.now result.now }
+{
+    if is_at::<N>(node, level) {
+        return N::rest_of(node);
+    }
+    node
+}
+
+/// The keys of a node at a level, in order; none where its top level is another.
+pub fn keys_at<'a, N: Nodes>(
+    alloc: Global,
+    node: &'a N::Node,
+    level: Level<'_>,
+) -> Result<Vec<Key<'a>>, AllocError>
+    requires { IsReduced (N.tree node.now) }
+    ensures keys { IfOk result (λ ks. keys_view ks.items ≡ keys (branches_at (level_view level.entry) (N.tree node.now))) }
+    ensures kinds { IfOk result (λ ks. All (λ k. has_kind (level_view level.entry) k ≡ true) ks.items) }
+{
+    if is_at::<N>(node, level) {
+        return all_keys::<N>(alloc, node);
+    }
+    Ok(Vec::new(alloc))
+}
+
+/// The keys of a node's branches, in order.
+pub fn all_keys<N: Nodes>(alloc: Global, node: &N::Node) -> Result<Vec<Key<'_>>, AllocError>
+    requires { IsReduced (N.tree node.now) }
+    ensures keys { IfOk result (λ ks. keys_view ks.items ≡ keys (branches_of (N.tree node.now))) }
+    ensures kinds { IfOk result (λ ks. All (λ k. is_key_of (N.tree node.now) k ≡ true) ks.items) }
+{
+    let mut made = Vec::new(alloc);
+    for index in 0..N::branch_count(node) {
+        made.push(N::branch_at(node, index).key)?;
+    }
+    Ok(made)
+}
+
+/// The part that a value of a level takes; a node of other levels is its own part.
+pub fn part_at<'a, N: Nodes>(node: &'a N::Node, level: Level<'_>, value: Key<'_>) -> &'a N::Node
+    requires { IsReduced (N.tree node.now) }
+    ensures part { N.tree result.now ≡ part_at (level_view level.entry) (key_view value.entry) (N.tree node.now) }
+    ensures below { N.below node.now result.now }
+{
+    if is_at::<N>(node, level) {
+        return part_of::<N>(node, level.is_carried(), value);
+    }
+    node
+}
+
+/// The part that a value takes among a node's branches, found by halves.
+pub fn part_of<'a, N: Nodes>(node: &'a N::Node, carried: bool, value: Key<'_>) -> &'a N::Node
+    requires { IsReduced (N.tree node.now) }
+    ensures part { N.tree result.now ≡ pick (branches_of (N.tree node.now)) carried (key_view value.entry) (rest_of (N.tree node.now)) }
+    ensures below { N.below node.now result.now }
+{
+    let rest = N::rest_of(node);
+    let mut found = rest;
+    let mut low = 0;
+    let mut high = N::branch_count(node);
+    while low < high {
+        let middle = low + (high - low) / 2;
+        let branch = N::branch_at(node, middle);
+        match value.cmp(branch.key) {
+            Ordering::Less => {
+                high = middle;
+                continue;
+            }
+            Ordering::Equal => return branch.part,
+            Ordering::Greater => {
+                low = middle + 1;
+                found = if carried { branch.part } else { rest };
+                continue;
+            }
+        }
+    }
+    found
+}
+
+/// The first level of two nodes.
+pub fn first_level<'a, N: Nodes>(a: &'a N::Node, b: &'a N::Node) -> Option<Level<'a>>
+    requires a_reduced { IsReduced (N.tree a.now) }
+    requires b_reduced { IsReduced (N.tree b.now) }
+    ensures { option_map level_view result ≡ first_of (N.tree a.now) (N.tree b.now) }
+{
+    match N::level_of(a) {
+        None => N::level_of(b),
+        Some(own) => match N::level_of(b) {
+            None => Some(own),
+            Some(found) => match own.cmp(found) {
+                Ordering::Less => Some(own),
+                Ordering::Equal => Some(own),
+                Ordering::Greater => Some(found),
+            },
+        },
+    }
+}
+
+/// The keys of two nodes at a level, in order, each once.
+pub fn level_keys<'a, N: Nodes>(
+    alloc: Global,
+    level: Level<'_>,
+    a: &'a N::Node,
+    b: &'a N::Node,
+) -> Result<Vec<Key<'a>>, AllocError>
+    requires a_reduced { IsReduced (N.tree a.now) }
+    requires b_reduced { IsReduced (N.tree b.now) }
+    ensures keys { IfOk result (λ ks. keys_view ks.items ≡ merged (keys (branches_at (level_view level.entry) (N.tree a.now))) (keys (branches_at (level_view level.entry) (N.tree b.now)))) }
+    ensures kinds { IfOk result (λ ks. All (λ k. has_kind (level_view level.entry) k ≡ true) ks.items) }
+{
+    let of_a = keys_at::<N>(alloc, a, level)?;
+    let of_b = keys_at::<N>(alloc, b, level)?;
+    let keys = merged_keys(alloc, &of_a, &of_b)?;
+    Ok(keys)
+}
+
+/// The keys of two lists, in order, each once.
+pub fn merged_keys<'a>(
+    alloc: Global,
+    a: &[Key<'a>],
+    b: &[Key<'a>],
+) -> Result<Vec<Key<'a>>, AllocError>
+    ensures keys { IfOk result (λ ks. keys_view ks.items ≡ merged (keys_view a.now) (keys_view b.now)) }
+    ensures kinds { IfOk result (λ ks. (l : List ℕ) → All (λ k. has_kind l k ≡ true) a.now → All (λ k. has_kind l k ≡ true) b.now → All (λ k. has_kind l k ≡ true) ks.items) }
+{
+    let mut made = Vec::new(alloc);
+    let mut i = 0;
+    let mut j = 0;
+    while i < a.len() && j < b.len() {
+        match a[i].cmp(b[j]) {
+            Ordering::Less => {
+                made.push(a[i])?;
+                i += 1;
+                continue;
+            }
+            Ordering::Equal => {
+                made.push(a[i])?;
+                i += 1;
+                j += 1;
+                continue;
+            }
+            Ordering::Greater => {
+                made.push(b[j])?;
+                j += 1;
+                continue;
+            }
+        }
+    }
+    made.extend_from_slice(&a[i..])?;
+    made.extend_from_slice(&b[j..])?;
+    Ok(made)
+}
