@@ -1,0 +1,10 @@
+pub mod ForCallers
+pub mod Grown
+pub mod Indexing
+pub mod Lists
+pub mod Seen
+pub mod Keeping
+pub mod Knowing
+pub mod Making
+pub mod Showing
+pub mod Worked
