@@ -7,6 +7,3 @@ mod writing;
 
 pub use parts::{Edge, Edges, Lock, Locked, Packages};
 pub use writing::{WriteFault, write};
-
-#[cfg(test)]
-mod tests;

@@ -6,8 +6,6 @@
 
 pub mod document_form;
 pub mod pin_laws;
-#[cfg(test)]
-mod pin_tests;
 mod plain;
 pub mod project_form;
 mod seen;

@@ -1,6 +1,6 @@
 pub mod Astray
 pub mod Bests
-pub mod Checks
+pub mod ForCallers
 pub mod Locks
 pub mod Maps
 pub mod Members

@@ -6,6 +6,4 @@ pub mod catalog;
 mod index;
 pub mod laws;
 pub mod locked;
-#[cfg(test)]
-mod tests;
 pub mod walk;

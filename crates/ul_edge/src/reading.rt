@@ -1,0 +1,46 @@
+//! Reading to the end.
+ghost use Rattle.std.specs.Prelude.{◌≤◌, ◌<◌, IfOk, IfSome, vec_len};
+ghost use Rattle.ul_edge.specs.Reading.{GivesAll};
+
+use std::alloc::{AllocError, Global};
+use std::io::{ErrorKind, Read};
+use ul_base::ReadRefused;
+
+// How many bytes one read asks for.
+const CHUNK: usize = 65_536;
+
+/// All the bytes that a reader has left, if they are at most `limit`.
+///
+/// `TooLong` comes exactly where they are more. `Failed` is a read that failed: it is never taken for the end, which is a
+/// read that gives nothing. A read that a signal interrupts is tried again. `NoMemory` may come in place of any answer.
+pub fn read_all<R: Read>(alloc: Global, reader: &mut R, limit: u64) -> Result<Vec<u8>, ReadRefused>
+    ensures limit { IfOk result (λ v. vec_len v ≤ limit) }
+    ensures bytes { IfSome (R.remaining reader.old) (λ left. GivesAll left limit result) }
+{
+    let mut chunk = chunk(alloc)?;
+    let mut bytes = Vec::new(alloc);
+    for _ in 0..u64::MAX {
+        match reader.read(&mut chunk) {
+            Ok(0) => return Ok(bytes),
+            Ok(count) => {
+                if count as u64 > limit - bytes.len() as u64 {
+                    return Err(ReadRefused::TooLong);
+                }
+                bytes.extend_from_slice(&chunk[..count])?;
+            }
+            Err(error) => {
+                if error.kind() != ErrorKind::Interrupted {
+                    return Err(ReadRefused::Failed);
+                }
+            }
+        }
+    }
+    Err(ReadRefused::Failed)
+}
+
+// Room for one read. Its size stands here alone: a loop that knew it would be proved over that many bytes.
+fn chunk(alloc: Global) -> Result<Vec<u8>, AllocError>
+    ensures { IfOk result (λ v. 0 < vec_len v) }
+{
+    Vec::from_elem(alloc, 0, CHUNK)
+}

@@ -1,0 +1,77 @@
+// The call that runs a job by several workers.
+ghost use Rattle.std.specs.Prelude.{◌≡◌, ◌<◌, ◌≤◌, ℕ, [], length, vec_len, IfOk, Some};
+ghost use Rattle.std.specs.List.{slice_get};
+ghost use Rattle.std.specs.Vec.{vec_capacity};
+ghost use Rattle.ul_interner.specs.Known.{Knows};
+ghost use Rattle.ul_workers.specs.Headline.{AreResults};
+ghost use Rattle.ul_workers.specs.Work.{Filled};
+
+use crate::gather::take_all;
+use crate::jobs::Job;
+use crate::rounds::Round;
+use crate::start::{empty_places, prepare};
+use crate::threads::work_all;
+use std::alloc::{AllocError, Global};
+use std::sync::Wait;
+use std::thread::Threads;
+use ul_claims::Claims;
+use ul_core::Label;
+use ul_interner::{Interner, Pass};
+
+// The results in their places.
+fn take_places<O: Drop>(mut places: Vec<Option<O>>, mut results: Vec<O>) -> Vec<O>
+    requires filled { (k : ℕ) → k < vec_len places → Filled places.items k }
+    requires room { (results.items ≡ []) × (vec_len places ≤ vec_capacity results) }
+    ensures len { length result.items ≡ length places.items }
+    ensures each { (k : ℕ) (o : O) → slice_get result.items k ≡ Some o → slice_get places.items k ≡ Some (Some o) }
+{
+    for i in 0..places.len() {
+        match places[i].take() {
+            Some(out) => results.push_reserved(out),
+            None => unreachable!(),
+        }
+    }
+    results
+}
+
+/// Runs the job on each number below the count, by so many workers, from 1 to 64. The result at place k fits k, and the
+/// marks in it are known to the pass. After want of memory too the pass knows what it knew.
+pub fn run_all<R: Threads + Wait + Sync, L: Label, J: Job<L>>(
+    rt: &R,
+    alloc: Global,
+    workers: u64,
+    interner: &Interner<L>,
+    pass: &mut Pass<L>,
+    job: &J,
+    count: u64,
+) -> Result<(Vec<J::Out>, Round), AllocError>
+    requires workers { (1 ≤ workers) × (workers ≤ 64) }
+    requires count { count ≤ 4096 }
+    requires own { pass.old.table ≡ interner.now }
+    requires ready { (n : ℕ) → n < count → J.ready job.now pass.old n }
+    ensures learns { Knows pass.old pass.new }
+    ensures results { IfOk result (λ r. AreResults (J.fits job.now) (J.known pass.new) count r.0.items) }
+    ensures round { IfOk result (λ r. r.1 ≡ (workers, count)) }
+{
+    let (claims, mut first) = Claims::begin(alloc, count)?;
+    let mut places = empty_places(alloc, count)?;
+    let results = Vec::with_capacity(alloc, count as usize)?;
+    let mut seats = Vec::with_capacity(alloc, workers as usize + 1)?;
+    let mut all = prepare(alloc, workers, &claims, &mut first, interner, pass, count)?;
+    seats.push_reserved(first);
+    work_all(rt, alloc, &claims, interner, job, all.as_mut_slice());
+    if !take_all(
+        job,
+        count,
+        &claims,
+        interner,
+        pass,
+        all,
+        &mut seats,
+        &mut places,
+    ) {
+        return Err(AllocError);
+    }
+    let _numbers = claims.gather(alloc, seats)?;
+    Ok((take_places(places, results), Round::of(workers, count)))
+}
