@@ -1,9 +1,10 @@
 -- A search for a need.
 use Rattle.std.proofs.Common.{◌≡◌, ℕ, zero, suc, ◌+◌, ◌<◌, ◌⊎◌, inl, inr, Bool, true, List, [], ◌∷◌, drop, length, get_or, subst, sym, ap, ◌∙◌, arith}
-use Rattle.std.proofs.lemmas.List.{drop_more}
+use Rattle.std.proofs.lemmas.List.{drop_more, get_or_default}
 use Rattle.ul_ranges.specs.Flags.{has}
 use Rattle.ul_problem.specs.Serving.{IsOneOf}
 use Rattle.ul_problem.specs.Steps.{HasNeed}
+use Rattle.ul_derivation.specs.Looking.{AreNeedsOfSize}
 use Rattle.ul_problem.specs.declared.problem.Need.{Need}
 
 pub one_at : {A : Type 0} (xs : List A) (i : ℕ) (x : A) → i < length xs → x ≡ get_or xs i x → IsOneOf x xs
@@ -22,3 +23,11 @@ pub need_past : (needs : List Need) (i : ℕ) (x : Need) (m : ℕ) (w : List Boo
 need_past needs i x m w h e n r =
     let f : drop i needs ≡ x ∷ drop (i + 1) needs = drop_more needs i x h ∙ ap (λ (z : Need). z ∷ drop (i + 1) needs) (sym e) in
     past_head x (drop (i + 1) needs) m w n (subst (λ (l : List Need). HasNeed l m w) f r)
+
+-- the row of a version, as it is read
+pub row_read : (rows : List (List Need)) (v : ℕ) (row needs : List Need) → v < length rows → row ≡ get_or rows v row → needs ≡ row → get_or rows v [] ≡ needs
+row_read rows v row needs l e f = get_or_default rows v [] row l ∙ sym (f ∙ e)
+
+pub row_sizes : (rows : List (List Need)) (v m size : ℕ) (row needs : List Need) → ((v : ℕ) → AreNeedsOfSize (get_or rows v []) m size) → v < length rows → row ≡ get_or rows v row → needs ≡ row
+    → AreNeedsOfSize needs m size
+row_sizes rows v m size row needs h l e f = subst (λ (x : List Need). AreNeedsOfSize x m size) (row_read rows v row needs l e f) (h v)

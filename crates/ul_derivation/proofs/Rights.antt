@@ -6,8 +6,9 @@ use Rattle.ul_problem.specs.Serving.{HasNone}
 use Rattle.ul_problem.specs.Problems.{IsWellFormed}
 use Rattle.ul_problem.specs.Steps.{Accepts}
 use Rattle.ul_derivation.specs.Faults.{IsFirstBad}
-use Rattle.std.proofs.lemmas.Option.{none-some, same_Some, slice_get_within}
-use Rattle.std.proofs.lemmas.Bool.{cases_order}
+use Rattle.std.specs.Prelude.{Bool, false, IsTrue, ◌↔◌}
+use Rattle.std.proofs.lemmas.Option.{none-some, same_Some, slice_get_read, slice_get_within}
+use Rattle.std.proofs.lemmas.Bool.{cases_order, true≢false}
 use Rattle.std.proofs.Common.{zero, suc, ◌-◌, Some, slice_get, arith, ◌⊎◌, inl, inr}
 use Rattle.ul_problem.specs.Steps.{ClosesWith}
 use Rattle.ul_problem.proofs.Soundness.{accepted_none}
@@ -58,3 +59,15 @@ fault_refuses p steps k a r = elim a.bad [
       x.2 (right_at p (length steps) [] steps (k - 1) x.0 (subst (AreRightAfter p []) (sym (take_all (length steps) steps (omega arith))) r.0) w x.1))
   | inr x ↦ x.1 r.1
 ]
+
+-- a step that isn't right is the first bad one
+pub bad_here : (p : Plain) (steps all : List Step) (i : ℕ) (s : Step) (b : Bool) → steps ≡ all → i < length steps → s ≡ get_or steps i s → AreRightAfter p [] (take i steps)
+    → IsTrue b ↔ IsRight p (take i steps) s → b ≡ false → IsFirstBad p all (i + 1)
+bad_here p steps all i s b e l is before t f = subst (λ (x : List Step). IsFirstBad p x (i + 1)) e (record {
+  counted = omega arith;
+  before = subst (λ (k : ℕ). AreRightAfter p [] (take k steps)) (sym back) before;
+  bad = inl (s, ap (slice_get steps) back ∙ slice_get_read steps (length steps) i s refl l is, λ r. true≢false (sym (t.1 (subst (λ (k : ℕ). IsRight p (take k steps) s) back r)) ∙ f));
+})
+  where
+    back : i + 1 - 1 ≡ i
+    back = omega arith

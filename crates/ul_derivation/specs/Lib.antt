@@ -1,3 +1,4 @@
+pub mod Looking
 pub mod Faults
 pub mod Laws
 pub mod Rows

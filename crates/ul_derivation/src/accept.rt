@@ -6,6 +6,7 @@ ghost use Rattle.ul_derivation.specs.Faults.{IsFault};
 
 use crate::checks::is_right;
 use crate::closing::closes;
+use crate::index::Index;
 use std::alloc::{AllocError, Global};
 use ul_problem::{Derivation, Problem};
 
@@ -27,8 +28,9 @@ pub fn accepts(alloc: Global, problem: &Problem, derivation: &Derivation) -> Res
     ensures fault { IfErr result (λ e. IsFault problem.now derivation.now e) }
 {
     let steps = derivation.as_slice();
+    let mut index = Index::new(alloc);
     for i in 0..steps.len() {
-        let right = match is_right(alloc, problem, &steps[..i], &steps[i]) {
+        let right = match is_right(alloc, &mut index, problem, &steps[..i], &steps[i]) {
             Ok(right) => right,
             Err(_) => return Err(AcceptFault::NoMemory),
         };

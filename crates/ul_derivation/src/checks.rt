@@ -1,12 +1,11 @@
 //! The tests of a step.
 ghost use Rattle.std.specs.Prelude.{◌≡◌, ◌<◌, ◌↔◌, ℕ, [], true, length, get_or, option_map, IfOk, IfSome, IsTrue};
 ghost use Rattle.std.specs.Option.{option_copied};
-ghost use Rattle.ul_ranges.specs.Flags.{has};
 ghost use Rattle.ul_problem.specs.Plain.{size_of};
-ghost use Rattle.ul_problem.specs.Serving.{IsOneOf};
 ghost use Rattle.ul_problem.specs.Steps.{AreOfOne, AreRightAfter, AreTermsOf, HasNeed, HasTermOn, IsResolvent, IsRight, IsRightBase, IsCutOf, IsRightNeed, IsRightPython, says, step_of};
-ghost use Rattle.ul_problem.specs.declared.problem.Need.{Need};
+ghost use Rattle.ul_derivation.specs.Looking.{AreNeedsOfSize, HaveNeed};
 
+use crate::index::{Entry, Index};
 use std::alloc::{AllocError, Global};
 use ul_problem::{Incompat, Need, NeedRow, Problem, Step, Term, resolvent, same_terms, term_on};
 use ul_ranges::Ordinals;
@@ -21,9 +20,38 @@ pub fn is_set_of(problem: &Problem, node: u64, set: &Ordinals) -> bool
     }
 }
 
+// Whether the need at a place has this target, and its permitted versions are all in the set.
+fn is_need_at(needs: &[Need], place: usize, target: u64, permitted: &Ordinals) -> bool
+    requires { AreNeedsOfSize needs.now target (length permitted.now) }
+    ensures { IsTrue result → HasNeed needs.now target permitted.now }
+{
+    if place >= needs.len() {
+        return false;
+    }
+    let need = &needs[place];
+    need.node == target && need.permitted.is_within(permitted)
+}
+
+// Whether an index of the needs leads to such a need.
+fn is_led_to(needs: &[Need], entries: &[Entry], target: u64, permitted: &Ordinals) -> bool
+    requires { AreNeedsOfSize needs.now target (length permitted.now) }
+    ensures { IsTrue result → HasNeed needs.now target permitted.now }
+{
+    let first = entries.partition_point(|entry| entry.target < target);
+    for entry in &entries[first..] {
+        if entry.target != target {
+            return false;
+        }
+        if is_need_at(needs, entry.place, target, permitted) {
+            return true;
+        }
+    }
+    false
+}
+
 // Whether among the needs of a version is one of this target, whose permitted versions are all in the set.
 fn has_need(needs: &[Need], target: u64, permitted: &Ordinals) -> bool
-    requires { (need : Need) → IsOneOf need needs.now → need.node ≡ target → length need.permitted ≡ length permitted.now }
+    requires { AreNeedsOfSize needs.now target (length permitted.now) }
     ensures { IsTrue result ↔ HasNeed needs.now target permitted.now }
 {
     for need in needs {
@@ -35,33 +63,54 @@ fn has_need(needs: &[Need], target: u64, permitted: &Ordinals) -> bool
 }
 
 // Whether each of the versions has the need.
-fn all_need(rows: &[NeedRow], versions: &Ordinals, target: u64, permitted: &Ordinals) -> bool
+fn all_need(
+    alloc: Global,
+    index: &mut Index,
+    node: u64,
+    rows: &[NeedRow],
+    versions: &Ordinals,
+    target: u64,
+    permitted: &Ordinals,
+) -> Result<bool, AllocError>
     requires rows { length rows.now ≡ length versions.now }
-    requires sizes { (v : ℕ) (need : Need) → IsOneOf need (get_or rows.now v []) → need.node ≡ target → length need.permitted ≡ length permitted.now }
-    ensures { IsTrue result ↔ ((v : ℕ) → has v versions.now ≡ true → HasNeed (get_or rows.now v []) target permitted.now) }
+    requires sizes { (v : ℕ) → AreNeedsOfSize (get_or rows.now v []) target (length permitted.now) }
+    ensures { IfOk result (λ b. IsTrue b ↔ HaveNeed rows.now versions.now target permitted.now) }
 {
-    for v in 0..versions.size() {
-        if versions.has(v) && !has_need(rows[v as usize].as_slice(), target, permitted) {
-            return false;
+    let size = versions.size();
+    let mut from = 0;
+    while from < size {
+        let version = match versions.next_from(from) {
+            Some(version) => version,
+            None => return Ok(true),
+        };
+        let needs = rows[version as usize].as_slice();
+        index.prepare(alloc, node, version, needs)?;
+        if !is_led_to(needs, index.entries(node, version), target, permitted)
+            && !has_need(needs, target, permitted)
+        {
+            return Ok(false);
         }
+        from = version + 1;
     }
-    true
+    Ok(true)
 }
 
 fn need_is_right(
+    alloc: Global,
+    index: &mut Index,
     problem: &Problem,
     node: u64,
     versions: &Ordinals,
     target: u64,
     permitted: &Ordinals,
-) -> bool
-    ensures { IsTrue result ↔ IsRightNeed problem.now node versions.now target permitted.now }
+) -> Result<bool, AllocError>
+    ensures { IfOk result (λ b. IsTrue b ↔ IsRightNeed problem.now node versions.now target permitted.now) }
 {
     if is_set_of(problem, node, versions) && is_set_of(problem, target, permitted) {
         let rows = problem.nodes()[node as usize].needs.as_slice();
-        all_need(rows, versions, target, permitted)
+        all_need(alloc, index, node, rows, versions, target, permitted)
     } else {
-        false
+        Ok(false)
     }
 }
 
@@ -164,6 +213,7 @@ fn is_cut(
 // Whether a step is right after earlier ones, which are right.
 pub fn is_right(
     alloc: Global,
+    index: &mut Index,
     problem: &Problem,
     earlier: &[Step],
     step: &Step,
@@ -177,7 +227,7 @@ pub fn is_right(
             versions,
             target,
             permitted,
-        } => Ok(need_is_right(problem, *node, versions, *target, permitted)),
+        } => need_is_right(alloc, index, problem, *node, versions, *target, permitted),
         Step::Python { node, versions } => Ok(python_is_right(problem, *node, versions)),
         Step::Base { node, versions } => Ok(base_is_right(problem, *node, versions)),
         Step::Cut {

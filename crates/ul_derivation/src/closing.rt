@@ -7,9 +7,14 @@ use crate::checks::is_set_of;
 use std::alloc::{AllocError, Global};
 use ul_problem::{Problem, Step, Term};
 
+// Whether the node is one of the roots. It is looked up by halves, and where it isn't found the roots are read.
 fn is_root(roots: &[u64], node: u64) -> bool
     ensures { IsTrue result ↔ IsOneOf node roots.now }
 {
+    let place = roots.partition_point(|root| *root < node);
+    if place < roots.len() && roots[place] == node {
+        return true;
+    }
     for root in roots {
         if *root == node {
             return true;

@@ -5,9 +5,7 @@ mod accept;
 mod checks;
 mod closing;
 pub mod examples;
+mod index;
 pub mod laws;
 
 pub use accept::{AcceptFault, accepts};
-
-#[cfg(test)]
-mod tests;

@@ -11,7 +11,8 @@ use std::io::{ErrorKind, Write};
 /// takes nothing of a piece that isn't empty is a failure. Where a write failed, a front of the piece was written.
 pub fn write_all<W: Write>(writer: &mut W, piece: &[u8]) -> io::Result<()>
     ensures whole { OnOk result (Appends (W.contents writer.old) (W.contents writer.new) piece.now) }
-    ensures front { OnErr result ((n : ℕ) × Appends (W.contents writer.old) (W.contents writer.new) (take n piece.now)) }
+    ensures front { OnErr result ((n : ℕ)
+        × Appends (W.contents writer.old) (W.contents writer.new) (take n piece.now)) }
 {
     let mut written = 0;
     for _ in 0..u64::MAX {

@@ -2,7 +2,8 @@
 use Rattle.std.specs.Prelude.{◌≡◌, ℕ, List, [], map, replicate, Option, refl}
 use Rattle.std.specs.List.{slice_get}
 use Rattle.std.specs.Coded.{Coded, code_by, coded×, coded_list}
-use Rattle.atomic_table.specs.Seated.{TableId, table_id_coded}
+pub use Rattle.atomic_table.specs.Seated.{TableId}
+use Rattle.atomic_table.specs.Seated.{table_id_coded}
 use Rattle.ul_core.specs.declared.trees.Tree.{Tree}
 use Rattle.ul_interner.specs.Marked.{Marked, marked_code, plain, id_of}
 use Rattle.ul_interner.specs.Logs.{at, AllBegin, KnownIn}
@@ -12,6 +13,7 @@ pub record Held (L : Type 0) : Type 0 where
   pub table : TableId
   pub logs : List (List (Marked L))
 
+-- how it is stored
 abbrev pub held_code : {L : Type 0} → Coded L → Coded (Held L)
 held_code {L} c = code_by (TableId × List (List (Marked L))) (coded× table_id_coded (coded_list (coded_list (marked_code c)))) (λ h. (h.table, h.logs)) (λ p. record { table = p.0; logs = p.1 }) (λ _. refl)
 

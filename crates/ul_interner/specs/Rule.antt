@@ -97,6 +97,18 @@ module _ {L : Type 0} where
   Settles f st m r m' = (m' ≡ (view (merged m.0.logs m.0.told) [] m.0.holds m.0.hand, m.1))
       × AllBegin m.0.logs m'.0.logs × (length m.0.told ≤ length m.0.logs → AllBegin m.0.told m'.0.logs) × AreSeen f st.slots m'.0.logs
 
+  -- the seat once the turn of shard k is taken, with which this body comes
+  abbrev pub me_with_turn : Me (Body L) (View L) → ℕ → List (Marked L) → Me (Body L) (View L)
+  me_with_turn m k b = (view m.0.logs m.0.told (Some k) b, (k, Some b) ∷ [])
+
+  -- the seat once it has looked at the count of shard k: its log is the body's
+  abbrev pub me_with_look : Me (Body L) (View L) → ℕ → Me (Body L) (View L)
+  me_with_look m k = (view (slice_set m.0.logs k m.0.hand) m.0.told m.0.holds m.0.hand, m.1)
+
+  -- the seat once it has published the mark
+  abbrev pub me_with_mark : Me (Body L) (View L) → ℕ → Marked L → Me (Body L) (View L)
+  me_with_mark m k x = (view (slice_set m.0.logs k (m.0.hand ++ x ∷ [])) m.0.told m.0.holds (m.0.hand ++ x ∷ []), m.1)
+
   -- the seat has the slot k, with a body of these marks
   abbrev pub Carries : ℕ → List (Marked L) → Me (Body L) (View L) → Type 0
   Carries k hand m = m.1 ≡ (k, Some hand) ∷ []

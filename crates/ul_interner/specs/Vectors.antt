@@ -11,13 +11,15 @@ use Rattle.ul_interner.specs.Index.{IsNewest}
 use Rattle.ul_interner.specs.Rule.{Body, view}
 use Rattle.ul_interner.specs.Laws.{Shows}
 
--- leaves 3 and 5 of two shards, each its own hash, and a node 1 over 3, whose identity is the second place of shard 0
+-- leaf 3, the first of shard 1. With it go leaf 5, the second of that shard, and a node 1 over 3, the first of shard 0
 abbrev pub three : Marked ℕ
 three = mark_with 3 1 0 3 []
 
+-- leaf 5
 abbrev pub five : Marked ℕ
 five = mark_with 5 1 1 5 []
 
+-- the node
 abbrev pub over_three : Marked ℕ
 over_three = mark_with 1 0 0 6364136223846793009 (three ∷ [])
 
@@ -61,13 +63,15 @@ itself n = n
 abbrev pub one_shard : ℕ → ℕ → List (Marked ℕ) → View ℕ → State (Body ℕ) (View ℕ)
 one_shard turn count body seat = record { words = turn ∷ count ∷ []; homes = some (Some body) ∷ []; views = seat ∷ [] }
 
--- leaf 4 of one shard, and the core that has it
+-- leaf 4 of one shard
 abbrev pub four : Marked ℕ
 four = mark_with 4 0 0 4 []
 
+-- the core that has leaf 4
 abbrev pub core_with_four : Core ℕ
 core_with_four = record { logs = (tree_with 4 [] ∷ []) ∷ []; claims = 0 }
 
+-- the empty core
 abbrev pub empty_core : Core ℕ
 empty_core = record { logs = [] ∷ []; claims = 0 }
 

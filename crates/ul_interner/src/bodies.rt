@@ -1,7 +1,7 @@
 // Bodies: the marks of one shard in the order of their publication, with an index by hash.
 ghost use Rattle.std.specs.Prelude.{◌≡◌, ◌≢◌, ◌<◌, ◌+◌, ◌++◌, ◌∷◌, [], ℕ, length, replicate, IfOk, IfSome, IfNone, OnErr};
 ghost use Rattle.std.specs.List.{slice_get};
-ghost use Rattle.ul_interner.specs.Marked.{mark_with, stored_hash, IsNode};
+ghost use Rattle.ul_interner.specs.Marked.{mark_with, stored_hash, HaveHash, StandsAt, HasNone};
 ghost use Rattle.ul_interner.specs.Index.{bucket_of, buckets, IsIndex};
 
 use crate::marks::Mark;
@@ -72,9 +72,9 @@ impl<L: Label> Body<L> {
 
     /// The place of a mark with this label and parts with the identities of these. Such a mark has the hash.
     pub fn find(&self, hash: u64, label: &L, parts: &[Mark<L>]) -> Option<usize>
-        requires { (i : ℕ) (m : _) → slice_get self.now i ≡ Some m → IsNode label.now parts.now m → stored_hash m ≡ hash }
-        ensures some { IfSome result (λ p. (m : _) × (slice_get self.now p ≡ Some m) × IsNode label.now parts.now m) }
-        ensures none { IfNone result ((i : ℕ) (m : _) → slice_get self.now i ≡ Some m → ¬ IsNode label.now parts.now m) }
+        requires { HaveHash label.now parts.now hash self.now }
+        ensures some { IfSome result (λ place. StandsAt label.now parts.now self.now place) }
+        ensures none { IfNone result (HasNone label.now parts.now self.now) }
     {
         let mut next = self.newest[bucket(hash, self.newest.len())];
         while next != 0 {

@@ -3,10 +3,10 @@ ghost use Rattle.std.specs.Prelude.{◌≡◌, ◌≢◌, ◌%◌, ◌+◌, ◌<
 ghost use Rattle.std.specs.List.{fold, slice_get};
 ghost use Rattle.ul_core.specs.Hashes.{next_hash};
 ghost use Rattle.ul_core.specs.Trees.{Has, parts_of};
-ghost use Rattle.ul_interner.specs.Marked.{Marked, hash_at, id_of, stored_hash, plain, IsNode};
+ghost use Rattle.ul_interner.specs.Marked.{Marked, hash_at, id_of, stored_hash, IsFresh, HasNone};
 ghost use Rattle.ul_interner.specs.Logs.{at, Begins, AllBegin, KnownIn, AllKnownIn, StandsIn, AreSeen};
 ghost use Rattle.ul_interner.specs.Marked.{IsMade};
-ghost use Rattle.ul_interner.specs.Rule.{view, Carries, IsEmptied, IsIdle, HasLooked, IsPublish};
+ghost use Rattle.ul_interner.specs.Rule.{view, me_with_turn, me_with_look, me_with_mark, Carries, IsEmptied, IsIdle, HasLooked, IsPublish};
 
 use crate::bodies::Body;
 use crate::interners::Interner;
@@ -25,7 +25,7 @@ impl<L: Label> Interner<L> {
         requires idle { (seat.old.me.0.holds ≡ None) × (seat.old.me.1 ≡ []) }
         requires shard { shard < self.now.slots }
         ensures same { seat.new.table_id ≡ seat.old.table_id }
-        ensures taken { (b : List (Marked L)) × (seat.new.me ≡ (view seat.old.me.0.logs seat.old.me.0.told (Some shard) b, (shard, Some b) ∷ [])) }
+        ensures taken { (b : List (Marked L)) × (seat.new.me ≡ me_with_turn seat.old.me shard b) }
     {
         for _ in rt.forever() {
             if self
@@ -47,7 +47,7 @@ impl<L: Label> Interner<L> {
         requires shard { (shard < self.now.slots) × (shard < length seat.old.me.0.logs) }
         requires turn { seat.old.me.0.holds ≡ Some shard }
         ensures same { seat.new.table_id ≡ seat.old.table_id }
-        ensures now { seat.new.me ≡ (view (slice_set seat.old.me.0.logs shard seat.old.me.0.hand) seat.old.me.0.told seat.old.me.0.holds seat.old.me.0.hand, seat.old.me.1) }
+        ensures now { seat.new.me ≡ me_with_look seat.old.me shard }
         ensures longer { Begins (at seat.old.me.0.logs shard) seat.old.me.0.hand }
         ensures seen { AreSeen L.hash_of self.now.slots seat.new.me.0.logs }
     {
@@ -87,10 +87,10 @@ impl<L: Label> Interner<L> {
         requires here { hash_at L.hash_of mark.now % self.now.slots ≡ shard }
         requires id { id_of mark.now ≡ (shard, length seat.old.me.0.hand) }
         requires hash { stored_hash mark.now ≡ hash_at L.hash_of mark.now }
-        requires fresh { (i : ℕ) (m : _) → slice_get seat.old.me.0.hand i ≡ Some m → plain m ≢ plain mark.now }
+        requires fresh { IsFresh seat.old.me.0.hand mark.now }
         requires parts { (p : _) → Has (parts_of mark.now) p → StandsIn seat.old.me.0.logs p }
         ensures same { seat.new.table_id ≡ seat.old.table_id }
-        ensures now { let log = seat.old.me.0.hand ++ mark.now ∷ [] in seat.new.me ≡ (view (slice_set seat.old.me.0.logs shard log) seat.old.me.0.told seat.old.me.0.holds log, seat.old.me.1) }
+        ensures now { seat.new.me ≡ me_with_mark seat.old.me shard mark.now }
         ensures seen { AreSeen L.hash_of self.now.slots seat.new.me.0.logs }
         ensures event { IsPublish L.hash_of self.now.slots shard seat.old.me.0.hand mark.now count }
     {
@@ -187,7 +187,7 @@ impl<L: Label> Interner<L> {
         requires hash { hash ≡ fold next_hash (L.hash_of label) (map stored_hash parts.items) }
         requires here { hash % self.now.slots ≡ shard }
         requires parts { AllKnownIn seat.old.me.0.logs parts.items }
-        requires fresh { (i : ℕ) (m : _) → slice_get body.old i ≡ Some m → ¬ IsNode label parts.items m }
+        requires fresh { HasNone label parts.items body.old }
         ensures same { (seat.new.table_id ≡ seat.old.table_id) × (seat.new.me.1 ≡ seat.old.me.1) }
         ensures looked { HasLooked L.hash_of self.now.slots shard seat.new.me.0 }
         ensures body { body.new ≡ seat.new.me.0.hand }
@@ -208,10 +208,10 @@ impl<L: Label> Interner<L> {
         requires here { hash_at L.hash_of mark.now % self.now.slots ≡ shard }
         requires id { id_of mark.now ≡ (shard, length seat.old.me.0.hand) }
         requires hash { stored_hash mark.now ≡ hash_at L.hash_of mark.now }
-        requires fresh { (i : ℕ) (m : _) → slice_get seat.old.me.0.hand i ≡ Some m → plain m ≢ plain mark.now }
+        requires fresh { IsFresh seat.old.me.0.hand mark.now }
         requires parts { (p : _) → Has (parts_of mark.now) p → StandsIn seat.old.me.0.logs p }
         ensures same { seat.new.table_id ≡ seat.old.table_id }
-        ensures now { let log = seat.old.me.0.hand ++ mark.now ∷ [] in seat.new.me ≡ (view (slice_set seat.old.me.0.logs shard log) seat.old.me.0.told seat.old.me.0.holds log, seat.old.me.1) }
+        ensures now { seat.new.me ≡ me_with_mark seat.old.me shard mark.now }
         ensures seen { AreSeen L.hash_of self.now.slots seat.new.me.0.logs }
         ensures event { IsPublish L.hash_of self.now.slots shard seat.old.me.0.hand mark.now count }
     {

@@ -1,3 +1,15 @@
+pub mod JsonReading
+pub mod PartProofs
+pub mod Lexed
+pub mod PrintedBack
+pub mod Depths
+pub mod AtomNumbers
+pub mod AtomOrder
+pub mod Placed
+pub mod Parts
+pub mod Numerals
+pub mod Points
+pub mod TextsRead
 pub mod Rises
 pub mod TruthExamples
 pub mod Tokens
@@ -10,3 +22,4 @@ pub mod ReadingExamples
 pub mod Joining
 pub mod Related
 pub mod Spelled
+pub mod ForCallers

@@ -9,7 +9,7 @@ use Rattle.ul_marker.specs.ReadingVectors.{NoReadings, Readings}
 use Rattle.ul_marker.specs.Words.{front_literal, front_sign, front_token, front_word, run_length, tokens_in, tokens_of, word_token}
 
 pub readings : Readings
-unfolding is_name normal_form name_of after_white before_white after_word digits after_digits value_after number needed marked epoch points release pre post dev segment segments local fields_of version_of after_all before_all operator starred unstarred clause_after clause_with comparison_of contained extra_literal signed versions_of within atom_at before_close chain_at chain_with each enclosed marker_of part_at pieces_from front_literal front_sign front_token front_word run_length tokens_in tokens_of word_token
+unfolding is_name normal_form name_of after_white before_white after_word digits after_digits value_after number needed marked epoch points release pre post dev segment segments local fields_of version_of operator starred unstarred clause_after clause_with comparison_of contained extra_literal signed versions_of within atom_at before_close chain_at chain_with each enclosed marker_of part_at pieces_from front_literal front_sign front_token front_word tokens_in tokens_of word_token
 readings = record {
   windows = refl;
   full_version = refl;
@@ -34,7 +34,7 @@ readings = record {
 }
 
 pub no_readings : NoReadings
-unfolding is_name normal_form name_of after_white before_white after_word digits after_digits value_after number needed marked epoch points release pre post dev segment segments local fields_of version_of after_all before_all operator starred unstarred clause_after clause_with comparison_of contained extra_literal signed versions_of within atom_at before_close chain_at chain_with each enclosed marker_of part_at pieces_from front_literal front_sign front_token front_word run_length tokens_in tokens_of word_token
+unfolding is_name normal_form name_of after_white before_white after_word digits after_digits value_after number needed marked epoch points release pre post dev segment segments local fields_of version_of operator starred unstarred clause_after clause_with comparison_of contained extra_literal signed versions_of within atom_at before_close chain_at chain_with each enclosed marker_of part_at pieces_from front_literal front_sign front_token front_word tokens_in tokens_of word_token
 no_readings = record {
   empty = refl;
   no_marker = refl;

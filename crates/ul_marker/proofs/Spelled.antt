@@ -24,34 +24,34 @@ use Rattle.ul_marker.proofs.Chains.{before_first, pieces-filled}
 -- ---- tokens that nothing cuts
 
 -- pieces of tokens with others after them: nothing is cut, and no parenthesis stays open
-abbrev Passes : Chain → ℕ → List Token → Type 0
+abbrev pub Passes : Chain → ℕ → List Token → Type 0
 Passes chain n ts = (rest : List Token) → pieces_from chain n (ts ++ rest) ≡ before_first ts (pieces_from chain n rest)
 
 -- a token that joins nothing and neither opens nor closes a parenthesis
-record IsStill (t : Token) : Type 0 where
-  uncut : (chain : Chain) (n : ℕ) → cuts chain n t ≡ false
-  level : (n : ℕ) → opened t n ≡ n
+pub record IsStill (t : Token) : Type 0 where
+  pub uncut : (chain : Chain) (n : ℕ) → cuts chain n t ≡ false
+  pub level : (n : ℕ) → opened t n ≡ n
 
 and-false : (b : Bool) → (b && false) ≡ false
 and-false true = refl
 and-false false = refl
 
-extra-still : IsStill Extra
+pub extra-still : IsStill Extra
 extra-still = record { uncut = λ chain n. elim chain as (λ (k : Chain). cuts k n Extra ≡ false) [ Conjunction ↦ and-false (n == 0) | Disjunction ↦ and-false (n == 0) ]; level = λ n. refl }
 
 named-still : (v : _) → IsStill (Named v)
 named-still v = record { uncut = λ chain n. elim chain as (λ (k : Chain). cuts k n (Named v) ≡ false) [ Conjunction ↦ and-false (n == 0) | Disjunction ↦ and-false (n == 0) ]; level = λ n. refl }
 
-sign-still : (op : Op) → IsStill (Sign op)
+pub sign-still : (op : Op) → IsStill (Sign op)
 sign-still op = record { uncut = λ chain n. elim chain as (λ (k : Chain). cuts k n (Sign op) ≡ false) [ Conjunction ↦ and-false (n == 0) | Disjunction ↦ and-false (n == 0) ]; level = λ n. refl }
 
-literal-still : (bytes : List ℕ) → IsStill (Literal bytes)
+pub literal-still : (bytes : List ℕ) → IsStill (Literal bytes)
 literal-still bytes = record { uncut = λ chain n. elim chain as (λ (k : Chain). cuts k n (Literal bytes) ≡ false) [ Conjunction ↦ and-false (n == 0) | Disjunction ↦ and-false (n == 0) ]; level = λ n. refl }
 
-in-still : IsStill In
+pub in-still : IsStill In
 in-still = record { uncut = λ chain n. elim chain as (λ (k : Chain). cuts k n In ≡ false) [ Conjunction ↦ and-false (n == 0) | Disjunction ↦ and-false (n == 0) ]; level = λ n. refl }
 
-not-still : IsStill Not
+pub not-still : IsStill Not
 not-still = record { uncut = λ chain n. elim chain as (λ (k : Chain). cuts k n Not ≡ false) [ Conjunction ↦ and-false (n == 0) | Disjunction ↦ and-false (n == 0) ]; level = λ n. refl }
 
 onto-before : (t : Token) (pieces : List (List Token)) → onto_first t pieces ≡ before_first (t ∷ []) pieces
@@ -87,10 +87,10 @@ append-passes chain n ts us h k rest =
 -- ---- comparisons
 
 -- a token that stands for a variable
-record IsSubject (t : Token) : Type 0 where
-  still : IsStill t
-  no_literal : literal_of t ≡ None
-  no_open : is_open t ≡ false
+pub record IsSubject (t : Token) : Type 0 where
+  pub still : IsStill t
+  pub no_literal : literal_of t ≡ None
+  pub no_open : is_open t ≡ false
 
 extra-subject : IsSubject Extra
 extra-subject = record { still = extra-still; no_literal = refl; no_open = refl }
@@ -98,7 +98,7 @@ extra-subject = record { still = extra-still; no_literal = refl; no_open = refl 
 named-subject : (v : _) → IsSubject (Named v)
 named-subject v = record { still = named-still v; no_literal = refl; no_open = refl }
 
-signed-subject : (t : Token) (op : Op) (literal : List ℕ) (f : Formula) → signed t op literal ≡ Some f → IsSubject t
+pub signed-subject : (t : Token) (op : Op) (literal : List ℕ) (f : Formula) → signed t op literal ≡ Some f → IsSubject t
 unfolding signed
 signed-subject Extra op literal f e = extra-subject
 signed-subject (Named v) op literal f e = named-subject v
@@ -111,7 +111,7 @@ signed-subject Not op literal f e = absurd (cc e)
 signed-subject (Sign sign) op literal f e = absurd (cc e)
 signed-subject (Literal bytes) op literal f e = absurd (cc e)
 
-within-subject : (positive : Bool) (t : Token) (literal : List ℕ) (f : Formula) → within positive t literal ≡ Some f → IsSubject t
+pub within-subject : (positive : Bool) (t : Token) (literal : List ℕ) (f : Formula) → within positive t literal ≡ Some f → IsSubject t
 unfolding within
 within-subject positive Extra literal f e = extra-subject
 within-subject positive (Named v) literal f e = named-subject v
@@ -124,7 +124,7 @@ within-subject positive Not literal f e = absurd (cc e)
 within-subject positive (Sign sign) literal f e = absurd (cc e)
 within-subject positive (Literal bytes) literal f e = absurd (cc e)
 
-contained-subject : (positive : Bool) (t : Token) (literal : List ℕ) (f : Formula) → contained positive t literal ≡ Some f → IsSubject t
+pub contained-subject : (positive : Bool) (t : Token) (literal : List ℕ) (f : Formula) → contained positive t literal ≡ Some f → IsSubject t
 unfolding contained
 contained-subject positive Extra literal f e = extra-subject
 contained-subject positive (Named v) literal f e = named-subject v
@@ -257,7 +257,8 @@ not_in-is (Named v) b e = absurd (true≢false (sym e))
 not_in-is (Sign op) b e = absurd (true≢false (sym e))
 not_in-is (Literal bytes) b e = absurd (true≢false (sym e))
 
-comparison-spelled : (ts : List Token) (f : Formula) → comparison_of ts ≡ Some f → IsComparison ts f
+-- tokens that are read as a comparison are one
+pub comparison-spelled : (ts : List Token) (f : Formula) → comparison_of ts ≡ Some f → IsComparison ts f
 unfolding comparison_of
 comparison-spelled [] f e = absurd (cc e)
 comparison-spelled (a ∷ []) f e = absurd (cc e)
@@ -343,10 +344,10 @@ parenthesized-passes chain n inner h rest =
 -- ---- a reader and a relation
 
 -- what a reader reads is what a relation relates, and within parentheses nothing of it is cut
-record Agrees (read : List Token → Option Formula) (Rel : List Token → Formula → Type 0) : Type 0 where
-  sound : (ts : List Token) (f : Formula) → read ts ≡ Some f → Rel ts f
-  complete : (ts : List Token) (f : Formula) → Rel ts f → read ts ≡ Some f
-  inner : (chain : Chain) (n : ℕ) (ts : List Token) (f : Formula) → Rel ts f → Passes chain (suc n) ts
+pub record Agrees (read : List Token → Option Formula) (Rel : List Token → Formula → Type 0) : Type 0 where
+  pub sound : (ts : List Token) (f : Formula) → read ts ≡ Some f → Rel ts f
+  pub complete : (ts : List Token) (f : Formula) → Rel ts f → read ts ≡ Some f
+  pub inner : (chain : Chain) (n : ℕ) (ts : List Token) (f : Formula) → Rel ts f → Passes chain (suc n) ts
 
 -- what outside of parentheses isn't cut either
 record Uncut (chain : Chain) (Rel : List Token → Formula → Type 0) : Type 0 where
@@ -512,7 +513,7 @@ marker-agrees read Rel a =
           (deep-uncut chain n Or) refl h.0 ts h.1;
     }
 
-depth-agrees : (depth : ℕ) → Agrees (chain_at Disjunction depth) (IsMarker depth)
+pub depth-agrees : (depth : ℕ) → Agrees (chain_at Disjunction depth) (IsMarker depth)
 unfolding chain_at part_at atom_at IsMarker
 depth-agrees zero = marker-agrees (λ inner. None) (λ inner f. ⊥) none-agrees
 depth-agrees (suc depth) = marker-agrees (chain_at Disjunction depth) (IsMarker depth) (depth-agrees depth)

@@ -30,19 +30,15 @@ second-of {X} {Y} x x' y y' e = ap (λ (p : X × Y). p.1) (inside (x, y) (x', y'
 -- ---- runs of bytes
 
 pub run-more : (test : ℕ → Bool) (xs : List ℕ) (i : ℕ) → i < length xs → test (get_or xs i 0) ≡ true → run_length test (drop i xs) ≡ run_length test (drop (i + 1) xs) + 1
-unfolding run_length
 run-more test xs i h w = rw (drop_more xs i 0 h, w) refl
 
 pub run-stop : (test : ℕ → Bool) (xs : List ℕ) (i : ℕ) → i < length xs → test (get_or xs i 0) ≡ false → run_length test (drop i xs) ≡ 0
-unfolding run_length
 run-stop test xs i h w = rw (drop_more xs i 0 h, w) refl
 
 pub run-end : (test : ℕ → Bool) (xs : List ℕ) (i : ℕ) → length xs ≤ i → run_length test (drop i xs) ≡ 0
-unfolding run_length
 run-end test xs i h = rw (drop_all i xs h) refl
 
 pub run-all : (test : ℕ → Bool) (xs : List ℕ) → list_all test (take (run_length test xs) xs) ≡ true
-unfolding run_length
 run-all test [] = refl
 run-all test (x ∷ xs) = elim (cases_Bool (test x)) [
   | inl passes ↦ rw (passes, add-one) (rw passes (run-all test xs))
@@ -105,7 +101,6 @@ literal-utf8 xs h = IsUtf8-from_ascii xs (IsAscii-from_all xs (λ k d lt. ascii_
 -- ---- what stands in front is shorter
 
 pub after_all-le : (test : ℕ → Bool) (xs : List ℕ) → length (after_all test xs) ≤ length xs
-unfolding after_all
 after_all-le test [] = omega arith
 after_all-le test (x ∷ xs) = elim (cases_Bool (test x)) [
   | inl passes ↦ rw passes (let r = after_all-le test xs in omega arith)
@@ -169,8 +164,12 @@ literal-leaves q rest t after e =
     let same : after ≡ left = sym (second-of (Literal (take n rest)) t left after some) in
     rw same (omega (arith, quote-leaves q (drop n rest) left is, length-drop n rest))
 
+front-word-leaves : (b : ℕ) (rest : List ℕ) (t : Token) (after : List ℕ) → front_word (b ∷ rest) ≡ Some (t, after) → length after ≤ length rest
+unfolding front_word
+front-word-leaves b rest t after e = word-leaves (run_length is_word_byte (b ∷ rest)) b rest t after e
+
 token-leaves : (b : ℕ) (rest : List ℕ) (t : Token) (after : List ℕ) → front_token (b ∷ rest) ≡ Some (t, after) → length after ≤ length rest
-unfolding front_token front_word
+unfolding front_token
 token-leaves b rest t after e = elim (cases_Bool (b == 40)) [
   | inl open_one ↦ let same : after ≡ rest = sym (second-of Open t rest after (rw open_one at e)) in rw same (omega arith)
   | inr n1 ↦ let e1 = rw n1 at e in elim (cases_Bool (b == 41)) [
@@ -179,7 +178,7 @@ token-leaves b rest t after e = elim (cases_Bool (b == 40)) [
       | inl quote ↦ literal-leaves b rest t after (rw quote at e2)
       | inr n3 ↦ let e3 = rw n3 at e2 in elim (cases_Bool (is_sign_byte b)) [
         | inl sign ↦ sign-leaves b rest t after (rw sign at e3)
-        | inr n4 ↦ word-leaves (run_length is_word_byte (b ∷ rest)) b rest t after (rw n4 at e3)
+        | inr n4 ↦ front-word-leaves b rest t after (rw n4 at e3)
       ]
     ]
   ]

@@ -4,6 +4,7 @@ use Rattle.std.specs.Borrow.{Bor}
 use Rattle.ul_version.specs.Fields.{Fields}
 use Rattle.ul_version.specs.Reading.{◌>>=◌}
 use Rattle.ul_marker.specs.Formulas.{Formula}
+use Rattle.ul_marker.specs.Reading.{marker_in}
 use Rattle.ul_marker.specs.Words.{Front}
 use Rattle.ul_marker.specs.declared.fault.MarkerFault.{MarkerFault}
 use Rattle.ul_marker.specs.declared.fault.MarkerFault.TheVariants.{NoReading, NoMemory}
@@ -15,6 +16,12 @@ abbrev pub Reads : {X Y : Type 0} → (X → Y) → Result X MarkerFault → Opt
 Reads view (Ok x) reading = reading ≡ Some (view x)
 Reads view (Err NoReading) reading = reading ≡ None
 Reads view (Err NoMemory) reading = Unit {0}
+
+-- the answer of a reader of a marker's tokens, which finds no reading only where they are no marker's
+abbrev pub ReadsTokens : {Z : Type 0} → Result (Vec Token Z) MarkerFault → Option (List Token) → Type 0
+ReadsTokens (Ok found) tokens = tokens ≡ Some found.items
+ReadsTokens (Err NoReading) tokens = marker_in tokens ≡ None
+ReadsTokens (Err NoMemory) tokens = Unit {0}
 
 -- a token and the text after it, which stands behind a reference
 abbrev pub front_view : Token × Bor (List ℕ) → Token × List ℕ

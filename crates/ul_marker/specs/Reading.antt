@@ -111,6 +111,10 @@ part_at Disjunction depth tokens = chain_with Conjunction (atom_at depth) tokens
 unfoldable pub chain_at : Chain → ℕ → List Token → Option Formula
 chain_at chain depth tokens = chain_with chain (part_at chain depth) tokens
 
+-- the formula that tokens spell, where there are any
+abbrev pub marker_in : Option (List Token) → Option Formula
+marker_in tokens = tokens >>= λ ts. chain_at Disjunction 64 ts
+
 -- the formula that a text spells
 unfoldable pub marker_of : List ℕ → Option Formula
-marker_of text = tokens_of (stripped is_white text) >>= λ tokens. chain_at Disjunction 64 tokens
+marker_of text = marker_in (tokens_of (stripped is_white text))

@@ -3,6 +3,7 @@
 -- of any kind at the ends of the text.
 use Rattle.std.specs.Prelude.{ℕ, zero, suc, ◌+◌, ◌==◌, ◌&&◌, ◌||◌, Bool, not, List, [], ◌∷◌, length, take, drop, codes, Option, Some, None, if◌then◌else◌}
 use Rattle.std.specs.Str.{bytes_eq}
+pub use Rattle.ul_version.specs.Ascii.{run_length}
 use Rattle.ul_version.specs.Reading.{◌>>=◌, is_white, or_else}
 use Rattle.ul_specifier.specs.Reading.{after_all, is_blank, operator}
 use Rattle.ul_marker.specs.Atoms.{is_literal_byte}
@@ -11,11 +12,6 @@ use Rattle.ul_marker.specs.declared.words.Token.{Token}
 use Rattle.ul_marker.specs.declared.words.Token.TheVariants.{Open, Close, And, Or, In, Not, Extra, Named, Sign, Literal}
 
 -- ---- bytes
-
--- how many bytes in front pass a test
-unfoldable pub run_length : (ℕ → Bool) → List ℕ → ℕ
-run_length test [] = 0
-run_length test (b ∷ rest) = if test b then run_length test rest + 1 else 0
 
 -- `'` or `"`
 abbrev pub is_quote : ℕ → Bool

@@ -87,8 +87,8 @@ fn may_compare(kind: AtomKind, variable: Variable) -> bool
     }
 }
 
-// Whether a text can stand in a literal.
-fn is_literal(text: &[u8]) -> bool
+/// Whether a text can stand in a literal: printable ASCII without the backslash, and not with both quotes.
+pub fn is_literal(text: &[u8]) -> bool
     ensures { result ≡ Atoms.is_literal text.now }
 {
     has_literal_bytes(text) && !(has_byte(b'\'', text) && has_byte(b'"', text))
@@ -113,7 +113,8 @@ fn has_literal_bytes(text: &[u8]) -> bool
     true
 }
 
-fn has_byte(byte: u8, text: &[u8]) -> bool
+/// Whether a byte stands in a text.
+pub(crate) fn has_byte(byte: u8, text: &[u8]) -> bool
     ensures { result ≡ Atoms.has_byte byte text.now }
 {
     for other in text {

@@ -14,6 +14,7 @@ use crate::{Atom, AtomKind, Marker, MarkerFault, Variable};
 use std::alloc::{AllocError, Global};
 use ul_base::{Name, NameFault};
 use ul_specifier::{Clause, Op, SpecFault};
+use ul_version::ascii::{ByteClass, piece_len};
 use ul_version::{Version, VersionFault};
 
 // For a version of Python, whether it has all its numbers.
@@ -198,13 +199,9 @@ fn mirrored(op: Op) -> Option<Op>
 
 // A version of a list.
 fn version(alloc: Global, piece: &[u8]) -> Result<Version, MarkerFault>
-    requires { list_all Atoms.is_literal_byte piece.now ≡ true }
     ensures { Reads (λ v. v) result (version_of piece.now) }
 {
-    let Ok(text) = str::from_utf8(piece) else {
-        return Err(MarkerFault::NoReading);
-    };
-    match Version::read(alloc, text) {
+    match Version::read_bytes(alloc, piece) {
         Ok(version) => Ok(version),
         Err(VersionFault::NoReading) => Err(MarkerFault::NoReading),
         Err(VersionFault::NoMemory) => Err(MarkerFault::NoMemory),
@@ -213,7 +210,6 @@ fn version(alloc: Global, piece: &[u8]) -> Result<Version, MarkerFault>
 
 // The version of a piece of a list, which an empty piece hasn't.
 fn add_version(alloc: Global, list: &mut Vec<Version>, piece: &[u8]) -> Result<(), MarkerFault>
-    requires { list_all Atoms.is_literal_byte piece.now ≡ true }
     ensures added { IfOk result (λ u. added_versions list.old.items (Grammar.versions_of (piece.now ∷ [])) ≡ Some list.new.items) }
     ensures no_reading { IfErr result (λ e. e ≡ MarkerFault.NoReading → Grammar.versions_of (piece.now ∷ []) ≡ None) }
 {
@@ -225,36 +221,28 @@ fn add_version(alloc: Global, list: &mut Vec<Version>, piece: &[u8]) -> Result<(
     Ok(())
 }
 
-fn parts_versions(byte: u8) -> bool
-    ensures { result ≡ Grammar.parts_versions byte }
-{
-    byte == b' ' || byte == b','
-}
+/// The bytes between the versions of a list: space and comma.
+#[derive(Clone, Copy, Drop)]
+struct BetweenVersions;
 
-// The length of the text before the first space or comma, or of the whole text.
-fn piece_len(input: &[u8]) -> usize
-    ensures fits { result ≤ length input.now }
-    ensures last { length input.now ≤ result → slice_split Grammar.parts_versions input.now ≡ input.now ∷ [] }
-    ensures more { result < length input.now → slice_split Grammar.parts_versions input.now
-        ≡ take result input.now ∷ slice_split Grammar.parts_versions (drop (result + 1) input.now) }
-{
-    for i in 0..input.len() {
-        if parts_versions(input[i]) {
-            return i;
-        }
+impl ByteClass for BetweenVersions {
+    ghost use Rattle.ul_marker.specs.Comparisons.{parts_versions};
+
+    ghost has = { λ _ byte. parts_versions byte };
+
+    fn has(&self, byte: u8) -> bool {
+        byte == b' ' || byte == b','
     }
-    input.len()
 }
 
 // The versions of a list, between spaces and commas.
 fn versions(alloc: Global, input: &[u8]) -> Result<Vec<Version>, MarkerFault>
-    requires { list_all Atoms.is_literal_byte input.now ≡ true }
     ensures { Reads versions_view result (Grammar.version_list input.now) }
 {
     let mut list = Vec::new(alloc);
     let mut rest = input;
     'pieces: while !rest.is_empty() {
-        let n = piece_len(rest);
+        let n = piece_len(&BetweenVersions, rest);
         add_version(alloc, &mut list, &rest[..n])?;
         if n >= rest.len() {
             return Ok(list);

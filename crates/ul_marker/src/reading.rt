@@ -7,13 +7,10 @@ ghost use Rattle.ul_marker.specs.Readers.{optional_tokens, Reads};
 ghost use Rattle.ul_marker.specs.Views.{marker_view};
 
 use crate::comparison::comparison;
-use crate::words::{Token, tokens};
+use crate::words::{MAX_DEPTH, Token, opened, tokens};
 use crate::{Marker, MarkerFault};
 use std::alloc::Global;
 use ul_specifier::{after_space, before_space};
-
-// How many parentheses may be open at one place.
-const MAX_DEPTH: u8 = 64;
 
 /// How parts are joined: by `and`, or by `or`.
 #[derive(Clone, Copy, Debug)]
@@ -29,25 +26,6 @@ fn joins(token: &Token, kind: Chain) -> bool
     match kind {
         Chain::Conjunction => matches!(token, Token::And),
         Chain::Disjunction => matches!(token, Token::Or),
-    }
-}
-
-// How many parentheses are open after a token.
-fn opened(token: &Token, count: usize) -> usize
-    requires { count + 1 < 2 ^ 64 }
-    ensures { result ≡ Grammar.opened token.now count }
-{
-    match token {
-        Token::Open => count + 1,
-        Token::Close => count.saturating_sub(1),
-        Token::And
-        | Token::Or
-        | Token::In
-        | Token::Not
-        | Token::Extra
-        | Token::Named(_)
-        | Token::Sign(_)
-        | Token::Literal(_) => count,
     }
 }
 

@@ -1,8 +1,5 @@
 //! The truth of markers at worlds.
 ghost use Rattle.std.specs.Prelude.{◌≡◌, ◌∷◌, [], slice_index};
-ghost use Rattle.std.specs.List.{list_all};
-ghost use Rattle.ul_base.specs.Names;
-ghost use Rattle.ul_base.specs.Names.{is_name_byte};
 ghost use Rattle.ul_version.specs.Fields.{plain};
 ghost use Rattle.ul_specifier.specs.Meaning.{meets_clause};
 ghost use Rattle.ul_marker.specs.Truth;
@@ -10,6 +7,7 @@ ghost use Rattle.ul_marker.specs.Truth.{marker_holds, python_numbers};
 ghost use Rattle.ul_marker.specs.Views.{marker_view};
 
 use crate::{Marker, World};
+use ul_base::is_name;
 use ul_specifier::{Clause, equals_plain};
 use ul_version::Version;
 
@@ -120,36 +118,4 @@ fn equals_extra(literal: &str, extra: &str) -> bool
     ensures { result ≡ Truth.equals_extra literal.now extra.now }
 {
     (literal.is_empty() || is_name(literal)) && literal == extra
-}
-
-// Whether a text is the name of a package or of an extra, in normal form or not.
-#[tactic(auto, unfolding(ul_base::specs::Names::is_name))]
-fn is_name(text: &str) -> bool
-    ensures { result ≡ Names.is_name text.now }
-{
-    let bytes = text.as_bytes();
-    ends_well(bytes) && has_name_bytes(bytes)
-}
-
-// Whether the bytes begin and end with a letter or a digit.
-fn ends_well(bytes: &[u8]) -> bool
-    ensures { result ≡ Names.has_ends bytes.now }
-{
-    match bytes {
-        [] => false,
-        [only] => only.is_ascii_alphanumeric(),
-        [first, .., last] => first.is_ascii_alphanumeric() && last.is_ascii_alphanumeric(),
-    }
-}
-
-// Whether each byte is a letter, a digit or a separator.
-fn has_name_bytes(bytes: &[u8]) -> bool
-    ensures { result ≡ list_all is_name_byte bytes.now }
-{
-    for byte in bytes {
-        if !byte.is_ascii_alphanumeric() && !matches!(*byte, b'-' | b'.' | b'_') {
-            return false;
-        }
-    }
-    true
 }

@@ -1,6 +1,7 @@
 //! The variables of markers, and how they are compared.
 ghost use Rattle.std.specs.Prelude.{◌≡◌, Bool};
 ghost use Rattle.ul_marker.specs.Atoms;
+ghost use Rattle.ul_marker.specs.Printed.{variable_name};
 
 /// A variable of a marker beside `extra` (PEP 508, "Environment Markers"), in the order of variables.
 #[derive(Clone, Copy, PartialEq, Eq, Debug)]
@@ -45,6 +46,25 @@ pub enum AtomKind {
 }
 
 impl Variable {
+    /// The name of the variable, in its newer spelling.
+    pub fn name(self) -> &'static str
+        ensures { result.now ≡ variable_name self }
+    {
+        match self {
+            Variable::OsName => "os_name",
+            Variable::SysPlatform => "sys_platform",
+            Variable::PlatformMachine => "platform_machine",
+            Variable::PlatformPythonImplementation => "platform_python_implementation",
+            Variable::PlatformRelease => "platform_release",
+            Variable::PlatformSystem => "platform_system",
+            Variable::PlatformVersion => "platform_version",
+            Variable::PythonVersion => "python_version",
+            Variable::PythonFullVersion => "python_full_version",
+            Variable::ImplementationName => "implementation_name",
+            Variable::ImplementationVersion => "implementation_version",
+        }
+    }
+
     /// The place of the variable in the order of variables, from 0.
     pub fn number(self) -> u8
         ensures { result ≡ Atoms.variable_number self }

@@ -1,11 +1,11 @@
 //! The tokens of a marker's text.
 
-ghost use Rattle.std.specs.Prelude.{◌≡◌, ◌≤◌, Some, true, length};
+ghost use Rattle.std.specs.Prelude.{◌≡◌, ◌≤◌, ◌<◌, ◌+◌, ◌^◌, Some, true, length};
 ghost use Rattle.std.specs.List.{list_all};
 ghost use Rattle.std.specs.Str.{bytes_eq};
-ghost use Rattle.ul_version.specs.Reading as Versions;
 ghost use Rattle.ul_marker.specs.Atoms.{is_literal};
-ghost use Rattle.ul_marker.specs.Readers.{front_view, optional_bytes, optional_front, tokens_view, Reads};
+ghost use Rattle.ul_marker.specs.Readers.{front_view, optional_bytes, optional_front, Reads, ReadsTokens};
+ghost use Rattle.ul_marker.specs.Reading;
 ghost use Rattle.ul_marker.specs.Words as Grammar;
 
 use crate::atom::is_literal_byte;
@@ -13,6 +13,10 @@ use crate::{MarkerFault, Variable};
 use std::alloc::{AllocError, Global};
 use std::marker::Model;
 use ul_specifier::{Op, after_space, operator};
+use ul_version::ascii::{ByteClass, White, run_len};
+
+/// How many parentheses may be open at one place.
+pub const MAX_DEPTH: u8 = 64;
 
 /// The text of a literal: printable ASCII without the backslash, and not with both quotes.
 ///
@@ -68,12 +72,6 @@ pub enum Token {
     Literal(Literal),
 }
 
-fn is_white(byte: u8) -> bool
-    ensures { result ≡ Versions.is_white byte }
-{
-    byte == b' ' || (9 <= byte && byte <= 13)
-}
-
 fn is_quote(byte: u8) -> bool
     ensures { result ≡ Grammar.is_quote byte }
 {
@@ -86,42 +84,35 @@ fn is_sign_byte(byte: u8) -> bool
     byte == b'<' || (byte == b'>' || (byte == b'=' || (byte == b'!' || byte == b'~')))
 }
 
-fn is_word_byte(byte: u8) -> bool
-    ensures { result ≡ Grammar.is_word_byte byte }
-{
-    !(is_white(byte) || (byte == b'(' || (byte == b')' || (is_quote(byte) || is_sign_byte(byte)))))
-}
+/// The bytes of words.
+#[derive(Clone, Copy, Drop)]
+struct WordByte;
 
-fn is_quoted(quote: u8, byte: u8) -> bool
-    ensures { result ≡ Grammar.is_quoted quote byte }
-{
-    is_literal_byte(byte) && byte != quote
-}
+impl ByteClass for WordByte {
+    ghost use Rattle.ul_marker.specs.Words.{is_word_byte};
 
-// How many bytes in front stand in a word.
-fn word_len(input: &[u8]) -> usize
-    ensures length { result ≡ Grammar.run_length Grammar.is_word_byte input.now }
-    ensures fits { result ≤ length input.now }
-{
-    for i in 0..input.len() {
-        if !is_word_byte(input[i]) {
-            return i;
-        }
+    ghost has = { λ _ byte. is_word_byte byte };
+
+    fn has(&self, byte: u8) -> bool {
+        !(White.has(byte)
+            || (byte == b'(' || (byte == b')' || (is_quote(byte) || is_sign_byte(byte)))))
     }
-    input.len()
 }
 
-// How many bytes in front stand in a literal with this quote.
-fn literal_len(quote: u8, input: &[u8]) -> usize
-    ensures length { result ≡ Grammar.run_length (Grammar.is_quoted quote) input.now }
-    ensures fits { result ≤ length input.now }
-{
-    for i in 0..input.len() {
-        if !is_quoted(quote, input[i]) {
-            return i;
-        }
+/// The bytes that stand in a literal with this quote.
+#[derive(Clone, Copy, Drop)]
+struct Quoted {
+    quote: u8,
+}
+
+impl ByteClass for Quoted {
+    ghost use Rattle.ul_marker.specs.Words.{is_quoted};
+
+    ghost has = { λ class byte. is_quoted class.quote byte };
+
+    fn has(&self, byte: u8) -> bool {
+        is_literal_byte(byte) && byte != self.quote
     }
-    input.len()
 }
 
 fn is_same(word: &[u8], other: &[u8]) -> bool
@@ -233,7 +224,7 @@ fn word_token(word: &[u8]) -> Option<Token>
 fn front_word(input: &[u8]) -> Option<(Token, &[u8])>
     ensures { optional_front result ≡ Grammar.front_word input.now }
 {
-    let n = word_len(input);
+    let n = run_len(&WordByte, input);
     let token = word_token(&input[..n])?;
     Some((token, &input[n..]))
 }
@@ -266,7 +257,7 @@ fn front_literal(alloc: Global, quote: u8, input: &[u8]) -> Result<(Token, &[u8]
     requires { Grammar.is_quote quote ≡ true }
     ensures { Reads front_view result (Grammar.front_literal quote input.now) }
 {
-    let n = literal_len(quote, input);
+    let n = run_len(&Quoted { quote }, input);
     let Some(rest) = after_quote(quote, &input[n..]) else {
         return Err(MarkerFault::NoReading);
     };
@@ -308,14 +299,41 @@ fn front_token(alloc: Global, input: &[u8]) -> Result<(Token, &[u8]), MarkerFaul
     front_word(input).ok_or(MarkerFault::NoReading)
 }
 
-/// The tokens of a text without blanks in front.
+/// How many parentheses are open after a token.
+pub fn opened(token: &Token, count: usize) -> usize
+    requires { count + 1 < 2 ^ 64 }
+    ensures { result ≡ Reading.opened token.now count }
+{
+    match token {
+        Token::Open => count + 1,
+        Token::Close => count.saturating_sub(1),
+        Token::And
+        | Token::Or
+        | Token::In
+        | Token::Not
+        | Token::Extra
+        | Token::Named(_)
+        | Token::Sign(_)
+        | Token::Literal(_) => count,
+    }
+}
+
+/// The tokens of a marker's text without blanks in front.
+///
+/// It stops where more parentheses are open than a marker may have, so a text that nests too deep costs no more
+/// tokens than these.
 pub fn tokens(alloc: Global, input: &[u8]) -> Result<Vec<Token>, MarkerFault>
-    ensures { Reads tokens_view result (Grammar.tokens_of input.now) }
+    ensures { ReadsTokens result (Grammar.tokens_of input.now) }
 {
     let mut list = Vec::new(alloc);
+    let mut depth = 0;
     let mut rest = input;
     'tokens: while !rest.is_empty() {
         let (token, after) = front_token(alloc, rest)?;
+        depth = opened(&token, depth);
+        if depth > usize::from(MAX_DEPTH) {
+            return Err(MarkerFault::NoReading);
+        }
         list.push(token)?;
         rest = after_space(after, true);
     }

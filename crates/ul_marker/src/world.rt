@@ -1,10 +1,15 @@
 //! Worlds.
-ghost use Rattle.std.specs.Prelude.{◌≡◌, All, IfSome, None, map, string_bytes, vec_len};
-ghost use Rattle.ul_marker.specs.Atoms.{IsAtom, has_atom};
+ghost use Rattle.std.specs.Prelude.{◌≡◌, ◌≤◌, All, IfErr, IfOk, IfSome, OnOk, None, true, is_ok, length, map, string_bytes, vec_len};
+ghost use Rattle.std.specs.List.{insert};
+ghost use Rattle.std.specs.Ordering.{is_lt};
+ghost use Rattle.ul_marker.specs.Atoms.{IsAtom, atom_cmp, has_atom};
+ghost use Rattle.ul_marker.specs.Machines.{put_atom};
 ghost use Rattle.ul_marker.specs.Rising;
+ghost use Rattle.ul_marker.specs.Rising.{IsPlace};
 ghost use Rattle.ul_marker.specs.Worlds.{Rise, text_at};
 
 use crate::{Atom, Variable};
+use std::alloc::{AllocError, Global};
 use std::marker::Model;
 
 /// An environment, of a machine or an abstract one, at which markers are evaluated.
@@ -44,7 +49,6 @@ impl World {
         if texts.len() != 8 || !rises(&truths) {
             return None;
         }
-        are_atoms(&truths);
         Some(World {
             python,
             texts,
@@ -62,47 +66,82 @@ impl World {
         }
     }
 
-    /// Whether an opaque comparison holds.
+    /// Whether an opaque comparison holds. It is found by halves.
     pub fn has(&self, atom: &Atom) -> bool
         ensures { result ≡ has_atom self.now.truths atom.now }
     {
-        for truth in &self.truths {
-            if truth.cmp(atom).is_eq() {
-                return true;
-            }
-        }
-        false
+        place(&self.truths, atom).is_ok()
     }
+}
+
+/// Where an atom stands among atoms in increasing order, or else where it would stand.
+
+pub(crate) fn place(atoms: &[Atom], atom: &Atom) -> Result<usize, usize>
+    requires { Rise None atoms.now }
+    ensures has { is_ok result ≡ has_atom atoms.now atom.now }
+    ensures there { IfOk result (λ i. put_atom atom.now atoms.now ≡ atoms.now) }
+    ensures absent { IfErr result (λ i. put_atom atom.now atoms.now ≡ insert atoms.now i atom.now) }
+    ensures fits { IfErr result (λ i. i ≤ length atoms.now) }
+{
+    let at = count_before(atoms, atom);
+    if at >= atoms.len() {
+        return Err(at);
+    }
+    if atoms[at].cmp(atom).is_eq() {
+        return Ok(at);
+    }
+    Err(at)
+}
+
+// How many of atoms in increasing order come before an atom.
+fn count_before(atoms: &[Atom], atom: &Atom) -> usize
+    requires { Rise None atoms.now }
+    ensures place { IsPlace atom.now atoms.now result }
+    ensures fits { result ≤ length atoms.now }
+{
+    atoms.partition_point(|other| other.cmp(atom).is_lt())
+}
+
+/// Puts an atom among atoms in increasing order, where it isn't there yet.
+pub fn put_atom(alloc: Global, atoms: &mut Vec<Atom>, atom: &Atom) -> Result<(), AllocError>
+    requires rising { Rise None atoms.old.items }
+    requires atoms { All IsAtom atoms.old.items }
+    ensures put { OnOk result (atoms.new.items ≡ put_atom atom.now atoms.old.items) }
+    ensures rising { OnOk result (Rise None atoms.new.items) }
+    ensures atoms { OnOk result (All IsAtom atoms.new.items) }
+{
+    let _ = &atom.kind;
+    if let Err(at) = place(atoms, atom) {
+        let atom = atom.copy(alloc)?;
+        atoms.insert(at, atom)?;
+    }
+    Ok(())
 }
 
 // Whether atoms stand in increasing order, each once.
 fn rises(atoms: &[Atom]) -> bool
-    ensures { result ≡ Rising.rises atoms.now }
+    ensures rises { result ≡ Rising.rises atoms.now }
+    ensures atoms { result ≡ true → All IsAtom atoms.now }
 {
     let [first, rest @ ..] = atoms else {
         return true;
     };
     let mut last = first;
     for atom in rest {
-        if !last.cmp(atom).is_lt() {
+        if !comes_before(last, atom) {
             return false;
         }
         last = atom;
     }
+    let _ = &first.kind;
     true
 }
 
-// Each atom of a list keeps what atoms keep.
-fn are_atoms(atoms: &[Atom])
-    ensures { All IsAtom atoms.now }
+// Whether an atom comes before another, of which contracts learn what atoms keep.
+fn comes_before(atom: &Atom, other: &Atom) -> bool
+    ensures before { result ≡ is_lt (atom_cmp atom.now other.now) }
+    ensures other { IsAtom other.now }
 {
-    for atom in atoms {
-        is_atom(atom);
-    }
-}
-
-fn is_atom(atom: &Atom)
-    ensures { IsAtom atom.now }
-{
-    let _ = &atom.kind;
+    let _ = &other.kind;
+    atom.cmp(other).is_lt()
 }

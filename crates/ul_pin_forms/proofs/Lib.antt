@@ -8,3 +8,4 @@ pub mod JsonReading
 pub mod JsonPins
 pub mod UsableApart
 pub mod PinText
+pub mod ForCallers

@@ -1,36 +1,19 @@
-use Rattle.std.proofs.Common.{◌≡◌, ℕ, List, [], ◌∷◌, ◌++◌, Bool, true, false, cond, Option, Some, None, ◌<◌, ◌⊎◌, inl, inr, refl, sym, ap, subst, ◌∙◌, nat_eq, eq-eqb, slice_get, append_assoc}
-use Rattle.std.proofs.lemmas.Bool.{eqb-true, cases_order, true≢false}
+use Rattle.std.proofs.Common.{◌≡◌, ℕ, List, [], ◌∷◌, ◌++◌, Bool, true, false, cond, Option, Some, None, ◌⊎◌, inl, inr, refl, sym, ap, subst, ◌∙◌, nat_eq, eq-eqb, append_assoc}
+use Rattle.std.proofs.lemmas.Bool.{eqb-true, true≢false}
 use Rattle.std.proofs.lemmas.Option.{same_Some}
 use Rattle.std.proofs.lemmas.List.{append-nil}
 use Rattle.ul_problem.specs.Terms.{Selection, is_among}
-use Rattle.ul_problem.specs.Plain.{Plain, needs_of, base_of}
+use Rattle.ul_problem.specs.Plain.{Plain, needs_of, base_of, order_of}
 use Rattle.ul_problem.specs.Serving.{Serves, IsOneOf}
 use Rattle.ul_problem.specs.Problems.{IsWellFormed}
+use Rattle.ul_problem.proofs.Decided.{best_list_once, first_taken_once, agreed_version, version_of_decided}
 use Rattle.ul_problem.proofs.Rules.{some_root, root_base, need_base}
 use Rattle.ul_problem.specs.declared.problem.Need.{Need}
-use Rattle.ul_problem.specs.Best.{Picks, order_of, is_decided, first_open, targets, wanted, next_of, Agrees, Extends, IsFirst, IsBestFrom, IsBest, version_in, IsTrailed, IsChain}
-
--- two first versions are one
-same_place : (p : Plain) (d : Picks) (n v w : ℕ) (a : IsFirst p d n v) (b : IsFirst p d n w) → (a.0 ≡ b.0) ⊎ ((a.0 < b.0) ⊎ (b.0 < a.0)) → v ≡ w
-same_place p d n v w a b (inl e) = same_Some v w (sym a.1 ∙ (ap (λ (i : ℕ). slice_get (order_of p n) i) e ∙ b.1))
-same_place p d n v w a b (inr (inl h)) = absurd (b.3 a.0 v h a.1 a.2)
-same_place p d n v w a b (inr (inr h)) = absurd (a.3 b.0 w h b.1 b.2)
-
-first_one : (p : Plain) (d : Picks) (n v w : ℕ) → IsFirst p d n v → IsFirst p d n w → v ≡ w
-first_one p d n v w a b = same_place p d n v w a b (cases_order a.0 b.0)
+use Rattle.ul_problem.specs.Best.{Picks, is_decided, first_open, targets, wanted, next_of, Agrees, Extends, IsFirst, IsBestFrom, IsBest, version_in, IsTrailed, IsChain}
 
 pub best_one_from : (p : Plain) (d xs ys : Picks) → IsBestFrom p d xs → IsBestFrom p d ys → xs ≡ ys
-best_one_from p d [] [] a b = refl
-best_one_from p d [] (y ∷ ys) a b = cc (a, b.0)
-best_one_from p d (x ∷ xs) [] a b = cc (a.0, b)
-best_one_from p d ((n, v) ∷ xs) ((m, w) ∷ ys) a b =
-    let en : n ≡ m = same_Some n m (sym a.0 ∙ b.0) in
-    let bf : IsFirst p d n w = subst (λ (k : ℕ). IsFirst p d k w) (sym en) b.1 in
-    let ev : v ≡ w = first_one p d n v w a.1 bf in
-    let e : ◌≡◌ {A = ℕ × ℕ} (n, v) (m, w) = λ i. (en i, ev i) in
-    let br : IsBestFrom p (d ++ (n, v) ∷ []) ys = subst (λ (x : ℕ × ℕ). IsBestFrom p (d ++ x ∷ []) ys) (sym e) b.2 in
-    let r : xs ≡ ys = best_one_from p (d ++ (n, v) ∷ []) xs ys a.2 br in
-    λ i. e i ∷ r i
+best_one_from p d xs ys a b =
+    best_list_once (λ e o. next_of p e ≡ o) (IsFirst p) (λ e o q f g. sym f ∙ g) (λ e k v w f g. first_taken_once (order_of p) (Extends p) e k v w f g) d xs ys a b
 
 -- a trail's list is best
 agrees_left : (σ : Selection) (xs ys : Picks) → Agrees σ (xs ++ ys) → Agrees σ xs
@@ -44,21 +27,11 @@ trailed_best p d (e ∷ rest) σ s a t =
     (t.0, (t.1.0, t.1.1, (σ, s, agrees_left σ (d ++ e ∷ []) rest more), t.1.2), trailed_best p (d ++ e ∷ []) rest σ s more t.2)
 
 -- a version that the list has is the selection's
-at_here : (σ : Selection) (e : ℕ × ℕ) (r : Option ℕ) (n v : ℕ) (b : Bool) → nat_eq e.0 n ≡ b → σ e.0 ≡ Some e.1 → (r ≡ Some v → σ n ≡ Some v) → cond b (Some e.1) r ≡ Some v → σ n ≡ Some v
-at_here σ e r n v true f h k g = subst (λ (m : ℕ). σ m ≡ Some v) (eqb-true e.0 n f) (h ∙ g)
-at_here σ e r n v false f h k g = k g
-
 agree_at : (σ : Selection) (d : Picks) (n v : ℕ) → Agrees σ d → version_in d n ≡ Some v → σ n ≡ Some v
-agree_at σ [] n v a h = cc
-agree_at σ (e ∷ d) n v a h = at_here σ e (version_in d n) n v (nat_eq e.0 n) refl a.0 (agree_at σ d n v a.1) h
-
-decided_here : (e : ℕ × ℕ) (r : Bool) (o : Option ℕ) (b : Bool) → (r ≡ true → (v : ℕ) × (o ≡ Some v)) → cond b true r ≡ true → (v : ℕ) × (cond b (Some e.1) o ≡ Some v)
-decided_here e r o true h k = (e.1, refl)
-decided_here e r o false h k = h k
+agree_at σ d n v a h = agreed_version nat_eq eqb-true σ d n v a h
 
 pub decided_version : (d : Picks) (n : ℕ) → is_decided n d ≡ true → (v : ℕ) × (version_in d n ≡ Some v)
-decided_version [] n h = cc
-decided_version (e ∷ d) n h = decided_here e (is_decided n d) (version_in d n) (nat_eq e.0 n) (decided_version d n) h
+decided_version d n h = version_of_decided nat_eq d n h
 
 -- a node that has a version by the list is one of the list's
 pick_here : (e : ℕ × ℕ) (d : Picks) (o : Option ℕ) (n v : ℕ) (b : Bool) → nat_eq e.0 n ≡ b → (o ≡ Some v → IsOneOf (n, v) d) → cond b (Some e.1) o ≡ Some v → IsOneOf (n, v) (e ∷ d)

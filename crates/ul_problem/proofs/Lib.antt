@@ -1,8 +1,12 @@
+pub mod ForCallers
 pub mod Rules
 pub mod Loops
+pub mod Halving
+pub mod Marking
 pub mod TermLaws
 pub mod Relations
 pub mod Soundness
+pub mod Decided
 pub mod BestLaws
 pub mod Merging
 pub mod Wholes

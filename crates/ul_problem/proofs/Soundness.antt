@@ -1,6 +1,8 @@
 -- A right step's terms are forbidden, and an accepted derivation leaves nothing that serves.
-use Rattle.std.proofs.Common.{◌≡◌, ℕ, zero, suc, List, [], ◌∷◌, ◌++◌, Bool, true, false, cond, not, Option, Some, None, refl, ap, ◌∙◌, sym, ◌<◌, ◌≤◌, ◌⊎◌, inl, inr, length, arith, nat_eq, nat_lt, eq-eqb, subst, slice_get}
+use Rattle.std.proofs.Common.{◌≡◌, ℕ, zero, suc, List, [], ◌∷◌, ◌++◌, Bool, true, false, cond, not, Option, Some, None, refl, ap, ◌∙◌, sym, ◌<◌, ◌≤◌, ◌⊎◌, inl, inr, length, arith, nat_eq, nat_lt, eq-eqb, subst, slice_get, append_assoc}
 use Rattle.std.proofs.lemmas.Bool.{eqb-true, ltb-true, ltb-false, true≢false}
+use Rattle.std.proofs.lemmas.List.{append-nil}
+use Rattle.std.proofs.lemmas.Option.{none-some}
 use Rattle.ul_ranges.specs.Flags.{has, is_blank}
 use Rattle.ul_problem.specs.Terms.{Selection, is_among, node_of, allows, holds, all_hold, meet_of, join_of, term_on, may_hold, IsOrdered}
 use Rattle.ul_problem.specs.Plain.{Plain, size_of, base_of, barred_of, needs_of}
@@ -191,6 +193,19 @@ at_end (z ∷ xs) y x (suc k) h = at_end xs y x k h
 
 pub sound_more : (p : Plain) (steps : List Step) (s : Step) → AreSound p steps → IsSound p s → AreSound p (steps ++ s ∷ [])
 sound_more p steps s known now k t e = elim (at_end steps s t k e) [ inl f ↦ known k t f | inr f ↦ subst (λ (u : Step). IsSound p u) f now ]
+
+sound_from : (p : Plain) (earlier steps : List Step) → AreSound p earlier → AreRightAfter p earlier steps → AreSound p (earlier ++ steps)
+sound_from p earlier [] h r = subst (AreSound p) (sym (append-nil earlier)) h
+sound_from p earlier (s ∷ ss) h r =
+    subst (AreSound p) (append_assoc earlier (s ∷ []) ss) (sound_from p (earlier ++ s ∷ []) ss (sound_more p earlier s h (step_sound p earlier s h r.0)) r.1)
+
+-- each of steps that are right one after another is sound
+pub all_sound : (p : Plain) (steps : List Step) → AreRightAfter p [] steps → AreSound p steps
+all_sound p steps r = sound_from p [] steps (λ k s e. absurd (none-some s e)) r
+
+-- no serving selection has all that a right step says
+pub right_forbids : (p : Plain) (earlier : List Step) (s : Step) → AreRightAfter p [] earlier → IsRight p earlier s → Forbids p (says p s)
+right_forbids p earlier s a r = (step_sound p earlier s (all_sound p earlier a) r).1
 
 -- the roots
 pub has_within : (s : List Bool) (k : ℕ) → has k s ≡ true → k < length s

@@ -3,7 +3,7 @@ use Rattle.std.proofs.Common.{◌≡◌, ℕ, List, [], ◌∷◌, Bool, true, f
 use Rattle.std.proofs.lemmas.Bool.{eqb-true}
 use Rattle.ul_ranges.specs.Flags.{has, is_blank}
 use Rattle.ul_ranges.proofs.FlagLaws.{has-both, has-either, has-less, blank_none}
-use Rattle.ul_problem.specs.Terms.{Selection, is_among, node_of, allows, holds, all_hold, meet_of, join_of, term_on, may_hold, IsOrdered, IsOrderedFrom}
+use Rattle.ul_problem.specs.Terms.{Selection, is_among, node_of, allows, holds, all_hold, meet_of, join_of, negation, term_on, may_hold, IsOrdered, IsOrderedFrom}
 use Rattle.ul_problem.specs.Steps.{written, met_terms}
 use Rattle.ul_problem.specs.declared.term.Term.{Term}
 use Rattle.ul_problem.specs.declared.term.Term.TheVariants.{In, NotIn}
@@ -65,6 +65,15 @@ allows-join (NotIn n s) (In m t) None = refl
 allows-join (NotIn n s) (In m t) (Some v) = ap not (has-less v s t) ∙ join_not_in (has v s) (has v t)
 allows-join (NotIn n s) (NotIn m t) None = refl
 allows-join (NotIn n s) (NotIn m t) (Some v) = ap not (has-both v s t) ∙ join_not_not (has v s) (has v t)
+
+not_not : (b : Bool) → b ≡ not (not b)
+not_not true = refl
+not_not false = refl
+
+-- a negation holds where the term doesn't
+pub allows-negation : (t : Term) (o : Option ℕ) → allows (negation t) o ≡ not (allows t o)
+allows-negation (In n s) o = refl
+allows-negation (NotIn n s) o = not_not (is_among o s)
 
 -- a term that is left out always holds
 written_not : (n : ℕ) (s : List Bool) (o : Option ℕ) (b : Bool) → is_blank s ≡ b → may_hold (cond b None (Some (NotIn n s))) o ≡ not (is_among o s)

@@ -220,7 +220,7 @@ two_level = sizes_agree
 abbrev pub AreWithin : Plain → List Step → Type 0
 AreWithin p steps = (k : ℕ) (s : Step) → slice_get steps k ≡ Some s → IsStepWithin p s
 
-right_within : (p : Plain) (earlier : List Step) (s : Step) → AreWithin p earlier → IsRight p earlier s → IsStepWithin p s
+pub right_within : (p : Plain) (earlier : List Step) (s : Step) → AreWithin p earlier → IsRight p earlier s → IsStepWithin p s
 right_within p earlier (NeedStep n s m w) h r = (r.0, r.1, r.2, r.3)
 right_within p earlier (Python n s) h r = (r.0, r.1)
 right_within p earlier (Base n s) h r = r

@@ -1,34 +1,24 @@
 -- The best selection, as the list of its decisions.
-use Rattle.std.specs.Prelude.{◌≡◌, ℕ, List, [], ◌∷◌, ◌++◌, Bool, true, false, cond, Option, Some, None, ◌<◌, nat_eq, slice_get}
+use Rattle.std.specs.Prelude.{◌≡◌, ℕ, List, [], ◌∷◌, ◌++◌, Bool, Option, Some, None, nat_eq, slice_get}
+use Rattle.ul_problem.specs.Decisions.{decided_version, first_undecided, is_key_decided, AgreesWith, AreAllPassed, IsBestListFrom, IsFirstTaken}
 use Rattle.ul_problem.specs.Terms.{Selection}
-use Rattle.ul_problem.specs.Plain.{Plain, node_at, needs_of}
+use Rattle.ul_problem.specs.Plain.{Plain, needs_of}
+pub use Rattle.ul_problem.specs.Plain.{order_of}
 use Rattle.ul_problem.specs.Serving.{Serves}
 use Rattle.ul_problem.specs.Problems.{IsWellFormed}
 use Rattle.ul_problem.specs.declared.problem.Need.{Need}
-use Rattle.ul_problem.specs.declared.problem.NodeFacts.{NodeFacts}
 
 -- a list of decisions, each a node and a version
 abbrev pub Picks : Type 0
 Picks = List (ℕ × ℕ)
 
--- the order of preference of what is known of a node
-abbrev pub order_in : Option NodeFacts → List ℕ
-order_in None = []
-order_in (Some f) = f.order
-
--- the order of preference of a node's versions
-abbrev pub order_of : Plain → ℕ → List ℕ
-order_of p n = order_in (node_at p n)
-
 -- the node is decided by the list
 abbrev pub is_decided : ℕ → Picks → Bool
-is_decided n [] = false
-is_decided n (e ∷ d) = cond (nat_eq e.0 n) true (is_decided n d)
+is_decided n d = is_key_decided nat_eq n d
 
 -- the first undecided node of a list
 abbrev pub first_open : Picks → List ℕ → Option ℕ
-first_open d [] = None
-first_open d (n ∷ ns) = cond (is_decided n d) (first_open d ns) (Some n)
+first_open d ns = first_undecided nat_eq d ns
 
 -- the targets of needs, in their order
 abbrev pub targets : List Need → List ℕ
@@ -46,25 +36,23 @@ next_of p d = first_open d (p.roots ++ wanted p d)
 
 -- the selection has every decided version
 abbrev pub Agrees : Selection → Picks → Type 0
-Agrees σ [] = Unit {0}
-Agrees σ (e ∷ d) = (σ e.0 ≡ Some e.1) × Agrees σ d
+Agrees σ d = AgreesWith σ d
 
 -- some serving selection extends the decisions
 abbrev pub Extends : Plain → Picks → Type 0
 Extends p d = (σ : Selection) × Serves p σ × Agrees σ d
 
--- no version before the place of v in the order can be taken
+-- no version before a place in the order can be taken
 abbrev pub ArePassed : Plain → Picks → ℕ → ℕ → Type 0
-ArePassed p d n i = (j w : ℕ) → j < i → slice_get (order_of p n) j ≡ Some w → Extends p (d ++ (n, w) ∷ []) → ⊥
+ArePassed p d n i = AreAllPassed (order_of p) (Extends p) d n i
 
 -- v is the first version in order that can be taken
 abbrev pub IsFirst : Plain → Picks → ℕ → ℕ → Type 0
-IsFirst p d n v = (i : ℕ) × (slice_get (order_of p n) i ≡ Some v) × Extends p (d ++ (n, v) ∷ []) × ArePassed p d n i
+IsFirst p d n v = IsFirstTaken (order_of p) (Extends p) d n v
 
 -- the rest of a best list, after decisions
 abbrev pub IsBestFrom : Plain → Picks → Picks → Type 0
-IsBestFrom p d [] = next_of p d ≡ None
-IsBestFrom p d (e ∷ rest) = (next_of p d ≡ Some e.0) × IsFirst p d e.0 e.1 × IsBestFrom p (d ++ e ∷ []) rest
+IsBestFrom p d rest = IsBestListFrom (λ e o. next_of p e ≡ o) (IsFirst p) d rest
 
 -- The list is the best.
 abbrev pub IsBest : Plain → Picks → Type 0
@@ -72,8 +60,7 @@ IsBest p d = IsBestFrom p [] d
 
 -- the version of a node by a list
 abbrev pub version_in : Picks → ℕ → Option ℕ
-version_in [] n = None
-version_in (e ∷ d) n = cond (nat_eq e.0 n) (Some e.1) (version_in d n)
+version_in d n = decided_version nat_eq d n
 
 -- What a finished trail shows: each decided version is the first that isn't passed over, with nothing said of what can be taken.
 abbrev pub IsTrailed : Plain → Picks → Picks → Type 0

@@ -1,7 +1,11 @@
 pub mod Plain
+pub mod Problems
+pub mod Finding
 pub mod Terms
 pub mod Serving
-pub mod Problems
 pub mod Steps
+pub mod Decisions
 pub mod Best
+pub mod Laws
+pub mod Marks
 pub mod Turns

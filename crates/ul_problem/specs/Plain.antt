@@ -48,3 +48,12 @@ needs_in (Some f) v = get_or f.needs v []
 -- the needs of a version
 abbrev pub needs_of : Plain → ℕ → ℕ → List Need
 needs_of p n v = needs_in (node_at p n) v
+
+-- the order of preference of what is known of a node
+abbrev pub order_in : Option NodeFacts → List ℕ
+order_in None = []
+order_in (Some f) = f.order
+
+-- the order of preference of a node's versions
+abbrev pub order_of : Plain → ℕ → List ℕ
+order_of p n = order_in (node_at p n)

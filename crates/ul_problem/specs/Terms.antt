@@ -54,6 +54,11 @@ join_of (In n s) (NotIn m t) = NotIn n (less t s)
 join_of (NotIn n s) (In m t) = NotIn n (less s t)
 join_of (NotIn n s) (NotIn m t) = NotIn n (both s t)
 
+-- the term that holds where this one doesn't
+abbrev pub negation : Term → Term
+negation (In n s) = NotIn n s
+negation (NotIn n s) = In n s
+
 -- wherever the known term holds the other does
 abbrev pub Tells : Term → Term → Type 0
 Tells known t = (o : Option ℕ) → allows known o ≡ true → allows t o ≡ true
@@ -111,3 +116,7 @@ JoinHolds = (t u : Term) (o : Option ℕ) → allows (join_of t u) o ≡ cond (a
 -- what `relation_of` says is so
 abbrev pub RelationIsExact : Type 0
 RelationIsExact = (known t : Term) → IsTold known t (relation_of known t)
+
+-- a negation holds of a pick where the term doesn't
+abbrev pub NegationHolds : Type 0
+NegationHolds = (t : Term) (o : Option ℕ) → allows (negation t) o ≡ not (allows t o)

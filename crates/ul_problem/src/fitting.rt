@@ -1,7 +1,8 @@
 //! The test of a problem's rules.
-ghost use Rattle.std.specs.Prelude.{◌≡◌, ◌<◌, ◌↔◌, [], All, IfOk, IsTrue, length, slice_get};
+ghost use Rattle.std.specs.Prelude.{◌≡◌, ◌<◌, ◌↔◌, [], false, All, IfOk, IsTrue, get_or, length, slice_get};
+ghost use Rattle.ul_problem.specs.Marks.{AreMarked, HasNoMark, IsNeedMarked};
 ghost use Rattle.ul_problem.specs.Plain.{base_in, size_in};
-ghost use Rattle.ul_problem.specs.Problems.{AllAre, AreNeeds, AreOneBase, HasBase, HasTarget, Increases, IsBaseOf, IsExtraOf, IsNeedAfter, IsNodeOf, IsOrderOf, IsSingle, IsWellFormed, NodeBefore, PlaceBefore, VersionBefore};
+ghost use Rattle.ul_problem.specs.Problems.{AllAre, AreNeeds, AreOneBase, HasBase, Increases, IsBaseOf, IsExtraOf, IsNodeOf, IsOrderOf, IsSingle, IsWellFormed, NodeBefore, PlaceBefore, VersionBefore};
 
 use crate::equality::same_versions;
 use crate::problem::{Need, NeedRow, NodeFacts, Problem};
@@ -11,7 +12,7 @@ use ul_ranges::Ordinals;
 use ul_version::Version;
 
 impl Problem {
-    /// Whether these roots and nodes make a problem, as `Problem::of` wants them.
+    /// Whether these roots and nodes make a problem, as `Problem::of` wants them, in time proportional to it.
     pub fn fits(alloc: Global, roots: &[u64], nodes: &[NodeFacts]) -> Result<bool, AllocError>
         ensures { IfOk result (λ b. IsTrue b ↔ IsWellFormed (record { roots = roots.now; nodes = nodes.now })) }
     {
@@ -22,7 +23,9 @@ impl Problem {
         {
             return Ok(false);
         }
-        are_nodes(alloc, nodes, nodes)
+        let mut marks = vec![in alloc; false; nodes.len()]?;
+        let fit = are_nodes(alloc, nodes, nodes, &mut marks)?;
+        Ok(fit)
     }
 }
 
@@ -152,19 +155,18 @@ fn is_order_of(alloc: Global, size: u32, order: &Vec<u32>) -> Result<bool, Alloc
     Ok(listed.same(&all))
 }
 
-fn has_target(needs: &[Need], target: u64) -> bool
-    ensures { IsTrue result ↔ HasTarget target needs.now }
+// Whether a target is marked.
+fn is_marked(marks: &[bool], target: u64) -> bool
+    ensures { result ≡ get_or marks.now target false }
 {
-    for need in needs {
-        if need.node == target {
-            return true;
-        }
+    match marks.get(target as usize) {
+        Some(mark) => *mark,
+        None => false,
     }
-    false
 }
 
-fn is_need_after(nodes: &[NodeFacts], earlier: &[Need], need: &Need) -> bool
-    ensures { IsTrue result ↔ IsNeedAfter nodes.now earlier.now need.now }
+fn is_need_after(nodes: &[NodeFacts], marks: &[bool], need: &Need) -> bool
+    ensures { IsTrue result ↔ IsNeedMarked nodes.now marks.now need.now }
 {
     if need.node as usize >= nodes.len()
         || need.permitted.size() as usize != size_at(nodes, need.node)
@@ -172,52 +174,94 @@ fn is_need_after(nodes: &[NodeFacts], earlier: &[Need], need: &Need) -> bool
         return false;
     }
     match base_at(nodes, need.node) {
-        Some(base) => has_target(earlier, base),
+        Some(base) => is_marked(marks, base),
         None => true,
     }
 }
 
-fn are_needs(nodes: &[NodeFacts], needs: &[Need]) -> bool
-    ensures { IsTrue result ↔ AreNeeds nodes.now needs.now }
+// Looks at the needs one after another, and marks the targets of those that it has passed.
+fn mark_needs(nodes: &[NodeFacts], needs: &[Need], marks: &mut Vec<bool>) -> bool
+    requires { HasNoMark (length nodes.now) marks.old.items }
+    ensures fits { IsTrue result ↔ AreNeeds nodes.now needs.now }
+    ensures marked { IsTrue result → AreMarked (length nodes.now) needs.now marks.new.items }
 {
     for k in 0..needs.len() {
-        if !is_need_after(nodes, &needs[..k], &needs[k]) {
+        let need = &needs[k];
+        if !is_need_after(nodes, marks, need) {
             return false;
         }
+        marks[need.node as usize] = true;
     }
     true
 }
 
-fn are_rows(nodes: &[NodeFacts], rows: &[NeedRow]) -> bool
-    ensures { IsTrue result ↔ AllAre (AreNeeds nodes.now) rows.now }
+// Clears the marks of the needs' targets.
+fn clear_marks(needs: &[Need], size: usize, marks: &mut Vec<bool>)
+    requires { AreMarked size needs.now marks.old.items }
+    ensures { HasNoMark size marks.new.items }
+{
+    for k in 0..needs.len() {
+        marks[needs[k].node as usize] = false;
+    }
+}
+
+fn are_needs(nodes: &[NodeFacts], needs: &[Need], marks: &mut Vec<bool>) -> bool
+    requires { HasNoMark (length nodes.now) marks.old.items }
+    ensures fits { IsTrue result ↔ AreNeeds nodes.now needs.now }
+    ensures clear { IsTrue result → HasNoMark (length nodes.now) marks.new.items }
+{
+    let fits = mark_needs(nodes, needs, marks);
+    if fits {
+        clear_marks(needs, nodes.len(), marks);
+    }
+    fits
+}
+
+fn are_rows(nodes: &[NodeFacts], rows: &[NeedRow], marks: &mut Vec<bool>) -> bool
+    requires { HasNoMark (length nodes.now) marks.old.items }
+    ensures fits { IsTrue result ↔ AllAre (AreNeeds nodes.now) rows.now }
+    ensures clear { IsTrue result → HasNoMark (length nodes.now) marks.new.items }
 {
     for row in rows {
-        if !are_needs(nodes, row.as_slice()) {
+        if !are_needs(nodes, row.as_slice(), marks) {
             return false;
         }
     }
     true
 }
 
-fn is_node_of(alloc: Global, nodes: &[NodeFacts], facts: &NodeFacts) -> Result<bool, AllocError>
-    ensures { IfOk result (λ b. IsTrue b ↔ IsNodeOf nodes.now facts.now) }
+fn is_node_of(
+    alloc: Global,
+    nodes: &[NodeFacts],
+    facts: &NodeFacts,
+    marks: &mut Vec<bool>,
+) -> Result<bool, AllocError>
+    requires { HasNoMark (length nodes.now) marks.old.items }
+    ensures fits { IfOk result (λ b. IsTrue b ↔ IsNodeOf nodes.now facts.now) }
+    ensures clear { IfOk result (λ b. IsTrue b → HasNoMark (length nodes.now) marks.new.items) }
 {
     let versions = facts.versions.as_slice();
     let rows = facts.needs.as_slice();
     if facts.barred.size() as usize != versions.len() || rows.len() != versions.len() {
         return Ok(false);
     }
-    if !versions_increase(versions) || !has_base(nodes, facts) || !are_rows(nodes, rows) {
+    if !versions_increase(versions) || !has_base(nodes, facts) || !are_rows(nodes, rows, marks) {
         return Ok(false);
     }
     is_order_of(alloc, facts.barred.size(), facts.order.as_vec())
 }
 
-fn are_nodes(alloc: Global, all: &[NodeFacts], nodes: &[NodeFacts]) -> Result<bool, AllocError>
+fn are_nodes(
+    alloc: Global,
+    all: &[NodeFacts],
+    nodes: &[NodeFacts],
+    marks: &mut Vec<bool>,
+) -> Result<bool, AllocError>
+    requires { HasNoMark (length all.now) marks.old.items }
     ensures { IfOk result (λ b. IsTrue b ↔ AllAre (IsNodeOf all.now) nodes.now) }
 {
     for facts in nodes {
-        if !is_node_of(alloc, all, facts)? {
+        if !is_node_of(alloc, all, facts, marks)? {
             return Ok(false);
         }
     }

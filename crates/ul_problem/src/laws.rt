@@ -1,5 +1,6 @@
 //! What the definitions say, as laws for all values. None of these functions does anything.
-ghost use Rattle.ul_problem.specs.Terms.{MeetHolds, JoinHolds, RelationIsExact};
+ghost use Rattle.ul_problem.specs.Laws.{RightForbids, RightIsWithin, WithinSays};
+ghost use Rattle.ul_problem.specs.Terms.{JoinHolds, MeetHolds, NegationHolds, RelationIsExact};
 ghost use Rattle.ul_problem.specs.Best.{BestIsOne, BestServes, TrailedIsBest};
 
 /// A met term holds where both do.
@@ -30,4 +31,17 @@ pub fn best_serves()
 /// A list whose picks are each the first version that nothing passes over is best where some serving selection has them all.
 pub fn trailed_is_best()
     ensures { TrailedIsBest }
+{}
+
+/// A negation holds where the term doesn't.
+pub fn negation_holds()
+    ensures { NegationHolds }
+{}
+
+/// A right step's places and sets are the problem's; what such a step says is an incompatibility of the problem's terms; and no
+/// serving selection has all that a right step says.
+pub fn right_steps()
+    ensures within { RightIsWithin }
+    ensures says { WithinSays }
+    ensures forbids { RightForbids }
 {}

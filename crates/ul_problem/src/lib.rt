@@ -3,6 +3,7 @@
 
 mod equality;
 pub mod examples;
+mod finding;
 mod fitting;
 mod incompat;
 pub mod laws;
@@ -19,6 +20,3 @@ pub use problem::{Need, NeedRow, NeedRows, NodeFacts, Problem};
 pub use resolving::resolvent;
 pub use step::{Derivation, Step};
 pub use term::{Relation, Term, Terms, same_terms, term_on};
-
-#[cfg(test)]
-mod tests;

@@ -1,5 +1,6 @@
 //! A problem: nodes with their versions, and what each version needs.
-ghost use Rattle.std.specs.Prelude.{◌≡◌};
+ghost use Rattle.std.specs.Prelude.{◌≡◌, ◌<◌, length};
+ghost use Rattle.ul_problem.specs.Plain.{base_of, needs_of, order_of, size_of};
 ghost use Rattle.ul_problem.specs.Problems.{IsWellFormed};
 
 use crate::lists::{Places, Versions};
@@ -147,5 +148,39 @@ impl Problem {
         ensures whole { IsWellFormed self.now }
     {
         self.nodes.as_slice()
+    }
+
+    /// How many versions a node has.
+    pub fn size_at(&self, node: u64) -> u32
+        requires { node < length self.now.nodes }
+        ensures { result ≡ size_of self.now node }
+    {
+        self.nodes()[node as usize].barred.size()
+    }
+
+    /// The place of a node's base, where the node has an extra.
+    pub fn base_at(&self, node: u64) -> Option<u64>
+        requires { node < length self.now.nodes }
+        ensures { result ≡ base_of self.now node }
+    {
+        self.nodes()[node as usize].base
+    }
+
+    /// The needs of a version.
+    pub fn needs_at(&self, node: u64, version: u32) -> &[Need]
+        requires node { node < length self.now.nodes }
+        requires version { version < size_of self.now node }
+        ensures { result.now ≡ needs_of self.now node version }
+    {
+        let rows = self.nodes()[node as usize].needs.as_slice();
+        rows[version as usize].as_slice()
+    }
+
+    /// The places of a node's versions in the order of preference.
+    pub fn order_at(&self, node: u64) -> &Vec<u32>
+        requires { node < length self.now.nodes }
+        ensures { result.now.items ≡ order_of self.now node }
+    {
+        self.nodes()[node as usize].order.as_vec()
     }
 }

@@ -1,7 +1,8 @@
 //! Steps of a derivation.
-ghost use Rattle.std.specs.Prelude.{◌≡◌};
+ghost use Rattle.std.specs.Prelude.{◌≡◌, IfOk};
 
 use crate::term::Terms;
+use std::alloc::{AllocError, Global};
 use std::marker::Model;
 use ul_ranges::Ordinals;
 
@@ -33,6 +34,59 @@ pub enum Step {
         node: u64,
         terms: Terms,
     },
+}
+
+impl Step {
+    /// An equal step.
+    pub fn copy(&self, alloc: Global) -> Result<Step, AllocError>
+        ensures { IfOk result (λ s. s ≡ self.now) }
+    {
+        match self {
+            Step::Need {
+                node,
+                versions,
+                target,
+                permitted,
+            } => {
+                let versions = versions.copy(alloc)?;
+                let permitted = permitted.copy(alloc)?;
+                Ok(Step::Need {
+                    node: *node,
+                    versions,
+                    target: *target,
+                    permitted,
+                })
+            }
+            Step::Python { node, versions } => {
+                let versions = versions.copy(alloc)?;
+                Ok(Step::Python {
+                    node: *node,
+                    versions,
+                })
+            }
+            Step::Base { node, versions } => {
+                let versions = versions.copy(alloc)?;
+                Ok(Step::Base {
+                    node: *node,
+                    versions,
+                })
+            }
+            Step::Cut {
+                left,
+                right,
+                node,
+                terms,
+            } => {
+                let terms = terms.copy(alloc)?;
+                Ok(Step::Cut {
+                    left: *left,
+                    right: *right,
+                    node: *node,
+                    terms,
+                })
+            }
+        }
+    }
 }
 
 /// The steps of a derivation.

@@ -1,7 +1,7 @@
 //! Terms on a node.
 ghost use Rattle.std.specs.Prelude.{◌≡◌, length, option_map, IfOk, IsTrue, ◌↔◌};
 ghost use Rattle.ul_problem.specs.Steps.{written};
-ghost use Rattle.ul_problem.specs.Terms.{node_of, set_of, meet_of, join_of, relation_of, relation_from_of, term_on};
+ghost use Rattle.ul_problem.specs.Terms.{node_of, set_of, meet_of, join_of, negation, relation_of, relation_from_of, term_on};
 
 use std::alloc::{AllocError, Global};
 use std::marker::Model;
@@ -216,36 +216,41 @@ impl Term {
         }
     }
 
-    /// What a known term tells of this one: that it holds, that it fails, or neither.
+    /// The term that holds where this one doesn't.
+    pub fn negation(&self, alloc: Global) -> Result<Term, AllocError>
+        ensures { IfOk result (λ t. t ≡ negation self.now) }
+    {
+        match self {
+            Term::In(node, set) => {
+                let set = set.copy(alloc)?;
+                Ok(Term::NotIn(*node, set))
+            }
+            Term::NotIn(node, set) => {
+                let set = set.copy(alloc)?;
+                Ok(Term::In(*node, set))
+            }
+        }
+    }
+
+    /// What a known term tells of this one: that it holds, that it fails, or neither. It takes no memory.
     ///
     /// A known term that never holds tells both, and the answer is then `Holds`.
-    pub fn relation(&self, alloc: Global, known: &Term) -> Result<Relation, AllocError>
+    pub fn relation(&self, known: &Term) -> Relation
         requires sizes { length (set_of self.now) ≡ length (set_of known.now) }
         requires nodes { node_of self.now ≡ node_of known.now }
-        ensures { IfOk result (λ r. r ≡ relation_of known.now self.now) }
+        ensures { result ≡ relation_of known.now self.now }
     {
         match known {
             Term::In(_, theirs) => match self {
-                Term::In(_, mine) => {
-                    let outside = theirs.less(alloc, mine)?;
-                    let inside = theirs.meet(alloc, mine)?;
-                    Ok(relation_from(outside.is_empty(), inside.is_empty()))
-                }
-                Term::NotIn(_, mine) => {
-                    let outside = theirs.less(alloc, mine)?;
-                    let inside = theirs.meet(alloc, mine)?;
-                    Ok(relation_from(inside.is_empty(), outside.is_empty()))
-                }
+                Term::In(_, mine) => relation_from(theirs.is_within(mine), theirs.is_apart(mine)),
+                Term::NotIn(_, mine) => relation_from(
+                    theirs.is_apart(mine),
+                    theirs.is_within(mine),
+                ),
             },
             Term::NotIn(_, theirs) => match self {
-                Term::In(_, mine) => {
-                    let outside = mine.less(alloc, theirs)?;
-                    Ok(relation_from(false, outside.is_empty()))
-                }
-                Term::NotIn(_, mine) => {
-                    let outside = mine.less(alloc, theirs)?;
-                    Ok(relation_from(outside.is_empty(), false))
-                }
+                Term::In(_, mine) => relation_from(false, mine.is_within(theirs)),
+                Term::NotIn(_, mine) => relation_from(mine.is_within(theirs), false),
             },
         }
     }

@@ -15,6 +15,7 @@ use Rattle.std.proofs.lemmas.Nat.{and_le_l, or_lt, pow_below}
 use Rattle.std.proofs.lemmas.Nat.Bits.{bit_at_and, bit_at_or, bit_at_not, bit_at-lt, bit_at-zero, bit_at_set_same, bit_at_set_other, bit_at_ones, bit_at_ones_above, shr_and_one, same_from_bits_below}
 use Rattle.ul_ranges.specs.Flags.{has, both, either, less, is_blank, is_within, set_of}
 use Rattle.ul_ranges.specs.Blocks.{flag, flag_at, flags_of, block_count, IsExact, AreBlocksOf}
+use Rattle.ul_ranges.specs.Marks.{HasMarked, IsFull}
 use Rattle.ul_ranges.proofs.FlagLaws.{has-both, has-either, has-less, length-both, length-either, length-less, blank_some, blank_none, same_sets}
 
 -- ---- one bit
@@ -106,7 +107,7 @@ has-flags_of size bs exact k =
     ]
 
 -- ---- an operation word by word
-word_at : (op : ℕ → ℕ → ℕ) → op 0 0 ≡ 0 → (a b : List ℕ) → length a ≡ length b
+pub word_at : (op : ℕ → ℕ → ℕ) → op 0 0 ≡ 0 → (a b : List ℕ) → length a ≡ length b
     → (j : ℕ) → get_or (map (λ (p : ℕ × ℕ). op p.0 p.1) (zip a b)) j 0 ≡ op (get_or a j 0) (get_or b j 0)
 word_at op z [] [] e j = sym z
 word_at op z [] (y ∷ ys) e j = cc
@@ -114,7 +115,7 @@ word_at op z (x ∷ xs) [] e j = cc
 word_at op z (x ∷ xs) (y ∷ ys) e zero = refl
 word_at op z (x ∷ xs) (y ∷ ys) e (suc j) = word_at op z xs ys (cc) j
 
-word_count : (op : ℕ → ℕ → ℕ) (a b : List ℕ) → length a ≡ length b → length (map (λ (p : ℕ × ℕ). op p.0 p.1) (zip a b)) ≡ length a
+pub word_count : (op : ℕ → ℕ → ℕ) (a b : List ℕ) → length a ≡ length b → length (map (λ (p : ℕ × ℕ). op p.0 p.1) (zip a b)) ≡ length a
 word_count op [] [] e = refl
 word_count op [] (y ∷ ys) e = cc
 word_count op (x ∷ xs) [] e = cc
@@ -129,11 +130,20 @@ pub record Paired (m n : ℕ) (a b : List ℕ) (s t : List Bool) : Type 0 where
   pub sizes : length s ≡ length t
 
 -- an operation on words that is one on flags
-record IsFlagwise (op : ℕ → ℕ → ℕ) (f : Bool → Bool → Bool) : Type 0 where
-  nothing : op 0 0 ≡ 0
-  no_flag : f false false ≡ false
-  fits : (x y : ℕ) → x < 2 ^ 64 → y < 2 ^ 64 → op x y < 2 ^ 64
-  each : (x y i : ℕ) → y < 2 ^ 64 → i < 64 → flag (op x y) i ≡ f (flag x i) (flag y i)
+pub record IsFlagwise (op : ℕ → ℕ → ℕ) (f : Bool → Bool → Bool) : Type 0 where
+  pub nothing : op 0 0 ≡ 0
+  pub no_flag : f false false ≡ false
+  pub fits : (x y : ℕ) → x < 2 ^ 64 → y < 2 ^ 64 → op x y < 2 ^ 64
+  pub each : (x y i : ℕ) → y < 2 ^ 64 → i < 64 → flag (op x y) i ≡ f (flag x i) (flag y i)
+
+pub and_flagwise : IsFlagwise bit_and (λ x y. cond x y false)
+and_flagwise = record { nothing = refl; no_flag = refl; fits = λ x y h _. let e = and_le_l x y in omega arith; each = λ x y i _ _. flag-and x y i }
+
+pub or_flagwise : IsFlagwise bit_or (λ x y. cond x true y)
+or_flagwise = record { nothing = refl; no_flag = refl; fits = λ x y g h. or_lt 64 x y g h; each = λ x y i _ _. flag-or x y i }
+
+pub less_flagwise : IsFlagwise (λ x y. bit_and x (bit_not w64 y)) (λ x y. cond y false x)
+less_flagwise = record { nothing = refl; no_flag = refl; fits = λ x y h _. let e = and_le_l x (bit_not w64 y) in omega arith; each = λ x y i h l. flag-and_not x y i h l }
 
 module _ (m n : ℕ) (a b : List ℕ) (s t : List Bool) (p : Paired m n a b s t) where
   size_of_left : length s ≡ m
@@ -180,21 +190,33 @@ module _ (m n : ℕ) (a b : List ℕ) (s t : List Bool) (p : Paired m n a b s t)
 
   pub meet_blocks : (r : List ℕ) → r ≡ map (λ p. bit_and p.0 p.1) (zip a b) → IsExact m r × (flags_of m r ≡ both s t)
   meet_blocks r e =
-      zipped bit_and (λ x y. cond x y false) (record { nothing = refl; no_flag = refl; fits = λ x y h _. let e = and_le_l x y in omega arith; each = λ x y i _ _. flag-and x y i })
+      zipped bit_and (λ x y. cond x y false) and_flagwise
       both (length-both s t p.sizes) (λ k. has-both k s t) r e
 
   pub join_blocks : (r : List ℕ) → r ≡ map (λ p. bit_or p.0 p.1) (zip a b) → IsExact m r × (flags_of m r ≡ either s t)
   join_blocks r e =
-      zipped bit_or (λ x y. cond x true y) (record { nothing = refl; no_flag = refl; fits = λ x y g h. or_lt 64 x y g h; each = λ x y i _ _. flag-or x y i })
+      zipped bit_or (λ x y. cond x true y) or_flagwise
       either (length-either s t p.sizes) (λ k. has-either k s t) r e
 
   pub less_blocks : (r : List ℕ) → r ≡ map (λ p. bit_and p.0 (bit_not w64 p.1)) (zip a b) → IsExact m r × (flags_of m r ≡ less s t)
   less_blocks r e =
-      zipped (λ x y. bit_and x (bit_not w64 y)) (λ x y. cond y false x) (record { nothing = refl; no_flag = refl; fits = λ x y h _. let e = and_le_l x (bit_not w64 y) in omega arith; each = λ x y i h l. flag-and_not x y i h l })
+      zipped (λ x y. bit_and x (bit_not w64 y)) (λ x y. cond y false x) less_flagwise
       less (length-less s t) (λ k. has-less k s t) r e
 
+-- an operation word by word on the blocks of two sets of one size
+zip_pair : (size : ℕ) (xs ys : List ℕ) → IsExact size xs → IsExact size ys → Paired size size xs ys (flags_of size xs) (flags_of size ys)
+zip_pair size xs ys a b = record { left = a; right = b; left_is = refl; right_is = refl; sizes = length-flags_of size xs ∙ sym (length-flags_of size ys) }
+
+pub zip_flag : (size : ℕ) (xs ys : List ℕ) (op : ℕ → ℕ → ℕ) (f : Bool → Bool → Bool) → IsFlagwise op f → IsExact size xs → IsExact size ys
+    → (k : ℕ) → flag_at (map (λ (p : ℕ × ℕ). op p.0 p.1) (zip xs ys)) k ≡ f (flag_at xs k) (flag_at ys k)
+zip_flag size xs ys op f w a b k = zipped_flag size size xs ys (flags_of size xs) (flags_of size ys) (zip_pair size xs ys a b) op f w k
+
+pub zip_exact : (size : ℕ) (xs ys : List ℕ) (op : ℕ → ℕ → ℕ) (f : Bool → Bool → Bool) → IsFlagwise op f → IsExact size xs → IsExact size ys
+    → IsExact size (map (λ (p : ℕ × ℕ). op p.0 p.1) (zip xs ys))
+zip_exact size xs ys op f w a b = zipped_exact size size xs ys (flags_of size xs) (flags_of size ys) (zip_pair size xs ys a b) op f w
+
 -- ---- emptiness
-all_zero : (xs : List ℕ) → list_all (λ x. eqb x 0) xs ≡ true → (j : ℕ) → get_or xs j 0 ≡ 0
+pub all_zero : (xs : List ℕ) → list_all (λ x. eqb x 0) xs ≡ true → (j : ℕ) → get_or xs j 0 ≡ 0
 all_zero [] h j = refl
 all_zero (x ∷ xs) h zero = eqb-true x 0 (and_parts (eqb x 0) (list_all (λ x. eqb x 0) xs) h).0
 all_zero (x ∷ xs) h (suc j) = all_zero xs (and_parts (eqb x 0) (list_all (λ x. eqb x 0) xs) h).1 j
@@ -203,9 +225,13 @@ zero_all : (xs : List ℕ) → ((j : ℕ) → get_or xs j 0 ≡ 0) → list_all 
 zero_all [] h = refl
 zero_all (x ∷ xs) h = rw (eq-eqb x 0 (h 0)) (zero_all xs (λ j. h (suc j)))
 
-all_clear : (a : List ℕ) → list_all (λ x. eqb x 0) a ≡ true → (k : ℕ) → flag_at a k ≡ false
+pub all_clear : (a : List ℕ) → list_all (λ x. eqb x 0) a ≡ true → (k : ℕ) → flag_at a k ≡ false
 unfolding flag_at
 all_clear a h k = ap (λ v. flag v (k % 64)) (all_zero a h (k / 64)) ∙ flag-zero (k % 64)
+
+pub clear_all : (size : ℕ) (a : List ℕ) → IsExact size a → ((k : ℕ) → flag_at a k ≡ false) → list_all (λ x. eqb x 0) a ≡ true
+clear_all size a exact c = zero_all a (λ j. same_word (get_or a j 0) 0 (exact.words j) (lit< tt)
+    (λ i h. sym (flag_at-place a j i h) ∙ c (64 * j + i) ∙ sym (flag-zero i)))
 
 pub blank_blocks : (m : ℕ) (a : List ℕ) (s : List Bool) → IsExact m a → flags_of m a ≡ s
     → list_all (λ x. eqb x 0) a ≡ is_blank s
@@ -239,7 +265,7 @@ blocks_of_set m a s exact is =
     }
 
 -- ---- inclusion
-all_of_map : (op : ℕ × ℕ → ℕ) (ps : List (ℕ × ℕ)) → list_all (λ p. eqb (op p) 0) ps ≡ list_all (λ x. eqb x 0) (map op ps)
+pub all_of_map : (op : ℕ × ℕ → ℕ) (ps : List (ℕ × ℕ)) → list_all (λ p. eqb (op p) 0) ps ≡ list_all (λ x. eqb x 0) (map op ps)
 all_of_map op [] = refl
 all_of_map op (p ∷ ps) = ap (λ b. eqb (op p) 0 && b) (all_of_map op ps)
 
@@ -250,13 +276,7 @@ within_blocks m n a b s t p =
     all_of_map (λ p. bit_and p.0 (bit_not w64 p.1)) (zip a b) ∙ blank_blocks m _ (less s t) r.0 r.1
 
 -- ---- a set made of a list of its members
--- the blocks of this size have the flags of these numbers and no others
-pub record HasMarked (size : ℕ) (blocks members : List ℕ) : Type 0 where
-  pub count : length blocks ≡ block_count size
-  pub words : (j : ℕ) → get_or blocks j 0 < 2 ^ 64
-  pub flags : (k : ℕ) → flag_at blocks k ≡ list_any (λ m. eqb m k) members
-
-or_false : (b : Bool) → (b || false) ≡ b
+pub or_false : (b : Bool) → (b || false) ≡ b
 or_false true = refl
 or_false false = refl
 
@@ -277,7 +297,7 @@ unmarked size bs n count is = rw is (record {
 })
 
 -- bit b of a word is set
-word_marked : (w b i : ℕ) → b < 64 → i < 64 → flag (bit_or w (1 * 2 ^ b % 2 ^ 64)) i ≡ (flag w i || eqb b i)
+pub word_marked : (w b i : ℕ) → b < 64 → i < 64 → flag (bit_or w (1 * 2 ^ b % 2 ^ 64)) i ≡ (flag w i || eqb b i)
 unfolding flag
 word_marked w b i h l =
     elim (cases_eq i b) [
@@ -341,16 +361,17 @@ of_unmarked size bs h = (
 )
 
 -- ---- a member
-pub has_block : (m : ℕ) (a : List ℕ) (s : List Bool) → IsExact m a → flags_of m a ≡ s → (k w : ℕ) → w ≡ get_or a (k / 64) 0
-    → eqb (bit_and (w / 2 ^ (k % 64)) 1) 1 ≡ has k s
+pub flag_read : (bs : List ℕ) (k w : ℕ) → w ≡ get_or bs (k / 64) 0 → eqb (bit_and (w / 2 ^ (k % 64)) 1) 1 ≡ flag_at bs k
 unfolding flag_at flag
-has_block m a s exact is k w e =
-    ap (λ v. eqb v 1) (shr_and_one w (k % 64)) ∙ ap (λ v. eqb (bit_at v (k % 64)) 1) e ∙ sym (has-flags_of m a exact k) ∙ ap (has k) is
+flag_read bs k w e = ap (λ v. eqb v 1) (shr_and_one w (k % 64)) ∙ ap (λ v. eqb (bit_at v (k % 64)) 1) e
 
-pub has_no_block : (m : ℕ) (a : List ℕ) (s : List Bool) → IsExact m a → flags_of m a ≡ s → (k : ℕ) → length a ≤ k / 64 → false ≡ has k s
+pub flag_unread : (bs : List ℕ) (k : ℕ) → length bs ≤ k / 64 → false ≡ flag_at bs k
 unfolding flag_at
-has_no_block m a s exact is k past =
-    sym (ap (λ v. flag v (k % 64)) (get_or_past a (k / 64) 0 past) ∙ flag-zero (k % 64)) ∙ sym (has-flags_of m a exact k) ∙ ap (has k) is
+flag_unread bs k past = sym (ap (λ v. flag v (k % 64)) (get_or_past bs (k / 64) 0 past) ∙ flag-zero (k % 64))
+
+pub bit_read : (w k : ℕ) → eqb (bit_and (w / 2 ^ k) 1) 1 ≡ flag w k
+unfolding flag
+bit_read w k = ap (λ v. eqb v 1) (shr_and_one w k)
 
 -- ---- equal sets
 pub equal_blocks : (m n : ℕ) (a b : List ℕ) (s t : List Bool) → IsExact m a → IsExact n b → flags_of m a ≡ s → flags_of n b ≡ t → (r : Bool) → m ≡ n
@@ -365,18 +386,11 @@ pub unequal_sizes : (m n : ℕ) (a b : List ℕ) (s t : List Bool) → flags_of 
 unequal_sizes m n a b s t p q f = sym (length-flags_of m a) ∙ ap length (p ∙ f ∙ sym q) ∙ length-flags_of n b
 
 -- ---- the set of all
--- the flags of these blocks are those below the size
-pub record IsFull (size : ℕ) (blocks : List ℕ) : Type 0 where
-  pub count : length blocks ≡ block_count size
-  pub words : (j : ℕ) → get_or blocks j 0 < 2 ^ 64
-  pub below : (k : ℕ) → k < size → flag_at blocks k ≡ true
-  pub above : (k : ℕ) → size ≤ k → flag_at blocks k ≡ false
-
-ones_below : (b i : ℕ) → i < b → flag (2 ^ b - 1) i ≡ true
+pub ones_below : (b i : ℕ) → i < b → flag (2 ^ b - 1) i ≡ true
 unfolding flag
 ones_below b i h = eq-eqb (bit_at (2 ^ b - 1) i) 1 (bit_at_ones b i h)
 
-ones_above : (b i : ℕ) → b ≤ i → flag (2 ^ b - 1) i ≡ false
+pub ones_above : (b i : ℕ) → b ≤ i → flag (2 ^ b - 1) i ≡ false
 unfolding flag
 ones_above b i h = ap (λ v. eqb v 1) (bit_at_ones_above b i h)
 

@@ -7,7 +7,7 @@ use Rattle.std.proofs.lemmas.List.Elements.{All-nil, All-cons, All-head, All-tai
 use Rattle.std.proofs.lemmas.List.{ext_get_or, get_or_past}
 use Rattle.std.proofs.lemmas.List.FromFn.{length-map-range_with_len, get_or-map-range_with_len}
 use Rattle.std.proofs.lemmas.List.Folds.{list_any_at}
-use Rattle.ul_ranges.specs.Flags.{has, both, either, less, is_blank, is_within, set_of}
+use Rattle.ul_ranges.specs.Flags.{has, both, either, less, is_apart, is_blank, is_within, set_of}
 
 pub cond_same : (b : Bool) → cond b false false ≡ false
 cond_same true = refl
@@ -84,6 +84,20 @@ pub within : (s t : List Bool) → IsTrue (is_within s t) ↔ ((k : ℕ) → IsT
 within s t = (
   λ e k. less_of_true (has k s) (has k t) (sym (has-less k s t) ∙ blank_none (less s t) e k),
   λ h. none_blank (less s t) (λ k. has-less k s t ∙ less_is_false (has k s) (has k t) (h k)),
+)
+
+both_is_false : (x y : Bool) → (x ≡ true → y ≡ false) → cond x y false ≡ false
+both_is_false true y h = h refl
+both_is_false false y h = refl
+
+both_of_true : (x y : Bool) → cond x y false ≡ false → x ≡ true → y ≡ false
+both_of_true true y e h = e
+both_of_true false y e h = cc
+
+pub apart : (s t : List Bool) → IsTrue (is_apart s t) ↔ ((k : ℕ) → IsTrue (has k s) → has k t ≡ false)
+apart s t = (
+  λ e k. both_of_true (has k s) (has k t) (sym (has-both k s t) ∙ blank_none (both s t) e k),
+  λ h. none_blank (both s t) (λ k. has-both k s t ∙ both_is_false (has k s) (has k t) (h k)),
 )
 
 -- ---- a set made of a list

@@ -1,5 +1,10 @@
+pub mod ForCallers
 pub mod FlagLaws
 pub mod BlockLaws
+pub mod FormLaws
+pub mod FormTests
+pub mod FormMaking
+pub mod WordLaws
 pub mod Merging
 pub mod PieceLaws
 pub mod PlainLaws

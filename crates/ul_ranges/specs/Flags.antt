@@ -1,6 +1,6 @@
 -- A finite set of numbers below a size, as its list of flags: flag k says whether k is in the set. So the size is the list's length,
 -- and two sets of one size are equal exactly where their lists are. The operations are those of sets, flag by flag.
-use Rattle.std.specs.Prelude.{ℕ, ◌==◌, List, [], ◌∷◌, Bool, true, false, cond, Option, get_or, map, find}
+use Rattle.std.specs.Prelude.{◌≡◌, ℕ, ◌==◌, ◌<◌, ◌≤◌, List, [], ◌∷◌, Bool, true, false, cond, Option, Some, None, get_or, map, find}
 use Rattle.std.specs.List.{range_with_len, list_any}
 
 -- whether the set has k; no set has a number past its size
@@ -41,3 +41,17 @@ set_of size members = map (λ k. list_any (λ m. m == k) members) (range_with_le
 -- the first of a list of numbers that is in the set
 abbrev pub first_in : List ℕ → List Bool → Option ℕ
 first_in order s = find (λ k. has k s) order
+
+-- no number is in both
+abbrev pub is_apart : List Bool → List Bool → Bool
+is_apart s t = is_blank (both s t)
+
+-- the first number from `from` on with its flag set, where there is one
+abbrev pub IsNext : (ℕ → Bool) → ℕ → Option ℕ → Type 0
+IsNext flags from None = (k : ℕ) → from ≤ k → flags k ≡ false
+IsNext flags from (Some member) =
+    (from ≤ member) × (flags member ≡ true) × ((k : ℕ) → from ≤ k → k < member → flags k ≡ false)
+
+-- the first member from `from` on, where there is one
+abbrev pub IsNextMember : List Bool → ℕ → Option ℕ → Type 0
+IsNextMember s from found = IsNext (λ k. has k s) from found

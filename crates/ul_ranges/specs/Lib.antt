@@ -1,3 +1,5 @@
 pub mod Flags
 pub mod Blocks
+pub mod Marks
+pub mod Forms
 pub mod Pieces

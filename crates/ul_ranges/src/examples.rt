@@ -1,6 +1,6 @@
 //! Worked examples of the definitions. None of these functions does anything.
 ghost use Rattle.std.specs.Prelude.{◌≡◌, ◌+◌, ◌*◌, ◌^◌, ◌-◌, [], ◌∷◌, true, false, Some, None, replicate};
-ghost use Rattle.ul_ranges.specs.Flags.{has, both, either, less, is_blank, is_within, set_of, first_in};
+ghost use Rattle.ul_ranges.specs.Flags.{has, both, either, less, is_apart, is_blank, is_within, set_of, first_in};
 ghost use Rattle.ul_ranges.specs.Blocks.{block_count, flags_of, IsExact};
 ghost use Rattle.ul_ranges.specs.Pieces.{AreStarts, IsPiece, IsRefinement};
 
@@ -15,6 +15,8 @@ pub fn sets()
     ensures filled { is_blank (set_of 65 (64 ∷ [])) ≡ false }
     ensures within { is_within (set_of 5 (3 ∷ [])) (set_of 5 (1 ∷ 3 ∷ [])) ≡ true }
     ensures without { is_within (set_of 5 (1 ∷ 3 ∷ [])) (set_of 5 (3 ∷ [])) ≡ false }
+    ensures apart { is_apart (set_of 5 (1 ∷ 3 ∷ [])) (set_of 5 (4 ∷ [])) ≡ true }
+    ensures meeting { is_apart (set_of 5 (1 ∷ 3 ∷ [])) (set_of 5 (3 ∷ [])) ≡ false }
     ensures past { has 5 (set_of 5 (1 ∷ 3 ∷ [])) ≡ false }
     ensures first { first_in (4 ∷ 3 ∷ 1 ∷ []) (set_of 5 (1 ∷ 3 ∷ [])) ≡ Some 3 }
     ensures absent { first_in (4 ∷ 2 ∷ 7 ∷ []) (set_of 5 (1 ∷ 3 ∷ [])) ≡ None }

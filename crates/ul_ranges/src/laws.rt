@@ -1,6 +1,6 @@
 //! What the definitions of sets and pieces say, as laws for all values. None of these functions does anything.
 ghost use Rattle.std.specs.Prelude.{◌≡◌, ◌+◌, ◌*◌, ◌<◌, ◌≤◌, ◌↔◌, ℕ, List, [], ◌∷◌, Bool, true, false, cond, length, Contains, IsTrue, Option, Some, None, All, ◌++◌, ◌^◌};
-ghost use Rattle.ul_ranges.specs.Flags.{has, both, either, less, is_blank, is_within, set_of, first_in};
+ghost use Rattle.ul_ranges.specs.Flags.{has, both, either, less, is_apart, is_blank, is_within, set_of, first_in};
 ghost use Rattle.ul_ranges.specs.Pieces.{AreStarts, IsPiece, IsRefinement};
 
 /// No member is past the size, and two sets of one size with the same members are equal.
@@ -20,10 +20,12 @@ pub fn operations()
     ensures less_size { (s t : List Bool) → length (less s t) ≡ length s }
 {}
 
-/// A set is blank exactly where it has no member, and within another exactly where each member is one of the other's.
+/// A set is blank exactly where it has no member, within another exactly where each member is one of the other's, and apart from it
+/// exactly where none is.
 pub fn tests()
     ensures blank { (s : List Bool) → IsTrue (is_blank s) ↔ ((k : ℕ) → has k s ≡ false) }
     ensures member { (s : List Bool) → is_blank s ≡ false → (k : ℕ) × IsTrue (has k s) }
+    ensures disjoint { (s t : List Bool) → IsTrue (is_apart s t) ↔ ((k : ℕ) → IsTrue (has k s) → has k t ≡ false) }
     ensures inclusion { (s t : List Bool) → IsTrue (is_within s t) ↔ ((k : ℕ) → IsTrue (has k s) → IsTrue (has k t)) }
 {}
 

@@ -6,12 +6,12 @@
 
 mod cuts;
 pub mod examples;
+mod forms;
 pub mod laws;
 mod ordinals;
 pub mod plain;
+mod shared;
+mod words;
 
 pub use cuts::Cuts;
 pub use ordinals::Ordinals;
-
-#[cfg(test)]
-mod tests;

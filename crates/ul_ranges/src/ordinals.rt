@@ -1,29 +1,30 @@
-//! Sets of the numbers below a size, in blocks of 64 bits. Contracts see a set as its list of flags.
-ghost use Rattle.std.specs.Prelude.{◌≡◌, ◌*◌, ◌<◌, ◌↔◌, ℕ, List, Bool, true, false, length, IfOk, All, IsTrue, map, zip, bit_and, bit_or, replicate, ◌==◌};
-ghost use Rattle.std.specs.Int.{bit_not, w64};
-ghost use Rattle.std.specs.List.{list_all};
-ghost use Rattle.ul_ranges.specs.Flags.{has, both, either, less, is_blank, is_within, set_of, first_in};
+//! Sets of the numbers below a size. Contracts see a set as its list of flags.
+ghost use Rattle.std.specs.Prelude.{◌≡◌, ◌<◌, ◌↔◌, ℕ, List, [], ◌∷◌, Bool, true, false, length, IfOk, IfErr, All, IsTrue, replicate};
+ghost use Rattle.ul_ranges.specs.Flags.{has, both, either, less, is_apart, is_blank, is_within, set_of, first_in, IsNextMember};
 ghost use Rattle.ul_ranges.specs.Blocks.{AreBlocksOf};
 
+use crate::forms;
+use crate::forms::Form;
 use std::alloc::{AllocError, Global};
 use std::marker::Model;
 
-/// A set of numbers below its size.
+/// A set of numbers below its size. A set of at most 64 numbers takes no memory, nor does one of a single member; larger ones share
+/// their blocks, so that a copy is a count.
 #[derive(Debug, Drop)]
 pub struct Ordinals {
     size: u32,
-    blocks: Vec<u64>,
+    form: Form,
 }
 
 impl Model for Ordinals {
     ghost use Rattle.std.specs.Prelude.{List, Bool};
-    ghost use Rattle.ul_ranges.specs.Blocks.{flags_of, IsExact};
+    ghost use Rattle.ul_ranges.specs.Forms.{flags_in, IsForm};
 
     ghost Value = { List Bool };
 
-    ghost view = { λ s. flags_of s.size s.blocks.items };
+    ghost view = { λ s. flags_in s.size s.form };
 
-    ghost invariant = { λ s. IsExact s.size s.blocks.items };
+    ghost invariant = { λ s. IsForm s.size s.form };
 }
 
 impl Ordinals {
@@ -34,28 +35,32 @@ impl Ordinals {
         self.size
     }
 
-    /// The kept blocks: block k has bit i exactly where 64k + i is a member, and no bit past the size is set.
-    pub fn blocks(&self) -> &[u64]
-        ensures { AreBlocksOf self.now result.now }
+    /// The blocks: block k has bit i exactly where 64k + i is a member, and no bit past the size is set.
+    pub fn blocks(&self, alloc: Global) -> Result<Vec<u64>, AllocError>
+        ensures { IfOk result (λ v. AreBlocksOf self.now v.items) }
     {
-        self.blocks.as_slice()
+        forms::block_list(alloc, self.size, &self.form)
     }
 
     /// Whether the set has `k`; past the size it has none.
     pub fn has(&self, k: u32) -> bool
         ensures { result ≡ has k self.now }
     {
-        match self.blocks.as_slice().get(k as usize / 64) {
-            Some(block) => *block >> (k % 64) & 1 == 1,
-            None => false,
-        }
+        forms::has_in(&self.form, k)
+    }
+
+    /// The first member from `k` on, if there is one: so the members are walked in increasing order, in time by blocks.
+    pub fn next_from(&self, k: u32) -> Option<u32>
+        ensures { IsNextMember self.now k result }
+    {
+        forms::next_in(&self.form, self.size, k)
     }
 
     /// Whether the set has no member.
     pub fn is_empty(&self) -> bool
         ensures { result ≡ is_blank self.now }
     {
-        are_zero(self.blocks.as_slice())
+        forms::is_empty(&self.form)
     }
 
     /// The first of `order` that is in the set; `None` exactly where none of them is.
@@ -69,7 +74,7 @@ impl Ordinals {
     pub fn same(&self, other: &Ordinals) -> bool
         ensures { IsTrue result ↔ (self.now ≡ other.now) }
     {
-        self.size == other.size && self.blocks.as_slice() == other.blocks.as_slice()
+        self.size == other.size && forms::same(&self.form, &other.form)
     }
 
     /// Whether each member is a member of `other`.
@@ -77,7 +82,15 @@ impl Ordinals {
         requires { length self.now ≡ length other.now }
         ensures { result ≡ is_within self.now other.now }
     {
-        are_within(self.blocks.as_slice(), other.blocks.as_slice())
+        forms::is_within(&self.form, &other.form)
+    }
+
+    /// Whether no number is in both.
+    pub fn is_apart(&self, other: &Ordinals) -> bool
+        requires { length self.now ≡ length other.now }
+        ensures { result ≡ is_apart self.now other.now }
+    {
+        forms::is_apart(&self.form, &other.form)
     }
 
     /// The members of both.
@@ -85,10 +98,10 @@ impl Ordinals {
         requires { length self.now ≡ length other.now }
         ensures { IfOk result (λ s. s ≡ both self.now other.now) }
     {
-        let blocks = met(alloc, self.blocks.as_slice(), other.blocks.as_slice())?;
+        let form = forms::meet(alloc, self.size, &self.form, &other.form)?;
         Ok(Ordinals {
             size: self.size,
-            blocks,
+            form,
         })
     }
 
@@ -97,10 +110,10 @@ impl Ordinals {
         requires { length self.now ≡ length other.now }
         ensures { IfOk result (λ s. s ≡ either self.now other.now) }
     {
-        let blocks = joined(alloc, self.blocks.as_slice(), other.blocks.as_slice())?;
+        let form = forms::join(alloc, self.size, &self.form, &other.form)?;
         Ok(Ordinals {
             size: self.size,
-            blocks,
+            form,
         })
     }
 
@@ -109,22 +122,64 @@ impl Ordinals {
         requires { length self.now ≡ length other.now }
         ensures { IfOk result (λ s. s ≡ less self.now other.now) }
     {
-        let blocks = lessened(alloc, self.blocks.as_slice(), other.blocks.as_slice())?;
+        let form = forms::less(alloc, self.size, &self.form, &other.form)?;
         Ok(Ordinals {
             size: self.size,
-            blocks,
+            form,
         })
     }
 
-    /// An equal set.
+    /// An equal set, which shares the blocks.
     pub fn copy(&self, alloc: Global) -> Result<Ordinals, AllocError>
         ensures { IfOk result (λ s. s ≡ self.now) }
     {
-        let blocks = Vec::from_slice(alloc, self.blocks.as_slice())?;
+        let form = forms::copy(alloc, &self.form)?;
         Ok(Ordinals {
             size: self.size,
-            blocks,
+            form,
         })
+    }
+
+    /// Leaves the members of both. It takes no memory where no other set shares the blocks, and after an `Err` the set is as it was.
+    pub fn put_meet(&mut self, alloc: Global, other: &Ordinals) -> Result<(), AllocError>
+        requires { length self.old ≡ length other.now }
+        ensures ok { IfOk result (λ _. self.new ≡ both self.old other.now) }
+        ensures err { IfErr result (λ _. self.new ≡ self.old) }
+    {
+        forms::put_meet(alloc, self.size, &mut self.form, &other.form)?;
+        Ok(())
+    }
+
+    /// Adds the members of `other`. It takes no memory where no other set shares the blocks, and after an `Err` the set is as it was.
+    pub fn put_join(&mut self, alloc: Global, other: &Ordinals) -> Result<(), AllocError>
+        requires { length self.old ≡ length other.now }
+        ensures ok { IfOk result (λ _. self.new ≡ either self.old other.now) }
+        ensures err { IfErr result (λ _. self.new ≡ self.old) }
+    {
+        forms::put_join(alloc, self.size, &mut self.form, &other.form)?;
+        Ok(())
+    }
+
+    /// Leaves the members that `other` lacks. It takes no memory where no other set shares the blocks, and after an `Err` the set is
+    /// as it was.
+    pub fn put_less(&mut self, alloc: Global, other: &Ordinals) -> Result<(), AllocError>
+        requires { length self.old ≡ length other.now }
+        ensures ok { IfOk result (λ _. self.new ≡ less self.old other.now) }
+        ensures err { IfErr result (λ _. self.new ≡ self.old) }
+    {
+        forms::put_less(alloc, self.size, &mut self.form, &other.form)?;
+        Ok(())
+    }
+
+    /// The set of one number below `size`. It takes no memory.
+    pub fn one(size: u32, k: u32) -> Ordinals
+        requires { k < size }
+        ensures { result ≡ set_of size (k ∷ []) }
+    {
+        Ordinals {
+            size,
+            form: forms::one(size, k),
+        }
     }
 
     /// The set of the numbers of a list, each below `size`. A number may stand there more than once.
@@ -132,68 +187,25 @@ impl Ordinals {
         requires { All (λ m. m < size) members.now.items }
         ensures { IfOk result (λ s. s ≡ set_of size members.now.items) }
     {
-        let mut blocks = vec![in alloc; 0u64; size.div_ceil(64) as usize]?;
-        for member in members {
-            blocks[*member as usize / 64] |= 1u64 << (*member % 64);
-        }
-        Ok(Ordinals { size, blocks })
+        let form = forms::of_list(alloc, size, members)?;
+        Ok(Ordinals { size, form })
     }
 
     /// The set of this size with no member.
-    pub fn none(alloc: Global, size: u32) -> Result<Ordinals, AllocError>
+    pub fn none(_alloc: Global, size: u32) -> Result<Ordinals, AllocError>
         ensures { IfOk result (λ s. s ≡ replicate size false) }
     {
-        let blocks = vec![in alloc; 0u64; size.div_ceil(64) as usize]?;
-        Ok(Ordinals { size, blocks })
+        Ok(Ordinals {
+            size,
+            form: forms::none(size),
+        })
     }
 
     /// The set of all the numbers below `size`.
     pub fn all(alloc: Global, size: u32) -> Result<Ordinals, AllocError>
         ensures { IfOk result (λ s. s ≡ replicate size true) }
     {
-        let mut blocks = vec![in alloc; u64::MAX; size.div_ceil(64) as usize]?;
-        if size % 64 != 0 {
-            blocks[size as usize / 64] = (1u64 << (size % 64)) - 1;
-        }
-        Ok(Ordinals { size, blocks })
+        let form = forms::all(alloc, size)?;
+        Ok(Ordinals { size, form })
     }
-}
-
-fn are_zero(xs: &[u64]) -> bool
-    ensures { result ≡ list_all (λ x. x == 0) xs.now }
-{
-    xs.iter().all(|x| *x == 0)
-}
-
-fn met(alloc: Global, xs: &[u64], ys: &[u64]) -> Result<Vec<u64>, AllocError>
-    ensures { IfOk result (λ v. v.items ≡ map (λ p. bit_and p.0 p.1) (zip xs.now ys.now)) }
-{
-    xs.iter()
-        .zip(ys.iter())
-        .map(|(x, y)| *x & *y)
-        .collect(alloc)
-}
-
-fn joined(alloc: Global, xs: &[u64], ys: &[u64]) -> Result<Vec<u64>, AllocError>
-    ensures { IfOk result (λ v. v.items ≡ map (λ p. bit_or p.0 p.1) (zip xs.now ys.now)) }
-{
-    xs.iter()
-        .zip(ys.iter())
-        .map(|(x, y)| *x | *y)
-        .collect(alloc)
-}
-
-fn lessened(alloc: Global, xs: &[u64], ys: &[u64]) -> Result<Vec<u64>, AllocError>
-    ensures { IfOk result (λ v. v.items ≡ map (λ p. bit_and p.0 (bit_not w64 p.1)) (zip xs.now ys.now)) }
-{
-    xs.iter()
-        .zip(ys.iter())
-        .map(|(x, y)| *x & !*y)
-        .collect(alloc)
-}
-
-fn are_within(xs: &[u64], ys: &[u64]) -> bool
-    ensures { result ≡ list_all (λ p. bit_and p.0 (bit_not w64 p.1) == 0) (zip xs.now ys.now) }
-{
-    xs.iter().zip(ys.iter()).all(|(x, y)| *x & !*y == 0)
 }

@@ -5,3 +5,5 @@
 
 #[cfg(test)]
 mod base;
+#[cfg(test)]
+mod version;

@@ -7,7 +7,7 @@ use Rattle.ul_specifier.specs.Reading.{after_all, before_all, operator, starred,
 use Rattle.ul_specifier.specs.Vectors.{Meetings, NoReadings, Readings, Summaries, is_met, lower_of, names_pre_in, pins_in}
 
 pub meetings : Meetings
-unfolding after_white before_white after_word digits after_digits value_after number needed marked epoch points release pre post dev segment segments local fields_of version_of after_all before_all operator starred unstarred clause_after clause_with clause_of clauses_of specifiers_of padded release_cmp has_release_front version_cmp meets_clause is_met lower_of names_pre_in pins_in
+unfolding after_white before_white after_word digits after_digits value_after number needed marked epoch points release pre post dev segment segments local fields_of version_of operator starred unstarred clause_after clause_with clause_of clauses_of specifiers_of padded release_cmp has_release_front version_cmp meets_clause is_met lower_of names_pre_in pins_in
 meetings = record {
   local_of_equal = refl;
   local_of_unequal = refl;
@@ -31,7 +31,7 @@ meetings = record {
 }
 
 pub readings : Readings
-unfolding after_white before_white after_word digits after_digits value_after number needed marked epoch points release pre post dev segment segments local fields_of version_of after_all before_all operator starred unstarred clause_after clause_with clause_of clauses_of specifiers_of
+unfolding after_white before_white after_word digits after_digits value_after number needed marked epoch points release pre post dev segment segments local fields_of version_of operator starred unstarred clause_after clause_with clause_of clauses_of specifiers_of
 readings = record {
   empty = refl;
   two = refl;
@@ -43,7 +43,7 @@ readings = record {
 }
 
 pub no_readings : NoReadings
-unfolding after_white before_white after_word digits after_digits value_after number needed marked epoch points release pre post dev segment segments local fields_of version_of after_all before_all operator starred unstarred clause_after clause_with clause_of clauses_of specifiers_of
+unfolding after_white before_white after_word digits after_digits value_after number needed marked epoch points release pre post dev segment segments local fields_of version_of operator starred unstarred clause_after clause_with clause_of clauses_of specifiers_of
 no_readings = record {
   three_signs = refl;
   one_number = refl;
@@ -68,7 +68,7 @@ no_readings = record {
 }
 
 pub summaries : Summaries
-unfolding after_white before_white after_word digits after_digits value_after number needed marked epoch points release pre post dev segment segments local fields_of version_of after_all before_all operator starred unstarred clause_after clause_with clause_of clauses_of specifiers_of padded release_cmp has_release_front version_cmp meets_clause is_met lower_of names_pre_in pins_in
+unfolding after_white before_white after_word digits after_digits value_after number needed marked epoch points release pre post dev segment segments local fields_of version_of operator starred unstarred clause_after clause_with clause_of clauses_of specifiers_of padded release_cmp has_release_front version_cmp meets_clause is_met lower_of names_pre_in pins_in
 summaries = record {
   bounds = refl;
   no_bounds = refl;

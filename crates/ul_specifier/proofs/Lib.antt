@@ -1,8 +1,10 @@
 pub mod Lists
-pub mod Fronts
 pub mod Public
 pub mod LowerBounds
 pub mod Texts
 pub mod Faults
 pub mod Examples
 pub mod LawProofs
+pub mod Spelled
+pub mod EachRead
+pub mod ForCallers

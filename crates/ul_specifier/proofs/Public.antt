@@ -9,7 +9,7 @@ use Rattle.std.specs.declared.cmp.Ordering.TheVariants as Answer
 use Rattle.ul_version.specs.Fields.{Fields, without_local, is_pre_of, is_post_of, plain}
 use Rattle.ul_version.specs.Order.{version_cmp, release_cmp, local_cmp, pre_place, post_place, dev_place, place_cmp}
 use Rattle.ul_version.specs.declared.fields.Segment.{Segment}
-use Rattle.ul_version.proofs.OrderLaws.{version_ties}
+use Rattle.ul_version.proofs.ForCallers.{version_ties}
 use Rattle.ul_specifier.specs.Clauses.{ClauseFields, IsClause, has_local, is_filled, is_equality, is_bare}
 use Rattle.ul_specifier.specs.Meaning.{matches, is_more, is_less, is_of_release, meets_op, meets_clause}
 use Rattle.ul_specifier.specs.Public.{own_op, public_matches, public_op}

@@ -13,80 +13,20 @@ use Rattle.std.specs.Str.{IsUtf8}
 use Rattle.std.specs.List.{list_all, slice_split}
 use Rattle.ul_version.specs.Fields.{Fields, IsVersion}
 use Rattle.ul_version.specs.Reading.{◌>>=◌, version_of}
-use Rattle.ul_version.proofs.Cuts.{bind_some}
-use Rattle.ul_version.proofs.Spelling.{cond_some}
-use Rattle.ul_version.proofs.LawProofs.{versions}
+use Rattle.ul_version.proofs.ForCallers.{bind_some, cond_some, versions}
 use Rattle.ul_specifier.specs.Clauses.{ClauseFields, IsClause, has_local, is_bare, is_compatible, is_equality}
 use Rattle.ul_specifier.specs.Reading.{after_all, before_all, unless_last, is_version_byte, is_comma, listed, clause_of, clauses_of, clause_after, clause_with, version_clause, before_end, starred, unstarred, star_of, may_stand, operator, specifiers_of}
 use Rattle.ul_specifier.specs.declared.clause.Op.{Op}
 use Rattle.ul_specifier.specs.declared.clause.Op.TheVariants.{Equal, Unequal, AtLeast, AtMost, More, Less, Compatible}
 use Rattle.ul_specifier.proofs.Public.{bare_no_local}
 
--- ---- white space
+-- ---- the end of a text
 
-pub after_all-skip : (test : ℕ → Bool) (xs : List ℕ) (i : ℕ) → i < length xs → test (get_or xs i 0) ≡ true → after_all test (drop i xs) ≡ after_all test (drop (i + 1) xs)
-unfolding after_all
-after_all-skip test xs i h w = rw (drop_more xs i 0 h, w) refl
-
-pub after_all-stop : (test : ℕ → Bool) (xs : List ℕ) (i : ℕ) → i < length xs → test (get_or xs i 0) ≡ false → after_all test (drop i xs) ≡ drop i xs
-unfolding after_all
-after_all-stop test xs i h w = rw (drop_more xs i 0 h, w) refl
-
-pub after_all-end : (test : ℕ → Bool) (xs : List ℕ) (i : ℕ) → length xs ≤ i → after_all test (drop i xs) ≡ drop i xs
-unfolding after_all
-after_all-end test xs i h = rw (drop_all i xs h) refl
-
-before_all-push : (test : ℕ → Bool) (xs : List ℕ) (b : ℕ) → test b ≡ true → before_all test (xs ++ b ∷ []) ≡ before_all test xs
-unfolding before_all
-before_all-push test [] b w = rw w refl
-before_all-push test (x ∷ xs) b w = ap (unless_last test x) (before_all-push test xs b w)
-
-before_all-kept : (test : ℕ → Bool) (xs : List ℕ) (b : ℕ) → test b ≡ false → before_all test (xs ++ b ∷ []) ≡ xs ++ b ∷ []
-unfolding before_all
+-- a last byte that isn't dropped keeps the text whole
+pub before_all-kept : (test : ℕ → Bool) (xs : List ℕ) (b : ℕ) → test b ≡ false → before_all test (xs ++ b ∷ []) ≡ xs ++ b ∷ []
 before_all-kept test [] b w = rw w refl
 before_all-kept test (x ∷ []) b w = rw w refl
 before_all-kept test (x ∷ y ∷ xs) b w = rw (before_all-kept test (y ∷ xs) b w) refl
-
--- the last of the first n bytes passes the test, or doesn't
-pub before_all-skip : (test : ℕ → Bool) (xs : List ℕ) (n k : ℕ) → n ≡ k + 1 → n ≤ length xs → test (get_or xs k 0) ≡ true
-    → before_all test (take n xs) ≡ before_all test (take k xs)
-before_all-skip test xs n k e h w = rw e (rw (take_more xs k 0 (omega arith)) (before_all-push test (take k xs) (get_or xs k 0) w))
-
-pub before_all-stop : (test : ℕ → Bool) (xs : List ℕ) (n k : ℕ) → n ≡ k + 1 → n ≤ length xs → test (get_or xs k 0) ≡ false
-    → before_all test (take n xs) ≡ take n xs
-before_all-stop test xs n k e h w = rw e (rw (take_more xs k 0 (omega arith)) (before_all-kept test (take k xs) (get_or xs k 0) w))
-
-pub before_all-none : (test : ℕ → Bool) (xs : List ℕ) (n : ℕ) → n ≡ 0 → before_all test (take n xs) ≡ take n xs
-unfolding before_all
-before_all-none test xs n e = rw e refl
-
--- ---- runs
-
-version_byte-ascii : (b : ℕ) → is_version_byte b ≡ true → b < 128
-version_byte-ascii b h = grind (arith, nat_tests)
-
-run_at : (xs : List ℕ) (k d : ℕ) → list_all is_version_byte xs ≡ true → k < length xs → get_or xs k d < 128
-run_at [] k d h lt = absurd (omega arith)
-run_at (x ∷ xs) zero d h lt = version_byte-ascii x (and_parts (is_version_byte x) (list_all is_version_byte xs) h).0
-run_at (x ∷ xs) (suc k) d h lt = run_at xs k d (and_parts (is_version_byte x) (list_all is_version_byte xs) h).1 (omega arith)
-
--- a run is a text
-pub run-utf8 : (xs : List ℕ) → list_all is_version_byte xs ≡ true → IsUtf8 xs
-run-utf8 xs h = IsUtf8-from_ascii xs (IsAscii-from_all xs (λ k d lt. run_at xs k d h lt))
-
--- a front of a run is a run
-pub run-take : (n : ℕ) (xs : List ℕ) → list_all is_version_byte xs ≡ true → list_all is_version_byte (take n xs) ≡ true
-run-take zero xs h = refl
-run-take (suc n) [] h = refl
-run-take (suc n) (x ∷ xs) h =
-    let p = and_parts (is_version_byte x) (list_all is_version_byte xs) h in
-    and_from (is_version_byte x) (list_all is_version_byte (take n xs)) p.0 (run-take n xs p.1)
-
-pub run-before_end : (word text front : List ℕ) → Some front ≡ before_end word text → list_all is_version_byte text ≡ true → list_all is_version_byte front ≡ true
-run-before_end word text front e h =
-    let (ends, same) = cond_some _ (Some (take (length text - length word) text)) front (sym e) in
-    let is : take (length text - length word) text ≡ front = cc same in
-    rw (← is) (run-take (length text - length word) text h)
 
 pub not_empty : (n : ℕ) → false ≡ (n == 0) → 0 < n
 not_empty zero h = absurd (true≢false (sym h))
@@ -189,31 +129,16 @@ pub specifiers-clauses : (text : List ℕ) (cs : List ClauseFields) → specifie
 unfolding specifiers_of
 specifiers-clauses text cs e = clauses_of-clauses _ cs e
 
--- ---- commas
-
-no_commas : (xs : List ℕ) → ((k : ℕ) → k < length xs → is_comma (get_or xs k 0) ≡ false) → All (λ x. is_comma x ≡ false) xs
-no_commas xs h k d lt = rw (get_or_default_zero xs k d lt) (h k lt)
-
-pub split-last : (xs : List ℕ) → ((k : ℕ) → k < length xs → is_comma (get_or xs k 0) ≡ false) → slice_split is_comma xs ≡ xs ∷ []
-split-last xs h = slice_split_none is_comma xs (no_commas xs h)
-
-pub split-more : (xs : List ℕ) (n : ℕ) → n < length xs → is_comma (get_or xs n 0) ≡ true → ((k : ℕ) → k < n → is_comma (get_or xs k 0) ≡ false)
-    → slice_split is_comma xs ≡ take n xs ∷ slice_split is_comma (drop (n + 1) xs)
-split-more xs n lt comma none =
-    let whole : xs ≡ take n xs ++ (get_or xs n 0 ∷ drop (n + 1) xs) = sym (take-append-drop n xs) ∙ ap (λ (l : List ℕ). take n xs ++ l) (drop_more xs n 0 lt) in
-    let front : All (λ x. is_comma x ≡ false) (take n xs) = no_commas (take n xs) (λ k inner.
-    let below : k < n = omega (arith, length-take n xs) in rw (get_or-take n xs k 0 below) (none k below)) in
-    ap (λ (l : List ℕ). slice_split is_comma l) whole
-    ∙ slice_split_at is_comma (take n xs) (get_or xs n 0) (drop (n + 1) xs) front comma
-
 -- ---- lists
 
-listed_more : (piece : List ℕ) (pieces : List (List ℕ)) → 0 < length pieces → listed (piece ∷ pieces) ≡ piece ∷ listed pieces
+-- a piece before others counts
+pub listed_more : (piece : List ℕ) (pieces : List (List ℕ)) → 0 < length pieces → listed (piece ∷ pieces) ≡ piece ∷ listed pieces
 listed_more piece [] h = absurd (omega arith)
 listed_more [] (next ∷ pieces) h = refl
 listed_more (b ∷ piece) (next ∷ pieces) h = refl
 
-listed_last : (piece : List ℕ) → 0 < length piece → listed (piece ∷ []) ≡ piece ∷ []
+-- a last piece that isn't empty counts
+pub listed_last : (piece : List ℕ) → 0 < length piece → listed (piece ∷ []) ≡ piece ∷ []
 listed_last [] h = absurd (omega arith)
 listed_last (b ∷ piece) h = refl
 

@@ -4,4 +4,6 @@ pub mod Public
 pub mod Reading
 pub mod Views
 pub mod Laws
+pub mod Grammar
+pub mod GrammarLaws
 pub mod Vectors

@@ -6,6 +6,8 @@
 use Rattle.std.specs.Prelude.{ℕ, ◌-◌, ◌==◌, ◌&&◌, ◌||◌, Bool, true, false, not, nat_eq, nat_lt, List, [], ◌∷◌, length, take, drop, codes, Option, Some, None, if◌then◌else◌}
 use Rattle.std.specs.Char.{is_ascii_alphanumeric}
 use Rattle.std.specs.List.{list_all, slice_split, starts_with, ends_with}
+use Rattle.ul_version.specs.Ascii.{text_between}
+pub use Rattle.ul_version.specs.Ascii.{after_all, after_front, before_all, before_end, is_blank, unless_last}
 use Rattle.ul_version.specs.Fields.{Fields}
 use Rattle.ul_version.specs.Reading.{◌>>=◌, is_white, or_else, version_of}
 use Rattle.ul_specifier.specs.Clauses.{ClauseFields, has_local, is_bare, is_compatible, is_equality}
@@ -14,38 +16,11 @@ use Rattle.ul_specifier.specs.declared.clause.Op.TheVariants.{Equal, Unequal, At
 
 -- ---- white space
 
--- space and tab, which may stand inside a text
-abbrev pub is_blank : ℕ → Bool
-is_blank b = b == 32 || b == 9
-
--- a text without the bytes in front of it that pass the test
-unfoldable pub after_all : (ℕ → Bool) → List ℕ → List ℕ
-after_all test [] = []
-after_all test (b ∷ rest) = if test b then after_all test rest else b ∷ rest
-
--- a byte before a text whose bytes at the end were dropped
-abbrev pub unless_last : (ℕ → Bool) → ℕ → List ℕ → List ℕ
-unless_last test b [] = if test b then [] else b ∷ []
-unless_last test b (c ∷ rest) = b ∷ c ∷ rest
-
--- a text without the bytes at its end that pass the test
-unfoldable pub before_all : (ℕ → Bool) → List ℕ → List ℕ
-before_all test [] = []
-before_all test (b ∷ rest) = unless_last test b (before_all test rest)
-
 -- a text without the bytes at both ends that pass the test
 abbrev pub stripped : (ℕ → Bool) → List ℕ → List ℕ
-stripped test text = before_all test (after_all test text)
+stripped test text = text_between test text
 
 -- ---- operators
-
--- the text after a word, where the text begins with it
-abbrev pub after_front : List ℕ → List ℕ → Option (List ℕ)
-after_front word text = if starts_with nat_eq text word then Some (drop (length word) text) else None
-
--- the text before a word, where the text ends with it
-abbrev pub before_end : List ℕ → List ℕ → Option (List ℕ)
-before_end word text = if ends_with nat_eq text word then Some (take (length text - length word) text) else None
 
 -- an operator, where its text stands in front, and the text after it
 abbrev pub after_operator : List ℕ → Op → List ℕ → Option (Op × List ℕ)

@@ -1,5 +1,6 @@
 //! Laws of clauses, and worked examples: each function's contract is proved, and its body does nothing.
 
+ghost use Rattle.ul_specifier.specs.GrammarLaws.{EveryClauseIsRead, ReadingIsGrammar, SpelledOnce};
 ghost use Rattle.ul_specifier.specs.Laws.{CompatibleIsTwoParts, LessIsNegation, LowerIsSettled, LowerIsWeaker, MoreIsNegation, ReadsClauses, UnequalIsNegation};
 ghost use Rattle.ul_specifier.specs.Vectors.{Meetings, NoReadings, Readings, Summaries};
 
@@ -21,6 +22,17 @@ pub fn bounds_part_the_order()
 pub fn lower_bounds_are_weaker()
     ensures weaker { LowerIsWeaker }
     ensures settled { LowerIsSettled }
+{}
+
+/// A text is read as the clauses that the grammar spells it as, which are one list at most.
+pub fn reading_is_grammar()
+    ensures grammar { ReadingIsGrammar }
+    ensures once { SpelledOnce }
+{}
+
+/// Every clause, and every list of clauses, is read from some text.
+pub fn every_clause_is_read()
+    ensures { EveryClauseIsRead }
 {}
 
 /// What is read are clauses: `.*`, local parts and the length of a release are as the operators allow.

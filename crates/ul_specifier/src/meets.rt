@@ -6,9 +6,9 @@ ghost use Rattle.ul_specifier.specs.Meaning;
 ghost use Rattle.ul_specifier.specs.Meaning.{begins_as, meets_clause, meets_list, names_pre_of, pins_clause, pins_of, series};
 ghost use Rattle.ul_specifier.specs.Public.{own_op, public_less, public_matches, public_more, public_op};
 
-use crate::order::{Public, begins, cmp_releases, has_local};
+use crate::local::has_local;
 use crate::{Clause, Op, Specifiers};
-use ul_version::Version;
+use ul_version::{Public, Version, cmp_releases, has_front};
 
 impl Clause {
     /// Whether the version that has this release, epoch 0 and nothing else meets the clause.
@@ -83,7 +83,7 @@ fn matches(prefix: bool, version: &Public, candidate: &Public) -> bool
     ensures { result ≡ public_matches prefix version.now candidate.now }
 {
     if prefix {
-        candidate.epoch == version.epoch && begins(version.release, candidate.release)
+        candidate.epoch == version.epoch && has_front(candidate.release, version.release)
     } else {
         candidate.cmp(version).is_eq()
     }
@@ -117,7 +117,7 @@ fn is_of_series(version: &Public, candidate: &Public) -> bool
     ensures { result ≡ begins_as (series version.now) candidate.now }
 {
     let front = &version.release[..version.release.len().saturating_sub(1)];
-    candidate.epoch == version.epoch && begins(front, candidate.release)
+    candidate.epoch == version.epoch && has_front(candidate.release, front)
 }
 
 impl Specifiers {

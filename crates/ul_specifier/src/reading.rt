@@ -8,21 +8,17 @@ ghost use Rattle.ul_specifier.specs.Clauses.{IsClause};
 ghost use Rattle.ul_specifier.specs.Reading as Grammar;
 ghost use Rattle.ul_specifier.specs.Views.{clauses_view, operator_view, rest_view, space, Reads};
 
-use crate::order::has_local;
+use crate::local::has_local;
 use crate::{Clause, Op, SpecFault, Specifiers};
 use std::alloc::Global;
+use ul_version::ascii::{
+    Blank, ByteClass, Only, White, after_run, after_word, before_run, before_word, is_run,
+    piece_len,
+};
 use ul_version::{Version, VersionFault};
 
-// Space or tab inside a text, and white space of any kind at its ends.
-fn is_space(byte: u8, inside: bool) -> bool
-    ensures { result ≡ space inside byte }
-{
-    if inside {
-        byte == b' ' || byte == b'\t'
-    } else {
-        byte == b' ' || (9 <= byte && byte <= 13)
-    }
-}
+// Stands between two clauses.
+const COMMA: Only = Only { byte: b',' };
 
 /// The text without the white space in front of it.
 ///
@@ -31,37 +27,22 @@ fn is_space(byte: u8, inside: bool) -> bool
 pub fn after_space(input: &[u8], inside: bool) -> &[u8]
     ensures { result.now ≡ Grammar.after_all (space inside) input.now }
 {
-    for i in 0..input.len() {
-        if !is_space(input[i], inside) {
-            return &input[i..];
-        }
+    if inside {
+        after_run(&Blank, input)
+    } else {
+        after_run(&White, input)
     }
-    &input[input.len()..]
 }
 
 /// The text without the white space at its end, which is as for `after_space`.
 pub fn before_space(input: &[u8], inside: bool) -> &[u8]
     ensures { result.now ≡ Grammar.before_all (space inside) input.now }
 {
-    let mut end = input.len();
-    while end > 0 && is_space(input[end - 1], inside) {
-        end -= 1;
+    if inside {
+        before_run(&Blank, input)
+    } else {
+        before_run(&White, input)
     }
-    &input[..end]
-}
-
-// The text after a word, where the text begins with it.
-fn after_front<'a>(input: &'a [u8], word: &[u8]) -> Option<&'a [u8]>
-    ensures { rest_view result ≡ Grammar.after_front word.now input.now }
-{
-    input.strip_prefix(word)
-}
-
-// The text before a word, where the text ends with it.
-fn before_end<'a>(input: &'a [u8], word: &[u8]) -> Option<&'a [u8]>
-    ensures { rest_view result ≡ Grammar.before_end word.now input.now }
-{
-    input.strip_suffix(word)
 }
 
 /// The longest operator that stands in front of a text, and the text after it.
@@ -71,57 +52,50 @@ fn before_end<'a>(input: &'a [u8], word: &[u8]) -> Option<&'a [u8]>
 pub fn operator(input: &[u8]) -> Option<(Op, &[u8])>
     ensures { operator_view result ≡ Grammar.operator input.now }
 {
-    if let Some(rest) = after_front(input, b"==") {
+    if let Some(rest) = after_word(input, b"==") {
         return Some((Op::Equal, rest));
     }
-    if let Some(rest) = after_front(input, b"!=") {
+    if let Some(rest) = after_word(input, b"!=") {
         return Some((Op::Unequal, rest));
     }
-    if let Some(rest) = after_front(input, b">=") {
+    if let Some(rest) = after_word(input, b">=") {
         return Some((Op::AtLeast, rest));
     }
-    if let Some(rest) = after_front(input, b"<=") {
+    if let Some(rest) = after_word(input, b"<=") {
         return Some((Op::AtMost, rest));
     }
-    if let Some(rest) = after_front(input, b"~=") {
+    if let Some(rest) = after_word(input, b"~=") {
         return Some((Op::Compatible, rest));
     }
-    if let Some(rest) = after_front(input, b">") {
+    if let Some(rest) = after_word(input, b">") {
         return Some((Op::More, rest));
     }
-    let rest = after_front(input, b"<")?;
+    let rest = after_word(input, b"<")?;
     Some((Op::Less, rest))
 }
 
-fn is_version_byte(byte: u8) -> bool
-    ensures { result ≡ Grammar.is_version_byte byte }
-{
-    byte.is_ascii_alphanumeric()
-        || (byte == b'-'
-            || (byte == b'_' || (byte == b'.' || (byte == b'*' || (byte == b'+' || byte == b'!')))))
-}
+/// The bytes that stand in a version's text: letters, digits and `- _ . * + !`.
+#[derive(Clone, Copy, Drop)]
+struct VersionByte;
 
-// Whether the text is a run of bytes that stand in a version's text.
-fn is_run(text: &[u8]) -> bool
-    ensures { result ≡ list_all Grammar.is_version_byte text.now }
-{
-    for i in 0..text.len() {
-        if !is_version_byte(text[i]) {
-            return false;
-        }
+impl ByteClass for VersionByte {
+    ghost use Rattle.ul_specifier.specs.Reading.{is_version_byte};
+
+    ghost has = { λ _ byte. is_version_byte byte };
+
+    fn has(&self, byte: u8) -> bool {
+        byte.is_ascii_alphanumeric()
+            || (byte == b'-'
+                || (byte == b'_'
+                    || (byte == b'.' || (byte == b'*' || (byte == b'+' || byte == b'!')))))
     }
-    true
 }
 
-// The version that a run spells.
+// The version that bytes spell.
 fn version(alloc: Global, text: &[u8]) -> Result<Version, SpecFault>
-    requires { IsTrue (list_all Grammar.is_version_byte text.now) }
     ensures { Reads (λ v. v) result (Versions.version_of text.now) }
 {
-    let Ok(text) = str::from_utf8(text) else {
-        return Err(SpecFault::NoReading);
-    };
-    match Version::read(alloc, text) {
+    match Version::read_bytes(alloc, text) {
         Ok(version) => Ok(version),
         Err(VersionFault::NoReading) => Err(SpecFault::NoReading),
         Err(VersionFault::NoMemory) => Err(SpecFault::NoMemory),
@@ -196,10 +170,10 @@ fn may_stand(op: Op, version: &Version) -> bool
 fn clause_after(alloc: Global, op: Op, text: &[u8]) -> Result<Clause, SpecFault>
     ensures { Reads (λ c. c) result (Grammar.clause_after op text.now) }
 {
-    if !is_run(text) {
+    if !is_run(&VersionByte, text) {
         return Err(SpecFault::NoReading);
     }
-    match before_end(text, b".*") {
+    match before_word(text, b".*") {
         Some(front) => starred(op, version(alloc, front)?),
         None => unstarred(op, version(alloc, text)?),
     }
@@ -216,21 +190,6 @@ fn clause(alloc: Global, text: &[u8]) -> Result<Clause, SpecFault>
     clause_after(alloc, op, after_space(rest, true))
 }
 
-// The length of the text before the first comma, or of the whole text.
-fn piece_len(input: &[u8]) -> usize
-    ensures fits { result ≤ length input.now }
-    ensures last { length input.now ≤ result → slice_split Grammar.is_comma input.now ≡ input.now ∷ [] }
-    ensures more { result < length input.now → slice_split Grammar.is_comma input.now
-        ≡ take result input.now ∷ slice_split Grammar.is_comma (drop (result + 1) input.now) }
-{
-    for i in 0..input.len() {
-        if input[i] == b',' {
-            return i;
-        }
-    }
-    input.len()
-}
-
 // The clauses of a list, between its commas.
 fn clauses(alloc: Global, input: &[u8]) -> Result<Vec<Clause>, SpecFault>
     ensures { Reads clauses_view result (Grammar.clauses_of (Grammar.listed (slice_split Grammar.is_comma input.now))) }
@@ -238,7 +197,7 @@ fn clauses(alloc: Global, input: &[u8]) -> Result<Vec<Clause>, SpecFault>
     let mut list = Vec::new(alloc);
     let mut rest = input;
     'pieces: while !rest.is_empty() {
-        let n = piece_len(rest);
+        let n = piece_len(&COMMA, rest);
         let clause = clause(alloc, &rest[..n])?;
         list.push(clause)?;
         if n >= rest.len() {

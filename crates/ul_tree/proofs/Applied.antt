@@ -7,7 +7,7 @@ use Rattle.ul_tree.proofs.Order.{cmp_itself, cmp_equal, cmp_over}
 use Rattle.ul_tree.specs.Apply.{size, sizes}
 use Rattle.ul_tree.proofs.Picks.{holds_pick, size_pick, fits_pick}
 use Rattle.ul_tree.proofs.Unique.{from_nothing}
-use Rattle.ul_tree.proofs.Stairs.{Rise, stair, stair_both, outs_pick, outs_fit, pick_stair, within_left, within_right, rise_merged, rise_keys, close_fits, close_holds}
+use Rattle.ul_tree.proofs.PartsByKeys.{Rise, part_among, among_both, outs_pick, outs_fit, pick_among, within_left, within_right, rise_merged, rise_keys, close_fits, close_holds}
 
 -- what a tree is from a level at or above its first
 pub record Seen (l : List ℕ) (t : Plain) : Type 0 where
@@ -54,9 +54,9 @@ joined op rec l a b e n after sa sb small ih = (
   (λ f. close_holds l (rec (rest_at l a) (rest_at l b)) (outs g m ks (rec (rest_at l a) (rest_at l b))) f
       ∙ sym (holds_pick (outs g m ks (rec (rest_at l a) (rest_at l b))) m (f l) (rec (rest_at l a) (rest_at l b)) f)
       ∙ ap (λ z. holds_of z f) (outs_pick g m l ks None (f l) (rec (rest_at l a) (rest_at l b)) rise
-      ∙ stair_both rec (λ v. part_at l v a) (λ v. part_at l v b) m ks (f l) (rest_at l a) (rest_at l b)
-      ∙ ap (λ z. rec z (stair (λ v. part_at l v b) m ks (f l) (rest_at l b))) (sym (pick_stair m l ks (branches_at l a) None (f l) (rest_at l a) rise (within_left (branches_at l a) (keys (branches_at l b)))))
-      ∙ ap (rec (part_at l (f l) a)) (sym (pick_stair m l ks (branches_at l b) None (f l) (rest_at l b) rise (within_right (keys (branches_at l a)) (branches_at l b)))))
+      ∙ among_both rec (λ v. part_at l v a) (λ v. part_at l v b) m ks (f l) (rest_at l a) (rest_at l b)
+      ∙ ap (λ z. rec z (part_among (λ v. part_at l v b) m ks (f l) (rest_at l b))) (sym (pick_among m l ks (branches_at l a) None (f l) (rest_at l a) rise (within_left (branches_at l a) (keys (branches_at l b)))))
+      ∙ ap (rec (part_at l (f l) a)) (sym (pick_among m l ks (branches_at l b) None (f l) (rest_at l b) rise (within_right (keys (branches_at l a)) (branches_at l b)))))
       ∙ (parts (f l)).1 f
       ∙ ap (λ z. op z (holds_of (part_at l (f l) b) f)) (sym (sa.truths f))
       ∙ ap (op (holds_of a f)) (sym (sb.truths f))),

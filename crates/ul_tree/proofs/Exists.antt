@@ -9,7 +9,7 @@ use Rattle.ul_tree.specs.Simplify.{Simplifies, Pieces, Piece, at_truth, anywhere
 use Rattle.ul_tree.specs.SimplifyLaws.{SimplifyLaws}
 use Rattle.ul_tree.proofs.Order.{cmp_itself, cmp_trans}
 use Rattle.ul_tree.proofs.Picks.{size_pick}
-use Rattle.ul_tree.proofs.Stairs.{fits_weaker}
+use Rattle.ul_tree.proofs.PartsByKeys.{fits_weaker}
 use Rattle.ul_tree.proofs.Applied.{top_smaller}
 use Rattle.ul_tree.proofs.Extras.{one_truth_one_tree}
 use Rattle.ul_tree.proofs.Unions.{union_fits, union_holds}

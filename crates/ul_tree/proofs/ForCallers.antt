@@ -3,7 +3,7 @@
 -- ---- order, and equal trees
 pub use Rattle.ul_tree.proofs.Order.{cmp_itself, cmp_equal, cmp_back, cmp_over, cmp_trans, cmp_less, cmp_more}
 pub use Rattle.ul_tree.proofs.Sameness.{same_true, same_itself, same_false}
-pub use Rattle.ul_tree.proofs.Stairs.{fits_weaker}
+pub use Rattle.ul_tree.proofs.PartsByKeys.{fits_weaker}
 pub use Rattle.ul_tree.proofs.Extras.{one_truth_one_tree}
 pub use Rattle.ul_tree.proofs.Existence.{holds_somewhere}
 -- ---- parts of nodes
@@ -29,7 +29,7 @@ pub use Rattle.ul_tree.proofs.SimplifySteps.{tree_part, tree_rest, region_part, 
 pub use Rattle.ul_tree.proofs.SimplifySteps.{piece_outside, piece_inside, piece_more, no_more, truth_done, all_done, lowered_done, level_done}
 pub use Rattle.ul_tree.proofs.SimplifySteps.{result_reduced, results_reduced, simpler_reduced}
 pub use Rattle.ul_tree.proofs.Settled.{filled_fit, own_fits, earliest_fits, latest_fits}
-pub use Rattle.ul_tree.proofs.Lowering.{lowers_itself, lowers_union, union_step, joined_or}
+pub use Rattle.ul_tree.proofs.Lowering.{lowers_itself, lowers_union, union_step, joined_or, union_joined, halves_joined, one_part, no_branches}
 pub use Rattle.ul_tree.proofs.Exists.{simplify_laws}
 -- ---- trees of one comparison
 pub use Rattle.ul_tree.proofs.Leaves.{turned, text_below, mark_eq, extra_reduced, text_reduced, opaque_reduced}
@@ -42,5 +42,6 @@ pub use Rattle.ul_tree.proofs.Tools.{eqb_self, eqb_less, eqb_positive, bytes_sel
 pub use Rattle.ul_tree.proofs.FanTrees.{Rising, Increasing, is_python, rising_fits, first_positive, increasing_fits, starts_after, tree_back}
 pub use Rattle.ul_tree.proofs.Counted.{counted}
 pub use Rattle.ul_tree.proofs.Truths.{paths_truth}
+pub use Rattle.ul_tree.proofs.FirstPaths.{sample_is_first}
 -- ---- trees of regions
 pub use Rattle.ul_tree.proofs.TreeTruths.{both_and, region_tree, has_and, has_not, region_truth, always, asks_alike, no_extra}

@@ -7,7 +7,7 @@ use Rattle.ul_tree.specs.Apply.{rest_at, branches_at, part_at}
 use Rattle.ul_tree.specs.Keys.{rest_of, branches_of, branch_count, branches_from, is_level}
 use Rattle.ul_tree.proofs.Order.{cmp_equal, cmp_over, cmp_trans}
 use Rattle.ul_tree.proofs.Branchwise.{at_key, before_key, past_key}
-use Rattle.ul_tree.proofs.Stairs.{fits_weaker}
+use Rattle.ul_tree.proofs.PartsByKeys.{fits_weaker}
 
 -- ---- branches by their place
 

@@ -10,7 +10,7 @@ use Rattle.ul_tree.specs.Values.{value_of}
 use Rattle.ul_tree.specs.Laws.{Operations, at_extra_of}
 use Rattle.ul_tree.proofs.Order.{cmp_less}
 use Rattle.ul_tree.proofs.Picks.{holds_alike, fits_pick}
-use Rattle.ul_tree.proofs.Stairs.{fits_weaker}
+use Rattle.ul_tree.proofs.PartsByKeys.{fits_weaker}
 use Rattle.ul_tree.proofs.Applied.{Seen, seen_truth, seen_node, applied}
 
 first_level : (k : List ℕ) → text_cmp [] k ≡ Less → text_cmp extra_level k ≢ Greater

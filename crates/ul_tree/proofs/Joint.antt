@@ -1,5 +1,5 @@
 -- The joint truth of many trees, and of the parts of markers, lists and specifiers.
-use Rattle.std.proofs.Common.{◌≡◌, ℕ, List, [], ◌∷◌, ◌++◌, take, drop, map, Bool, true, false, refl, sym, ap, ◌∙◌, length, ◌<◌, ◌≤◌, ◌+◌, get_or, append_assoc, Result, Ok, Err}
+use Rattle.std.proofs.Common.{◌≡◌, ℕ, List, [], ◌∷◌, ◌++◌, take, drop, map, Bool, true, false, refl, sym, ap, ◌∙◌, length, ◌<◌, ◌≤◌, ◌+◌, get_or, append_assoc, Result, Ok, Err, zero, suc, ◌-◌, arith, length-take, if◌then◌else◌}
 use Rattle.std.specs.Prelude.{◌&&◌, ◌||◌, IfOk}
 use Rattle.std.specs.declared.alloc.AllocError.{AllocError}
 use Rattle.std.proofs.lemmas.List.{take-append-drop, map-append, append-nil, drop_all, drop_more}
@@ -11,7 +11,8 @@ use Rattle.ul_marker.specs.Truth.{marker_holds, all_hold, any_holds, is_listed, 
 use Rattle.ul_marker.specs.Views.{marker_view, markers_view}
 use Rattle.ul_marker.specs.Worlds.{WorldFields}
 use Rattle.ul_marker.specs.declared.marker.Marker.{Marker}
-use Rattle.ul_tree.specs.Apply.{both, either}
+use Rattle.ul_tree.specs.Apply.{both, either, same_bool}
+use Rattle.ul_tree.specs.Plain.{Plain, truth}
 use Rattle.ul_tree.specs.Joining.{joint, truths_of}
 use Rattle.ul_tree.specs.Values.{tree_holds}
 use Rattle.ul_tree.specs.Views.{tree_view}
@@ -46,17 +47,56 @@ joint_parts false [] cs = sym (joint_one false (joint false cs))
 joint_parts false (true ∷ bs) cs = refl
 joint_parts false (false ∷ bs) cs = joint_parts false bs cs
 
--- the truths of a list are those of its halves
-pub truths_halves : (n : ℕ) (ts : List Tree) (w : WorldFields) (x : List ℕ) → truths_of (take n ts) w x ++ truths_of (drop n ts) w x ≡ truths_of ts w x
-truths_halves n ts w x = sym (map-append _ (take n ts) (drop n ts)) ∙ ap (λ z. truths_of z w x) (take-append-drop n ts)
+-- what is left of a row's front, and the row's end
+drop_take : (i k : ℕ) (xs : List Tree) → i ≤ k → drop i (take k xs) ++ drop k xs ≡ drop i xs
+drop_take zero k xs h = take-append-drop k xs
+drop_take (suc i) zero xs h = absurd (omega arith)
+drop_take (suc i) (suc k) [] h = refl
+drop_take (suc i) (suc k) (x ∷ xs) h = drop_take i k xs (omega arith)
+
+-- the last trees of a row are joined as two parts of them are
+pub last_truths : (all : Bool) (xs front : List Tree) (count half : ℕ) (w : WorldFields) (x : List ℕ) → half ≤ count → count ≤ length xs → front ≡ take (length xs - half) xs
+    → joint all (joint all (truths_of (drop (length front - (count - half)) front) w x) ∷ joint all (truths_of (drop (length xs - half) xs) w x) ∷ []) ≡ joint all (truths_of (drop (length xs - count) xs) w x)
+last_truths all xs front count half w x h g e =
+    let n = length xs in
+    let size = ap (length {A = Tree}) e ∙ length-take (n - half) xs in
+    let left : length front - (count - half) ≡ n - count = omega (arith, size) in
+    joint_parts all (truths_of (drop (length front - (count - half)) front) w x) (truths_of (drop (n - half) xs) w x)
+    ∙ ap (joint all)
+    (sym (map-append _ (drop (length front - (count - half)) front) (drop (n - half) xs))
+    ∙ ap (λ z. truths_of z w x)
+    (ap (λ i. drop i front ++ drop (n - half) xs) left ∙ ap (λ z. drop (n - count) z ++ drop (n - half) xs) e ∙ drop_take (n - count) (n - half) xs (omega arith)))
+
+-- a truth joined with a tree: the tree where the truth is neutral, else the truth
+pub settled_first : (all value : Bool) (b : Plain) (w : WorldFields) (x : List ℕ) → tree_holds (if same_bool value all then b else truth value) w x ≡ joint all (value ∷ tree_holds b w x ∷ [])
+settled_first true true b w x = joint_and true (tree_holds b w x)
+settled_first true false b w x = joint_and false (tree_holds b w x)
+settled_first false true b w x = joint_or true (tree_holds b w x)
+settled_first false false b w x = joint_or false (tree_holds b w x)
+
+neutral_second : (all value h : Bool) → (if same_bool value all then h else value) ≡ joint all (h ∷ value ∷ [])
+neutral_second true true true = refl
+neutral_second true true false = refl
+neutral_second true false true = refl
+neutral_second true false false = refl
+neutral_second false true true = refl
+neutral_second false true false = refl
+neutral_second false false true = refl
+neutral_second false false false = refl
+
+pub settled_second : (all value : Bool) (a : Plain) (w : WorldFields) (x : List ℕ) → tree_holds (if same_bool value all then a else truth value) w x ≡ joint all (tree_holds a w x ∷ value ∷ [])
+settled_second true true a w x = neutral_second true true (tree_holds a w x)
+settled_second true false a w x = neutral_second true false (tree_holds a w x)
+settled_second false true a w x = neutral_second false true (tree_holds a w x)
+settled_second false false a w x = neutral_second false false (tree_holds a w x)
 
 -- one tree more, whose truth is that of the next item
 pub truths_more : {A : Type 0} (f : A → Bool) (trees : List Tree) (t : Tree) (items : List A) (i : ℕ) (d : A) (w : WorldFields) (x : List ℕ) → i < length items → d ≡ get_or items i d
     → tree_holds (tree_view t) w x ≡ f d → truths_of trees w x ++ map f (drop i items) ≡ map f items → truths_of (trees ++ t ∷ []) w x ++ map f (drop (i + 1) items) ≡ map f items
-truths_more f trees t items i d w x h same truth so =
+truths_more f trees t items i d w x h same told so =
     ap (λ z. z ++ map f (drop (i + 1) items)) (map-append _ trees (t ∷ []))
     ∙ append_assoc (truths_of trees w x) (tree_holds (tree_view t) w x ∷ []) (map f (drop (i + 1) items))
-    ∙ ap (λ b. truths_of trees w x ++ (b ∷ map f (drop (i + 1) items))) truth
+    ∙ ap (λ b. truths_of trees w x ++ (b ∷ map f (drop (i + 1) items))) told
     ∙ ap (λ e. truths_of trees w x ++ (f e ∷ map f (drop (i + 1) items))) same
     ∙ ap (λ z. truths_of trees w x ++ map f z) (sym (drop_more items i d h))
     ∙ so

@@ -4,7 +4,7 @@ pub mod Branchwise
 pub mod Varied
 pub mod Unique
 pub mod Sameness
-pub mod Stairs
+pub mod PartsByKeys
 pub mod Applied
 pub mod JoinedTrees
 pub mod Shapes
@@ -32,7 +32,7 @@ pub mod FreshTexts
 pub mod Leads
 pub mod Walks
 pub mod Existence
-pub mod Onward
+pub mod NextParts
 pub mod Follow
 pub mod Unions
 pub mod Settled
@@ -48,3 +48,4 @@ pub mod FanTrees
 pub mod Truths
 pub mod TreeTruths
 pub mod ForCallers
+pub mod FirstPaths

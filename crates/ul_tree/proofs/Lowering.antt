@@ -1,39 +1,20 @@
 -- A region whose levels are taken away from the top.
-use Rattle.std.proofs.Common.{◌≡◌, ◌≢◌, ℕ, suc, zero, ◌+◌, ◌≤◌, List, [], true, false, refl, ap, sym, ◌∙◌, subst, arith, add-one, Less, Equal, Greater, Ordering}
+use Rattle.std.proofs.Common.{◌≡◌, ◌≢◌, ℕ, suc, zero, ◌-◌, ◌+◌, ◌≤◌, List, [], true, false, refl, ap, sym, ◌∙◌, subst, arith, add-one, Less, Equal, Greater, Ordering, Bool}
 use Rattle.std.specs.Ordering.{is_lt}
-use Rattle.ul_tree.specs.Plain.{Plain, truth, node, Branches, done, branch, text_cmp, carries, carried}
+use Rattle.ul_tree.specs.Plain.{Plain, truth, node, Branches, done, branch, text_cmp, carries, carried, holds_of}
 use Rattle.ul_tree.specs.Reduced.{IsReduced, Fits, FitsAll}
 use Rattle.ul_tree.specs.Laws.{or_of}
-use Rattle.ul_tree.specs.Apply.{size}
+use Rattle.ul_tree.specs.Apply.{size, either}
 use Rattle.ul_tree.specs.Joins.{IsJoined}
 use Rattle.ul_tree.specs.declared.join.Join.TheVariants.{Either}
 use Rattle.ul_tree.specs.Keys.{rest_of, branches_of, branch_count, branches_from}
 use Rattle.ul_tree.specs.Simplify.{above, union_in}
-use Rattle.ul_tree.specs.SimplifyViews.{is_above, Lowers}
-use Rattle.ul_tree.proofs.Unions.{union_fits}
+use Rattle.ul_tree.specs.SimplifyViews.{is_above, Lowers, some_part_holds, HoldsParts}
+use Rattle.ul_tree.specs.Values.{value_of}
+use Rattle.ul_tree.proofs.Applied.{applied}
+use Rattle.ul_tree.proofs.Extras.{one_truth_one_tree}
+use Rattle.ul_tree.proofs.Unions.{union_fits, or_fits}
 use Rattle.ul_tree.proofs.Exists.{fits_reduced, union_not_false}
-
--- the branches from a place on
-pub from_all : (bs : Branches) (i : ℕ) → branch_count bs ≤ i → branches_from i bs ≡ done
-from_all done zero h = refl
-from_all done (suc i) h = refl
-from_all (branch k c rest) zero h = absurd (omega arith)
-from_all (branch k c rest) (suc i) h = from_all rest i (omega arith)
-
-from_fits : (bs : Branches) (i : ℕ) (l : List ℕ) (d : Plain) (k : List ℕ) (c : Plain) (rest : Branches) → FitsAll bs l d → branches_from i bs ≡ branch k c rest → Fits c l
-from_fits done zero l d k c rest h e = cc
-from_fits done (suc i) l d k c rest h e = cc
-from_fits (branch j p more) zero l d k c rest h e = let q : p ≡ c = cc in subst (λ (z : Plain). Fits z l) q h.2
-from_fits (branch j p more) (suc i) l d k c rest h e = from_fits more i l (carried (carries l) p d) k c rest h.4 e
-
-pub part_reduced : (t : Plain) (i : ℕ) (k : List ℕ) (c : Plain) (rest : Branches) → IsReduced t → branches_from i (branches_of t) ≡ branch k c rest → IsReduced c
-part_reduced (truth b) zero k c rest h e = cc
-part_reduced (truth b) (suc i) k c rest h e = cc
-part_reduced (node l d bs) i k c rest h e = fits_reduced c l (from_fits bs i l d k c rest h.3 e)
-
-pub rest_reduced : (t : Plain) → IsReduced t → IsReduced (rest_of t)
-rest_reduced (truth b) h = tt
-rest_reduced (node l d bs) h = fits_reduced d l h.2
 
 -- one branch more
 pub union_step : (bs : Branches) (i : ℕ) (k : List ℕ) (c made next : Plain) → branches_from i bs ≡ branch k c (branches_from (suc i) bs) → next ≡ or_of made c
@@ -62,3 +43,85 @@ lowers_union l c (node k d cs) u h a e =
 
 pub joined_or : (a b t : Plain) → IsJoined Either a b t → t ≡ or_of a b
 joined_or a b t h = h (suc (size a + size b)) (omega arith)
+
+-- ---- the union of a node's parts, by halves
+
+or_holds : (e : List ℕ) (a b : Plain) (f : List ℕ → List ℕ) → Fits a e → Fits b e → holds_of (or_of a b) f ≡ either (holds_of a f) (holds_of b f)
+or_holds e a b f x y = (applied either (suc (size a + size b)) a b e (omega arith) x y).1 f
+
+either_none : (x : Bool) → x ≡ either x false
+either_none true = refl
+either_none false = refl
+
+either_both : (x y z : Bool) → either (either x y) z ≡ either x (either y z)
+either_both true y z = refl
+either_both false y z = refl
+
+-- a union holds where the first tree or some part does
+pub union_truth : (bs : Branches) (e : List ℕ) (d t : Plain) (f : List ℕ → List ℕ) → FitsAll bs e d → Fits t e
+    → holds_of (union_in bs t) f ≡ either (holds_of t f) (some_part_holds (branch_count bs) bs f)
+union_truth done e d t f h x = either_none (holds_of t f)
+union_truth (branch k c rest) e d t f h x =
+    union_truth rest e (carried (carries e) c d) (or_of t c) f h.4 (or_fits e t c x h.2)
+    ∙ ap (λ z. either z (some_part_holds (branch_count rest) rest f)) (or_holds e t c f x h.2)
+    ∙ either_both (holds_of t f) (holds_of c f) (some_part_holds (branch_count rest) rest f)
+
+-- one part
+pub one_part : (bs : Branches) (k : List ℕ) (c : Plain) (rest : Branches) (f : List ℕ → List ℕ) → bs ≡ branch k c rest → some_part_holds 1 bs f ≡ holds_of c f
+one_part bs k c rest f e = ap (λ z. some_part_holds 1 z f) e ∙ sym (either_none (holds_of c f))
+
+none_done : (n : ℕ) (f : List ℕ → List ℕ) → some_part_holds n done f ≡ false
+none_done zero f = refl
+none_done (suc n) f = refl
+
+from_done : (n : ℕ) → branches_from n done ≡ done
+from_done zero = refl
+from_done (suc n) = refl
+
+-- the parts of two halves
+pub part_halves : (m n : ℕ) (bs : Branches) (f : List ℕ → List ℕ) → either (some_part_holds m bs f) (some_part_holds n (branches_from m bs) f) ≡ some_part_holds (m + n) bs f
+part_halves zero n bs f = let e : n ≡ 0 + n = omega arith in ap (λ k. some_part_holds k bs f) e
+part_halves (suc m) n done f = none_done n f ∙ sym (none_done (suc m + n) f)
+part_halves (suc m) n (branch k c rest) f =
+    let e : suc (m + n) ≡ suc m + n = omega arith in
+    either_both (holds_of c f) (some_part_holds m rest f) (some_part_holds n (branches_from m rest) f) ∙ ap (either (holds_of c f)) (part_halves m n rest f)
+    ∙ ap (λ i. some_part_holds i (branch k c rest) f) e
+
+from_from : (i j : ℕ) (bs : Branches) → branches_from j (branches_from i bs) ≡ branches_from (i + j) bs
+from_from zero j bs = let e : j ≡ 0 + j = omega arith in ap (λ k. branches_from k bs) e
+from_from (suc i) j done = from_done j ∙ sym (from_done (suc i + j))
+from_from (suc i) j (branch k c rest) = let e : suc (i + j) ≡ suc i + j = omega arith in from_from i j rest ∙ ap (λ n. branches_from n (branch k c rest)) e
+
+pub halves_joined : (bs : Branches) (low middle high : ℕ) (a b t : Plain) → low ≤ middle → middle ≤ high → IsReduced a → IsReduced b → IsJoined Either a b t
+    → HoldsParts bs low (middle - low) a → HoldsParts bs middle (high - middle) b → HoldsParts bs low (high - low) t
+halves_joined bs low middle high a b t g h x y j p q f =
+    let m = middle - low in
+    let n = high - middle in
+    let here : middle ≡ low + m = omega arith in
+    let whole : m + n ≡ high - low = omega arith in
+    ap (λ z. holds_of z f) (joined_or a b t j)
+    ∙ or_holds [] a b f x y
+    ∙ ap (λ z. either z (holds_of b f)) (p f)
+    ∙ ap (either (some_part_holds m (branches_from low bs) f)) (q f ∙ ap (λ k. some_part_holds n (branches_from k bs) f) here ∙ ap (λ z. some_part_holds n z f) (sym (from_from low m bs)))
+    ∙ part_halves m n (branches_from low bs) f
+    ∙ ap (λ k. some_part_holds k (branches_from low bs) f) whole
+
+-- the union of a tree without branches
+pub no_branches : (t : Plain) (n : ℕ) → n ≡ branch_count (branches_of t) → n ≡ 0 → rest_of t ≡ union_in (branches_of t) (rest_of t)
+no_branches (truth b) n e z = refl
+no_branches (node l d done) n e z = refl
+no_branches (node l d (branch k c rest)) n e z = absurd (omega (arith, e, z))
+
+-- a node's other part, joined with a tree that holds where the other parts do, is the union
+pub union_joined : (t p u : Plain) → IsReduced t → IsReduced p → HoldsParts (branches_of t) 0 (branch_count (branches_of t)) p → IsJoined Either (rest_of t) p u → u ≡ union_in (branches_of t) (rest_of t)
+union_joined t p u h y q j =
+    joined_or (rest_of t) p u j
+    ∙ go t h q
+  where
+    go : (t : Plain) → IsReduced t → HoldsParts (branches_of t) 0 (branch_count (branches_of t)) p → or_of (rest_of t) p ≡ union_in (branches_of t) (rest_of t)
+    go (truth b) h q =
+        one_truth_one_tree (or_of (truth b) p) (truth b) (or_fits [] (truth b) p tt y) tt
+        (λ w x is ascii extra. or_holds [] (truth b) p (value_of w x) tt y ∙ ap (either b) (q (value_of w x)) ∙ sym (either_none b))
+    go (node l d bs) h q =
+        one_truth_one_tree (or_of d p) (union_in bs d) (or_fits [] d p (fits_reduced d l h.2) y) (fits_reduced (union_in bs d) l (union_fits bs l d d h.3 h.2))
+        (λ w x is ascii extra. or_holds [] d p (value_of w x) (fits_reduced d l h.2) y ∙ ap (either (holds_of d (value_of w x))) (q (value_of w x)) ∙ sym (union_truth bs l d d (value_of w x) h.3 h.2))

@@ -8,10 +8,10 @@ use Rattle.std.proofs.lemmas.List.Elements.{All-push}
 use Rattle.ul_tree.specs.Plain.{Plain, Branches, done, branch, carries, carried}
 use Rattle.ul_tree.specs.Reduced.{Fits, IsReduced}
 use Rattle.ul_tree.specs.Apply.{part_at, same, close}
-use Rattle.ul_tree.specs.Keys.{key_view, keys_view, has_kind, then_branches}
+use Rattle.ul_tree.specs.Keys.{key_view, keys_view, has_kind, then_branches, KeysOf}
 use Rattle.ul_tree.specs.Joins.{stands, added}
 use Rattle.ul_tree.specs.Simplify.{Results, Pieces, Piece, own_or, filled, earliest, latest, reduced_branches, settled_from, settled}
-use Rattle.ul_tree.specs.SimplifyViews.{results_view, parts_view, last_part, KeysOf, PartsFit, ResultFits, ResultsFit}
+use Rattle.ul_tree.specs.SimplifyViews.{results_view, parts_view, last_part, PartsFit, ResultFits, ResultsFit}
 use Rattle.ul_tree.proofs.Rebuilt.{then_none, then_then}
 use Rattle.ul_tree.proofs.Made.{stands_then}
 use Rattle.ul_tree.proofs.Settled.{filled_fit, own_fits, earliest_fits, latest_fits}

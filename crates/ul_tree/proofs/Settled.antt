@@ -10,7 +10,7 @@ use Rattle.ul_tree.proofs.Order.{cmp_itself, cmp_equal, cmp_trans}
 use Rattle.ul_tree.proofs.Picks.{holds_pick}
 use Rattle.ul_tree.proofs.Sameness.{same_true, same_false}
 use Rattle.ul_tree.proofs.Unique.{from_nothing}
-use Rattle.ul_tree.proofs.Stairs.{Rise, stair, pick_stair, starts_weaker, within_left, within_right, rise_merged, rise_keys, close_fits, close_holds}
+use Rattle.ul_tree.proofs.PartsByKeys.{Rise, part_among, pick_among, starts_weaker, within_left, within_right, rise_merged, rise_keys, close_fits, close_holds}
 use Rattle.ul_tree.proofs.Applied.{Seen}
 
 -- z has the truth of x wherever y holds
@@ -126,7 +126,7 @@ piece_serves None f c l z g = λ v h. let p : false ≡ true = sym (ap (λ y. ho
 piece_serves (Some t) f c l z g = g.1
 
 row_serves : (l : List ℕ) (f c : Plain) (m : Bool) (rs : Results) (v : List ℕ) (z d x y : Plain) → GoodPieces l f c rs → Serves d x y
-    → Serves (row m (filled rs z) v d) (stair (λ k. part_at l k f) m (heads rs) v x) (stair (λ k. part_at l k c) m (heads rs) v y)
+    → Serves (row m (filled rs z) v d) (part_among (λ k. part_at l k f) m (heads rs) v x) (part_among (λ k. part_at l k c) m (heads rs) v y)
 row_serves l f c m [] v z d x y g s = s
 row_serves l f c m (r ∷ rs) v z d x y g s =
     go (text_cmp v r.0) (row_serves l f c m rs v t (carried m t d) (carried m (part_at l r.0 f) x) (carried m (part_at l r.0 c) y) g.1 (serves_carried m t (part_at l r.0 f) (part_at l r.0 c) d x y own s))
@@ -137,9 +137,9 @@ row_serves l f c m (r ∷ rs) v z d x y g s =
     own : Serves (own_or r.1 z) (part_at l r.0 f) (part_at l r.0 c)
     own = piece_serves r.1 (part_at l r.0 f) (part_at l r.0 c) l z g.0
 
-    go : (o : Ordering) → Serves (row m (filled rs t) v (carried m t d)) (stair (λ k. part_at l k f) m (heads rs) v (carried m (part_at l r.0 f) x)) (stair (λ k. part_at l k c) m (heads rs) v (carried m (part_at l r.0 c) y))
-        → Serves (by_order o d t (row m (filled rs t) v (carried m t d))) (by_order o x (part_at l r.0 f) (stair (λ k. part_at l k f) m (heads rs) v (carried m (part_at l r.0 f) x)))
-        (by_order o y (part_at l r.0 c) (stair (λ k. part_at l k c) m (heads rs) v (carried m (part_at l r.0 c) y)))
+    go : (o : Ordering) → Serves (row m (filled rs t) v (carried m t d)) (part_among (λ k. part_at l k f) m (heads rs) v (carried m (part_at l r.0 f) x)) (part_among (λ k. part_at l k c) m (heads rs) v (carried m (part_at l r.0 c) y))
+        → Serves (by_order o d t (row m (filled rs t) v (carried m t d))) (by_order o x (part_at l r.0 f) (part_among (λ k. part_at l k f) m (heads rs) v (carried m (part_at l r.0 f) x)))
+        (by_order o y (part_at l r.0 c) (part_among (λ k. part_at l k c) m (heads rs) v (carried m (part_at l r.0 c) y)))
     go Less i = s
     go Equal i = own
     go Greater i = i
@@ -153,10 +153,10 @@ settled_good l e d c bs rs o h seen whole each last = (
       ∙ sym (holds_pick (reduced_branches m ps D) m (v l) D v)
       ∙ ap (λ x. holds_of x v) (branches_pick m l ps None (v l) D ps_rise)
       ∙ row_serves l (node l d bs) c m rs (v l) z D d (rest_at l c) each (piece_serves o d (rest_at l c) l (latest (carries l) rs z) last) v
-      (ap (λ x. holds_of x v) (ap (λ ks. stair (λ k. part_at l k c) m ks (v l) (rest_at l c)) whole ∙ sym (pick_stair m l ks (branches_at l c) None (v l) (rest_at l c) rise (within_right (keys bs) (branches_at l c)))) ∙ sym (seen.truths v) ∙ p)
-      ∙ ap (λ x. holds_of x v) (ap (λ ks. stair (λ k. part_at l k (node l d bs)) m ks (v l) d) whole
-      ∙ ap (λ o. stair (λ k. pick (by_order o done bs done) m k (by_order o (node l d bs) d (node l d bs))) m ks (v l) d) (cmp_itself l)
-      ∙ sym (pick_stair m l ks bs None (v l) d rise (within_left bs (keys (branches_at l c)))))
+      (ap (λ x. holds_of x v) (ap (λ ks. part_among (λ k. part_at l k c) m ks (v l) (rest_at l c)) whole ∙ sym (pick_among m l ks (branches_at l c) None (v l) (rest_at l c) rise (within_right (keys bs) (branches_at l c)))) ∙ sym (seen.truths v) ∙ p)
+      ∙ ap (λ x. holds_of x v) (ap (λ ks. part_among (λ k. part_at l k (node l d bs)) m ks (v l) d) whole
+      ∙ ap (λ o. part_among (λ k. pick (by_order o done bs done) m k (by_order o (node l d bs) d (node l d bs))) m ks (v l) d) (cmp_itself l)
+      ∙ sym (pick_among m l ks bs None (v l) d rise (within_left bs (keys (branches_at l c)))))
       ∙ holds_pick bs m (v l) d v),
 )
   where

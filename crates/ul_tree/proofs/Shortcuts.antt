@@ -1,11 +1,12 @@
 -- The steps of joining, and when the joined tree is known at once.
 use Rattle.std.proofs.Common.{◌≡◌, ℕ, suc, ◌+◌, ◌<◌, List, [], Bool, true, false, not, refl, ap, sym, ◌∙◌, arith, Some}
-use Rattle.ul_tree.specs.Plain.{Plain, truth}
+use Rattle.ul_tree.specs.Plain.{Plain, truth, node}
 use Rattle.ul_tree.specs.Reduced.{IsReduced}
 use Rattle.ul_tree.specs.Values.{value_of, tree_holds}
-use Rattle.ul_tree.specs.Apply.{apply, apply_at, built, first_of, keys, merged, branches_at, rest_at, part_at, size}
+use Rattle.ul_tree.specs.Apply.{apply, apply_at, built, first_of, keys, merged, branches_at, rest_at, part_at, size, both, either, truth_value}
 use Rattle.ul_tree.specs.Laws.{joined_by, not_of}
-use Rattle.ul_tree.specs.JoinSteps.{HasJoinedTruth, ApplySteps, JoinShortcuts, first_alone, Implies, ImpliesByJoin}
+use Rattle.ul_tree.specs.JoinSteps.{HasJoinedTruth, JoinsTo, ApplySteps, JoinShortcuts, first_alone, Implies, ImpliesByJoin}
+use Rattle.ul_tree.specs.Joins.{past_truth}
 use Rattle.ul_tree.proofs.Applied.{applied}
 use Rattle.ul_tree.proofs.Smaller.{rests_smaller, parts_smaller}
 use Rattle.ul_tree.proofs.Steps.{rest_at_reduced, part_at_reduced}
@@ -64,6 +65,47 @@ join_shortcuts = record {
       let n = operations.join_reduced (λ p q. not p) a (truth false) y tt in
       sym (one_result (λ p q. not p) (not_of a) (truth false) a n tt y (λ w e is extra. not_not (tree_holds a w e) ∙ ap not (sym (operations.join_truth (λ p q. not p) a (truth false) y tt w e))));
 }
+
+-- what the code answers at once
+
+pub joins_both : (x : Bool) (b : Plain) → IsReduced b → JoinsTo both (truth x) b (past_truth true x b)
+joins_both true b h = record { reduced = h; truth = λ w e is extra. refl }
+joins_both false b h = record { reduced = tt; truth = λ w e is extra. refl }
+
+pub joins_either : (x : Bool) (b : Plain) → IsReduced b → JoinsTo either (truth x) b (past_truth false x b)
+joins_either true b h = record { reduced = tt; truth = λ w e is extra. refl }
+joins_either false b h = record { reduced = h; truth = λ w e is extra. refl }
+
+both_true : (y : Bool) → y ≡ both y true
+both_true true = refl
+both_true false = refl
+
+both_false : (y : Bool) → false ≡ both y false
+both_false true = refl
+both_false false = refl
+
+either_true : (y : Bool) → true ≡ either y true
+either_true true = refl
+either_true false = refl
+
+either_false : (y : Bool) → y ≡ either y false
+either_false true = refl
+either_false false = refl
+
+pub both_joins : (x : Bool) (a : Plain) → IsReduced a → JoinsTo both a (truth x) (past_truth true x a)
+both_joins true a h = record { reduced = h; truth = λ w e is extra. both_true (tree_holds a w e) }
+both_joins false a h = record { reduced = tt; truth = λ w e is extra. both_false (tree_holds a w e) }
+
+pub either_joins : (x : Bool) (a : Plain) → IsReduced a → JoinsTo either a (truth x) (past_truth false x a)
+either_joins true a h = record { reduced = tt; truth = λ w e is extra. either_true (tree_holds a w e) }
+either_joins false a h = record { reduced = h; truth = λ w e is extra. either_false (tree_holds a w e) }
+
+pub negation_joins : (x : Bool) (b : Plain) → JoinsTo (λ p q. not p) (truth x) b (truth (not x))
+negation_joins x b = record { reduced = tt; truth = λ w e is extra. refl }
+
+pub truth_is : (t : Plain) (x : Bool) → Some x ≡ truth_value t → truth x ≡ t
+truth_is (truth b) x e = let q : x ≡ b = cc in ap truth q
+truth_is (node l d bs) x e = cc
 
 -- ---- implication
 

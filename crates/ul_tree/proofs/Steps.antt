@@ -10,7 +10,7 @@ use Rattle.ul_tree.specs.declared.level.Key.{Key}
 use Rattle.ul_tree.specs.declared.level.Key.TheVariants.{Literal}
 use Rattle.ul_tree.proofs.Order.{cmp_equal, cmp_itself}
 use Rattle.ul_tree.proofs.Picks.{fits_pick, size_pick}
-use Rattle.ul_tree.proofs.Stairs.{fits_weaker}
+use Rattle.ul_tree.proofs.PartsByKeys.{fits_weaker}
 use Rattle.ul_tree.proofs.Applied.{applied, seen_node, top_smaller}
 use Rattle.ul_tree.proofs.Halves.{rest_reduced}
 use Rattle.ul_tree.proofs.Rebuilt.{then_then}

@@ -81,6 +81,14 @@ abbrev pub merged : List (List ℕ) → List (List ℕ) → List (List ℕ)
 merged [] ys = ys
 merged (x ∷ xs) ys = merged_with x (merged xs) ys
 
+-- the keys of a tree at a level
+abbrev pub keys_at : List ℕ → Plain → List (List ℕ)
+keys_at l t = keys (branches_at l t)
+
+-- the keys of two trees at a level, each once
+abbrev pub both_keys : List ℕ → Plain → Plain → List (List ℕ)
+both_keys l a b = merged (keys_at l a) (keys_at l b)
+
 -- a node made of the parts at keys, reduced
 abbrev pub built : List ℕ → (List ℕ → Plain) → Plain → List (List ℕ) → Plain
 built l g d ks = close l d (outs g (carries l) ks d)
@@ -96,6 +104,11 @@ first_of (node l d bs) (node k e cs) = Some (by_order (text_cmp l k) l l k)
 abbrev pub known : Plain → Bool
 known (truth b) = b
 known (node l d bs) = false
+
+-- the truth that a tree is, if it is one
+abbrev pub truth_value : Plain → Option Bool
+truth_value (truth b) = Some b
+truth_value (node l d bs) = None
 
 -- two trees joined at their first level: their parts at the keys of both are joined in turn
 abbrev pub apply_at : (Bool → Bool → Bool) → (Plain → Plain → Plain) → Option (List ℕ) → Plain → Plain → Plain

@@ -12,6 +12,11 @@ use Rattle.ul_tree.specs.Laws.{joined_by, not_of}
 abbrev pub HasJoinedTruth : (Bool → Bool → Bool) → Plain → Plain → Plain → Type 0
 HasJoinedTruth op a b t = (w : WorldFields) (x : List ℕ) → IsWorld w → IsExtra x → tree_holds t w x ≡ op (tree_holds a w x) (tree_holds b w x)
 
+-- t is reduced, and has the joined truth of a and b
+pub record JoinsTo (op : Bool → Bool → Bool) (a b t : Plain) : Type 0 where
+  pub reduced : IsReduced t
+  pub truth : HasJoinedTruth op a b t
+
 -- an operation on two nodes is the operation on their parts, which are smaller
 pub record ApplySteps : Type 0 where
   pub at_truths : (op : Bool → Bool → Bool) (x y : Bool) → joined_by op (truth x) (truth y) ≡ truth (op x y)

@@ -1,9 +1,13 @@
 -- How two truths are joined, and the branches of a tree that is being made.
-use Rattle.std.specs.Prelude.{ℕ, ◌+◌, ◌<◌, List, [], ◌∷◌, Bool, true, false, not, ◌≡◌}
-use Rattle.ul_tree.specs.Plain.{Plain, Branches, done, branch, carried}
-use Rattle.ul_tree.specs.Apply.{size, apply, both, either}
-use Rattle.ul_tree.specs.Keys.{key_view, then_branches}
+use Rattle.std.specs.Prelude.{ℕ, ◌+◌, ◌<◌, List, [], ◌∷◌, Bool, true, false, not, ◌≡◌, if◌then◌else◌}
+use Rattle.ul_tree.specs.Plain.{Plain, truth, Branches, done, branch, carried}
+use Rattle.ul_tree.specs.Apply.{size, apply, both, either, same, same_bool}
+use Rattle.ul_tree.specs.Views.{tree_view}
+use Rattle.ul_tree.specs.Keys.{key_view, then_branches, has_kind, KeysOf}
 use Rattle.ul_tree.specs.declared.level.Key.{Key}
+use Rattle.ul_tree.specs.declared.join.AtOnce.{AtOnce}
+use Rattle.ul_tree.specs.declared.join.AtOnce.TheVariants.{Truth, Side}
+use Rattle.ul_tree.specs.declared.tree.Tree.{Tree}
 use Rattle.ul_tree.specs.declared.join.Join.{Join}
 use Rattle.ul_tree.specs.declared.join.Join.TheVariants.{Both, Either, NotFirst}
 
@@ -31,3 +35,25 @@ stands m (branch k c rest) d = stands m rest (carried m c d)
 abbrev pub added : Bool → Branches → List ℕ → Plain → Branches
 added true bs k next = bs
 added false bs k next = then_branches bs (branch k next done)
+
+-- the tree that a join is at once
+abbrev pub at_once_view : AtOnce → Plain
+at_once_view (Truth b) = truth b
+at_once_view (Side tree) = tree_view tree.now
+
+-- the join of a truth and another tree: the other where the truth is neutral, else the truth
+abbrev pub past_truth : Bool → Bool → Plain → Plain
+past_truth neutral value other = if same_bool value neutral then other else truth value
+
+-- branches of trees that were made
+abbrev pub trees_made : List (Key × Tree) → Branches
+trees_made = made_view tree_view
+
+-- a branch more, unless its part is the one that stands
+abbrev pub IsAdded : Bool → Tree → Key → Tree → List (Key × Tree) → List (Key × Tree) → Type 0
+IsAdded carried other key next before after =
+    trees_made after ≡ added (same (tree_view next) (stands carried (trees_made before) (tree_view other))) (trees_made before) (key_view key) (tree_view next)
+
+-- a branch more keeps that the keys are those of a level
+abbrev pub KeepsKeys : Key → List (Key × Tree) → List (Key × Tree) → Type 0
+KeepsKeys key before after = (l : List ℕ) → KeysOf l before → has_kind l key ≡ true → KeysOf l after

@@ -1,8 +1,8 @@
 -- Levels and keys of trees as plain data, and the branches of a node.
-use Rattle.std.specs.Prelude.{ℕ, zero, suc, List, [], ◌∷◌, map, Bool, true, false, Option, Some, None}
+use Rattle.std.specs.Prelude.{ℕ, zero, suc, List, [], ◌∷◌, map, Bool, true, false, Option, Some, None, All, ◌≡◌}
 use Rattle.std.specs.Ordering.{is_eq}
 use Rattle.ul_marker.specs.Atoms.{atom_key, text_number}
-use Rattle.ul_tree.specs.Plain.{Plain, truth, node, Branches, done, branch, text_cmp}
+use Rattle.ul_tree.specs.Plain.{Plain, truth, node, Branches, done, branch, text_cmp, pick}
 use Rattle.ul_tree.specs.Apply.{same_bool}
 use Rattle.ul_tree.specs.Levels.{extra_level, python_level, text_level, atom_level}
 use Rattle.ul_tree.specs.declared.level.Level.{Level}
@@ -52,6 +52,10 @@ abbrev pub branches_of : Plain → Branches
 branches_of (truth b) = done
 branches_of (node l d bs) = bs
 
+-- the part that a value takes among a tree's branches
+abbrev pub part_by : Bool → List ℕ → Plain → Plain
+part_by carried value t = pick (branches_of t) carried value (rest_of t)
+
 -- how many branches there are
 abbrev pub branch_count : Branches → ℕ
 branch_count done = 0
@@ -88,6 +92,14 @@ has_kind (suc (suc i) ∷ []) Holds = false
 has_kind (a ∷ b ∷ rest) (Literal text) = false
 has_kind (a ∷ b ∷ rest) (Number number) = false
 has_kind (a ∷ b ∷ rest) Holds = true
+
+-- keys that the branches of a level have
+abbrev pub AreKeysOf : List ℕ → List Key → Type 0
+AreKeysOf l ks = All (λ k. has_kind l k ≡ true) ks
+
+-- keys with values, where the keys are those of a level
+abbrev pub KeysOf : {A : Type 0} → List ℕ → List (Key × A) → Type 0
+KeysOf l xs = All (λ x. has_kind l x.0 ≡ true) xs
 
 -- whether a key is one that the branches of a tree's top level have
 abbrev pub is_key_of : Plain → Key → Bool

@@ -18,6 +18,7 @@ pub mod Keys
 pub mod Pieces
 pub mod Leaves
 pub mod Joining
+pub mod TreeFacts
 pub mod Joins
 pub mod Sample
 pub mod FirstParts

@@ -1,12 +1,13 @@
 //! Equal trees made, and trees compared.
 ghost use Rattle.std.specs.Prelude.{◌≡◌, ◌↔◌, IfOk, IsTrue, map};
-ghost use Rattle.ul_tree.specs.Reduced.{IsReduced};
+ghost use Rattle.ul_tree.specs.TreeFacts.{IsTree};
 ghost use Rattle.ul_tree.specs.Apply.{same as same_plain};
 ghost use Rattle.ul_tree.specs.Views.{tree_view, points_view};
 ghost use Rattle.ul_tree.specs.Keys.{same_tops};
 
 use crate::Tree;
 use crate::part::{branch_at, branch_count, known, level_of, rest_of};
+use crate::tree::{DEEPEST, deeper};
 use std::alloc::{AllocError, Global};
 
 impl Tree {
@@ -23,8 +24,8 @@ impl Tree {
 
     /// Whether two trees are equal.
     pub fn same(&self, other: &Tree) -> bool
-        requires own_reduced { IsReduced (tree_view self.now) }
-        requires other_reduced { IsReduced (tree_view other.now) }
+        requires own_reduced { IsTree self.now }
+        requires other_reduced { IsTree other.now }
         ensures { IsTrue result ↔ (tree_view self.now ≡ tree_view other.now) }
     {
         same(self, other)
@@ -32,20 +33,29 @@ impl Tree {
 }
 
 /// An equal tree.
-#[cycle(copy)]
 pub fn copy(alloc: Global, tree: &Tree) -> Result<Tree, AllocError>
+    ensures { IfOk result (λ t. tree_view t ≡ tree_view tree.now) }
+{
+    copy_within(alloc, tree, DEEPEST)
+}
+
+/// An equal tree; want of memory where a path has more levels than `room`.
+#[cycle(copy)]
+pub fn copy_within(alloc: Global, tree: &Tree, room: usize) -> Result<Tree, AllocError>
     ensures { IfOk result (λ t. tree_view t ≡ tree_view tree.now) }
 {
     match tree {
         Tree::Truth(value) => Ok(Tree::Truth(*value)),
         Tree::Extra { points, other } => {
-            let points = copy_points(alloc, points)?;
-            let other = Box::new(alloc, copy(alloc, other)?)?;
+            let room = deeper(room)?;
+            let points = copy_points(alloc, points, room)?;
+            let other = Box::new(alloc, copy_within(alloc, other, room)?)?;
             Ok(Tree::Extra { points, other })
         }
         Tree::Python { starts, parts } => {
+            let room = deeper(room)?;
             let starts = Vec::from_slice(alloc, starts.as_slice())?;
-            let parts = copy_parts(alloc, parts)?;
+            let parts = copy_parts(alloc, parts, room)?;
             Ok(Tree::Python { starts, parts })
         }
         Tree::Text {
@@ -53,8 +63,9 @@ pub fn copy(alloc: Global, tree: &Tree) -> Result<Tree, AllocError>
             points,
             other,
         } => {
-            let points = copy_points(alloc, points)?;
-            let other = Box::new(alloc, copy(alloc, other)?)?;
+            let room = deeper(room)?;
+            let points = copy_points(alloc, points, room)?;
+            let other = Box::new(alloc, copy_within(alloc, other, room)?)?;
             Ok(Tree::Text {
                 variable: *variable,
                 points,
@@ -62,9 +73,10 @@ pub fn copy(alloc: Global, tree: &Tree) -> Result<Tree, AllocError>
             })
         }
         Tree::Opaque { atom, yes, no } => {
+            let room = deeper(room)?;
             let atom = atom.copy(alloc)?;
-            let yes = Box::new(alloc, copy(alloc, yes)?)?;
-            let no = Box::new(alloc, copy(alloc, no)?)?;
+            let yes = Box::new(alloc, copy_within(alloc, yes, room)?)?;
+            let no = Box::new(alloc, copy_within(alloc, no, room)?)?;
             Ok(Tree::Opaque { atom, yes, no })
         }
     }
@@ -72,33 +84,37 @@ pub fn copy(alloc: Global, tree: &Tree) -> Result<Tree, AllocError>
 
 // Equal points.
 #[cycle(copy)]
-fn copy_points(alloc: Global, points: &[(String, Tree)]) -> Result<Vec<(String, Tree)>, AllocError>
+fn copy_points(
+    alloc: Global,
+    points: &[(String, Tree)],
+    room: usize,
+) -> Result<Vec<(String, Tree)>, AllocError>
     ensures { IfOk result (λ ps. points_view ps.items ≡ points_view points.now) }
 {
     let mut copied = Vec::new(alloc);
     for point in points {
         let text = String::from_str(alloc, point.0.as_str())?;
-        copied.push((text, copy(alloc, &point.1)?))?;
+        copied.push((text, copy_within(alloc, &point.1, room)?))?;
     }
     Ok(copied)
 }
 
 // Equal parts.
 #[cycle(copy)]
-fn copy_parts(alloc: Global, parts: &[Tree]) -> Result<Vec<Tree>, AllocError>
+fn copy_parts(alloc: Global, parts: &[Tree], room: usize) -> Result<Vec<Tree>, AllocError>
     ensures { IfOk result (λ ts. map tree_view ts.items ≡ map tree_view parts.now) }
 {
     let mut copied = Vec::new(alloc);
     for part in parts {
-        copied.push(copy(alloc, part)?)?;
+        copied.push(copy_within(alloc, part, room)?)?;
     }
     Ok(copied)
 }
 
 /// Whether two trees are equal.
 pub fn same(a: &Tree, b: &Tree) -> bool
-    requires a_reduced { IsReduced (tree_view a.now) }
-    requires b_reduced { IsReduced (tree_view b.now) }
+    requires a_reduced { IsTree a.now }
+    requires b_reduced { IsTree b.now }
     ensures { result ≡ same_plain (tree_view a.now) (tree_view b.now) }
 {
     if !same_top(a, b) {

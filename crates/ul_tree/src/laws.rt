@@ -1,7 +1,7 @@
 //! Laws of trees, and worked examples: each function's contract is proved, and its body does nothing.
 ghost use Rattle.ul_tree.specs.Laws.{OneTruthOneTree, Operations};
 ghost use Rattle.ul_tree.specs.JoinSteps.{ApplySteps, ImpliesByJoin, JoinShortcuts};
-ghost use Rattle.ul_tree.specs.PathLaws.{ListedAreCounted, PathsTellTruth, TreeOfPaths};
+ghost use Rattle.ul_tree.specs.PathLaws.{ListedAreCounted, PathsTellTruth, SampleIsFirst, TreeOfPaths};
 ghost use Rattle.ul_tree.specs.Regions.{NoExtra};
 ghost use Rattle.ul_tree.specs.Sample.{SampleHolds, HoldsSomewhere};
 ghost use Rattle.ul_tree.specs.SampleVectors.{SampleExamples};
@@ -46,6 +46,11 @@ pub fn listed_are_counted()
 /// A tree is true exactly where all comparisons of some path to true hold.
 pub fn paths_tell_truth()
     ensures { PathsTellTruth }
+{}
+
+/// The path of a reduced tree's sample is the first of its paths to true.
+pub fn sample_is_first()
+    ensures { SampleIsFirst }
 {}
 
 /// A reduced tree is the tree of its paths to true.

@@ -1,14 +1,11 @@
 //! Trees of single comparisons.
 ghost use Rattle.std.specs.Prelude.{◌≡◌, ◌||◌, ℕ, List, IfOk, true};
-ghost use Rattle.std.specs.Str.{bytes_eq};
 ghost use Rattle.ul_base.specs.Names.{is_name};
-ghost use Rattle.ul_marker.specs.Atoms.{IsAtom, has_atom, is_literal, is_text};
+ghost use Rattle.ul_marker.specs.Atoms.{IsAtom, is_literal, is_text};
 ghost use Rattle.ul_marker.specs.Formulas.{IsExtraLiteral};
-ghost use Rattle.ul_marker.specs.Truth.{as_asked, equals_extra, is_empty};
-ghost use Rattle.ul_marker.specs.Worlds.{WorldFields, IsWorld, text_at};
-ghost use Rattle.ul_tree.specs.Reduced.{IsReduced};
-ghost use Rattle.ul_tree.specs.Values.{tree_holds};
-ghost use Rattle.ul_tree.specs.Views.{tree_view, points_view};
+ghost use Rattle.ul_marker.specs.Truth.{is_empty};
+ghost use Rattle.ul_tree.specs.TreeFacts.{IsTree, HoldsAs, extra_truth, text_truth, atom_truth};
+ghost use Rattle.ul_tree.specs.Views.{points_view};
 ghost use Rattle.ul_tree.specs.Leaves.{point_of};
 
 use crate::Tree;
@@ -20,8 +17,8 @@ use ul_marker::{Atom, Variable};
 /// none.
 pub fn extra_tree(alloc: Global, literal: &str, equal: bool) -> Result<Tree, AllocError>
     requires { IsExtraLiteral literal.now }
-    ensures reduced { IfOk result (λ t. IsReduced (tree_view t)) }
-    ensures truth { IfOk result (λ t. (w : WorldFields) (x : List ℕ) → tree_holds (tree_view t) w x ≡ as_asked equal (equals_extra literal.now x)) }
+    ensures reduced { IfOk result IsTree }
+    ensures truth { IfOk result (λ t. HoldsAs t (extra_truth literal.now equal)) }
 {
     if !may_be_extra(alloc, literal)? {
         return Ok(Tree::Truth(!equal));
@@ -57,8 +54,8 @@ pub fn text_tree(
 ) -> Result<Tree, AllocError>
     requires variable { is_text variable ≡ true }
     requires literal { is_literal literal.now ≡ true }
-    ensures reduced { IfOk result (λ t. IsReduced (tree_view t)) }
-    ensures truth { IfOk result (λ t. (w : WorldFields) (x : List ℕ) → tree_holds (tree_view t) w x ≡ as_asked equal (bytes_eq (text_at w variable) literal.now)) }
+    ensures reduced { IfOk result IsTree }
+    ensures truth { IfOk result (λ t. HoldsAs t (text_truth variable literal.now equal)) }
 {
     let points = point(alloc, literal, equal)?;
     let other = Box::new(alloc, Tree::Truth(!equal))?;
@@ -72,8 +69,8 @@ pub fn text_tree(
 /// The tree of the worlds at which an opaque comparison holds, or doesn't.
 pub fn opaque_tree(alloc: Global, atom: &Atom, positive: bool) -> Result<Tree, AllocError>
     requires { IsAtom atom.now }
-    ensures reduced { IfOk result (λ t. IsReduced (tree_view t)) }
-    ensures truth { IfOk result (λ t. (w : WorldFields) (x : List ℕ) → tree_holds (tree_view t) w x ≡ as_asked positive (has_atom w.truths atom.now)) }
+    ensures reduced { IfOk result IsTree }
+    ensures truth { IfOk result (λ t. HoldsAs t (atom_truth atom.now positive)) }
 {
     let atom = atom.copy(alloc)?;
     let yes = Box::new(alloc, Tree::Truth(positive))?;

@@ -22,5 +22,5 @@ pub use markers::{of_marker, of_python};
 pub use operations::{plain_and, plain_at_extra, plain_not, plain_or};
 pub use samples::sample;
 pub use simplify::plain_simplify;
-pub use tree::Tree;
+pub use tree::{DEEPEST, Tree};
 pub use truth::{holds, paths};

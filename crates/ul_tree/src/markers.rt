@@ -1,20 +1,20 @@
 //! Trees of markers and of specifiers.
-ghost use Rattle.std.specs.Prelude.{◌≡◌, ◌∷◌, [], ℕ, List, IfOk, All, map, true};
+ghost use Rattle.std.specs.Prelude.{◌≡◌, ◌<◌, ◌≤◌, ◌-◌, ◌∷◌, [], ℕ, List, IfOk, All, map, take, drop, length, true, if◌then◌else◌, false};
+ghost use Rattle.ul_tree.specs.TreeFacts.{IsTree, HoldsAs, HoldsAtWorlds, HoldsByPython, HoldAsMarkers};
+ghost use Rattle.ul_tree.specs.Sample.{asks_extra};
+ghost use Rattle.ul_tree.specs.Apply.{same_bool};
 ghost use Rattle.ul_version.specs.Fields.{IsVersion, plain};
 ghost use Rattle.ul_specifier.specs.Meaning.{meets_clause, meets_list};
 ghost use Rattle.ul_marker.specs.Formulas.{AreFormulas, IsFormula};
-ghost use Rattle.ul_marker.specs.Truth.{as_asked, equal_to, is_listed, marker_holds, python_release};
+ghost use Rattle.ul_marker.specs.Truth.{as_asked, equal_to, is_listed, marker_holds};
 ghost use Rattle.ul_marker.specs.Views.{marker_view, markers_view};
-ghost use Rattle.ul_marker.specs.Worlds.{WorldFields, IsWorld};
-ghost use Rattle.ul_tree.specs.Joining.{joint, truths_of};
-ghost use Rattle.ul_tree.specs.Reduced.{IsReduced};
-ghost use Rattle.ul_tree.specs.Values.{tree_holds};
+ghost use Rattle.ul_tree.specs.Joining.{joint, truths_of, first_trees, last_trees};
 ghost use Rattle.ul_tree.specs.Views.{tree_view};
 
 use crate::Tree;
-use crate::copy::copy;
 use crate::leaf::{extra_tree, opaque_tree, text_tree};
 use crate::operations::{plain_and, plain_not, plain_or};
+use crate::part::truth_value;
 use crate::python::clause_tree;
 use std::alloc::{AllocError, Global};
 use ul_marker::Marker;
@@ -26,12 +26,12 @@ use ul_version::Version;
 /// Each comparison gives a tree by itself, and parts are joined in halves. The marker is one that a text can
 /// spell. The only error is want of memory.
 #[cycle(of_marker)]
-pub fn of_marker(alloc: Global, m: &Marker) -> Result<Tree, AllocError>
-    requires { IsFormula (marker_view m.now) }
-    ensures reduced { IfOk result (λ t. IsReduced (tree_view t)) }
-    ensures truth { IfOk result (λ t. (w : WorldFields) (x : List ℕ) → IsWorld w → tree_holds (tree_view t) w x ≡ marker_holds (marker_view m.now) w x) }
+pub fn of_marker(alloc: Global, marker: &Marker) -> Result<Tree, AllocError>
+    requires { IsFormula (marker_view marker.now) }
+    ensures reduced { IfOk result IsTree }
+    ensures truth { IfOk result (λ t. HoldsAtWorlds t (marker_holds (marker_view marker.now))) }
 {
-    match m {
+    match marker {
         Marker::Extra { literal, equal } => extra_tree(alloc, literal.as_str(), *equal),
         Marker::Python { full, clause } => clause_tree(alloc, clause, *full),
         Marker::PythonList {
@@ -47,12 +47,12 @@ pub fn of_marker(alloc: Global, m: &Marker) -> Result<Tree, AllocError>
         Marker::Opaque { atom, positive } => opaque_tree(alloc, atom, *positive),
         Marker::All(parts) => {
             let trees = of_markers(alloc, parts)?;
-            let tree = joined(alloc, true, &trees)?;
+            let tree = joined(alloc, true, trees)?;
             Ok(tree)
         }
         Marker::Any(parts) => {
             let trees = of_markers(alloc, parts)?;
-            let tree = joined(alloc, false, &trees)?;
+            let tree = joined(alloc, false, trees)?;
             Ok(tree)
         }
     }
@@ -62,8 +62,8 @@ pub fn of_marker(alloc: Global, m: &Marker) -> Result<Tree, AllocError>
 #[cycle(of_marker)]
 fn of_markers(alloc: Global, parts: &[Marker]) -> Result<Vec<Tree>, AllocError>
     requires { AreFormulas (markers_view parts.now) }
-    ensures reduced { IfOk result (λ ts. All (λ t. IsReduced (tree_view t)) ts.items) }
-    ensures truth { IfOk result (λ ts. (w : WorldFields) (x : List ℕ) → IsWorld w → truths_of ts.items w x ≡ map (λ m. marker_holds (marker_view m) w x) parts.now) }
+    ensures reduced { IfOk result (λ ts. All IsTree ts.items) }
+    ensures truth { IfOk result (λ ts. HoldAsMarkers ts.items parts.now) }
 {
     let mut trees = Vec::new(alloc);
     for part in parts {
@@ -76,15 +76,16 @@ fn of_markers(alloc: Global, parts: &[Marker]) -> Result<Vec<Tree>, AllocError>
 ///
 /// An interpreter's version is `python_full_version`, which has all three of its numbers. The only error is want
 /// of memory.
-pub fn of_python(alloc: Global, s: &Specifiers) -> Result<Tree, AllocError>
-    ensures reduced { IfOk result (λ t. IsReduced (tree_view t)) }
-    ensures truth { IfOk result (λ t. (w : WorldFields) (x : List ℕ) → IsWorld w → tree_holds (tree_view t) w x ≡ meets_list s.now (plain (python_release true w))) }
+pub fn of_python(alloc: Global, specifiers: &Specifiers) -> Result<Tree, AllocError>
+    ensures reduced { IfOk result IsTree }
+    ensures truth { IfOk result (λ t. HoldsByPython t true (λ release. meets_list specifiers.now (plain release))) }
+    ensures no_extra { IfOk result (λ t. asks_extra (tree_view t) ≡ false) }
 {
     let mut trees = Vec::new(alloc);
-    for clause in &s.clauses {
+    for clause in &specifiers.clauses {
         trees.push(clause_tree(alloc, clause, true)?)?;
     }
-    let tree = joined(alloc, true, &trees)?;
+    let tree = joined(alloc, true, trees)?;
     Ok(tree)
 }
 
@@ -96,14 +97,14 @@ fn list_tree(
     within: bool,
 ) -> Result<Tree, AllocError>
     requires { All IsVersion versions.now }
-    ensures reduced { IfOk result (λ t. IsReduced (tree_view t)) }
-    ensures truth { IfOk result (λ t. (w : WorldFields) (x : List ℕ) → IsWorld w → tree_holds (tree_view t) w x ≡ as_asked within (is_listed versions.now (python_release full w))) }
+    ensures reduced { IfOk result IsTree }
+    ensures truth { IfOk result (λ t. HoldsByPython t full (λ release. as_asked within (is_listed versions.now release))) }
 {
     let mut trees = Vec::new(alloc);
     for version in versions {
         trees.push(version_tree(alloc, version, full)?)?;
     }
-    let tree = joined(alloc, false, &trees)?;
+    let tree = joined(alloc, false, trees)?;
     if within {
         return Ok(tree);
     }
@@ -114,8 +115,8 @@ fn list_tree(
 // The tree of the interpreters whose version equals another.
 fn version_tree(alloc: Global, version: &Version, full: bool) -> Result<Tree, AllocError>
     requires { IsVersion version.now }
-    ensures reduced { IfOk result (λ t. IsReduced (tree_view t)) }
-    ensures truth { IfOk result (λ t. (w : WorldFields) (x : List ℕ) → IsWorld w → tree_holds (tree_view t) w x ≡ meets_clause (equal_to version.now) (plain (python_release full w))) }
+    ensures reduced { IfOk result IsTree }
+    ensures truth { IfOk result (λ t. HoldsByPython t full (λ release. meets_clause (equal_to version.now) (plain release))) }
 {
     let clause = Clause {
         op: Op::Equal,
@@ -126,37 +127,76 @@ fn version_tree(alloc: Global, version: &Version, full: bool) -> Result<Tree, Al
     Ok(tree)
 }
 
-// The tree that is true where all trees are, or where some tree is.
-pub fn joined(alloc: Global, all: bool, trees: &[Tree]) -> Result<Tree, AllocError>
-    requires { All (λ t. IsReduced (tree_view t)) trees.now }
-    ensures reduced { IfOk result (λ t. IsReduced (tree_view t)) }
-    ensures truth { IfOk result (λ t. (w : WorldFields) (x : List ℕ) → tree_holds (tree_view t) w x ≡ joint all (truths_of trees.now w x)) }
+/// The tree that is true where all trees are, or where some tree is, joined by halves. The trees are moved.
+pub fn joined(alloc: Global, all: bool, trees: Vec<Tree>) -> Result<Tree, AllocError>
+    requires { All IsTree trees.items }
+    ensures reduced { IfOk result IsTree }
+    ensures truth { IfOk result (λ t. HoldsAs t (λ w x. joint all (truths_of trees.items w x))) }
 {
-    if trees.is_empty() {
+    let mut trees = trees;
+    let count = trees.len();
+    if count == 0 {
         return Ok(Tree::Truth(all));
     }
-    if trees.len() == 1 {
-        let tree = copy(alloc, &trees[0])?;
-        return Ok(tree);
-    }
-    let half = trees.len() / 2;
-    let front = joined(alloc, all, &trees[..half])?;
-    let back = joined(alloc, all, &trees[half..])?;
-    let tree = pair(alloc, all, &front, &back)?;
+    let tree = joined_last(alloc, all, &mut trees, count)?;
     Ok(tree)
 }
 
-// The tree that is true where both trees are, or where one of them is.
-fn pair(alloc: Global, all: bool, a: &Tree, b: &Tree) -> Result<Tree, AllocError>
-    requires a_reduced { IsReduced (tree_view a.now) }
-    requires b_reduced { IsReduced (tree_view b.now) }
-    ensures reduced { IfOk result (λ t. IsReduced (tree_view t)) }
-    ensures truth { IfOk result (λ t. (w : WorldFields) (x : List ℕ) → tree_holds (tree_view t) w x ≡ joint all (tree_holds (tree_view a.now) w x ∷ tree_holds (tree_view b.now) w x ∷ [])) }
+// The last so many trees of a row, taken away and joined.
+fn joined_last(
+    alloc: Global,
+    all: bool,
+    trees: &mut Vec<Tree>,
+    count: usize,
+) -> Result<Tree, AllocError>
+    requires some { 0 < count }
+    requires within { count ≤ length trees.old.items }
+    requires reduced { All IsTree trees.old.items }
+    ensures left { IfOk result (λ t. trees.new.items ≡ first_trees count trees.old.items) }
+    ensures reduced { IfOk result IsTree }
+    ensures truth { IfOk result (λ t. HoldsAs t (λ w x. joint all (truths_of (last_trees count trees.old.items) w x))) }
 {
+    if count == 1 {
+        return match trees.pop() {
+            Some(tree) => Ok(tree),
+            None => unreachable!(),
+        };
+    }
+    let half = count / 2;
+    let back = joined_last(alloc, all, trees, half)?;
+    let front = joined_last(alloc, all, trees, count - half)?;
+    let tree = pair(alloc, all, front, back)?;
+    Ok(tree)
+}
+
+// The tree that is true where both trees are, or where one of them is. A truth that settles the joined truth is the
+// answer, and one that doesn't count leaves it to the other tree.
+fn pair(alloc: Global, all: bool, front: Tree, back: Tree) -> Result<Tree, AllocError>
+    requires front_reduced { IsTree front }
+    requires back_reduced { IsTree back }
+    ensures reduced { IfOk result IsTree }
+    ensures truth { IfOk result (λ t. HoldsAs t (λ w x. joint all (truths_of (front ∷ back ∷ []) w x))) }
+{
+    if let Some(value) = truth_value(&front) {
+        return Ok(past_neutral(all, value, front, back));
+    }
+    if let Some(value) = truth_value(&back) {
+        return Ok(past_neutral(all, value, back, front));
+    }
     if all {
-        let tree = plain_and(alloc, a, b)?;
+        let tree = plain_and(alloc, &front, &back)?;
         return Ok(tree);
     }
-    let tree = plain_or(alloc, a, b)?;
+    let tree = plain_or(alloc, &front, &back)?;
     Ok(tree)
+}
+
+// The other tree where a truth is neutral, else the tree of the truth, which settles the joined one.
+fn past_neutral(neutral: bool, value: bool, settles: Tree, other: Tree) -> Tree
+    ensures { tree_view result ≡ (if same_bool value neutral then tree_view other else tree_view settles) }
+{
+    if value == neutral {
+        return other;
+    }
+    settles
 }

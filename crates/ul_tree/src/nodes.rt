@@ -3,10 +3,11 @@
 //! `Tree` is one kind of node; shared diagrams are another. What is said of a node is said of the plain tree that
 //! it stands for.
 ghost use Rattle.std.specs.Prelude.{◌≡◌, ◌<◌, ℕ, suc, List, option_map, IfOk, All, true};
-ghost use Rattle.ul_tree.specs.Plain.{Plain, branch, pick};
+ghost use Rattle.ul_tree.specs.TreeFacts.{IsBranchAt};
+ghost use Rattle.ul_tree.specs.Plain.{Plain};
 ghost use Rattle.ul_tree.specs.Reduced.{IsReduced};
-ghost use Rattle.ul_tree.specs.Apply.{first_of, keys, merged, rest_at, branches_at, part_at};
-ghost use Rattle.ul_tree.specs.Keys.{level_view, key_view, keys_view, top_of, rest_of, branches_of, branch_count, branches_from, is_level, has_kind, is_key_of};
+ghost use Rattle.ul_tree.specs.Apply.{first_of, keys, merged, rest_at, part_at, keys_at, both_keys};
+ghost use Rattle.ul_tree.specs.Keys.{level_view, key_view, keys_view, top_of, rest_of, branches_of, branch_count, is_level, is_key_of, AreKeysOf, part_by};
 
 use crate::level::{Key, Level};
 use std::alloc::{AllocError, Global};
@@ -48,7 +49,7 @@ pub trait Nodes {
     fn branch_at(node: &Self::Node, index: usize) -> Branch<'_, Self::Node>
         requires reduced { IsReduced (tree node.now) }
         requires within { index < branch_count (branches_of (tree node.now)) }
-        ensures found { branches_from index (branches_of (tree node.now)) ≡ branch (key_view result.key) (tree result.part.now) (branches_from (suc index) (branches_of (tree node.now))) }
+        ensures found { IsBranchAt (branches_of (tree node.now)) index (key_view result.key) (tree result.part.now) }
         ensures kind { is_key_of (tree node.now) result.key ≡ true }
         ensures below { below node.now result.part.now };
 
@@ -85,8 +86,8 @@ pub fn keys_at<'a, N: Nodes>(
     level: Level<'_>,
 ) -> Result<Vec<Key<'a>>, AllocError>
     requires { IsReduced (N.tree node.now) }
-    ensures keys { IfOk result (λ ks. keys_view ks.items ≡ keys (branches_at (level_view level.entry) (N.tree node.now))) }
-    ensures kinds { IfOk result (λ ks. All (λ k. has_kind (level_view level.entry) k ≡ true) ks.items) }
+    ensures keys { IfOk result (λ ks. keys_view ks.items ≡ keys_at (level_view level.entry) (N.tree node.now)) }
+    ensures kinds { IfOk result (λ ks. AreKeysOf (level_view level.entry) ks.items) }
 {
     if is_at::<N>(node, level) {
         return all_keys::<N>(alloc, node);
@@ -122,7 +123,7 @@ pub fn part_at<'a, N: Nodes>(node: &'a N::Node, level: Level<'_>, value: Key<'_>
 /// The part that a value takes among a node's branches, found by halves.
 pub fn part_of<'a, N: Nodes>(node: &'a N::Node, carried: bool, value: Key<'_>) -> &'a N::Node
     requires { IsReduced (N.tree node.now) }
-    ensures part { N.tree result.now ≡ pick (branches_of (N.tree node.now)) carried (key_view value.entry) (rest_of (N.tree node.now)) }
+    ensures part { N.tree result.now ≡ part_by carried (key_view value.entry) (N.tree node.now) }
     ensures below { N.below node.now result.now }
 {
     let rest = N::rest_of(node);
@@ -176,8 +177,8 @@ pub fn level_keys<'a, N: Nodes>(
 ) -> Result<Vec<Key<'a>>, AllocError>
     requires a_reduced { IsReduced (N.tree a.now) }
     requires b_reduced { IsReduced (N.tree b.now) }
-    ensures keys { IfOk result (λ ks. keys_view ks.items ≡ merged (keys (branches_at (level_view level.entry) (N.tree a.now))) (keys (branches_at (level_view level.entry) (N.tree b.now)))) }
-    ensures kinds { IfOk result (λ ks. All (λ k. has_kind (level_view level.entry) k ≡ true) ks.items) }
+    ensures keys { IfOk result (λ ks. keys_view ks.items ≡ both_keys (level_view level.entry) (N.tree a.now) (N.tree b.now)) }
+    ensures kinds { IfOk result (λ ks. AreKeysOf (level_view level.entry) ks.items) }
 {
     let of_a = keys_at::<N>(alloc, a, level)?;
     let of_b = keys_at::<N>(alloc, b, level)?;
@@ -192,7 +193,7 @@ pub fn merged_keys<'a>(
     b: &[Key<'a>],
 ) -> Result<Vec<Key<'a>>, AllocError>
     ensures keys { IfOk result (λ ks. keys_view ks.items ≡ merged (keys_view a.now) (keys_view b.now)) }
-    ensures kinds { IfOk result (λ ks. (l : List ℕ) → All (λ k. has_kind l k ≡ true) a.now → All (λ k. has_kind l k ≡ true) b.now → All (λ k. has_kind l k ≡ true) ks.items) }
+    ensures kinds { IfOk result (λ ks. (l : List ℕ) → AreKeysOf l a.now → AreKeysOf l b.now → AreKeysOf l ks.items) }
 {
     let mut made = Vec::new(alloc);
     let mut i = 0;

@@ -1,7 +1,7 @@
 //! The truth of trees joined: `and`, `or`, `not`, and a tree at an extra.
-ghost use Rattle.std.specs.Prelude.{◌≡◌, ℕ, List, IfOk, not};
-ghost use Rattle.ul_marker.specs.Worlds.{WorldFields};
-ghost use Rattle.ul_tree.specs.Reduced.{IsReduced};
+ghost use Rattle.std.specs.Prelude.{◌≡◌, ℕ, List, IfOk, not, false};
+ghost use Rattle.ul_tree.specs.TreeFacts.{IsTree, HoldsAs, HoldsJoined};
+ghost use Rattle.ul_tree.specs.Sample.{asks_extra};
 ghost use Rattle.ul_tree.specs.Apply.{both, either};
 ghost use Rattle.ul_tree.specs.Values.{tree_holds};
 ghost use Rattle.ul_tree.specs.Views.{tree_view};
@@ -20,10 +20,10 @@ use std::alloc::{AllocError, Global};
 ///
 /// Only for want of memory.
 pub fn plain_and(alloc: Global, a: &Tree, b: &Tree) -> Result<Tree, AllocError>
-    requires a_reduced { IsReduced (tree_view a.now) }
-    requires b_reduced { IsReduced (tree_view b.now) }
-    ensures reduced { IfOk result (λ t. IsReduced (tree_view t)) }
-    ensures truth { IfOk result (λ t. (w : WorldFields) (x : List ℕ) → tree_holds (tree_view t) w x ≡ both (tree_holds (tree_view a.now) w x) (tree_holds (tree_view b.now) w x)) }
+    requires a_reduced { IsTree a.now }
+    requires b_reduced { IsTree b.now }
+    ensures reduced { IfOk result IsTree }
+    ensures truth { IfOk result (λ t. HoldsJoined both a.now b.now t) }
 {
     let tree = joined(alloc, Join::Both, a, b)?;
     Ok(tree)
@@ -35,10 +35,10 @@ pub fn plain_and(alloc: Global, a: &Tree, b: &Tree) -> Result<Tree, AllocError>
 ///
 /// Only for want of memory.
 pub fn plain_or(alloc: Global, a: &Tree, b: &Tree) -> Result<Tree, AllocError>
-    requires a_reduced { IsReduced (tree_view a.now) }
-    requires b_reduced { IsReduced (tree_view b.now) }
-    ensures reduced { IfOk result (λ t. IsReduced (tree_view t)) }
-    ensures truth { IfOk result (λ t. (w : WorldFields) (x : List ℕ) → tree_holds (tree_view t) w x ≡ either (tree_holds (tree_view a.now) w x) (tree_holds (tree_view b.now) w x)) }
+    requires a_reduced { IsTree a.now }
+    requires b_reduced { IsTree b.now }
+    ensures reduced { IfOk result IsTree }
+    ensures truth { IfOk result (λ t. HoldsJoined either a.now b.now t) }
 {
     let tree = joined(alloc, Join::Either, a, b)?;
     Ok(tree)
@@ -50,23 +50,24 @@ pub fn plain_or(alloc: Global, a: &Tree, b: &Tree) -> Result<Tree, AllocError>
 ///
 /// Only for want of memory.
 pub fn plain_not(alloc: Global, a: &Tree) -> Result<Tree, AllocError>
-    requires { IsReduced (tree_view a.now) }
-    ensures reduced { IfOk result (λ t. IsReduced (tree_view t)) }
-    ensures truth { IfOk result (λ t. (w : WorldFields) (x : List ℕ) → tree_holds (tree_view t) w x ≡ not (tree_holds (tree_view a.now) w x)) }
+    requires { IsTree a.now }
+    ensures reduced { IfOk result IsTree }
+    ensures truth { IfOk result (λ t. HoldsAs t (λ w x. not (tree_holds (tree_view a.now) w x))) }
 {
     let tree = joined(alloc, Join::NotFirst, a, &Tree::Truth(false))?;
     Ok(tree)
 }
 
-/// The tree of one extra, which may be empty: its truth no longer depends on the extra.
+/// The tree of one extra, which may be empty: it asks for no extra.
 ///
 /// # Errors
 ///
 /// Only for want of memory.
 pub fn plain_at_extra(alloc: Global, a: &Tree, extra: &str) -> Result<Tree, AllocError>
-    requires { IsReduced (tree_view a.now) }
-    ensures reduced { IfOk result (λ t. IsReduced (tree_view t)) }
-    ensures truth { IfOk result (λ t. (w : WorldFields) (y : List ℕ) → tree_holds (tree_view t) w y ≡ tree_holds (tree_view a.now) w extra.now) }
+    requires { IsTree a.now }
+    ensures reduced { IfOk result IsTree }
+    ensures truth { IfOk result (λ t. HoldsAs t (λ w x. tree_holds (tree_view a.now) w extra.now)) }
+    ensures no_extra { IfOk result (λ t. asks_extra (tree_view t) ≡ false) }
 {
     let tree = copy(
         alloc,

@@ -1,12 +1,11 @@
 //! Trees as nodes: the top level, the part without a key, and the branches.
 ghost use Rattle.std.specs.Prelude.{◌≡◌, ◌<◌, suc, length, option_map, true};
-ghost use Rattle.ul_tree.specs.Plain.{branch};
-ghost use Rattle.ul_tree.specs.Reduced.{IsReduced};
-ghost use Rattle.ul_tree.specs.Apply.{known as known_plain};
+ghost use Rattle.ul_tree.specs.TreeFacts.{IsTree, IsBranchAt};
+ghost use Rattle.ul_tree.specs.Apply.{known as known_plain, truth_value as truth_value_plain};
 ghost use Rattle.ul_tree.specs.FirstParts.{is_false as is_false_plain};
 ghost use Rattle.ul_tree.specs.Sample.{asks_extra as asks_extra_plain};
 ghost use Rattle.ul_tree.specs.Views.{tree_view, points_view};
-ghost use Rattle.ul_tree.specs.Keys.{level_view, key_view, top_of, rest_of, branches_of, branch_count, branches_from, is_key_of, is_literal_key};
+ghost use Rattle.ul_tree.specs.Keys.{level_view, key_view, top_of, rest_of, branches_of, branch_count, is_key_of, is_literal_key};
 
 use crate::Tree;
 use crate::level::{Key, Level};
@@ -56,6 +55,19 @@ pub fn known(tree: &Tree) -> bool
     }
 }
 
+/// The truth that a tree is, if it is one.
+pub fn truth_value(tree: &Tree) -> Option<bool>
+    ensures { result ≡ truth_value_plain (tree_view tree.now) }
+{
+    match tree {
+        Tree::Truth(value) => Some(*value),
+        Tree::Extra { .. } => None,
+        Tree::Python { .. } => None,
+        Tree::Text { .. } => None,
+        Tree::Opaque { .. } => None,
+    }
+}
+
 /// Whether a tree is false.
 pub fn is_false(tree: &Tree) -> bool
     ensures { result ≡ is_false_plain (tree_view tree.now) }
@@ -85,7 +97,7 @@ pub fn level_of(tree: &Tree) -> Option<Level<'_>>
 
 /// The part without a key; a truth is its own part.
 pub fn rest_of(tree: &Tree) -> &Tree
-    requires { IsReduced (tree_view tree.now) }
+    requires { IsTree tree.now }
     ensures { tree_view result.now ≡ rest_of (tree_view tree.now) }
 {
     match tree {
@@ -99,7 +111,7 @@ pub fn rest_of(tree: &Tree) -> &Tree
 
 /// How many branches a tree has beside the part without a key.
 pub fn branch_count(tree: &Tree) -> usize
-    requires { IsReduced (tree_view tree.now) }
+    requires { IsTree tree.now }
     ensures { result ≡ branch_count (branches_of (tree_view tree.now)) }
 {
     match tree {
@@ -113,9 +125,9 @@ pub fn branch_count(tree: &Tree) -> usize
 
 /// The branch at a place.
 pub fn branch_at(tree: &Tree, index: usize) -> Branch<'_, Tree>
-    requires reduced { IsReduced (tree_view tree.now) }
+    requires reduced { IsTree tree.now }
     requires within { index < branch_count (branches_of (tree_view tree.now)) }
-    ensures found { branches_from index (branches_of (tree_view tree.now)) ≡ branch (key_view result.key) (tree_view result.part.now) (branches_from (suc index) (branches_of (tree_view tree.now))) }
+    ensures found { IsBranchAt (branches_of (tree_view tree.now)) index (key_view result.key) (tree_view result.part.now) }
     ensures kind { is_key_of (tree_view tree.now) result.key ≡ true }
 {
     match tree {
@@ -139,7 +151,7 @@ pub fn branch_at(tree: &Tree, index: usize) -> Branch<'_, Tree>
 // The branch of a point.
 fn point_at(points: &[(String, Tree)], index: usize) -> Branch<'_, Tree>
     requires { index < length points.now }
-    ensures found { branches_from index (points_view points.now) ≡ branch (key_view result.key) (tree_view result.part.now) (branches_from (suc index) (points_view points.now)) }
+    ensures found { IsBranchAt (points_view points.now) index (key_view result.key) (tree_view result.part.now) }
     ensures kind { is_literal_key result.key ≡ true }
 {
     let point = &points[index];

@@ -2,12 +2,9 @@
 ghost use Rattle.std.specs.Prelude.{◌≡◌, ℕ, List, IfOk};
 ghost use Rattle.ul_version.specs.Fields.{plain};
 ghost use Rattle.ul_specifier.specs.Meaning.{meets_clause};
-ghost use Rattle.ul_marker.specs.Truth.{python_release};
-ghost use Rattle.ul_marker.specs.Worlds.{WorldFields, IsWorld};
+ghost use Rattle.ul_tree.specs.TreeFacts.{IsTree, HoldsByPython};
 ghost use Rattle.ul_tree.specs.Pieces;
 ghost use Rattle.ul_tree.specs.Pieces.{major_of, minor_of, patch_of, starts_of, stepped_of};
-ghost use Rattle.ul_tree.specs.Reduced.{IsReduced};
-ghost use Rattle.ul_tree.specs.Values.{tree_holds};
 ghost use Rattle.ul_tree.specs.Views.{tree_view};
 
 use crate::Tree;
@@ -25,8 +22,8 @@ const END: u128 = 1 << 96;
 ///
 /// The clause is evaluated at each interpreter where its truth may change, and the tree has those where it does.
 pub fn clause_tree(alloc: Global, clause: &Clause, full: bool) -> Result<Tree, AllocError>
-    ensures reduced { IfOk result (λ t. IsReduced (tree_view t)) }
-    ensures truth { IfOk result (λ t. (w : WorldFields) (x : List ℕ) → IsWorld w → tree_holds (tree_view t) w x ≡ meets_clause clause.now (plain (python_release full w))) }
+    ensures reduced { IfOk result IsTree }
+    ensures truth { IfOk result (λ t. HoldsByPython t full (λ release. meets_clause clause.now (plain release))) }
 {
     let starts = starts(alloc, clause, full)?;
     let tree = stepped(alloc, meets_at(clause, full, 0), &starts)?;

@@ -1,13 +1,14 @@
 //! A world at which a tree holds.
 ghost use Rattle.std.specs.Prelude.{◌≡◌, ℕ, List, [], ◌∷◌, false, true, length, IfOk, option_map, string_bytes};
 ghost use Rattle.ul_marker.specs.Worlds.{IsWorld};
-ghost use Rattle.ul_tree.specs.FirstParts.{first_branch};
+ghost use Rattle.ul_tree.specs.TreeFacts.{IsTree};
+ghost use Rattle.ul_tree.specs.FirstParts.{first_point_of, first_piece_of};
 ghost use Rattle.ul_tree.specs.Levels.{python_level, text_level, atom_level};
 ghost use Rattle.ul_tree.specs.Plain.{truth};
-ghost use Rattle.ul_tree.specs.Reduced.{IsReduced, Fits};
+ghost use Rattle.ul_tree.specs.Reduced.{Fits};
 ghost use Rattle.ul_tree.specs.Sample.{asks_extra, empty_world, fresh, has_key, sample_from, sample_of, with_level};
 ghost use Rattle.ul_tree.specs.Values.{tree_holds};
-ghost use Rattle.ul_tree.specs.Views.{tree_view, points_view, pieces_view};
+ghost use Rattle.ul_tree.specs.Views.{tree_view, points_view};
 
 use crate::part::is_false;
 use crate::tree::Tree;
@@ -96,7 +97,7 @@ impl Found {
 
 // The first point whose part isn't false.
 fn first_point<'a>(points: &'a [(String, Tree)]) -> Option<&'a (String, Tree)>
-    ensures { option_map (λ p. (string_bytes p.now.0, tree_view p.now.1)) result ≡ first_branch (points_view points.now) }
+    ensures { option_map (λ p. (string_bytes p.now.0, tree_view p.now.1)) result ≡ first_point_of points.now }
 {
     for point in points {
         if !is_false(&point.1) {
@@ -109,7 +110,7 @@ fn first_point<'a>(points: &'a [(String, Tree)]) -> Option<&'a (String, Tree)>
 // The first piece whose part isn't false, as its start and its part.
 fn first_piece<'a>(starts: &[u128], parts: &'a [Tree]) -> Option<(u128, &'a Tree)>
     requires { length starts.now ≡ length parts.now }
-    ensures { option_map (λ p. (p.0 ∷ [], tree_view p.1.now)) result ≡ first_branch (pieces_view starts.now parts.now) }
+    ensures { option_map (λ p. (p.0 ∷ [], tree_view p.1.now)) result ≡ first_piece_of starts.now parts.now }
 {
     for (index, part) in parts.iter().enumerate() {
         if !is_false(part) {
@@ -196,14 +197,14 @@ fn follow(alloc: Global, tree: &Tree, found: &mut Found) -> Result<(), AllocErro
 /// The opaque comparisons that hold are those that hold on the path.
 ///
 /// The tree isn't false and asks for no extra. There is no answer for want of memory alone.
-pub fn sample(alloc: Global, t: &Tree) -> Result<World, AllocError>
-    requires reduced { IsReduced (tree_view t.now) }
-    requires not_false { tree_view t.now ≡ truth false → ⊥ }
-    requires no_extra { asks_extra (tree_view t.now) ≡ false }
-    ensures first { IfOk result (λ w. w ≡ sample_of (tree_view t.now)) }
-    ensures holds { IfOk result (λ w. (x : List ℕ) → tree_holds (tree_view t.now) w x ≡ true) }
+pub fn sample(alloc: Global, tree: &Tree) -> Result<World, AllocError>
+    requires reduced { IsTree tree.now }
+    requires not_false { tree_view tree.now ≡ truth false → ⊥ }
+    requires no_extra { asks_extra (tree_view tree.now) ≡ false }
+    ensures first { IfOk result (λ w. w ≡ sample_of (tree_view tree.now)) }
+    ensures holds { IfOk result (λ w. (x : List ℕ) → tree_holds (tree_view tree.now) w x ≡ true) }
 {
     let mut found = Found::new(alloc)?;
-    follow(alloc, t, &mut found)?;
+    follow(alloc, tree, &mut found)?;
     Ok(found.into_world())
 }

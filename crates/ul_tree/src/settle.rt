@@ -1,11 +1,12 @@
 //! A level put together from the results of its pieces.
 ghost use Rattle.std.specs.Prelude.{◌≡◌, IfOk, List, [], ℕ, option_map};
+ghost use Rattle.ul_tree.specs.TreeFacts.{IsTree};
 ghost use Rattle.ul_tree.specs.Views.{tree_view};
 ghost use Rattle.ul_tree.specs.Reduced.{IsReduced};
-ghost use Rattle.ul_tree.specs.Keys.{level_view};
-ghost use Rattle.ul_tree.specs.Joins.{made_view};
-ghost use Rattle.ul_tree.specs.Simplify.{own_or, filled, reduced_branches, settled};
-ghost use Rattle.ul_tree.specs.SimplifyViews.{results_view, parts_view, KeysOf, PartsFit, ResultFits, ResultsFit};
+ghost use Rattle.ul_tree.specs.Keys.{level_view, KeysOf};
+ghost use Rattle.ul_tree.specs.Joins.{trees_made};
+ghost use Rattle.ul_tree.specs.Simplify.{own_or, filled};
+ghost use Rattle.ul_tree.specs.SimplifyViews.{PartsFit, ResultFits, ResultsFit, result_trees, part_trees, reduced_parts, settled_tree};
 
 use crate::Tree;
 use crate::copy::copy;
@@ -30,7 +31,7 @@ fn filled<'a>(
     results: Vec<(Key<'a>, Option<Tree>)>,
     first: &Tree,
 ) -> Result<Vec<(Key<'a>, Tree)>, AllocError>
-    ensures parts { IfOk result (λ ps. parts_view tree_view ps.items ≡ filled (results_view tree_view results.entry.items) (tree_view first.now)) }
+    ensures parts { IfOk result (λ ps. part_trees ps.items ≡ filled (result_trees results.entry.items) (tree_view first.now)) }
     ensures kinds { IfOk result (λ ps. (l : List ℕ) → KeysOf l results.entry.items → KeysOf l ps.items) }
 {
     let mut parts: Vec<(Key<'a>, Tree)> = Vec::new(alloc);
@@ -48,9 +49,9 @@ fn reduced_branches<'a>(
     other: &Tree,
     carried: bool,
 ) -> Result<Vec<(Key<'a>, Tree)>, AllocError>
-    requires parts_reduced { PartsFit (parts_view tree_view parts.items) [] }
-    requires other_reduced { IsReduced (tree_view other.now) }
-    ensures branches { IfOk result (λ bs. made_view tree_view bs.items ≡ reduced_branches carried (parts_view tree_view parts.entry.items) (tree_view other.now)) }
+    requires parts_reduced { PartsFit (part_trees parts.items) [] }
+    requires other_reduced { IsTree other.now }
+    ensures branches { IfOk result (λ bs. trees_made bs.items ≡ reduced_parts carried parts.entry.items other.now) }
     ensures kinds { IfOk result (λ bs. (l : List ℕ) → KeysOf l parts.entry.items → KeysOf l bs.items) }
 {
     let mut made: Vec<(Key<'a>, Tree)> = Vec::new(alloc);
@@ -70,11 +71,11 @@ pub fn settled(
     otherwise: &Tree,
 ) -> Result<Tree, AllocError>
     requires kinds { KeysOf (level_view level) results.items }
-    requires results_reduced { ResultsFit (results_view tree_view results.items) [] }
+    requires results_reduced { ResultsFit (result_trees results.items) [] }
     requires rest_reduced { ResultFits (option_map tree_view rest) [] }
-    requires otherwise_reduced { IsReduced (tree_view otherwise.now) }
-    requires reduced { IsReduced (settled (level_view level) (results_view tree_view results.items) (option_map tree_view rest) (tree_view otherwise.now)) }
-    ensures { IfOk result (λ t. tree_view t ≡ settled (level_view level.entry) (results_view tree_view results.entry.items) (option_map tree_view rest) (tree_view otherwise.now)) }
+    requires otherwise_reduced { IsTree otherwise.now }
+    requires reduced { IsReduced (settled_tree level results.items rest otherwise.now) }
+    ensures { IfOk result (λ t. tree_view t ≡ settled_tree level.entry results.entry.items rest otherwise.now) }
 {
     let carried = level.is_carried();
     let first = copy(alloc, earliest(carried, &results, &rest, otherwise))?;

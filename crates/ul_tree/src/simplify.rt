@@ -1,13 +1,11 @@
 //! Trees made simpler where only a region counts.
-ghost use Rattle.std.specs.Prelude.{◌≡◌, IfOk, All, List, ℕ, Some, option_map, true, false};
-ghost use Rattle.ul_marker.specs.Worlds.{WorldFields};
+ghost use Rattle.std.specs.Prelude.{◌≡◌, ◌<◌, ◌≤◌, ◌-◌, IfOk, All, List, ℕ, Some, option_map, true, false};
+ghost use Rattle.ul_tree.specs.TreeFacts.{IsTree, AgreesWithin};
 ghost use Rattle.ul_tree.specs.Plain.{truth};
-ghost use Rattle.ul_tree.specs.Reduced.{IsReduced};
-ghost use Rattle.ul_tree.specs.Values.{tree_holds};
 ghost use Rattle.ul_tree.specs.Views.{tree_view};
-ghost use Rattle.ul_tree.specs.Keys.{level_view, keys_view, top_of, rest_of, branches_of, has_kind};
-ghost use Rattle.ul_tree.specs.Simplify.{union_in, Simplifies, Pieces, Piece};
-ghost use Rattle.ul_tree.specs.SimplifyViews.{is_above as is_above_plain, region_view, results_view, KeysOf, Lowered};
+ghost use Rattle.ul_tree.specs.Keys.{level_view, top_of, branches_of, branch_count, AreKeysOf, KeysOf};
+ghost use Rattle.ul_tree.specs.Simplify.{Simplifies, Piece};
+ghost use Rattle.ul_tree.specs.SimplifyViews.{HoldsParts, is_above as is_above_plain, region_view, union_parts, IsLowered, PiecesAre};
 
 use crate::Tree;
 use crate::copy::copy;
@@ -16,6 +14,7 @@ use crate::level::{Key, Level};
 use crate::nodes::{level_keys, part_at, rest_at};
 use crate::part::{Trees, branch_at, branch_count, is_false, known, level_of, rest_of};
 use crate::settle::settled;
+use crate::tree::{DEEPEST, deeper};
 use std::alloc::{AllocError, Global};
 
 /// A tree made simpler where only the region `c` counts, which isn't false: reduced, and with `f`'s truth
@@ -34,14 +33,14 @@ use std::alloc::{AllocError, Global};
 ///
 /// Only for want of memory.
 pub fn plain_simplify(alloc: Global, f: &Tree, c: &Tree) -> Result<Tree, AllocError>
-    requires f_reduced { IsReduced (tree_view f.now) }
-    requires c_reduced { IsReduced (tree_view c.now) }
+    requires f_reduced { IsTree f.now }
+    requires c_reduced { IsTree c.now }
     requires not_false { tree_view c.now ≡ truth false → ⊥ }
     ensures rule { IfOk result (λ t. Simplifies (tree_view f.now) (tree_view c.now) (tree_view t)) }
-    ensures reduced { IfOk result (λ t. IsReduced (tree_view t)) }
-    ensures agrees { IfOk result (λ t. (w : WorldFields) (x : List ℕ) → tree_holds (tree_view c.now) w x ≡ true → tree_holds (tree_view t) w x ≡ tree_holds (tree_view f.now) w x) }
+    ensures reduced { IfOk result IsTree }
+    ensures agrees { IfOk result (λ t. AgreesWithin (tree_view c.now) (tree_view f.now) (tree_view t)) }
 {
-    let simpler = simplified(alloc, f, c)?;
+    let simpler = simplified(alloc, f, c, DEEPEST)?;
     Ok(simpler)
 }
 
@@ -57,22 +56,45 @@ fn is_above(tree: &Tree, level: Level<'_>) -> bool
 
 // The union of a tree's parts.
 fn union(alloc: Global, tree: &Tree) -> Result<Tree, AllocError>
-    requires { IsReduced (tree_view tree.now) }
-    ensures { IfOk result (λ t. tree_view t ≡ union_in (branches_of (tree_view tree.now)) (rest_of (tree_view tree.now))) }
+    requires { IsTree tree.now }
+    ensures { IfOk result (λ t. tree_view t ≡ union_parts (tree_view tree.now)) }
 {
-    let mut made = copy(alloc, rest_of(tree))?;
-    for index in 0..branch_count(tree) {
-        made = joined(alloc, Join::Either, &made, branch_at(tree, index).part)?;
+    let count = branch_count(tree);
+    if count == 0 {
+        let rest = copy(alloc, rest_of(tree))?;
+        return Ok(rest);
     }
-    Ok(made)
+    let parts = union_of(alloc, tree, 0, count)?;
+    let union = joined(alloc, Join::Either, rest_of(tree), &parts)?;
+    Ok(union)
+}
+
+// The union of the parts of the branches from one place up to another, by halves.
+fn union_of(alloc: Global, tree: &Tree, low: usize, high: usize) -> Result<Tree, AllocError>
+    requires reduced { IsTree tree.now }
+    requires some { low < high }
+    requires within { high ≤ branch_count (branches_of (tree_view tree.now)) }
+    ensures reduced { IfOk result IsTree }
+    ensures truth { IfOk result (λ t. HoldsParts (branches_of (tree_view tree.now)) low (high - low) (tree_view t)) }
+{
+    let count = high - low;
+    if count == 1 {
+        let part = copy(alloc, branch_at(tree, low).part)?;
+        return Ok(part);
+    }
+    let middle = low + count / 2;
+    let front = union_of(alloc, tree, low, middle)?;
+    let back = union_of(alloc, tree, middle, high)?;
+    let union = joined(alloc, Join::Either, &front, &back)?;
+    Ok(union)
 }
 
 // A region without its levels above a tree's: each is taken away by the union of its parts. None where there is
 // no such level.
 fn lowered(alloc: Global, region: &Tree, level: Level<'_>) -> Result<Option<Tree>, AllocError>
-    requires reduced { IsReduced (tree_view region.now) }
+    requires reduced { IsTree region.now }
     requires not_false { tree_view region.now ≡ truth false → ⊥ }
-    ensures { IfOk result (λ r. Lowered (level_view level.entry) (tree_view region.now) (region_view tree_view r (tree_view region.now))) }
+    ensures { IfOk result (IsLowered level.entry region.now) }
 {
     if !is_above(region, level) {
         return Ok(None);
@@ -99,11 +121,11 @@ fn region<'a>(made: &'a Option<Tree>, stands: &'a Tree) -> &'a Tree
     }
 }
 
-// A tree made simpler under a region.
+// A tree made simpler under a region; want of memory where a path has more levels than `room`.
 #[cycle(simplify)]
-fn simplified(alloc: Global, f: &Tree, c: &Tree) -> Result<Tree, AllocError>
-    requires f_reduced { IsReduced (tree_view f.now) }
-    requires c_reduced { IsReduced (tree_view c.now) }
+fn simplified(alloc: Global, f: &Tree, c: &Tree, room: usize) -> Result<Tree, AllocError>
+    requires f_reduced { IsTree f.now }
+    requires c_reduced { IsTree c.now }
     requires not_false { tree_view c.now ≡ truth false → ⊥ }
     ensures { IfOk result (λ t. Simplifies (tree_view f.now) (tree_view c.now) (tree_view t)) }
 {
@@ -113,8 +135,9 @@ fn simplified(alloc: Global, f: &Tree, c: &Tree) -> Result<Tree, AllocError>
             Ok(tree)
         }
         Some(level) => {
+            let room = deeper(room)?;
             let made = lowered(alloc, c, level)?;
-            let tree = simplified_at(alloc, f, region(&made, c), level)?;
+            let tree = simplified_at(alloc, f, region(&made, c), level, room)?;
             Ok(tree)
         }
     }
@@ -127,10 +150,11 @@ fn simplified_at<'x>(
     f: &'x Tree,
     region: &'x Tree,
     level: Level<'_>,
+    room: usize,
 ) -> Result<Tree, AllocError>
-    requires f_reduced { IsReduced (tree_view f.now) }
+    requires f_reduced { IsTree f.now }
     requires top { Some (level_view level) ≡ top_of (tree_view f.now) }
-    requires region_reduced { IsReduced (tree_view region.now) }
+    requires region_reduced { IsTree region.now }
     requires not_false { tree_view region.now ≡ truth false → ⊥ }
     requires not_above { is_above_plain (level_view level) (tree_view region.now) ≡ false }
     ensures { IfOk result (λ t. Simplifies (tree_view f.now) (tree_view region.now) (tree_view t)) }
@@ -140,11 +164,12 @@ fn simplified_at<'x>(
         return Ok(tree);
     }
     let keys = level_keys::<Trees>(alloc, level, f, region)?;
-    let results = results(alloc, f, region, level, &keys)?;
+    let results = results(alloc, f, region, level, &keys, room)?;
     let rest = piece(
         alloc,
         rest_at::<Trees>(f, level),
         rest_at::<Trees>(region, level),
+        room,
     )?;
     let tree = settled(alloc, level, results, rest, rest_at::<Trees>(f, level))?;
     Ok(tree)
@@ -158,13 +183,14 @@ fn results<'x>(
     region: &Tree,
     level: Level<'_>,
     keys: &[Key<'x>],
+    room: usize,
 ) -> Result<Vec<(Key<'x>, Option<Tree>)>, AllocError>
-    requires f_reduced { IsReduced (tree_view f.now) }
+    requires f_reduced { IsTree f.now }
     requires top { Some (level_view level) ≡ top_of (tree_view f.now) }
-    requires region_reduced { IsReduced (tree_view region.now) }
+    requires region_reduced { IsTree region.now }
     requires not_above { is_above_plain (level_view level) (tree_view region.now) ≡ false }
-    requires kinds { All (λ k. has_kind (level_view level) k ≡ true) keys.now }
-    ensures pieces { IfOk result (λ rs. Pieces (level_view level.entry) (tree_view f.now) (tree_view region.now) (keys_view keys.now) (results_view tree_view rs.items)) }
+    requires kinds { AreKeysOf (level_view level) keys.now }
+    ensures pieces { IfOk result (λ rs. PiecesAre level.entry f.now region.now keys.now rs.items) }
     ensures kinds { IfOk result (λ rs. KeysOf (level_view level.entry) rs.items) }
 {
     let mut made = Vec::new(alloc);
@@ -173,6 +199,7 @@ fn results<'x>(
             alloc,
             part_at::<Trees>(f, level, *key),
             part_at::<Trees>(region, level, *key),
+            room,
         )?;
         made.push((*key, result))?;
     }
@@ -181,14 +208,14 @@ fn results<'x>(
 
 // A piece made simpler; none where the region is false.
 #[cycle(simplify)]
-fn piece(alloc: Global, f: &Tree, c: &Tree) -> Result<Option<Tree>, AllocError>
-    requires f_reduced { IsReduced (tree_view f.now) }
-    requires c_reduced { IsReduced (tree_view c.now) }
+fn piece(alloc: Global, f: &Tree, c: &Tree, room: usize) -> Result<Option<Tree>, AllocError>
+    requires f_reduced { IsTree f.now }
+    requires c_reduced { IsTree c.now }
     ensures { IfOk result (λ o. Piece (tree_view f.now) (tree_view c.now) (option_map tree_view o)) }
 {
     if is_false(c) {
         return Ok(None);
     }
-    let tree = simplified(alloc, f, c)?;
+    let tree = simplified(alloc, f, c, room)?;
     Ok(Some(tree))
 }

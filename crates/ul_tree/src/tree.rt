@@ -1,6 +1,23 @@
 //! Decision trees over environments.
 
+ghost use Rattle.std.specs.Prelude.{◌≡◌, suc, IfOk};
+
+use std::alloc::AllocError;
 use ul_marker::{Atom, Variable};
+
+/// The most levels that a path of a tree has which this crate makes. A tree that would have more is refused by
+/// want of memory, long before the recursions over trees, dropping among them, reach the end of the stack.
+pub const DEEPEST: usize = 2048;
+
+/// The room that is left a level further down; want of memory where there is none.
+pub fn deeper(room: usize) -> Result<usize, AllocError>
+    ensures { IfOk result (λ rest. suc rest ≡ room) }
+{
+    match room.checked_sub(1) {
+        Some(rest) => Ok(rest),
+        None => Err(AllocError),
+    }
+}
 
 /// A decision tree over environments: the truth of a marker at every world and extra, in one form.
 ///

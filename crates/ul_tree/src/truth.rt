@@ -1,6 +1,6 @@
 //! The truth of a tree at a world, and how many of its paths lead to true.
 ghost use Rattle.std.specs.Prelude.{◌≡◌, ◌^◌, min};
-ghost use Rattle.ul_tree.specs.Reduced.{IsReduced};
+ghost use Rattle.ul_tree.specs.TreeFacts.{IsTree};
 ghost use Rattle.ul_tree.specs.Values.{value_of, tree_holds};
 ghost use Rattle.ul_tree.specs.Paths.{paths_of};
 ghost use Rattle.ul_tree.specs.Views.{tree_view};
@@ -16,11 +16,11 @@ use ul_marker::World;
 const MOST_PATHS: u128 = 1 << 127;
 
 /// Whether a tree holds at a world with an extra, which may be empty. Takes no memory.
-pub fn holds(t: &Tree, world: &World, extra: &str) -> bool
-    requires { IsReduced (tree_view t.now) }
-    ensures { result ≡ tree_holds (tree_view t.now) world.now extra.now }
+pub fn holds(root: &Tree, world: &World, extra: &str) -> bool
+    requires { IsTree root.now }
+    ensures { result ≡ tree_holds (tree_view root.now) world.now extra.now }
 {
-    let mut tree = t;
+    let mut tree = root;
     while let Some(level) = level_of(tree) {
         tree = part_at::<Trees>(tree, level, value_at(world, extra, level));
     }
@@ -49,17 +49,17 @@ fn value_at<'a>(world: &'a World, extra: &'a str, level: Level<'_>) -> Key<'a>
 }
 
 /// How many paths of a tree lead to true; 2^127 where there are more. Takes no memory.
-pub fn paths(t: &Tree) -> u128
-    requires { IsReduced (tree_view t.now) }
-    ensures { result ≡ min (paths_of (tree_view t.now)) (2 ^ 127) }
+pub fn paths(tree: &Tree) -> u128
+    requires { IsTree tree.now }
+    ensures { result ≡ min (paths_of (tree_view tree.now)) (2 ^ 127) }
 {
-    if level_of(t).is_none() {
-        return u128::from(known(t));
+    if level_of(tree).is_none() {
+        return u128::from(known(tree));
     }
-    let mut count = paths(rest_of(t));
-    for index in 0..branch_count(t) {
+    let mut count = paths(rest_of(tree));
+    for index in 0..branch_count(tree) {
         count = count
-            .saturating_add(paths(branch_at(t, index).part))
+            .saturating_add(paths(branch_at(tree, index).part))
             .min(MOST_PATHS);
     }
     count

@@ -10,4 +10,6 @@ mod samples;
 #[cfg(test)]
 mod simplify;
 #[cfg(test)]
+mod sizes;
+#[cfg(test)]
 mod texts;

@@ -28,15 +28,15 @@ pub record Reads {X : Type 0} (T : List ℕ → Type 0) (cut : Cut X) (most : �
 -- ---- bytes in front
 
 -- whether a text is empty or begins with such a byte
-abbrev opens : (ℕ → Bool) → List ℕ → Bool
+abbrev pub opens : (ℕ → Bool) → List ℕ → Bool
 opens test [] = true
 opens test (b ∷ rest) = test b
 
 -- what may follow a word of a pre or post part
-abbrev is_next : ℕ → Bool
+abbrev pub is_next : ℕ → Bool
 is_next b = is_separator b || (is_ascii_digit b || (b == 112 || (b == 114 || (b == 100 || b == 43))))
 
-opens-other : (text : List ℕ) (c : ℕ) → opens is_next text ≡ true → is_next c ≡ false → begins (λ b. b == c) text ≡ false
+pub opens-other : (text : List ℕ) (c : ℕ) → opens is_next text ≡ true → is_next c ≡ false → begins (λ b. b == c) text ≡ false
 opens-other [] c h k = refl
 opens-other (b ∷ rest) c h k = false_from_ne_true (b == c) (λ e. true≢false (sym h ∙ rw (eqb-true b c e) k))
 
@@ -47,13 +47,13 @@ digit-next : (b : ℕ) → is_ascii_digit b ≡ true → is_next b ≡ true
 digit-next b h = or_right (is_separator b) _ (or_left (is_ascii_digit b) _ h)
 
 -- a text with a letter in front, after a separator or none
-record Lettered (text : List ℕ) : Type 0 where
-  before : List ℕ
-  first : ℕ
-  others : List ℕ
-  is_before : IsOptionalSeparator before
-  letter : is_ascii_lowercase first ≡ true
-  shape : text ≡ before ++ (first ∷ others)
+pub record Lettered (text : List ℕ) : Type 0 where
+  pub before : List ℕ
+  pub first : ℕ
+  pub others : List ℕ
+  pub is_before : IsOptionalSeparator before
+  pub letter : is_ascii_lowercase first ≡ true
+  pub shape : text ≡ before ++ (first ∷ others)
 
 letter-separator : (b : ℕ) → is_ascii_lowercase b ≡ true → is_separator b ≡ false
 letter-separator b h = grind (arith, nat_tests)
@@ -76,7 +76,7 @@ optional-letter : (before : List ℕ) (b : ℕ) (rest : List ℕ) → IsOptional
 optional-letter before b rest (inl none) h = rw (none, letter-separator b h) refl
 optional-letter before b rest (inr (c, one, sep)) h = rw (one, sep) refl
 
-marked-letter : (mark : ℕ) (before : List ℕ) (b : ℕ) (rest : List ℕ) → mark < 97 → IsOptionalSeparator before → is_ascii_lowercase b ≡ true
+pub marked-letter : (mark : ℕ) (before : List ℕ) (b : ℕ) (rest : List ℕ) → mark < 97 → IsOptionalSeparator before → is_ascii_lowercase b ≡ true
     → marked (mark ∷ []) (before ++ (b ∷ rest)) ≡ None
 unfolding marked after_word
 marked-letter mark before b rest low (inl none) h = rw (none, letter-mark b mark h low) refl
@@ -103,7 +103,7 @@ suffix-shape words part rest n h = ap (λ (l : List ℕ). l ++ rest) h.spelled �
 
 -- ---- the number after a word
 
-optional-number : (digits rest : List ℕ) (n : ℕ) → IsOptionalNum digits n → begins is_ascii_digit rest ≡ false → number (digits ++ rest) ≡ Some (n, rest)
+pub optional-number : (digits rest : List ℕ) (n : ℕ) → IsOptionalNum digits n → begins is_ascii_digit rest ≡ false → number (digits ++ rest) ≡ Some (n, rest)
 unfolding value_after
 optional-number digits rest n (inl (none, absent)) b = rw (none, absent) (number-digits [] rest 0 refl refl (omega arith) b)
 optional-number digits rest n (inr num) b = number-digits digits rest n num.digits num.value num.fits b
@@ -125,7 +125,7 @@ suffix-reads T f between digits rest n (inl none) (inr num) t =
     record { value = n; rest = rest; is = rw (none, kept) (number-digits digits rest n num.digits num.value num.fits (f.stops rest t)); holds = t; shorter = omega arith }
 
 -- what follows a word opens with one of the bytes that may follow
-word-opens : (between digits rest : List ℕ) (n : ℕ) → IsOptionalSeparator between → IsOptionalNum digits n → opens is_next rest ≡ true
+pub word-opens : (between digits rest : List ℕ) (n : ℕ) → IsOptionalSeparator between → IsOptionalNum digits n → opens is_next rest ≡ true
     → opens is_next (between ++ (digits ++ rest)) ≡ true
 word-opens between digits rest n (inr (c, one, sep)) d o = rw one (separator-next c _ sep)
 word-opens between digits rest n (inl none) (inl (empty, absent)) o = rw (none, empty) o
@@ -156,7 +156,7 @@ segments-read text (s ∷ []) h = rw (slice_split_none is_separator text (word-s
 segments-read text (s ∷ t ∷ ss) (piece, rest, b, first, sep, more, whole) =
     rw (whole, slice_split_at is_separator piece b rest (word-separators piece (piece-words piece s first)) sep, piece-read piece s first, segments-read rest (t ∷ ss) more) refl
 
-local-read : (text : List ℕ) (ss : List Segment) → IsLocal text ss → local text ≡ Some ss
+pub local-read : (text : List ℕ) (ss : List Segment) → IsLocal text ss → local text ≡ Some ss
 unfolding local
 local-read text [] h = rw h refl
 local-read text (s ∷ ss) (rest, more, whole) = rw whole (segments-read rest (s ∷ ss) more)
@@ -220,7 +220,7 @@ begins-shape : (test : ℕ → Bool) (text : List ℕ) → begins test text ≡ 
 begins-shape test [] h = absurd (true≢false (sym h))
 begins-shape test (b ∷ rest) h = (b, rest, refl, h)
 
-suffix-lettered : (words : List (List ℕ)) (part rest : List ℕ) (n : ℕ) → list_all (begins is_ascii_lowercase) words ≡ true → IsSuffix words part n → Lettered (part ++ rest)
+pub suffix-lettered : (words : List (List ℕ)) (part rest : List ℕ) (n : ℕ) → list_all (begins is_ascii_lowercase) words ≡ true → IsSuffix words part n → Lettered (part ++ rest)
 suffix-lettered words part rest n letters h =
     let (b, others, shape, letter) = begins-shape is_ascii_lowercase h.word (word-first is_ascii_lowercase words h.word letters h.is_word) in
     record {
@@ -232,7 +232,7 @@ suffix-lettered words part rest n letters h =
       shape = suffix-shape words part rest n h ∙ ap (λ (w : List ℕ). h.before ++ (w ++ (h.between ++ (h.digits ++ rest)))) shape;
     }
 
-suffix-optional : (words : List (List ℕ)) (part rest : List ℕ) (n : ℕ) → list_all (begins is_ascii_lowercase) words ≡ true → (h : IsSuffix words part n)
+pub suffix-optional : (words : List (List ℕ)) (part rest : List ℕ) (n : ℕ) → list_all (begins is_ascii_lowercase) words ≡ true → (h : IsSuffix words part n)
     → after_optional is_separator (part ++ rest) ≡ h.word ++ (h.between ++ (h.digits ++ rest))
 suffix-optional words part rest n letters h =
     let (b, others, shape, letter) = begins-shape is_ascii_lowercase h.word (word-first is_ascii_lowercase words h.word letters h.is_word) in
@@ -287,7 +287,7 @@ suffix-shorter : (words : List (List ℕ)) (text part rest : List ℕ) (n : ℕ)
 suffix-shorter words text part rest n h whole =
     behind text h.before (h.word ++ (h.between ++ (h.digits ++ rest))) (whole ∙ suffix-shape words part rest n h)
 
-abbrev dev_words : List (List ℕ)
+abbrev pub dev_words : List (List ℕ)
 dev_words = codes "dev" ∷ []
 
 dev-ends : (text : List ℕ) (value : Option ℕ) (part rest : List ℕ) → IsDev part value → Last rest → text ≡ part ++ rest → Ends text
@@ -333,7 +333,7 @@ FromDev-follows = record {
   trims = λ text t. dev-trims text t.value t.part t.rest t.is_part t.last t.whole;
 }
 
-dev-word : (word u : List ℕ) → IsOneOf dev_words word → after_word (codes "dev") (word ++ u) ≡ Some u
+pub dev-word : (word u : List ℕ) → IsOneOf dev_words word → after_word (codes "dev") (word ++ u) ≡ Some u
 unfolding after_word
 dev-word word u (inl e) = rw e refl
 dev-word word u (inr none) = absurd none
@@ -414,7 +414,7 @@ FromPost-follows = record {
   trims = λ text t. post-trims text t.value t.part t.rest t.is_part t.later t.whole;
 }
 
-post-word : (word u : List ℕ) → IsOneOf post_words word → begins (λ b. b == 101) u ≡ false → after_any post_words (word ++ u) ≡ Some u
+pub post-word : (word u : List ℕ) → IsOneOf post_words word → begins (λ b. b == 101) u ≡ false → after_any post_words (word ++ u) ≡ Some u
 unfolding after_word
 post-word word u (inl e) h = rw e refl
 post-word word u (inr (inl e)) h = rw e refl
@@ -446,7 +446,7 @@ post-none text (Some n) part rest h last whole =
 num-begins : (digits rest : List ℕ) (n : ℕ) → IsNum digits n → begins is_ascii_digit (digits ++ rest) ≡ true
 num-begins digits rest n num = let d = first_digit digits num.filled num.digits in rw d.shape d.digit
 
-marked-dash : (digits rest : List ℕ) (n : ℕ) → IsNum digits n → marked (codes "-") (45 ∷ (digits ++ rest)) ≡ Some (digits ++ rest)
+pub marked-dash : (digits rest : List ℕ) (n : ℕ) → IsNum digits n → marked (codes "-") (45 ∷ (digits ++ rest)) ≡ Some (digits ++ rest)
 unfolding marked after_word
 marked-dash digits rest n num = rw (num-begins digits rest n num) refl
 
@@ -479,7 +479,7 @@ pub record FromPre (text : List ℕ) : Type 0 where
   pub later : FromPost rest
   pub whole : text ≡ part ++ rest
 
-kind-letters : (k : PreKind) → list_all (begins is_ascii_lowercase) (kind_words k) ≡ true
+pub kind-letters : (k : PreKind) → list_all (begins is_ascii_lowercase) (kind_words k) ≡ true
 kind-letters A = refl
 kind-letters B = refl
 kind-letters Rc = refl
@@ -493,7 +493,7 @@ pub FromPre-ends : (text : List ℕ) → FromPre text → Ends text
 FromPre-ends text t = pre-ends text t.value t.part t.rest t.is_part t.later t.whole
 
 -- the kind is read from its word, where no letter follows that would make another word
-kind-word : (k : PreKind) (word u : List ℕ) → IsOneOf (kind_words k) word → opens is_next u ≡ true → any_kind (word ++ u) ≡ Some (k, u)
+pub kind-word : (k : PreKind) (word u : List ℕ) → IsOneOf (kind_words k) word → opens is_next u ≡ true → any_kind (word ++ u) ≡ Some (k, u)
 unfolding after_word
 kind-word A word u (inl e) o = rw e refl
 kind-word A word [] (inr (inl e)) o = rw e refl

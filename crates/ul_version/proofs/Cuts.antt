@@ -1,52 +1,14 @@
 -- Lemmas on what stands in front of a text.
 use Rattle.std.proofs.Common.{◌≡◌, ◌≢◌, ℕ, zero, suc, ◌+◌, ◌-◌, ◌*◌, ◌^◌, ◌<◌, ◌≤◌, List, [], ◌∷◌, ◌++◌, length, drop, take, get_or, map, refl, sym, ap, ◌∙◌, arith, Bool, true, false, inl, inr, Option, Some, None, le_trans, add-one}
 use Rattle.std.specs.Prelude.{if◌then◌else◌, nat_lt, ◌==◌}
-use Rattle.std.proofs.lemmas.List.{drop_more, drop_all, take_more, map_more, get_or-map, get_or-take, length-map, length-take, take-append-drop, map-append, append-nil, append_assoc}
+use Rattle.std.proofs.lemmas.List.{drop_more, drop_all, map_more, append-nil, append_assoc}
 use Rattle.std.proofs.lemmas.Bool.{cases_Bool, and_parts, lt-ltb, le-ltb, eq-eqb, ne_eqb}
 use Rattle.std.proofs.lemmas.Bool.Decides.{nat_tests}
 use Rattle.std.specs.Char.{is_ascii_alphanumeric, is_ascii_digit, to_ascii_lowercase}
-use Rattle.ul_version.specs.Reading.{is_white, after_white, before_white, unless_white, lowered, digits, after_digits, value_after, number, after_word, Cut, needed, release, points, marked, onto, is_separator, segment, segments, ◌>>=◌}
+use Rattle.ul_version.specs.Reading.{lowered, digits, after_digits, value_after, number, after_word, Cut, needed, release, points, marked, onto, is_separator, segment, segments, pieces_of, ◌>>=◌}
 use Rattle.ul_version.specs.declared.fields.Segment.{Segment}
 use Rattle.ul_version.specs.Fields.{is_word_byte}
 use Rattle.std.specs.List.{list_all, slice_split, onto_first}
-use Rattle.std.proofs.lemmas.List.Splits.{slice_split_none, slice_split_at}
-use Rattle.std.specs.Prelude.{All}
-
--- ---- white space
-
-pub after_white-skip : (xs : List ℕ) (i : ℕ) → i < length xs → is_white (get_or xs i 0) ≡ true → after_white (drop i xs) ≡ after_white (drop (i + 1) xs)
-unfolding after_white
-after_white-skip xs i h w = rw (drop_more xs i 0 h, w) refl
-
-pub after_white-stop : (xs : List ℕ) (i : ℕ) → i < length xs → is_white (get_or xs i 0) ≡ false → after_white (drop i xs) ≡ drop i xs
-unfolding after_white
-after_white-stop xs i h w = rw (drop_more xs i 0 h, w) refl
-
-pub after_white-end : (xs : List ℕ) (i : ℕ) → length xs ≤ i → after_white (drop i xs) ≡ drop i xs
-unfolding after_white
-after_white-end xs i h = rw (drop_all i xs h) refl
-
-before_white-push : (xs : List ℕ) (b : ℕ) → is_white b ≡ true → before_white (xs ++ b ∷ []) ≡ before_white xs
-unfolding before_white
-before_white-push [] b w = rw w refl
-before_white-push (x ∷ xs) b w = ap (unless_white x) (before_white-push xs b w)
-
-before_white-kept : (xs : List ℕ) (b : ℕ) → is_white b ≡ false → before_white (xs ++ b ∷ []) ≡ xs ++ b ∷ []
-unfolding before_white
-before_white-kept [] b w = rw w refl
-before_white-kept (x ∷ []) b w = rw w refl
-before_white-kept (x ∷ y ∷ xs) b w = rw (before_white-kept (y ∷ xs) b w) refl
-
--- the last of the first n bytes is white, or isn't
-pub before_white-skip : (xs : List ℕ) (n k : ℕ) → n ≡ k + 1 → n ≤ length xs → is_white (get_or xs k 0) ≡ true → before_white (take n xs) ≡ before_white (take k xs)
-before_white-skip xs n k e h w = rw e (rw (take_more xs k 0 (omega arith)) (before_white-push (take k xs) (get_or xs k 0) w))
-
-pub before_white-stop : (xs : List ℕ) (n k : ℕ) → n ≡ k + 1 → n ≤ length xs → is_white (get_or xs k 0) ≡ false → before_white (take n xs) ≡ take n xs
-before_white-stop xs n k e h w = rw e (rw (take_more xs k 0 (omega arith)) (before_white-kept (take k xs) (get_or xs k 0) w))
-
-pub before_white-none : (xs : List ℕ) (n : ℕ) → n ≡ 0 → before_white (take n xs) ≡ take n xs
-unfolding before_white
-before_white-none xs n e = rw e refl
 
 -- ---- numbers
 
@@ -234,22 +196,14 @@ pub pieces-last : (ss : List Segment) (s : Segment) (piece : List ℕ) (all : Li
 unfolding segments
 pieces-last ss s piece all e h = rw (e, h) refl
 
--- no byte of the text in lower case is a separator
-no_separators : (xs : List ℕ) → ((k : ℕ) → k < length xs → is_separator (get_or xs k 0) ≡ false) → All (λ x. is_separator x ≡ false) (lowered xs)
-no_separators xs h k d lt =
-    let inside : k < length xs = omega (arith, length-map xs to_ascii_lowercase) in
-    rw (get_or-map to_ascii_lowercase xs k 0 d inside) (separator-lower (get_or xs k 0) ∙ h k inside)
+onto-lowered : (b : ℕ) (pieces : List (List ℕ)) → onto_first (to_ascii_lowercase b) (map lowered pieces) ≡ map lowered (onto_first b pieces)
+onto-lowered b [] = refl
+onto-lowered b (piece ∷ pieces) = refl
 
-pub split-last : (xs : List ℕ) → ((k : ℕ) → k < length xs → is_separator (get_or xs k 0) ≡ false) → slice_split is_separator (lowered xs) ≡ lowered xs ∷ []
-split-last xs h = slice_split_none is_separator (lowered xs) (no_separators xs h)
-
-pub split-more : (xs : List ℕ) (n : ℕ) → n < length xs → is_separator (get_or xs n 0) ≡ true → ((k : ℕ) → k < n → is_separator (get_or xs k 0) ≡ false)
-    → slice_split is_separator (lowered xs) ≡ lowered (take n xs) ∷ slice_split is_separator (lowered (drop (n + 1) xs))
-split-more xs n lt yes_one none =
-    let whole : xs ≡ take n xs ++ (get_or xs n 0 ∷ drop (n + 1) xs) = sym (take-append-drop n xs) ∙ ap (λ (l : List ℕ). take n xs ++ l) (drop_more xs n 0 lt) in
-    let front : All (λ x. is_separator x ≡ false) (lowered (take n xs)) = no_separators (take n xs) (λ k inside.
-    let below : k < n = omega (arith, length-take n xs) in rw (get_or-take n xs k 0 below) (none k below)) in
-    ap (λ (l : List ℕ). slice_split is_separator (lowered l)) whole
-    ∙ ap (λ (l : List ℕ). slice_split is_separator l) (map-append to_ascii_lowercase (take n xs) (get_or xs n 0 ∷ drop (n + 1) xs))
-    ∙ slice_split_at is_separator (lowered (take n xs)) (to_ascii_lowercase (get_or xs n 0)) (lowered (drop (n + 1) xs)) front
-    (separator-lower (get_or xs n 0) ∙ yes_one)
+-- the pieces of a text in lower case are those of the text
+pub pieces-lowered : (xs : List ℕ) → pieces_of (lowered xs) ≡ map lowered (pieces_of xs)
+pieces-lowered [] = refl
+pieces-lowered (x ∷ xs) = elim (cases_Bool (is_separator x)) [
+  | inl parts ↦ rw (separator-lower x, parts) (ap (λ ps. [] ∷ ps) (pieces-lowered xs))
+  | inr stays ↦ rw (separator-lower x, stays) (ap (onto_first (to_ascii_lowercase x)) (pieces-lowered xs) ∙ onto-lowered x (pieces_of xs))
+]

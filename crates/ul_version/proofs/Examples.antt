@@ -15,6 +15,7 @@ readings = record {
   longest_first = refl;
   candidate = refl;
   preview = refl;
+  short_preview = refl;
   beta = refl;
   revision = refl;
   leading_zeros = refl;
@@ -40,7 +41,7 @@ no_readings = record {
 
 pub orders : Orders
 unfolding after_white before_white after_word digits after_digits value_after number needed marked epoch points release pre post dev segment segments local fields_of version_of padded release_cmp version_cmp is_increasing
-orders = record { increasing = refl; zeros = refl; epoch = refl }
+orders = record { increasing = refl; locals = refl; digits = refl; zeros = refl; epoch = refl }
 
 pub texts : NormalTexts
 unfolding after_white before_white after_word digits after_digits value_after number needed marked epoch points release pre post dev segment segments local fields_of version_of version_text digits_in

@@ -1,5 +1,7 @@
+pub mod ForCallers
 pub mod Orders
 pub mod OrderLaws
+pub mod Fronts
 pub mod Cuts
 pub mod Faults
 pub mod Spelling
@@ -7,5 +9,8 @@ pub mod Bounds
 pub mod RoundTrip
 pub mod Complete
 pub mod Longest
+pub mod OneSpelling
+pub mod VersionAbove
 pub mod LawProofs
 pub mod Examples
+pub mod ByteRuns

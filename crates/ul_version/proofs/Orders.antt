@@ -1,5 +1,5 @@
 -- Lemmas on the order of versions.
-use Rattle.std.proofs.Common.{◌≡◌, ◌≢◌, ℕ, ◌+◌, ◌-◌, ◌<◌, ◌≤◌, List, length, drop, get_or, replicate, max, refl, sym, ◌∙◌, arith, true, false, true≢false, inl, inr}
+use Rattle.std.proofs.Common.{◌≡◌, ◌≢◌, ℕ, ◌+◌, ◌-◌, ◌<◌, ◌≤◌, List, [], length, drop, get_or, replicate, max, refl, sym, ◌∙◌, arith, true, false, true≢false, inl, inr}
 use Rattle.std.proofs.lemmas.List.{drop_more, drop_all, get_or_append_left, get_or-append_right, get_or-replicate, get_or_past, length-append, length-replicate}
 use Rattle.std.proofs.lemmas.Bool.{cases_lt}
 use Rattle.std.specs.Ordering.{nat_cmp, ordering_then, is_ne, MatchOrdering}
@@ -7,8 +7,8 @@ use Rattle.std.specs.Cmp.Lexicographic.{slice_cmp}
 use Rattle.std.specs.declared.cmp.Ordering.{Ordering}
 use Rattle.std.specs.declared.cmp.Ordering.TheVariants.{Less, Equal, Greater}
 use Rattle.std.proofs.lemmas.Cmp.{ranked}
-use Rattle.ul_version.specs.Order.{numbers_cmp, padded, release_cmp, suffix_cmp, version_cmp}
-use Rattle.ul_version.specs.Fields.{Fields}
+use Rattle.ul_version.specs.Order.{dev_place, local_cmp, numbers_cmp, padded, place_cmp, post_place, pre_place, release_cmp, suffix_cmp, version_cmp}
+use Rattle.ul_version.specs.Fields.{Fields, without_local}
 
 -- two lists from a place on: the elements there decide, and else what follows
 pub slice_cmp-drop : {X : Type 0} (R : X → X → Ordering) (xs ys : List X) (i : ℕ) (d e : X) → i < length xs → i < length ys
@@ -102,3 +102,59 @@ pub version_cmp-suffix : (f g : Fields) (e r : Ordering) → e ≡ nat_cmp f.epo
 unfolding version_cmp
 version_cmp-suffix f g e r is same rel tied =
     sym (then_tied (nat_cmp f.epoch g.epoch) _ (rw is at same) ∙ then_tied (release_cmp f.release g.release) _ (rw rel at tied))
+
+-- six keys in turn are five keys in turn and then the last
+rejoined : (e r p q d l : Ordering) → ordering_then e (ordering_then r (ordering_then p (ordering_then q (ordering_then d l))))
+    ≡ ordering_then (ordering_then e (ordering_then r (ordering_then p (ordering_then q (ordering_then d Equal))))) l
+rejoined Less r p q d l = refl
+rejoined Greater r p q d l = refl
+rejoined Equal Less p q d l = refl
+rejoined Equal Greater p q d l = refl
+rejoined Equal Equal Less q d l = refl
+rejoined Equal Equal Greater q d l = refl
+rejoined Equal Equal Equal Less d l = refl
+rejoined Equal Equal Equal Greater d l = refl
+rejoined Equal Equal Equal Equal Less l = refl
+rejoined Equal Equal Equal Equal Greater l = refl
+rejoined Equal Equal Equal Equal Equal l = refl
+
+-- versions are ordered by their public parts, and then by their local parts
+pub version_cmp-public : (f g : Fields) →
+    version_cmp f g ≡ ordering_then (version_cmp (without_local f) (without_local g)) (local_cmp f.local g.local)
+unfolding version_cmp
+version_cmp-public f g =
+    rejoined (nat_cmp f.epoch g.epoch) (release_cmp f.release g.release) (place_cmp (pre_place f) (pre_place g))
+    (place_cmp (post_place f.post) (post_place g.post)) (place_cmp (dev_place f.dev) (dev_place g.dev)) (local_cmp f.local g.local)
+
+-- the public parts decide
+pub public-decides : (f g : Fields) (p : Ordering) → p ≡ version_cmp (without_local f) (without_local g) → is_ne p ≡ true → p ≡ version_cmp f g
+public-decides f g p is differ =
+    rw is (sym (version_cmp-public f g ∙ then_decided (version_cmp (without_local f) (without_local g)) _ (rw is at differ)))
+
+-- the local parts decide
+pub local-decides : (f g : Fields) (p : Ordering) → p ≡ version_cmp (without_local f) (without_local g) → is_ne p ≡ false →
+    local_cmp f.local g.local ≡ version_cmp f g
+local-decides f g p is tied =
+    sym (version_cmp-public f g ∙ then_tied (version_cmp (without_local f) (without_local g)) _ (rw is at tied))
+
+-- the pre parts decide
+pub suffix_cmp-pre : (f g : Fields) (p : Ordering) → p ≡ place_cmp (pre_place f) (pre_place g) → is_ne p ≡ true → p ≡ suffix_cmp f g
+suffix_cmp-pre f g p is differ = rw is (sym (then_decided (place_cmp (pre_place f) (pre_place g)) _ (rw is at differ)))
+
+-- the post parts decide
+pub suffix_cmp-post : (f g : Fields) (p q : Ordering) → p ≡ place_cmp (pre_place f) (pre_place g) → is_ne p ≡ false
+    → q ≡ place_cmp (post_place f.post) (post_place g.post) → is_ne q ≡ true → q ≡ suffix_cmp f g
+suffix_cmp-post f g p q is tied post differ =
+    rw post (sym (then_tied (place_cmp (pre_place f) (pre_place g)) _ (rw is at tied) ∙ then_decided (place_cmp (post_place f.post) (post_place g.post)) _ (rw post at differ)))
+
+then_equal : (o : Ordering) → ordering_then o Equal ≡ o
+then_equal Less = refl
+then_equal Equal = refl
+then_equal Greater = refl
+
+-- the dev parts decide, where there is no local part
+pub suffix_cmp-dev : (f g : Fields) (p q d : Ordering) → f.local ≡ [] → g.local ≡ [] → p ≡ place_cmp (pre_place f) (pre_place g) → is_ne p ≡ false
+    → q ≡ place_cmp (post_place f.post) (post_place g.post) → is_ne q ≡ false → d ≡ place_cmp (dev_place f.dev) (dev_place g.dev) → d ≡ suffix_cmp f g
+suffix_cmp-dev f g p q d none_f none_g is tied post level dev =
+    dev ∙ sym (then_tied (place_cmp (pre_place f) (pre_place g)) _ (rw is at tied) ∙ (then_tied (place_cmp (post_place f.post) (post_place g.post)) _ (rw post at level)
+    ∙ (rw (none_f, none_g) (then_equal (place_cmp (dev_place f.dev) (dev_place g.dev))))))

@@ -12,7 +12,8 @@ use Rattle.std.proofs.lemmas.Str.Parse.{IsNumeralModel, numerals_by_fold}
 use Rattle.std.specs.Char.{is_ascii_digit, is_ascii_lowercase, to_ascii_lowercase}
 use Rattle.ul_version.specs.Fields.{Fields, IsVersion, IsNumber64, IsSegment, is_word_byte}
 use Rattle.ul_version.specs.Texts.{epoch_text, points_text, release_text, kind_text, pre_text, numbered_text, segment_text, segments_text, local_text, version_text, is_text_byte}
-use Rattle.ul_version.specs.Reading.{number, value_after, digits, after_digits, needed, begins, epoch, marked, after_word, points, release, pre, any_kind, suffix_number, after_optional, is_separator, post, dev, segment, segments, local, fields_of, version_of, lowered, before_white, unless_white, after_white, is_white}
+use Rattle.ul_version.specs.Ascii.{unless_last}
+use Rattle.ul_version.specs.Reading.{number, value_after, digits, after_digits, needed, begins, epoch, marked, after_word, points, release, pre, any_kind, suffix_number, after_optional, is_separator, post, dev, segment, segments, local, fields_of, version_of, lowered, before_white, after_white, is_white}
 use Rattle.ul_version.specs.declared.fields.Pre.{Pre}
 use Rattle.ul_version.specs.declared.fields.PreKind.{PreKind}
 use Rattle.ul_version.specs.declared.fields.PreKind.TheVariants.{A, B, Rc}
@@ -356,7 +357,7 @@ unfolding after_white
 text-after_white [] h = refl
 text-after_white (b ∷ text) h = rw (text_byte-plain b (and_parts (is_text_byte b) (list_all is_text_byte text) h).0).0 refl
 
-unless_white-kept : (b : ℕ) (text : List ℕ) → is_white b ≡ false → unless_white b text ≡ b ∷ text
+unless_white-kept : (b : ℕ) (text : List ℕ) → is_white b ≡ false → unless_last is_white b text ≡ b ∷ text
 unless_white-kept b [] h = rw h refl
 unless_white-kept b (c ∷ text) h = refl
 

@@ -1,6 +1,6 @@
 -- A version as plain data: what a text of PEP 440 ("Version specifiers", "Public version identifiers"
 -- and "Local version identifiers") says, part by part.
-use Rattle.std.specs.Prelude.{ℕ, ◌<◌, ◌^◌, ◌&&◌, ◌||◌, Bool, IsTrue, List, [], length, Option, None, All, IfSome, is_some}
+use Rattle.std.specs.Prelude.{ℕ, ◌<◌, ◌^◌, ◌&&◌, ◌||◌, Bool, IsTrue, List, [], ◌∷◌, ◌++◌, length, Option, None, All, IfSome, is_some}
 use Rattle.std.specs.Char.{is_ascii_digit, is_ascii_lowercase}
 use Rattle.std.specs.List.{list_all, list_any}
 use Rattle.ul_version.specs.declared.fields.Pre.{Pre}
@@ -59,3 +59,12 @@ without_local f = record f { local = [] }
 -- the version that has a release alone
 abbrev pub plain : List ℕ → Fields
 plain numbers = record { epoch = 0; release = numbers; pre = None; post = None; dev = None; local = [] }
+
+-- the version of these parts, without a local part
+abbrev pub public_fields : ℕ → List ℕ → Option Pre → Option ℕ → Option ℕ → Fields
+public_fields epoch release pre post dev =
+    record { epoch = epoch; release = release; pre = pre; post = post; dev = dev; local = [] }
+
+-- a version that is greater than this one: one more number in its local part
+abbrev pub version_above : Fields → Fields
+version_above f = record f { local = f.local ++ Number 0 ∷ [] }

@@ -1,14 +1,21 @@
 -- The grammar of versions, as a relation between a text and what it spells: PEP 440, "Version
 -- specifiers", with the spellings of "Normalization". Each definition is one rule of the grammar; a part
 -- in brackets may be the empty text. The text has lower-case letters and no white space at its ends.
-use Rattle.std.specs.Prelude.{◌≡◌, ℕ, ◌^◌, ◌<◌, IsTrue, List, [], ◌∷◌, ◌++◌, length, codes, Option, Some, None, ◌⊎◌}
+use Rattle.std.specs.Prelude.{◌≡◌, ℕ, ◌+◌, ◌-◌, ◌*◌, ◌^◌, ◌<◌, IsTrue, List, [], ◌∷◌, ◌++◌, length, codes, Option, Some, None, ◌⊎◌}
 use Rattle.std.specs.Char.{is_ascii_digit}
 use Rattle.std.specs.List.{list_all}
 use Rattle.ul_version.specs.Fields.{Fields, is_word}
-use Rattle.ul_version.specs.Reading.{is_separator, value_after, kind_words, post_words}
+use Rattle.ul_version.specs.Ascii.{is_separator}
 use Rattle.ul_version.specs.declared.fields.Pre.{Pre}
+use Rattle.ul_version.specs.declared.fields.PreKind.{PreKind}
+use Rattle.ul_version.specs.declared.fields.PreKind.TheVariants.{A, B, Rc}
 use Rattle.ul_version.specs.declared.fields.Segment.{Segment}
 use Rattle.ul_version.specs.declared.fields.Segment.TheVariants.{Number, Word}
+
+-- the number that digits write after those of n
+unfoldable pub value_after : ℕ → List ℕ → ℕ
+value_after n [] = n
+value_after n (b ∷ rest) = value_after (n * 10 + (b - 48)) rest
 
 -- num: one digit or more, of a value below 2^64
 pub record IsNum (text : List ℕ) (n : ℕ) : Type 0 where
@@ -49,22 +56,34 @@ IsEpoch text n = ((text ≡ []) × (n ≡ 0)) ⊎ ((digits : List ℕ) × IsNum 
 -- *("." num)
 abbrev pub ArePoints : List ℕ → List ℕ → Type 0
 ArePoints text [] = text ≡ []
-ArePoints text (n ∷ ns) = (digits rest : List ℕ) × IsNum digits n × ArePoints rest ns × (text ≡ codes "." ++ (digits ++ rest))
+ArePoints text (n ∷ ns) =
+    (digits rest : List ℕ) × IsNum digits n × ArePoints rest ns × (text ≡ codes "." ++ (digits ++ rest))
 
 -- num *("." num)
 abbrev pub IsRelease : List ℕ → List ℕ → Type 0
 IsRelease text [] = ⊥
 IsRelease text (n ∷ ns) = (digits rest : List ℕ) × IsNum digits n × ArePoints rest ns × (text ≡ digits ++ rest)
 
+-- the words of a kind of pre-release
+abbrev pub kind_words : PreKind → List (List ℕ)
+kind_words A = codes "alpha" ∷ codes "a" ∷ []
+kind_words B = codes "beta" ∷ codes "b" ∷ []
+kind_words Rc = codes "preview" ∷ codes "pre" ∷ codes "rc" ∷ codes "c" ∷ []
+
 -- [pre]
 abbrev pub IsPre : List ℕ → Option Pre → Type 0
 IsPre text None = text ≡ []
 IsPre text (Some p) = IsSuffix (kind_words p.kind) text p.number
 
+-- the words of a post-release
+abbrev pub post_words : List (List ℕ)
+post_words = codes "post" ∷ codes "rev" ∷ codes "r" ∷ []
+
 -- [post]: "-" num, or a word with its number
 abbrev pub IsPost : List ℕ → Option ℕ → Type 0
 IsPost text None = text ≡ []
-IsPost text (Some n) = ((digits : List ℕ) × IsNum digits n × (text ≡ codes "-" ++ digits)) ⊎ IsSuffix post_words text n
+IsPost text (Some n) =
+    ((digits : List ℕ) × IsNum digits n × (text ≡ codes "-" ++ digits)) ⊎ IsSuffix post_words text n
 
 -- [dev]
 abbrev pub IsDev : List ℕ → Option ℕ → Type 0
@@ -81,7 +100,8 @@ abbrev pub AreSegments : List ℕ → List Segment → Type 0
 AreSegments text [] = ⊥
 AreSegments text (s ∷ []) = IsSpelledSegment text s
 AreSegments text (s ∷ t ∷ ss) =
-    (piece rest : List ℕ) × (b : ℕ) × IsSpelledSegment piece s × IsTrue (is_separator b) × AreSegments rest (t ∷ ss) × (text ≡ piece ++ (b ∷ rest))
+    (piece rest : List ℕ) × (b : ℕ) × IsSpelledSegment piece s × IsTrue (is_separator b)
+    × AreSegments rest (t ∷ ss) × (text ≡ piece ++ (b ∷ rest))
 
 -- ["+" local]
 abbrev pub IsLocal : List ℕ → List Segment → Type 0

@@ -3,7 +3,7 @@ use Rattle.std.specs.Prelude.{◌≡◌, ◌↔◌, ℕ, ◌<◌, IsTrue, List, 
 use Rattle.std.specs.List.{list_all}
 use Rattle.std.specs.Ordering.{ordering_reverse, is_gt, is_lt}
 use Rattle.std.specs.declared.cmp.Ordering.TheVariants.{Less, Equal}
-use Rattle.ul_version.specs.Fields.{Fields, IsVersion}
+use Rattle.ul_version.specs.Fields.{Fields, IsVersion, version_above}
 use Rattle.ul_version.specs.Order.{numbers_cmp, version_cmp, DifferInZeros}
 use Rattle.ul_version.specs.Grammar.{IsSpelled}
 use Rattle.ul_version.specs.Reading.{version_of, lowered, before_white, after_white}
@@ -53,6 +53,16 @@ part_lengths s = length s.letter ∷ length s.epoch ∷ length s.release ∷ len
 abbrev pub EarlierIsLongest : Type 0
 EarlierIsLongest = (text : List ℕ) (f g : Fields) (other : IsSpelled (settled text) f) → version_of text ≡ Some g
     → (read : IsSpelled (settled text) g) × (is_lt (numbers_cmp (part_lengths read) (part_lengths other)) ≡ false)
+
+-- two spellings of one text with parts of equal lengths are one version, so the grammar and the longest parts determine
+-- what a text is read as
+abbrev pub SpellingsAreOne : Type 0
+SpellingsAreOne = (text : List ℕ) (f g : Fields) (one : IsSpelled text f) (other : IsSpelled text g)
+    → part_lengths one ≡ part_lengths other → f ≡ g
+
+-- a version is less than the one above it, which is a version
+abbrev pub GreaterIsVersion : Type 0
+GreaterIsVersion = (f : Fields) → IsVersion f → IsVersion (version_above f) × (version_cmp f (version_above f) ≡ Less)
 
 -- what a text is read as is a version
 abbrev pub ReadIsVersion : Type 0

@@ -1,8 +1,10 @@
+pub mod Headline
 pub mod Fields
-pub mod Order
-pub mod Reading
+pub mod Ascii
 pub mod Grammar
-pub mod Vectors
-pub mod Views
+pub mod Reading
+pub mod Order
 pub mod Texts
 pub mod Laws
+pub mod Vectors
+pub mod Views

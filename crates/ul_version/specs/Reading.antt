@@ -2,10 +2,14 @@
 -- that tools read, cut from the front of a text part by part. A version is
 --     ["v"] [num "!"] num *("." num) [pre] [post] [dev] ["+" local]
 -- and each part takes as much of the text as it can.
-use Rattle.std.specs.Prelude.{ℕ, zero, suc, ◌+◌, ◌-◌, ◌*◌, ◌^◌, ◌==◌, ◌&&◌, ◌||◌, Bool, false, not, nat_lt, nat_le, List, [], ◌∷◌, length, map, codes, Option, Some, None, if◌then◌else◌, ◌++◌}
+use Rattle.std.specs.Prelude.{ℕ, zero, suc, ◌^◌, ◌==◌, ◌||◌, Bool, not, nat_lt, List, [], ◌∷◌, length, map, codes, Option, Some, None, if◌then◌else◌, ◌++◌}
 use Rattle.std.specs.Char.{is_ascii_digit, to_ascii_lowercase}
 use Rattle.std.specs.List.{list_all, slice_split}
 use Rattle.std.specs.Option.{option_map_or}
+pub use Rattle.ul_version.specs.Ascii.{begins, is_separator, is_white}
+pub use Rattle.ul_version.specs.Grammar.{kind_words, post_words}
+unfoldable pub use Rattle.ul_version.specs.Grammar.{value_after}
+use Rattle.ul_version.specs.Ascii.{after_all, before_all, letter_v, plus}
 use Rattle.ul_version.specs.Fields.{Fields, is_word_byte}
 use Rattle.ul_version.specs.declared.fields.Pre.{Pre}
 use Rattle.ul_version.specs.declared.fields.PreKind.{PreKind}
@@ -15,24 +19,13 @@ use Rattle.ul_version.specs.declared.fields.Segment.TheVariants.{Number, Word}
 
 -- ---- white space and case
 
--- space, tab, line feed, vertical tab, form feed and carriage return
-abbrev pub is_white : ℕ → Bool
-is_white b = b == 32 || (nat_le 9 b && nat_le b 13)
-
 -- a text without the white space in front of it
 unfoldable pub after_white : List ℕ → List ℕ
-after_white [] = []
-after_white (b ∷ rest) = if is_white b then after_white rest else b ∷ rest
-
--- a byte before a text whose white space at the end was dropped
-abbrev pub unless_white : ℕ → List ℕ → List ℕ
-unless_white b [] = if is_white b then [] else b ∷ []
-unless_white b (c ∷ rest) = b ∷ c ∷ rest
+after_white text = after_all is_white text
 
 -- a text without the white space at its end
 unfoldable pub before_white : List ℕ → List ℕ
-before_white [] = []
-before_white (b ∷ rest) = unless_white b (before_white rest)
+before_white text = before_all is_white text
 
 -- a text in which ASCII letters are lower case
 abbrev pub lowered : List ℕ → List ℕ
@@ -46,19 +39,10 @@ abbrev pub ◌>>=◌ : {X Y : Type 0} → Option X → (X → Option Y) → Opti
 None >>= f = None
 Some x >>= f = f x
 
--- whether a byte that passes the test stands in front
-abbrev pub begins : (ℕ → Bool) → List ℕ → Bool
-begins test [] = false
-begins test (b ∷ rest) = test b
-
 -- the text after one byte that passes the test, where such a byte stands in front
 abbrev pub after_optional : (ℕ → Bool) → List ℕ → List ℕ
 after_optional test [] = []
 after_optional test (b ∷ rest) = if test b then rest else b ∷ rest
-
--- sep: "." | "-" | "_"
-abbrev pub is_separator : ℕ → Bool
-is_separator b = b == 46 || (b == 45 || b == 95)
 
 -- the text after the word, where the word stands in front
 unfoldable pub after_word : List ℕ → List ℕ → Option (List ℕ)
@@ -87,11 +71,6 @@ digits (b ∷ rest) = if is_ascii_digit b then b ∷ digits rest else []
 unfoldable pub after_digits : List ℕ → List ℕ
 after_digits [] = []
 after_digits (b ∷ rest) = if is_ascii_digit b then after_digits rest else b ∷ rest
-
--- the number that digits write after those of n
-unfoldable pub value_after : ℕ → List ℕ → ℕ
-value_after n [] = n
-value_after n (b ∷ rest) = value_after (n * 10 + (b - 48)) rest
 
 -- what a part says, and the text after it; there is none where a number is 2^64 or more
 abbrev pub Cut : Type 0 → Type 0
@@ -144,12 +123,6 @@ release text = needed text >>= λ n. onto (n.0 ∷ []) (points (length text) n.1
 abbrev pub suffix_number : List ℕ → Cut ℕ
 suffix_number text = number (after_optional is_separator text)
 
--- the words of a kind of pre-release
-abbrev pub kind_words : PreKind → List (List ℕ)
-kind_words A = codes "alpha" ∷ codes "a" ∷ []
-kind_words B = codes "beta" ∷ codes "b" ∷ []
-kind_words Rc = codes "preview" ∷ codes "pre" ∷ codes "rc" ∷ codes "c" ∷ []
-
 -- the kind whose word stands in front, and the text after the word
 abbrev pub kind_in_front : PreKind → List ℕ → Cut PreKind
 kind_in_front kind text = after_any (kind_words kind) text >>= λ rest. Some (kind, rest)
@@ -172,10 +145,6 @@ abbrev pub suffix_from : List ℕ → Option (List ℕ) → Cut (Option ℕ)
 suffix_from text None = Some (None, text)
 suffix_from text (Some rest) = suffix_number rest >>= λ n. Some (Some n.0, n.1)
 
--- the words of a post-release
-abbrev pub post_words : List (List ℕ)
-post_words = codes "post" ∷ codes "rev" ∷ codes "r" ∷ []
-
 -- the post part in front: "-" num, or a word with its number
 unfoldable pub post : List ℕ → Cut (Option ℕ)
 post text =
@@ -195,6 +164,10 @@ segment piece =
     else if list_all is_ascii_digit piece then (number piece >>= λ n. Some (Number n.0))
     else Some (Word piece)
 
+-- the pieces of a text between its separators
+abbrev pub pieces_of : List ℕ → List (List ℕ)
+pieces_of text = slice_split is_separator text
+
 -- a segment for each piece
 unfoldable pub segments : List (List ℕ) → Option (List Segment)
 segments [] = Some []
@@ -203,14 +176,14 @@ segments (piece ∷ pieces) = segment piece >>= λ s. segments pieces >>= λ ss.
 -- the local part, which is the text's end: its mark, and segments with one separator between each two
 unfoldable pub local : List ℕ → Option (List Segment)
 local [] = Some []
-local (b ∷ rest) = if b == 43 then segments (slice_split is_separator rest) else None
+local (b ∷ rest) = if b == plus then segments (pieces_of rest) else None
 
 -- ---- the whole text
 
 -- the fields that a text in lower case spells, part by part from the front
 unfoldable pub fields_of : List ℕ → Option Fields
 fields_of text =
-    epoch (after_optional (λ b. b == 118) text) >>= λ e.
+    epoch (after_optional (λ b. b == letter_v) text) >>= λ e.
     release e.1 >>= λ r.
     pre r.1 >>= λ p.
     post p.1 >>= λ q.

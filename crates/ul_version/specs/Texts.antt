@@ -1,6 +1,7 @@
 -- The normal text of a version (PEP 440, "Normalization" and the canonical form of each part).
 use Rattle.std.specs.Prelude.{ℕ, ◌==◌, ◌||◌, Bool, List, [], ◌∷◌, ◌++◌, codes, Option, Some, None, if◌then◌else◌}
 use Rattle.std.specs.Fmt.{decimal}
+use Rattle.ul_version.specs.Ascii.{exclamation_mark, plus, point}
 use Rattle.ul_version.specs.Fields.{Fields, is_word_byte}
 use Rattle.ul_version.specs.declared.fields.Pre.{Pre}
 use Rattle.ul_version.specs.declared.fields.PreKind.{PreKind}
@@ -61,4 +62,4 @@ version_text f =
 
 -- a byte of a normal text: a digit, a lower-case letter, a point, an exclamation mark or a plus sign
 abbrev pub is_text_byte : ℕ → Bool
-is_text_byte b = is_word_byte b || (b == 46 || (b == 33 || b == 43))
+is_text_byte b = is_word_byte b || (b == point || (b == exclamation_mark || b == plus))

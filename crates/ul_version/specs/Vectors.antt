@@ -22,6 +22,7 @@ pub record Readings : Type 0 where
   pub longest_first : version_of (codes "1.0a-1") ≡ Some (record one { pre = Some (record { kind = A; number = 1 }) })
   pub candidate : version_of (codes "1.0.RC") ≡ Some (record one { pre = Some (record { kind = Rc; number = 0 }) })
   pub preview : version_of (codes "1.0preview2") ≡ Some (record one { pre = Some (record { kind = Rc; number = 2 }) })
+  pub short_preview : version_of (codes "1.0pre1") ≡ Some (record one { pre = Some (record { kind = Rc; number = 1 }) })
   pub beta : version_of (codes "1.0.beta.4") ≡ Some (record one { pre = Some (record { kind = B; number = 4 }) })
   pub revision : version_of (codes "1.0.rev3") ≡ Some (record one { post = Some 3 })
   pub leading_zeros : version_of (codes "01.002") ≡ Some (plain (1 ∷ 2 ∷ []))
@@ -57,6 +58,10 @@ pub record Orders : Type 0 where
   pub increasing : is_increasing (codes "1.0.dev456" ∷ codes "1.0a1" ∷ codes "1.0a2.dev456" ∷ codes "1.0a12.dev456" ∷ codes "1.0a12" ∷ codes "1.0b1.dev456"
       ∷ codes "1.0b2" ∷ codes "1.0b2.post345.dev456" ∷ codes "1.0b2.post345" ∷ codes "1.0rc1.dev456" ∷ codes "1.0rc1" ∷ codes "1.0" ∷ codes "1.0+abc.5"
       ∷ codes "1.0+abc.7" ∷ codes "1.0+5" ∷ codes "1.0.post456.dev34" ∷ codes "1.0.post456" ∷ codes "1.0.15" ∷ codes "1.1.dev1" ∷ []) ≡ true
+  pub locals : is_increasing (codes "1.0" ∷ codes "1.0+ab" ∷ codes "1.0+abc" ∷ codes "1.0+abc.x" ∷ codes "1.0+abc.5"
+      ∷ codes "1.0+abc.9" ∷ codes "1.0+abc.10" ∷ codes "1.0+abd" ∷ codes "1.0+9" ∷ codes "1.0+9.0" ∷ codes "1.0+10" ∷ []) ≡ true
+  pub digits : is_increasing (codes "1.0a9" ∷ codes "1.0a10" ∷ codes "1.0.post9" ∷ codes "1.0.post10" ∷ codes "1.9"
+      ∷ codes "1.10" ∷ codes "9" ∷ codes "10" ∷ codes "9!1" ∷ codes "10!1" ∷ []) ≡ true
   pub zeros : version_cmp one (plain (1 ∷ 0 ∷ 0 ∷ [])) ≡ Equal
   pub epoch : version_cmp (plain (9 ∷ [])) (record one { epoch = 1 }) ≡ Less
 

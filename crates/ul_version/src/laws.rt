@@ -1,25 +1,30 @@
-//! Laws of versions, and worked examples: each function's contract is proved, and its body does nothing.
+//! The main theorem of versions, its parts, and worked examples: each function's contract is proved, and its body does
+//! nothing.
 
+ghost use Rattle.ul_version.specs.Headline.{VersionsAreExact};
 ghost use Rattle.ul_version.specs.Laws.{IsOrder, ReadIsSpelled, ReadIsVersion, SpelledIsRead, EarlierIsLongest, TextIsPlain, TextReads, TextTells, TiesAreZeros};
 ghost use Rattle.ul_version.specs.Vectors.{NoReadings, NormalTexts, Orders, Readings};
 
-/// The order of versions is total, and its ties are the versions that differ in nothing but zeros at the
-/// end of the release.
+/// The main theorem: reading is PEP 440's grammar with the longest parts, the normal text reads back and tells versions
+/// apart, the order is total, and above each version there is a greater one.
+pub fn versions_are_exact()
+    ensures { VersionsAreExact }
+{}
+
+/// The part of the main theorem on the order.
 pub fn order_is_total()
     ensures order { IsOrder }
     ensures ties { TiesAreZeros }
 {}
 
-/// The normal text reads as the same version, tells versions apart, isn't empty, and has only digits,
-/// lower-case letters, points, `!` and `+`.
+/// The part of the main theorem on normal texts.
 pub fn text_reads_back()
     ensures reads { TextReads }
     ensures tells { TextTells }
     ensures plain { TextIsPlain }
 {}
 
-/// A text has a reading exactly where the grammar spells it, and is read as what it spells, which is a
-/// version; of all its spellings it is read by the one whose earlier parts are longest.
+/// The part of the main theorem on reading.
 pub fn read_is_spelled()
     ensures spelled { ReadIsSpelled }
     ensures read { SpelledIsRead }

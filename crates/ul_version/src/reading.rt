@@ -4,60 +4,28 @@
 
 ghost use Rattle.std.specs.Prelude.{◌≡◌, ◌<◌, ◌+◌, ◌*◌, ◌-◌, ◌^◌, ◌≤◌, ◌&&◌, ◌==◌, IfSome, IfNone, IfOk, IfErr, IsTrue, Some, None, length, take, drop, ◌∷◌, []};
 ghost use Rattle.std.specs.Char.{is_ascii_digit};
-ghost use Rattle.std.specs.List.{list_all, slice_split};
+ghost use Rattle.std.specs.List.{list_all};
 ghost use Rattle.ul_version.specs.Fields.{is_word_byte, IsVersion};
-ghost use Rattle.ul_version.specs.Reading as Grammar;
-ghost use Rattle.ul_version.specs.Reading.{begins, lowered};
+ghost use Rattle.ul_version.specs.Reading as spec;
+ghost use Rattle.ul_version.specs.Ascii.{letter_v};
+ghost use Rattle.ul_version.specs.Reading.{begins, lowered, pieces_of};
 ghost use Rattle.ul_version.specs.Views.{cut_view, rest_view, Reads, release_view, segments_view};
 
-use crate::{Pre, PreKind, Segment, Text, Version, VersionFault};
+use crate::ascii::{ByteClass, Digit, Separator, White, is_run, piece_len, trimmed};
+use crate::{Pre, PreKind, Segment, Text, Version, VersionFault, ascii};
 use std::alloc::{AllocError, Global};
 
-// Space, tab, line feed, vertical tab, form feed or carriage return.
-fn is_white(byte: u8) -> bool
-    ensures { result ≡ Grammar.is_white byte }
-{
-    byte == b' ' || (9 <= byte && byte <= 13)
-}
-
-fn after_white(input: &[u8]) -> &[u8]
-    ensures { result.now ≡ Grammar.after_white input.now }
-{
-    for i in 0..input.len() {
-        if !is_white(input[i]) {
-            return &input[i..];
-        }
-    }
-    &input[input.len()..]
-}
-
-fn before_white(input: &[u8]) -> &[u8]
-    ensures { result.now ≡ Grammar.before_white input.now }
-{
-    let mut end = input.len();
-    while end > 0 && is_white(input[end - 1]) {
-        end -= 1;
-    }
-    &input[..end]
-}
-
-fn is_separator(byte: u8) -> bool
-    ensures { result ≡ Grammar.is_separator byte }
-{
-    byte == b'.' || (byte == b'-' || byte == b'_')
-}
-
 fn after_separator(input: &[u8]) -> &[u8]
-    ensures { lowered result.now ≡ Grammar.after_optional Grammar.is_separator (lowered input.now) }
+    ensures { lowered result.now ≡ spec.after_optional spec.is_separator (lowered input.now) }
 {
     match input {
-        [byte, rest @ ..] if is_separator(*byte) => rest,
+        [byte, rest @ ..] if Separator.has(*byte) => rest,
         _ => input,
     }
 }
 
 fn after_v(input: &[u8]) -> &[u8]
-    ensures { lowered result.now ≡ Grammar.after_optional (λ b. b == 118) (lowered input.now) }
+    ensures { lowered result.now ≡ spec.after_optional (λ b. b == letter_v) (lowered input.now) }
 {
     match input {
         [byte, rest @ ..] if byte.to_ascii_lowercase() == b'v' => rest,
@@ -68,10 +36,7 @@ fn after_v(input: &[u8]) -> &[u8]
 fn begins_with_digit(input: &[u8]) -> bool
     ensures { result ≡ begins is_ascii_digit (lowered input.now) }
 {
-    match input {
-        [byte, ..] => byte.is_ascii_digit(),
-        [] => false,
-    }
+    ascii::begins(&Digit, input)
 }
 
 // The number `value` with one digit more, if that fits.
@@ -86,7 +51,7 @@ fn next_value(value: u64, digit: u8) -> Option<u64>
 
 // The number in front, which is 0 where there is no digit.
 fn number(input: &[u8]) -> Option<(u64, &[u8])>
-    ensures { cut_view result ≡ Grammar.number (lowered input.now) }
+    ensures { cut_view result ≡ spec.number (lowered input.now) }
 {
     let mut value = 0u64;
     'digits: for i in 0..input.len() {
@@ -104,7 +69,7 @@ fn number(input: &[u8]) -> Option<(u64, &[u8])>
 
 // The text after the word, where the word stands in front.
 fn after_word<'a>(input: &'a [u8], word: &[u8]) -> Option<&'a [u8]>
-    ensures { rest_view result ≡ Grammar.after_word word.now (lowered input.now) }
+    ensures { rest_view result ≡ spec.after_word word.now (lowered input.now) }
 {
     if input.len() < word.len() {
         return None;
@@ -120,7 +85,7 @@ fn after_word<'a>(input: &'a [u8], word: &[u8]) -> Option<&'a [u8]>
 // A number that must be there.
 #[tactic(auto, unfolding(crate::specs::Reading::needed))]
 fn needed(input: &[u8]) -> Option<(u64, &[u8])>
-    ensures { cut_view result ≡ Grammar.needed (lowered input.now) }
+    ensures { cut_view result ≡ spec.needed (lowered input.now) }
 {
     if begins_with_digit(input) {
         number(input)
@@ -132,7 +97,7 @@ fn needed(input: &[u8]) -> Option<(u64, &[u8])>
 // The text from its digits on, where the mark and a digit stand in front.
 #[tactic(auto, unfolding(crate::specs::Reading::marked))]
 fn marked<'a>(input: &'a [u8], mark: &[u8]) -> Option<&'a [u8]>
-    ensures { rest_view result ≡ Grammar.marked mark.now (lowered input.now) }
+    ensures { rest_view result ≡ spec.marked mark.now (lowered input.now) }
 {
     let rest = after_word(input, mark)?;
     if begins_with_digit(rest) {
@@ -145,7 +110,7 @@ fn marked<'a>(input: &'a [u8], mark: &[u8]) -> Option<&'a [u8]>
 // The epoch, which is 0 where there is none.
 #[tactic(auto, unfolding(crate::specs::Reading::epoch))]
 fn epoch(input: &[u8]) -> Option<(u64, &[u8])>
-    ensures { cut_view result ≡ Grammar.epoch (lowered input.now) }
+    ensures { cut_view result ≡ spec.epoch (lowered input.now) }
 {
     if !begins_with_digit(input) {
         return Some((0, input));
@@ -159,7 +124,7 @@ fn epoch(input: &[u8]) -> Option<(u64, &[u8])>
 
 // The kind of pre-release whose word stands in front, and the text after the word.
 fn any_kind(input: &[u8]) -> Option<(PreKind, &[u8])>
-    ensures { cut_view result ≡ Grammar.any_kind (lowered input.now) }
+    ensures { cut_view result ≡ spec.any_kind (lowered input.now) }
 {
     if let Some(rest) = after_either(input, b"alpha", b"a") {
         return Some((PreKind::A, rest));
@@ -179,7 +144,7 @@ fn any_kind(input: &[u8]) -> Option<(PreKind, &[u8])>
 // The text after the first of two words that stands in front.
 fn after_either<'a>(input: &'a [u8], first: &[u8], second: &[u8]) -> Option<&'a [u8]>
     ensures { rest_view result
-        ≡ Grammar.or_else (Grammar.after_word first.now (lowered input.now)) (Grammar.after_word second.now (lowered input.now)) }
+        ≡ spec.or_else (spec.after_word first.now (lowered input.now)) (spec.after_word second.now (lowered input.now)) }
 {
     match after_word(input, first) {
         Some(rest) => Some(rest),
@@ -189,14 +154,14 @@ fn after_either<'a>(input: &'a [u8], first: &[u8], second: &[u8]) -> Option<&'a 
 
 // The number of a pre, post or dev part after its word.
 fn suffix_number(input: &[u8]) -> Option<(u64, &[u8])>
-    ensures { cut_view result ≡ Grammar.suffix_number (lowered input.now) }
+    ensures { cut_view result ≡ spec.suffix_number (lowered input.now) }
 {
     number(after_separator(input))
 }
 
 #[tactic(auto, unfolding(crate::specs::Reading::pre))]
 fn pre(input: &[u8]) -> Option<(Option<Pre>, &[u8])>
-    ensures { cut_view result ≡ Grammar.pre (lowered input.now) }
+    ensures { cut_view result ≡ spec.pre (lowered input.now) }
 {
     let Some((kind, rest)) = any_kind(after_separator(input)) else {
         return Some((None, input));
@@ -207,7 +172,7 @@ fn pre(input: &[u8]) -> Option<(Option<Pre>, &[u8])>
 
 #[tactic(auto, unfolding(crate::specs::Reading::post))]
 fn post(input: &[u8]) -> Option<(Option<u64>, &[u8])>
-    ensures { cut_view result ≡ Grammar.post (lowered input.now) }
+    ensures { cut_view result ≡ spec.post (lowered input.now) }
 {
     if let Some(rest) = marked(input, b"-") {
         let (number, rest) = number(rest)?;
@@ -224,7 +189,7 @@ fn post(input: &[u8]) -> Option<(Option<u64>, &[u8])>
 
 // The text after the word of a post-release, where one stands in front.
 fn post_word(input: &[u8]) -> Option<&[u8]>
-    ensures { rest_view result ≡ Grammar.after_any Grammar.post_words (lowered input.now) }
+    ensures { rest_view result ≡ spec.after_any spec.post_words (lowered input.now) }
 {
     match after_word(input, b"post") {
         Some(rest) => Some(rest),
@@ -234,7 +199,7 @@ fn post_word(input: &[u8]) -> Option<&[u8]>
 
 #[tactic(auto, unfolding(crate::specs::Reading::dev))]
 fn dev(input: &[u8]) -> Option<(Option<u64>, &[u8])>
-    ensures { cut_view result ≡ Grammar.dev (lowered input.now) }
+    ensures { cut_view result ≡ spec.dev (lowered input.now) }
 {
     match after_word(after_separator(input), b"dev") {
         None => Some((None, input)),
@@ -247,7 +212,7 @@ fn dev(input: &[u8]) -> Option<(Option<u64>, &[u8])>
 
 // The numbers of a release, and the text after it.
 fn release(alloc: Global, input: &[u8]) -> Result<(Vec<u64>, &[u8]), VersionFault>
-    ensures { Reads release_view result (Grammar.release (lowered input.now)) }
+    ensures { Reads release_view result (spec.release (lowered input.now)) }
 {
     let Some((first, mut rest)) = needed(input) else {
         return Err(VersionFault::NoReading);
@@ -294,7 +259,7 @@ fn lower_text(alloc: Global, piece: &[u8]) -> Result<Text, AllocError>
 // One segment of a local part.
 #[tactic(auto, unfolding(crate::specs::Reading::segment))]
 fn segment(alloc: Global, piece: &[u8]) -> Result<Segment, VersionFault>
-    ensures { Reads (λ s. s) result (Grammar.segment (lowered piece.now)) }
+    ensures { Reads (λ s. s) result (spec.segment (lowered piece.now)) }
 {
     if piece.is_empty() || !is_alphanumeric(piece) {
         return Err(VersionFault::NoReading);
@@ -309,41 +274,36 @@ fn segment(alloc: Global, piece: &[u8]) -> Result<Segment, VersionFault>
 }
 
 // The length of the text before the first separator, or of the whole text.
-fn piece_len(input: &[u8]) -> usize
+fn segment_len(input: &[u8]) -> usize
     ensures fits { result ≤ length input.now }
-    ensures last { length input.now ≤ result → slice_split Grammar.is_separator (lowered input.now) ≡ lowered input.now ∷ [] }
-    ensures more { result < length input.now → slice_split Grammar.is_separator (lowered input.now)
-        ≡ lowered (take result input.now) ∷ slice_split Grammar.is_separator (lowered (drop (result + 1) input.now)) }
+    ensures last { length input.now ≤ result → pieces_of (lowered input.now) ≡ lowered input.now ∷ [] }
+    ensures more { result < length input.now → pieces_of (lowered input.now)
+        ≡ lowered (take result input.now) ∷ pieces_of (lowered (drop (result + 1) input.now)) }
 {
-    for i in 0..input.len() {
-        if is_separator(input[i]) {
-            return i;
-        }
-    }
-    input.len()
+    piece_len(&Separator, input)
 }
 
 // The segments of a local part, between single separators.
 fn segments(alloc: Global, input: &[u8]) -> Result<Vec<Segment>, VersionFault>
-    ensures { Reads segments_view result (Grammar.segments (slice_split Grammar.is_separator (lowered input.now))) }
+    ensures { Reads segments_view result (spec.segments (pieces_of (lowered input.now))) }
 {
     let mut list = Vec::new(alloc);
     let mut rest = input;
     'pieces: loop {
-        let n = piece_len(rest);
-        let piece = segment(alloc, &rest[..n])?;
+        let count = segment_len(rest);
+        let piece = segment(alloc, &rest[..count])?;
         list.push(piece)?;
-        if n >= rest.len() {
+        if count >= rest.len() {
             return Ok(list);
         }
-        rest = &rest[n..][1..];
+        rest = &rest[count..][1..];
     }
 }
 
 // The local part, which ends the text.
 #[tactic(auto, unfolding(crate::specs::Reading::local))]
 fn local(alloc: Global, input: &[u8]) -> Result<Vec<Segment>, VersionFault>
-    ensures { Reads segments_view result (Grammar.local (lowered input.now)) }
+    ensures { Reads segments_view result (spec.local (lowered input.now)) }
 {
     match input {
         [] => Ok(Vec::new(alloc)),
@@ -358,13 +318,22 @@ impl Version {
     /// White space at both ends is dropped, and letters may be of either case. Each part takes as much of
     /// the text as it can. `NoReading` is the answer exactly where the text has no reading, among them
     /// every text with a number of 2^64 or more.
-    #[tactic(auto, unfolding(crate::specs::Reading::version_of, crate::specs::Reading::fields_of))]
     pub fn read(alloc: Global, text: &str) -> Result<Version, VersionFault>
-        ensures read { IfOk result (λ v. Grammar.version_of text.now ≡ Some v) }
+        ensures read { IfOk result (λ v. spec.version_of text.now ≡ Some v) }
         ensures valid { IfOk result IsVersion }
-        ensures no_reading { IfErr result (λ e. e ≡ VersionFault.NoReading → Grammar.version_of text.now ≡ None) }
+        ensures no_reading { IfErr result (λ e. e ≡ VersionFault.NoReading → spec.version_of text.now ≡ None) }
     {
-        let input = after_v(before_white(after_white(text.as_bytes())));
+        Version::read_bytes(alloc, text.as_bytes())
+    }
+
+    /// The version that these bytes spell, as `read` has it of a text. Bytes that are no text have no reading.
+    #[tactic(auto, unfolding(crate::specs::Reading::version_of, crate::specs::Reading::fields_of, crate::specs::Reading::after_white, crate::specs::Reading::before_white))]
+    pub fn read_bytes(alloc: Global, text: &[u8]) -> Result<Version, VersionFault>
+        ensures read { IfOk result (λ v. spec.version_of text.now ≡ Some v) }
+        ensures valid { IfOk result IsVersion }
+        ensures no_reading { IfErr result (λ e. e ≡ VersionFault.NoReading → spec.version_of text.now ≡ None) }
+    {
+        let input = after_v(trimmed(&White, text));
         let Some((epoch, rest)) = epoch(input) else {
             return Err(VersionFault::NoReading);
         };

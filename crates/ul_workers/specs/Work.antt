@@ -2,6 +2,7 @@
 use Rattle.std.specs.Prelude.{◌≡◌, ℕ, ◌-◌, ◌<◌, ◌≤◌, false, List, [], ◌∷◌, ◌++◌, map, length, All, sum_by, Option, Some, slice_index_or}
 use Rattle.std.specs.List.{slice_get}
 use Rattle.std.specs.Vec.{vec_capacity}
+use Rattle.ul_interner.specs.Known.{TableId}
 use Rattle.ul_claims.specs.Rule.{parts_in_all}
 use Rattle.ul_claims.specs.Seats.{ClaimsView, SeatView, split_seat, IsDrawn}
 use Rattle.ul_interner.specs.Known.{Held, Knows}
@@ -11,6 +12,7 @@ use Rattle.ul_workers.specs.declared.threads.Worker.{Worker}
 abbrev pub first_after : ClaimsView → ℕ → SeatView
 first_after claims count = record { claims = claims; parts = parts_in_all - count; drawn = [] }
 
+-- the parts of seats together
 abbrev pub parts_of_seats : List SeatView → ℕ
 parts_of_seats = sum_by (λ (s : SeatView). s.parts)
 
@@ -45,6 +47,15 @@ module _ {L O : Type 0} where
     pub good : All (λ p. fits p.0 p.1 × known w.pass p.1) w.results.items
     pub learns : Knows first w.pass
 
+  -- it has done so from some pass of the table on
+  abbrev pub WorkedFrom : (fits : ℕ → O → Type 0) (known : Held L → O → Type 0) → ClaimsView → TableId → Worker L O → Type 0
+  WorkedFrom fits known claims table w = (first : Held L) × (first.table ≡ table) × Worked fits known claims first w
+
+  -- a worker that may begin
+  abbrev pub MayBegin : (ready : Held L → ℕ → Type 0) → ClaimsView → TableId → Worker L O → Type 0
+  MayBegin ready claims table w =
+      (claims.limit ≤ 4096) × (w.pass.table ≡ table) × Fresh claims w × ((n : ℕ) → n < claims.limit → ready w.pass n)
+
   -- each worker has done so
   abbrev pub HaveWorked : (fits : ℕ → O → Type 0) (known : Held L → O → Type 0) → ClaimsView → List (Worker L O) → List (Worker L O) → Type 0
   HaveWorked fits known claims before after =
@@ -65,3 +76,7 @@ Good {O} fits known places = (k : ℕ) (o : O) → slice_get places k ≡ Some (
 -- each number below the limit that one of the seats drew has its place filled
 abbrev pub Full : {O : Type 0} → ℕ → List SeatView → List (Option O) → Type 0
 Full limit seats places = (k : ℕ) → k < limit → IsDrawn seats k → Filled places k
+
+-- each result stands in its place
+abbrev pub AreIn : {O : Type 0} → List (Option O) → List O → Type 0
+AreIn {O} places results = (k : ℕ) (o : O) → slice_get results k ≡ Some o → slice_get places k ≡ Some (Some o)

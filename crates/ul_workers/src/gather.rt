@@ -2,10 +2,10 @@
 ghost use Rattle.std.specs.Prelude.{◌≡◌, ◌+◌, ◌<◌, ◌≤◌, ◌++◌, ◌∷◌, ℕ, List, All, Contains, true, [], length, vec_len, sum_by, Some};
 ghost use Rattle.std.specs.List.{slice_get};
 ghost use Rattle.std.specs.Vec.{vec_capacity};
-ghost use Rattle.ul_interner.specs.Known.{Held, Knows};
+ghost use Rattle.ul_interner.specs.Known.{Knows};
 ghost use Rattle.ul_claims.specs.Rule.{parts_in_all};
 ghost use Rattle.ul_claims.specs.Seats.{HadNone};
-ghost use Rattle.ul_workers.specs.Work.{Worked, Within, Good, Full, Filled, numbers, parts_of_seats};
+ghost use Rattle.ul_workers.specs.Work.{WorkedFrom, Within, Good, Full, Filled, numbers, parts_of_seats};
 
 use crate::jobs::Job;
 use crate::threads::Worker;
@@ -49,7 +49,7 @@ fn take_in<L: Label, J: Job<L>>(
     requires limit { claims.now.limit ≡ limit }
     requires own { pass.old.table ≡ interner.now }
     requires room { vec_len seats.old < vec_capacity seats.old }
-    requires worked { (first : Held L) × (first.table ≡ interner.now) × Worked (Within limit (J.fits job.now)) J.known claims.now first worker }
+    requires worked { WorkedFrom (Within limit (J.fits job.now)) J.known claims.now interner.now worker }
     requires len { length places.old.items ≡ limit }
     requires good { Good (J.fits job.now) (J.known pass.old) places.old.items }
     requires seats { All (λ s. s.claims ≡ claims.now) seats.old.items }
@@ -91,7 +91,7 @@ pub(crate) fn take_all<L: Label, J: Job<L>>(
     requires some { 0 < vec_len workers }
     requires own { pass.old.table ≡ interner.now }
     requires room { vec_len seats.old + vec_len workers ≤ vec_capacity seats.old }
-    requires worked { All (λ w. (first : Held L) × (first.table ≡ interner.now) × Worked (Within limit (J.fits job.now)) J.known claims.now first w) workers.items }
+    requires worked { All (WorkedFrom (Within limit (J.fits job.now)) J.known claims.now interner.now) workers.items }
     requires len { length places.old.items ≡ limit }
     requires good { Good (J.fits job.now) (J.known pass.old) places.old.items }
     requires seats { All (λ s. s.claims ≡ claims.now) seats.old.items }

@@ -4,7 +4,7 @@ ghost use Rattle.std.specs.List.{slice_get};
 ghost use Rattle.std.specs.Vec.{vec_capacity};
 ghost use Rattle.ul_interner.specs.Known.{Knows};
 ghost use Rattle.ul_workers.specs.Headline.{AreResults};
-ghost use Rattle.ul_workers.specs.Work.{Filled};
+ghost use Rattle.ul_workers.specs.Work.{Filled, AreIn};
 
 use crate::gather::take_all;
 use crate::jobs::Job;
@@ -23,7 +23,7 @@ fn take_places<O: Drop>(mut places: Vec<Option<O>>, mut results: Vec<O>) -> Vec<
     requires filled { (k : ℕ) → k < vec_len places → Filled places.items k }
     requires room { (results.items ≡ []) × (vec_len places ≤ vec_capacity results) }
     ensures len { length result.items ≡ length places.items }
-    ensures each { (k : ℕ) (o : O) → slice_get result.items k ≡ Some o → slice_get places.items k ≡ Some (Some o) }
+    ensures each { AreIn places.items result.items }
 {
     for i in 0..places.len() {
         match places[i].take() {

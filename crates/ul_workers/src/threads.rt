@@ -1,6 +1,6 @@
 // What one thread does, and all threads.
 ghost use Rattle.std.specs.Prelude.{◌≡◌, ◌<◌, ◌≤◌, ℕ, length, All};
-ghost use Rattle.ul_workers.specs.Work.{Fresh, Worked, HaveWorked, Within};
+ghost use Rattle.ul_workers.specs.Work.{Fresh, MayBegin, Worked, HaveWorked, Within};
 
 use crate::jobs::Job;
 use std::alloc::Global;
@@ -73,7 +73,7 @@ pub(crate) fn work_all<R: Threads + Wait + Sync, L: Label, J: Job<L>>(
         workers,
         threads,
         &|_: usize, worker: &mut Worker<L, J::Out>|
-            requires { (claims.now.limit ≤ 4096) × (worker.now.pass.table ≡ interner.now) × Fresh claims.now worker.now × ((n : ℕ) → n < claims.now.limit → J.ready job.now worker.now.pass n) }
+            requires { MayBegin (J.ready job.now) claims.now interner.now worker.now }
             ensures { Worked (Within claims.entry.now.limit (J.fits job.entry.now)) J.known claims.entry.now worker.entry.now.pass worker.exit.now }
         { work(rt, alloc, claims, interner, job, worker) },
     );

@@ -1,17 +1,14 @@
 -- The answer over a project file and an index folder, step by step.
-use Rattle.std.proofs.Common.{◌≡◌, ◌≢◌, ℕ, List, IfOk, Option, Some, None, IfSome, Result, Ok, Err, Vec, Global, string_bytes, refl, ap, sym, ◌∙◌, subst, arith, inl, inr, ◌⊎◌}
+use Rattle.std.proofs.Common.{◌≡◌, ℕ, List, Option, Some, None, IfSome, Ok, Err, Vec, Global, refl, inl, inr}
 use Rattle.ul_base.specs.Files.{FileMap}
-use Rattle.unilock.specs.Refused.{Refused}
-use Rattle.unilock.specs.Answer.{refused_answer, IsLocked, IsCatalogAnswer, IsProjectAnswer, IsProjectRead}
-use Rattle.unilock.specs.Jobs.{status_of, text_of, IsCatalogText, JobGives, printed, PrintedFor}
+use Rattle.unilock.specs.Answer.{IsCatalogAnswer}
+use Rattle.unilock.specs.Jobs.{status_of, text_of, IsCatalogText, JobGives}
 use Rattle.unilock.specs.Loaded.{LoadGives}
-use Rattle.unilock.specs.Loading.{project_at, Loads, IsLoaded}
-use Rattle.unilock.specs.Refusals.{refused_of, failed_path, FailedAt, Cause}
+use Rattle.unilock.specs.Loading.{project_at, Loads}
+use Rattle.unilock.specs.Refusals.{refused_of, failed_path}
 use Rattle.ul_pins.specs.declared.catalog.Package.{Package}
 use Rattle.ul_pin_forms.specs.declared.project_form.Project.{Project}
-use Rattle.unilock.specs.declared.refusal.Output.{Output}
 use Rattle.unilock.specs.declared.refusal.Refusal.{Refusal}
-use Rattle.unilock.specs.declared.refusal.Refusal.TheVariants.{NotBuilt, Malformed, Limit, ReadFault, NoMemory}
 use Rattle.unilock.proofs.Steps.{some_fault}
 
 -- the project file refused

@@ -1,9 +1,10 @@
 pub mod Growth
+pub mod Headlines
 pub mod JobSteps
 pub mod Numbers
 pub mod OneAnswers
 pub mod OneRead
-pub mod PrintedAnswers
+pub mod Outputs
 pub mod Steps
 pub mod Turns
 pub mod WorkedAnswers

@@ -1,5 +1,5 @@
 -- What a parse of a word says of the number that the word is.
-use Rattle.std.proofs.Common.{◌≡◌, ℕ, ◌<◌, ◌≤◌, ◌^◌, List, [], ◌∷◌, length, Bool, true, false, nat_le, ◌&&◌, Result, Ok, Err, refl, ap, sym, ◌∙◌, rules, arith, inl, inr}
+use Rattle.std.proofs.Common.{◌≡◌, ℕ, ◌<◌, ◌^◌, List, [], ◌∷◌, length, Bool, true, false, nat_le, ◌&&◌, Ok, Err, refl, rules, arith, inl, inr}
 use Rattle.std.proofs.lemmas.Bool.{and_left, and_right, lt-leb, cases_lt}
 use Rattle.std.proofs.lemmas.Str.Parse.{IsNumeralModel, numerals_by_value, parse_digits}
 use Rattle.std.specs.Char.{is_ascii_digit}

@@ -1,22 +1,21 @@
 -- At most one status and bytes answer.
-use Rattle.std.proofs.Common.{◌≡◌, ◌≢◌, ℕ, zero, suc, ◌+◌, ◌<◌, ◌≤◌, List, [], ◌∷◌, ◌++◌, length, get_or, nat_lt, Bool, true, false, Option, Some, None, Result, Ok, Err, refl, ap, sym, ◌∙◌, subst, arith, inl, inr, ◌⊎◌}
+use Rattle.std.proofs.Common.{◌≡◌, ℕ, zero, suc, ◌+◌, ◌<◌, List, [], ◌∷◌, ◌++◌, length, get_or, nat_lt, true, Option, Some, None, Result, Ok, Err, refl, ap, sym, ◌∙◌, subst, arith, inl, inr}
 use Rattle.std.proofs.lemmas.Bool.{cases_Bool}
 use Rattle.std.proofs.lemmas.Bool.Decides.{nat_tests}
 use Rattle.ul_base.specs.Files.{FileMap}
 use Rattle.ul_lock.specs.Text.{lock_text}
 use Rattle.unilock.specs.Refused.{Refused}
-use Rattle.unilock.specs.Words.{Asked, usage, unbuilt, lock, asked}
+use Rattle.unilock.specs.Words.{Asked, usage, unbuilt, lock, question}
 use Rattle.ul_pins.specs.Serving.{AreApart, IsCatalog}
-use Rattle.ul_pins.proofs.Bests.{best_one_from, best_not_none}
-use Rattle.ul_pins.proofs.Locks.{lock_one}
+use Rattle.ul_pins.proofs.ForCallers.{best_one_from, best_not_none, lock_one}
 use Rattle.ul_pins.specs.Best.{pinned_names}
-use Rattle.ul_pin_forms.proofs.UsableApart.{document_form_apart}
+use Rattle.ul_pin_forms.proofs.ForCallers.{document_form_apart}
 use Rattle.ul_pin_forms.specs.DocumentForm.{DocumentFormFault, not_json, document_not_built, document_form}
 use Rattle.unilock.specs.Answers.{◌>>=◌}
 use Rattle.ul_pins.specs.Locking.{IsLockOf}
 use Rattle.unilock.specs.Growing.{IsGrowing}
-use Rattle.unilock.specs.Loading.{bytes_at, document_path, document_answer, document_from, releases_at, met_all, names_in, package_of, turned, load_from, first_names, project_package, project_at, Loads}
-use Rattle.unilock.specs.Answer.{Prints, refused_answer, usage_text, IsLocked, IsRefused, IsCatalogAnswer, IsProjectAnswer, IsAskedAnswer, IsAnswer, OneAnswer}
+use Rattle.unilock.specs.Loading.{bytes_at, document_path, document_answer, document_from, releases_at, names_with_all, names_in, package_of, turn_result, load_from, first_names, project_package, project_at, Loads}
+use Rattle.unilock.specs.Answer.{Prints, refused_answer, usage_text, IsLocked, IsCatalogAnswer, IsProjectAnswer, IsAskedAnswer, IsAnswer, OneAnswer}
 use Rattle.ul_pins.specs.declared.catalog.Package.{Package}
 use Rattle.ul_pins.specs.declared.catalog.Release.{Release}
 use Rattle.ul_pin_forms.specs.declared.project_form.Project.{Project}
@@ -24,7 +23,7 @@ use Rattle.unilock.proofs.Growth.{sown, grows, grown}
 
 -- a turn's outcome, for whatever number of turns after it
 turned_agree : (r : Result (List Release) Refused) (f g : List Release → Option (Result (List Package) Refused)) (a b : Result (List Package) Refused)
-    → ((rs : List Release) → f rs ≡ Some a → g rs ≡ Some b → a ≡ b) → turned r f ≡ Some a → turned r g ≡ Some b → a ≡ b
+    → ((rs : List Release) → f rs ≡ Some a → g rs ≡ Some b → a ≡ b) → turn_result r f ≡ Some a → turn_result r g ≡ Some b → a ≡ b
 turned_agree (Ok rs) f g a b agree x y = agree rs x y
 turned_agree (Err e) f g a b agree x y = cc
 
@@ -35,7 +34,7 @@ loads_agree m folder zero t names i packages a b x y = cc
 loads_agree m folder (suc s) zero names i packages a b x y = cc
 loads_agree m folder (suc s) (suc t) names i packages a b x y = elim (cases_Bool (nat_lt i (length names))) [
   | inl more ↦ turned_agree (releases_at m folder (get_or names i [])) _ _ a b
-      (λ rs p q. loads_agree m folder s t (met_all names (names_in rs)) (i + 1) (packages ++ package_of (get_or names i []) rs ∷ []) a b p q) (rw more at x) (rw more at y)
+      (λ rs p q. loads_agree m folder s t (names_with_all names (names_in rs)) (i + 1) (packages ++ package_of (get_or names i []) rs ∷ []) a b p q) (rw more at x) (rw more at y)
   | inr done ↦ let p : Some (Ok packages) ≡ Some a = rw done at x in let q : Some (Ok packages) ≡ Some b = rw done at y in cc
 ]
 
@@ -58,7 +57,7 @@ unfolding releases_at
 releases_differ m folder name rs e = found_apart (document_path folder name) name rs (bytes_at m (document_path folder name)) e
 
 turned_catalog : (r : Result (List Release) Refused) (f : List Release → Option (Result (List Package) Refused)) (c : List Package)
-    → ((rs : List Release) → r ≡ Ok rs → f rs ≡ Some (Ok c) → IsCatalog c) → turned r f ≡ Some (Ok c) → IsCatalog c
+    → ((rs : List Release) → r ≡ Ok rs → f rs ≡ Some (Ok c) → IsCatalog c) → turn_result r f ≡ Some (Ok c) → IsCatalog c
 turned_catalog (Ok rs) f c go x = go rs refl x
 turned_catalog (Err e) f c go x = cc
 
@@ -70,8 +69,8 @@ load_catalog m folder (suc turns) names i packages c h x = elim (cases_Bool (nat
   | inl more ↦ turned_catalog (releases_at m folder (get_or names i [])) _ c
       (λ rs found p.
       let one = package_of (get_or names i []) rs in
-      load_catalog m folder turns (met_all names (names_in rs)) (i + 1) (packages ++ one ∷ []) c
-      (grows names i packages (met_all names (names_in rs)) (packages ++ one ∷ []) (below i (length names) more) h record { releases = rs; apart = releases_differ m folder (get_or names i []) rs found; met = refl; added = refl }) p)
+      load_catalog m folder turns (names_with_all names (names_in rs)) (i + 1) (packages ++ one ∷ []) c
+      (grows names i packages (names_with_all names (names_in rs)) (packages ++ one ∷ []) (below i (length names) more) h record { releases = rs; apart = releases_differ m folder (get_or names i []) rs found; new_names = refl; new_packages = refl }) p)
       (rw more at x)
   | inr done ↦ let p : Some (Ok packages) ≡ Some (Ok c) = rw done at x in let same : packages ≡ c = cc in subst IsCatalog same (grown names i packages h)
 ]
@@ -117,4 +116,4 @@ one_asked m (lock project folder) s t a b x y = one_project m folder (project_at
 
 pub one_answer : OneAnswer
 unfolding IsAnswer
-one_answer words m s t a b x y = one_asked m (asked words) s t a b x y
+one_answer words m s t a b x y = one_asked m (question words) s t a b x y

@@ -1,9 +1,9 @@
 -- One turn of loading, and the last.
-use Rattle.std.proofs.Common.{◌≡◌, ℕ, zero, suc, ◌+◌, ◌<◌, ◌≤◌, List, [], ◌∷◌, ◌++◌, length, get_or, nat_lt, Bool, true, false, cond, Option, Some, None, IfSome, Result, Ok, Err, refl, ap, ◌∙◌, sym, subst, arith, inl, inr}
+use Rattle.std.proofs.Common.{◌≡◌, ℕ, zero, suc, ◌+◌, ◌<◌, ◌≤◌, List, [], ◌∷◌, ◌++◌, length, get_or, nat_lt, true, false, Some, Result, Ok, Err, refl, ◌∙◌, arith, inl, inr}
 use Rattle.std.proofs.lemmas.Bool.Decides.{nat_tests}
 use Rattle.ul_base.specs.Files.{FileMap}
 use Rattle.unilock.specs.Refused.{Refused}
-use Rattle.unilock.specs.Loading.{releases_at, met_all, names_in, package_of, turned, load_from, read_on, paths_from, document_path, Loads, IsLoaded}
+use Rattle.unilock.specs.Loading.{releases_at, names_with_all, names_in, package_of, load_from, paths_from, document_path, Loads, IsLoaded}
 use Rattle.unilock.specs.Loaded.{IsLoading}
 use Rattle.ul_pins.specs.Serving.{IsOneOf}
 use Rattle.ul_pins.specs.declared.catalog.Package.{Package}
@@ -24,7 +24,7 @@ last_turn m folder names i packages h = rw (is_past i (length names) h) refl
 -- a turn that went well goes on with the next name
 pub good_turn : (m : FileMap) (folder : List ℕ) (turns : ℕ) (names : List (List ℕ)) (i : ℕ) (packages : List Package) (releases : List Release)
     → i < length names → releases_at m folder (get_or names i []) ≡ Ok releases
-    → load_from m folder (suc turns) names i packages ≡ load_from m folder turns (met_all names (names_in releases)) (i + 1) (packages ++ package_of (get_or names i []) releases ∷ [])
+    → load_from m folder (suc turns) names i packages ≡ load_from m folder turns (names_with_all names (names_in releases)) (i + 1) (packages ++ package_of (get_or names i []) releases ∷ [])
 good_turn m folder turns names i packages releases h found = rw (is_below i (length names) h, found) refl
 
 -- a turn that refused ends the loading
@@ -38,13 +38,13 @@ first_path m folder names i h = rw (is_below i (length names) h) (inl refl)
 
 -- and the paths of the turns after one that went well
 pub next_paths : (m : FileMap) (folder : List ℕ) (turns : ℕ) (names : List (List ℕ)) (i : ℕ) (releases : List Release) (p : List ℕ)
-    → i < length names → releases_at m folder (get_or names i []) ≡ Ok releases → IsOneOf p (paths_from m folder turns (met_all names (names_in releases)) (i + 1)) → IsOneOf p (paths_from m folder (suc turns) names i)
+    → i < length names → releases_at m folder (get_or names i []) ≡ Ok releases → IsOneOf p (paths_from m folder turns (names_with_all names (names_in releases)) (i + 1)) → IsOneOf p (paths_from m folder (suc turns) names i)
 next_paths m folder turns names i releases p h found had = rw (is_below i (length names) h, found) (inr had)
 
 -- what holds in the midst of loading holds after a turn that went well
 pub loads_on : (m : FileMap) (folder : List ℕ) (project : Project) (names : List (List ℕ)) (i : ℕ) (packages : List Package) (releases : List Release)
     → i < length names → releases_at m folder (get_or names i []) ≡ Ok releases → IsLoading m folder project names i packages
-    → IsLoading m folder project (met_all names (names_in releases)) (i + 1) (packages ++ package_of (get_or names i []) releases ∷ [])
+    → IsLoading m folder project (names_with_all names (names_in releases)) (i + 1) (packages ++ package_of (get_or names i []) releases ∷ [])
 loads_on m folder project names i packages releases h found kept = record {
   value = λ turns r e. kept.value (suc turns) r (good_turn m folder turns names i packages releases h found ∙ e);
   reads = λ turns p had. kept.reads (suc turns) p (next_paths m folder turns names i releases p h found had);

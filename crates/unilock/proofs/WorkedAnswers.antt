@@ -1,5 +1,5 @@
 -- The worked answers, from the reading of the files to the lock.
-use Rattle.std.proofs.Common.{◌≡◌, ℕ, zero, suc, ◌≤◌, List, [], ◌∷◌, ◌++◌, codes, Option, Some, None, Result, Ok, Err, refl, sym, ap, subst, arith, inl, inr}
+use Rattle.std.proofs.Common.{◌≡◌, zero, suc, List, [], ◌∷◌, codes, Some, Ok, refl, sym, ap, subst, arith, inl, inr}
 use Rattle.std.specs.Fmt.{digits}
 use Rattle.std.specs.Str.{is_utf8, chars}
 use Rattle.toml.proofs.OnLiterals.{toml_on_literals}
@@ -12,15 +12,14 @@ use Rattle.ul_version.specs.Texts.{version_text}
 use Rattle.ul_lock.specs.Text.{lock_text, package_lines, edge_line}
 use Rattle.ul_lock.specs.declared.parts.Lock.{Lock}
 use Rattle.ul_lock.specs.declared.parts.Locked.{Locked}
-use Rattle.ul_lock.specs.declared.parts.Edge.{Edge}
-use Rattle.ul_pins.specs.Serving.{IsCatalog, IsOneOf, releases_of}
+use Rattle.ul_pins.specs.Serving.{IsCatalog, IsOneOf}
 use Rattle.ul_pins.specs.Best.{pins_at, version_in}
 use Rattle.ul_pins.specs.Walking.{Step, decisions_of, IsForced, IsWalked, IsDue, AreMetIn, IsMetIn}
 use Rattle.ul_pins.specs.Locking.{IsLockOf, AreEdgesOf, edge_to, decision_in}
 use Rattle.ul_pins.specs.declared.catalog.Pin.{Pin}
 use Rattle.ul_pins.specs.declared.catalog.Release.{Release}
 use Rattle.ul_pins.specs.declared.catalog.Package.{Package}
-use Rattle.ul_pins.proofs.Steps.{first_forced, due_at, forced_more, walked_grown, walked_more, met_last, walked_best}
+use Rattle.ul_pins.proofs.ForCallers.{first_forced, due_at, forced_more, walked_more, met_last, walked_best}
 use Rattle.ul_pin_forms.specs.Pins.{pin_of}
 use Rattle.ul_pin_forms.specs.Plain.{number_of, plain_of}
 use Rattle.ul_pin_forms.specs.ProjectForm.{project_form, project_in}
@@ -28,10 +27,10 @@ use Rattle.ul_pin_forms.specs.DocumentForm.{document_form, releases_in, release_
 use Rattle.ul_pin_forms.specs.Toml.{toml_of}
 use Rattle.ul_pin_forms.specs.Json.{json_of}
 use Rattle.ul_pin_forms.specs.declared.project_form.Project.{Project}
-use Rattle.unilock.specs.Answer.{IsAnswer, IsProjectAnswer, IsLocked}
+use Rattle.unilock.specs.Answer.{IsAnswer}
 use Rattle.unilock.specs.Examples.{lock_words, alone_files, alone_lock, pinned_files, pinned_lock}
-use Rattle.unilock.specs.Loading.{bytes_at, project_at, releases_at, load_from, project_package, package_of, Loads}
-use Rattle.unilock.specs.Words.{asked, is_number_in, lock}
+use Rattle.unilock.specs.Loading.{bytes_at, project_at, releases_at, project_package, package_of, Loads}
+use Rattle.unilock.specs.Words.{question, is_number_in, lock}
 use Rattle.unilock.proofs.OneAnswers.{loaded_catalog}
 
 abbrev point_one : Fields
@@ -51,8 +50,8 @@ alone_release = record { version = point_one; pins = [] }
 abbrev alone_catalog : List Package
 alone_catalog = project_package alone ∷ []
 
-asked_lock_is : asked lock_words ≡ lock (codes "p.toml") (codes "ix")
-unfolding asked is_number_in
+asked_lock_is : question lock_words ≡ lock (codes "p.toml") (codes "ix")
+unfolding question is_number_in
 asked_lock_is = refl
 
 alone_read : project_at alone_files (codes "p.toml") ≡ Ok alone

@@ -1,11 +1,11 @@
 -- What the program answers, as a status and the bytes that are printed, from the words and the files.
-use Rattle.std.specs.Prelude.{◌≡◌, ℕ, List, [], ◌∷◌, ◌++◌, codes, Option, Some, Result, Ok, Err, ◌⊎◌}
+use Rattle.std.specs.Prelude.{◌≡◌, ℕ, List, ◌++◌, codes, Option, Some, None, Result, Ok, Err, ◌⊎◌}
 use Rattle.std.specs.Fmt.{decimal}
 use Rattle.ul_base.specs.Files.{FileMap}
 use Rattle.ul_lock.specs.Text.{lock_text}
 use Rattle.ul_lock.specs.declared.parts.Lock.{Lock}
 use Rattle.unilock.specs.Refused.{Refused, not_built, malformed, limit}
-use Rattle.unilock.specs.Words.{Asked, usage, unbuilt, lock, asked}
+use Rattle.unilock.specs.Words.{Asked, usage, unbuilt, lock, question}
 use Rattle.ul_pins.specs.Serving.{HasNone}
 use Rattle.ul_pins.specs.Best.{IsBest}
 use Rattle.ul_pins.specs.Locking.{IsLockOf}
@@ -68,9 +68,19 @@ IsAskedAnswer m usage status bytes = Prints (2, usage_text) status bytes
 IsAskedAnswer m (unbuilt form) status bytes = Prints (refused_answer (not_built form)) status bytes
 IsAskedAnswer m (lock project folder) status bytes = IsProjectAnswer m folder (project_at m project) status bytes
 
+-- the answer that is decided with no file: that the words aren't one of the commands, or a form that isn't built
+abbrev pub answer_of_asked : Asked → Option (ℕ × List ℕ)
+answer_of_asked usage = Some (2, usage_text)
+answer_of_asked (unbuilt form) = Some (refused_answer (not_built form))
+answer_of_asked (lock project folder) = None
+
+-- the answer that the words alone decide
+abbrev pub words_answer : List (List ℕ) → Option (ℕ × List ℕ)
+words_answer words = answer_of_asked (question words)
+
 -- The answer of the program: at most one status and bytes are it.
 unfoldable pub IsAnswer : List (List ℕ) → FileMap → ℕ → List ℕ → Type 0
-IsAnswer words m status bytes = IsAskedAnswer m (asked words) status bytes
+IsAnswer words m status bytes = IsAskedAnswer m (question words) status bytes
 
 -- the path is read over a project
 abbrev pub IsProjectRead : FileMap → List ℕ → Result Project Refused → List ℕ → Type 0
@@ -85,11 +95,11 @@ IsAskedRead m (lock project folder) path = (path ≡ project) ⊎ IsProjectRead 
 
 -- the path is one of those that are read of the files for these words, up to the first refusal
 unfoldable pub IsRead : List (List ℕ) → FileMap → List ℕ → Type 0
-IsRead words m path = IsAskedRead m (asked words) path
+IsRead words m path = IsAskedRead m (question words) path
 
 -- the words aren't one of the commands
 abbrev pub IsUsage : List (List ℕ) → Type 0
-IsUsage words = asked words ≡ usage
+IsUsage words = question words ≡ usage
 
 -- The program's answer was printed after what was there; or there was no memory and nothing was printed.
 abbrev pub Answered : List (List ℕ) → FileMap → ℕ → List ℕ → Option (List ℕ) → Type 0

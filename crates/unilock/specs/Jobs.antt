@@ -1,8 +1,8 @@
 -- What the parts of the program answer on the way to what is printed.
-use Rattle.std.specs.Prelude.{◌≡◌, ◌≢◌, ℕ, List, Option, Some, None, Result, Ok, Err, IfSome, Vec, string_bytes, ◌⊎◌}
+use Rattle.std.specs.Prelude.{◌≡◌, ℕ, List, Option, Some, None, Result, Ok, Err, IfSome, Vec, string_bytes, ◌⊎◌}
 use Rattle.std.specs.declared.alloc.Global.{Global}
 use Rattle.ul_base.specs.Files.{FileMap}
-use Rattle.unilock.specs.Answer.{no_selection_text, read_fault_text, refused_answer, IsLocked, IsRefused, IsCatalogAnswer, IsProjectAnswer, IsProjectRead}
+use Rattle.unilock.specs.Answer.{no_selection_text, read_fault_text, refused_answer, IsLocked, IsProjectAnswer, IsProjectRead}
 use Rattle.unilock.specs.Loading.{project_at}
 use Rattle.unilock.specs.Refusals.{refused_of, failed_path}
 use Rattle.unilock.specs.Refused.{not_built, malformed, limit}
@@ -35,14 +35,14 @@ JobGives m project folder (Err e) =
     × IfSome (failed_path e) (λ p. (p ≡ project) ⊎ IsProjectRead m folder (project_at m project) p)
 
 -- what is printed, and with which status
-abbrev pub printed : Output → ℕ × List ℕ
-printed o = (o.status, o.text.items)
+abbrev pub status_and_text : Output → ℕ × List ℕ
+status_and_text o = (o.status, o.text.items)
 
 -- what is printed for the job's result
 abbrev pub PrintedFor : Result (Option (Vec ℕ Global)) Refusal → Output → Type 0
-PrintedFor (Ok found) o = printed o ≡ (status_of found, text_of found)
-PrintedFor (Err (NotBuilt form)) o = printed o ≡ refused_answer (not_built form.now)
-PrintedFor (Err (Malformed file place)) o = printed o ≡ refused_answer (malformed (string_bytes file) place.now)
-PrintedFor (Err (Limit name number)) o = printed o ≡ refused_answer (limit name.now number)
-PrintedFor (Err (ReadFault path)) o = printed o ≡ (5, read_fault_text (string_bytes path))
+PrintedFor (Ok found) o = status_and_text o ≡ (status_of found, text_of found)
+PrintedFor (Err (NotBuilt form)) o = status_and_text o ≡ refused_answer (not_built form.now)
+PrintedFor (Err (Malformed file place)) o = status_and_text o ≡ refused_answer (malformed (string_bytes file) place.now)
+PrintedFor (Err (Limit name number)) o = status_and_text o ≡ refused_answer (limit name.now number)
+PrintedFor (Err (ReadFault path)) o = status_and_text o ≡ (5, read_fault_text (string_bytes path))
 PrintedFor (Err NoMemory) o = ⊥

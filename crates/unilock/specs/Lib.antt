@@ -2,6 +2,7 @@ pub mod Answer
 pub mod Answers
 pub mod Examples
 pub mod Growing
+pub mod Headline
 pub mod Jobs
 pub mod Loaded
 pub mod Loading

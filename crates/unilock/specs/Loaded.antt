@@ -1,11 +1,10 @@
 -- What the loading of a project's catalog answers.
-use Rattle.std.specs.Prelude.{◌≡◌, ℕ, List, [], ◌∷◌, ◌++◌, get_or, Option, Some, None, Result, Ok, Err, IfSome}
+use Rattle.std.specs.Prelude.{◌≡◌, ℕ, List, [], ◌∷◌, ◌++◌, get_or, Some, Result, Ok, Err, IfSome}
 use Rattle.ul_base.specs.Files.{FileMap}
 use Rattle.unilock.specs.Refused.{Refused}
 use Rattle.unilock.specs.Refusals.{refused_of, failed_path}
 use Rattle.ul_pins.specs.Serving.{IsOneOf}
-use Rattle.unilock.specs.Loading.{load_from, paths_from, releases_at, met_all, names_in, package_of, Loads, IsLoaded}
-use Rattle.ul_pins.specs.declared.catalog.Catalog.{Catalog}
+use Rattle.unilock.specs.Loading.{load_from, paths_from, releases_at, names_with_all, names_in, package_of, Loads, IsLoaded}
 use Rattle.ul_pins.specs.declared.catalog.Package.{Package}
 use Rattle.ul_pins.specs.declared.catalog.Release.{Release}
 use Rattle.ul_pin_forms.specs.declared.project_form.Project.{Project}
@@ -25,5 +24,5 @@ pub record IsLoading (m : FileMap) (folder : List ℕ) (project : Project) (name
 abbrev pub FollowGives : FileMap → List ℕ → List (List ℕ) → List Package → ℕ → List (List ℕ) → List Package → Result (Unit {0}) Refusal → Type 0
 FollowGives m folder names packages i names_now packages_now (Ok _) =
     (releases : List Release) × (releases_at m folder (get_or names i []) ≡ Ok releases)
-    × (names_now ≡ met_all names (names_in releases)) × (packages_now ≡ packages ++ package_of (get_or names i []) releases ∷ [])
+    × (names_now ≡ names_with_all names (names_in releases)) × (packages_now ≡ packages ++ package_of (get_or names i []) releases ∷ [])
 FollowGives m folder names packages i names_now packages_now (Err e) = IfSome (refused_of e) (λ f. releases_at m folder (get_or names i []) ≡ Err f)

@@ -1,5 +1,5 @@
 -- The files that a lock reads, in their order, and the catalog that they give.
-use Rattle.std.specs.Prelude.{◌≡◌, ℕ, zero, suc, ◌+◌, List, [], ◌∷◌, ◌++◌, codes, length, Bool, nat_lt, nat_le, Option, Some, None, Result, Ok, Err, if◌then◌else◌, get_or}
+use Rattle.std.specs.Prelude.{◌≡◌, ℕ, zero, suc, ◌+◌, List, [], ◌∷◌, ◌++◌, codes, length, nat_lt, nat_le, Option, Some, None, Result, Ok, Err, if◌then◌else◌, get_or}
 use Rattle.std.specs.List.{list_any, flat_map}
 use Rattle.std.specs.Str.{bytes_eq}
 use Rattle.ul_base.specs.Files.{FileMap, content}
@@ -18,13 +18,13 @@ abbrev pub file_bytes : ℕ
 file_bytes = 16777216
 
 -- the bytes of a file that is there, if they aren't too many
-abbrev pub checked : Option (List ℕ) → Result (Option (List ℕ)) Refused
-checked None = Ok None
-checked (Some bytes) = if nat_le (length bytes) file_bytes then Ok (Some bytes) else Err (limit (codes "file-bytes") file_bytes)
+abbrev pub bounded_content : Option (List ℕ) → Result (Option (List ℕ)) Refused
+bounded_content None = Ok None
+bounded_content (Some bytes) = if nat_le (length bytes) file_bytes then Ok (Some bytes) else Err (limit (codes "file-bytes") file_bytes)
 
 -- what a read of a path gives: the bytes, if the file is there
 unfoldable pub bytes_at : FileMap → List ℕ → Result (Option (List ℕ)) Refused
-bytes_at m path = checked (content m path)
+bytes_at m path = bounded_content (content m path)
 
 -- what the reading of a project file's bytes says
 abbrev pub project_answer : List ℕ → Result Project ProjectFormFault → Result Project Refused
@@ -61,13 +61,13 @@ unfoldable pub releases_at : FileMap → List ℕ → List ℕ → Result (List 
 releases_at m folder name = bytes_at m (document_path folder name) >>= document_from (document_path folder name) name
 
 -- the names, with one more where it is met for the first time
-abbrev pub met : List (List ℕ) → List ℕ → List (List ℕ)
-met names name = if list_any (bytes_eq name) names then names else names ++ name ∷ []
+abbrev pub names_with : List (List ℕ) → List ℕ → List (List ℕ)
+names_with names name = if list_any (bytes_eq name) names then names else names ++ name ∷ []
 
 -- the names, with those of a list that are met for the first time, in order
-abbrev pub met_all : List (List ℕ) → List (List ℕ) → List (List ℕ)
-met_all names [] = names
-met_all names (name ∷ rest) = met_all (met names name) rest
+abbrev pub names_with_all : List (List ℕ) → List (List ℕ) → List (List ℕ)
+names_with_all names [] = names
+names_with_all names (name ∷ rest) = names_with_all (names_with names name) rest
 
 -- the names that releases pin, in order
 abbrev pub names_in : List Release → List (List ℕ)
@@ -83,12 +83,12 @@ project_package p = package_of p.name ((record { version = p.version; pins = p.p
 
 -- the names that the project meets: its own, and those that it pins
 abbrev pub first_names : Project → List (List ℕ)
-first_names p = met_all (p.name ∷ []) (pinned_names p.pins)
+first_names p = names_with_all (p.name ∷ []) (pinned_names p.pins)
 
 -- a turn goes on with the releases of its name, or ends with a refusal
-abbrev pub turned : Result (List Release) Refused → (List Release → Option (Result (List Package) Refused)) → Option (Result (List Package) Refused)
-turned (Ok releases) next = next releases
-turned (Err e) next = Some (Err e)
+abbrev pub turn_result : Result (List Release) Refused → (List Release → Option (Result (List Package) Refused)) → Option (Result (List Package) Refused)
+turn_result (Ok releases) next = next releases
+turn_result (Err e) next = Some (Err e)
 
 -- What is loaded from the name at a place on, in so many turns: each turn reads the document of one name, in the order in which the names were met, and meets the names that its usable releases pin.
 -- None where the turns don't suffice.
@@ -96,7 +96,7 @@ abbrev pub load_from : FileMap → List ℕ → ℕ → List (List ℕ) → ℕ 
 load_from m folder zero names i packages = None
 load_from m folder (suc turns) names i packages =
     if nat_lt i (length names)
-    then turned (releases_at m folder (get_or names i [])) (λ releases. load_from m folder turns (met_all names (names_in releases)) (i + 1) (packages ++ package_of (get_or names i []) releases ∷ []))
+    then turn_result (releases_at m folder (get_or names i [])) (λ releases. load_from m folder turns (names_with_all names (names_in releases)) (i + 1) (packages ++ package_of (get_or names i []) releases ∷ []))
     else Some (Ok packages)
 
 -- The catalog of a project: its own package first, then that of each name that is met, in the order in which they are met; or the first refusal.
@@ -113,7 +113,7 @@ abbrev pub paths_from : FileMap → List ℕ → ℕ → List (List ℕ) → ℕ
 paths_from m folder zero names i = []
 paths_from m folder (suc turns) names i =
     if nat_lt i (length names)
-    then document_path folder (get_or names i []) ∷ read_on (releases_at m folder (get_or names i [])) (λ releases. paths_from m folder turns (met_all names (names_in releases)) (i + 1))
+    then document_path folder (get_or names i []) ∷ read_on (releases_at m folder (get_or names i [])) (λ releases. paths_from m folder turns (names_with_all names (names_in releases)) (i + 1))
     else []
 
 -- the path is read in loading the project's catalog, before a refusal ends it

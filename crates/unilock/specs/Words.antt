@@ -74,6 +74,6 @@ asked_command verb rest =
     if bytes_eq verb (codes "gen") then asked_gen rest else usage
 
 -- What the words ask. Of two forms that aren't built the one that stands first in the list why, check, env, gen, workers, old lock is named.
-unfoldable pub asked : List (List ℕ) → Asked
-asked [] = usage
-asked (verb ∷ rest) = asked_command verb rest
+unfoldable pub question : List (List ℕ) → Asked
+question [] = usage
+question (verb ∷ rest) = asked_command verb rest

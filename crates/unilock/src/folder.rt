@@ -1,12 +1,11 @@
 //! Files of the file system.
-ghost use Rattle.std.specs.Prelude.{◌≡◌, ◌≤◌, IfOk, vec_len};
+ghost use Rattle.std.specs.Prelude.{◌≡◌, ◌≤◌, IfOk, IfSome, vec_len};
 
 use std::alloc::Global;
 use std::io::{ErrorKind, Read};
 use std::{fs, rt};
 use ul_base::{Files, ReadRefused};
-
-const CHUNK: usize = 4_096;
+use ul_edge::read_all;
 
 /// The file system. It tells no content and no path, so what is proved over it is safety and the causes of faults.
 ///
@@ -21,7 +20,11 @@ pub struct FolderFiles<'a, R: rt::Files> {
 
 impl<'a, R: rt::Files> FolderFiles<'a, R> {
     /// The file system, with no fault so far.
-    pub fn new(rt: &'a R, alloc: Global) -> FolderFiles<'a, R> {
+    pub fn new(rt: &'a R, alloc: Global) -> FolderFiles<'a, R>
+    where
+        R::File: Read + Drop,
+        ensures { ⟦<FolderFiles<'a, R> as Files>⟧.faults result ≡ 0 }
+    {
         FolderFiles {
             rt,
             alloc,
@@ -51,6 +54,7 @@ where
     }
 }
 
+// The bytes of the file at a path: it is opened here, and `read_all` reads it.
 fn read_file<R: rt::Files>(
     rt: &R,
     alloc: Global,
@@ -59,6 +63,7 @@ fn read_file<R: rt::Files>(
 ) -> Result<Option<Vec<u8>>, ReadRefused>
 where
     R::File: Read + Drop,
+    ensures { IfOk result (λ found. IfSome found (λ v. vec_len v ≤ limit)) }
 {
     match fs::open(rt, path) {
         Ok(mut file) => {
@@ -73,29 +78,4 @@ where
             }
         }
     }
-}
-
-// All the bytes that a reader gives, if they are at most `limit`.
-fn read_all<S: Read>(alloc: Global, source: &mut S, limit: u64) -> Result<Vec<u8>, ReadRefused>
-    ensures { IfOk result (λ v. vec_len v ≤ limit) }
-{
-    let mut bytes = Vec::new(alloc);
-    let mut chunk = [0u8; CHUNK];
-    for _ in 0..u64::MAX {
-        match source.read(&mut chunk) {
-            Ok(0) => return Ok(bytes),
-            Ok(count) => {
-                if count as u64 > limit - bytes.len() as u64 {
-                    return Err(ReadRefused::TooLong);
-                }
-                bytes.extend_from_slice(&chunk[..count])?;
-            }
-            Err(error) => {
-                if error.kind() != ErrorKind::Interrupted {
-                    return Err(ReadRefused::Failed);
-                }
-            }
-        }
-    }
-    Err(ReadRefused::Failed)
 }

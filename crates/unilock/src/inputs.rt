@@ -18,7 +18,8 @@ const FILE_BYTES: u64 = 16_777_216;
 
 // The bytes at a path, if the file is there.
 fn read<F: Files>(alloc: Global, files: &mut F, path: &str) -> Result<Option<Vec<u8>>, Refusal>
-    ensures told { Told (F.map files.old) (λ m. Gives (option_map (λ v. v.items)) refused_of result (bytes_at m path.now)) }
+    ensures told { Told (F.map files.old)
+        (λ m. Gives (option_map (λ v. v.items)) refused_of result (bytes_at m path.now)) }
     ensures same { F.map files.new ≡ F.map files.old }
     ensures cause { Cause (F.faults files.old) (F.faults files.new) (F.last_failed files.new) result }
     ensures failed { FailedAt (λ p. p ≡ path.now) result }
@@ -69,7 +70,8 @@ fn releases_in(
     name: &Name,
     found: Option<Vec<u8>>,
 ) -> Result<Releases, Refusal>
-    ensures told { Gives (λ r. r) refused_of result (document_from path.now name.now (option_map (λ v. v.items) found)) }
+    ensures told { Gives (λ r. r) refused_of result
+        (document_from path.now name.now (option_map (λ v. v.items) found)) }
     ensures no_read { FailedAt (λ _. ⊥) result }
     ensures apart { IfOk result (λ r. AreApart r) }
 {

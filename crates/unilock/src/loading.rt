@@ -4,7 +4,7 @@ ghost use Rattle.ul_base.specs.Files.{Told};
 ghost use Rattle.unilock.specs.Answers.{Gives};
 ghost use Rattle.ul_pins.specs.Serving.{IsCatalog};
 ghost use Rattle.ul_pins.specs.Best.{pinned_names};
-ghost use Rattle.unilock.specs.Loading.{releases_at, document_path, met, met_all, names_in, package_of, first_names, project_package};
+ghost use Rattle.unilock.specs.Loading.{releases_at, document_path, names_with, names_with_all, names_in, package_of, first_names, project_package};
 ghost use Rattle.unilock.specs.Growing.{IsTurn};
 ghost use Rattle.unilock.specs.Loaded.{LoadGives, FollowGives};
 ghost use Rattle.unilock.specs.Refusals.{refused_of, Cause, FailedAt};
@@ -54,7 +54,8 @@ fn follow<F: Files>(
     index: usize,
 ) -> Result<(), Refusal>
     requires { index < length names.old.keys }
-    ensures told { Told (F.map files.old) (λ m. FollowGives m folder.now names.old.keys packages.old.items index names.new.keys packages.new.items result) }
+    ensures told { Told (F.map files.old) (λ m. FollowGives m folder.now
+        names.old.keys packages.old.items index names.new.keys packages.new.items result) }
     ensures same { F.map files.new ≡ F.map files.old }
     ensures cause { Cause (F.faults files.old) (F.faults files.new) (F.last_failed files.new) result }
     ensures failed { FailedAt (λ p. p ≡ document_path folder.now (get_or names.old.keys index [])) result }
@@ -73,7 +74,7 @@ fn meet_releases(
     names: &mut IndexSet<Name>,
     releases: &[Release],
 ) -> Result<(), AllocError>
-    ensures { OnOk result (names.new.keys ≡ met_all names.old.keys (names_in releases.now)) }
+    ensures { OnOk result (names.new.keys ≡ names_with_all names.old.keys (names_in releases.now)) }
 {
     for release in releases {
         meet_pins(alloc, names, release.pins.as_slice())?;
@@ -83,7 +84,7 @@ fn meet_releases(
 
 // Meets the names of pins.
 fn meet_pins(alloc: Global, names: &mut IndexSet<Name>, pins: &[Pin]) -> Result<(), AllocError>
-    ensures { OnOk result (names.new.keys ≡ met_all names.old.keys (pinned_names pins.now)) }
+    ensures { OnOk result (names.new.keys ≡ names_with_all names.old.keys (pinned_names pins.now)) }
 {
     for pin in pins {
         meet(alloc, names, &pin.name)?;
@@ -93,7 +94,7 @@ fn meet_pins(alloc: Global, names: &mut IndexSet<Name>, pins: &[Pin]) -> Result<
 
 // Meets a name: it is numbered where it is met for the first time.
 fn meet(alloc: Global, names: &mut IndexSet<Name>, name: &Name) -> Result<(), AllocError>
-    ensures { OnOk result (names.new.keys ≡ met names.old.keys name.now) }
+    ensures { OnOk result (names.new.keys ≡ names_with names.old.keys name.now) }
 {
     if !names.contains(name) {
         let copy = name.copy(alloc)?;

@@ -1,41 +1,55 @@
-//! Standard output.
-use ul_base::{Sink, SinkRefused};
+//! A writer of the system, such as standard output.
+ghost use Rattle.std.specs.Prelude.{◌≡◌, ◌≢◌, ℕ, None, Err, OnOk, OnErr, take};
+ghost use Rattle.std.specs.Io.KnownBytes.{Appends};
+ghost use Rattle.ul_base.specs.Sinks.{WriteCause};
+ghost use Rattle.ul_base.specs.declared.sink.SinkRefused.{SinkRefused};
 
-/// Standard output. It tells no bytes, so what is proved over it is safety and the causes of faults.
+use std::io::Write;
+use ul_base::{Sink, SinkRefused};
+use ul_edge::write_all;
+
+/// A writer as a sink; the program's is standard output. It tells the program no bytes, so what is proved of the program
+/// over it is safety and the causes of faults. Of a writer that tells what it holds, a write says what became of it.
 ///
-/// A write that takes nothing of a piece that isn't empty is a failure. Failures are counted, and at the count's last
-/// value it stays there.
+/// Failures are counted, and at the count's last value it stays there.
 #[derive(Drop)]
-pub struct OutSink<'a, R: Print> {
-    rt: &'a R,
+pub struct OutSink<W> {
+    writer: W,
     faults: u64,
 }
 
-impl<'a, R: Print> OutSink<'a, R> {
-    /// Standard output, with no fault so far.
-    pub fn new(rt: &'a R) -> OutSink<'a, R> {
-        OutSink { rt, faults: 0 }
+impl<W: Write> OutSink<W> {
+    /// A writer as a sink, with no fault so far.
+    pub fn new(writer: W) -> OutSink<W>
+        ensures writer { result.writer ≡ writer }
+        ensures faults { ⟦<OutSink<W> as Sink>⟧.faults result ≡ 0 }
+    {
+        OutSink { writer, faults: 0 }
     }
 }
 
-impl<R: Print> Sink for OutSink<'_, R> {
+impl<W: Write> Sink for OutSink<W> {
     ghost use Rattle.std.specs.Prelude.{None};
 
     ghost bytes = { λ _. None };
 
     ghost faults = { λ s. s.faults };
 
-    fn write_all(&mut self, piece: &[u8]) -> Result<(), SinkRefused> {
-        let mut rest = piece;
-        while !rest.is_empty() {
-            match self.rt.write_some(rest) {
-                Ok(count) if count > 0 => rest = &rest[count..],
-                _ => {
-                    self.faults = self.faults.saturating_add(1);
-                    return Err(SinkRefused::Failed);
-                }
+    /// Writes all of a piece, and never answers `NoMemory`.
+    fn write_all(&mut self, piece: &[u8]) -> Result<(), SinkRefused>
+        ensures cause { WriteCause self.old.faults self.new.faults None None piece.now result }
+        ensures sure { result ≢ Err SinkRefused.NoMemory }
+        ensures whole { OnOk result
+            (Appends (W.contents self.old.writer) (W.contents self.new.writer) piece.now) }
+        ensures front { OnErr result ((n : ℕ)
+            × Appends (W.contents self.old.writer) (W.contents self.new.writer) (take n piece.now)) }
+    {
+        match write_all(&mut self.writer, piece) {
+            Ok(()) => Ok(()),
+            Err(_) => {
+                self.faults = self.faults.saturating_add(1);
+                Err(SinkRefused::Failed)
             }
         }
-        Ok(())
     }
 }

@@ -1,14 +1,11 @@
 // What no clause says: that the call succeeds, and that the printed bytes are those of the format.
-use crate::folder::FolderFiles;
-use crate::standard::OutSink;
 use crate::top::run;
 use std::alloc::{AllocError, Global};
-use std::fs;
 use std::process::Abort;
 use std::sync::Wait;
 use std::test::Fail;
 use std::thread::Threads;
-use ul_base::{Files, MemFiles, MemSink, Open, ReadRefused, Sink};
+use ul_base::{MemFiles, MemSink, Open, Sink, SinkRefused};
 
 const PINNED: &str =
     "version = 1\nroot = \"demo\"\n\n[[package]]\nname = \"a\"\nversion = \"1\"\n\n[[package]]\nname = \"demo\"\nversion = \"0.1\"\ndependencies = [\n    { name = \"a\", version = \"1\" },\n]\n";
@@ -63,6 +60,15 @@ fn project_of(alloc: Global, dependencies: &str, documents: &str) -> Result<Stri
     )
 }
 
+// The words of a command line.
+fn words_in(alloc: Global, line: &str) -> Result<Vec<String>, AllocError> {
+    let mut words = Vec::new(alloc);
+    for word in line.split(' ') {
+        words.push(String::from_str(alloc, word)?)?;
+    }
+    Ok(words)
+}
+
 // The status and what the sink took, where one read and one write of these numbers fail.
 fn answer<R: Threads + Wait + Sync>(
     rt: &R,
@@ -76,10 +82,7 @@ fn answer<R: Threads + Wait + Sync>(
     let mut writes = Vec::new(alloc);
     writes.push(write)?;
     let mut out = MemSink::of(alloc, writes);
-    let mut list = Vec::new(alloc);
-    for word in words.split(' ') {
-        list.push(String::from_str(alloc, word)?)?;
-    }
+    let list = words_in(alloc, words)?;
     let status = run(rt, alloc, &list, &mut given, &mut out, &Open);
     let mut text = String::new(alloc);
     for byte in out.bytes().as_slice() {
@@ -187,10 +190,7 @@ fn names_the_limit_of_a_file(rt: HostRuntime) -> Result<(), Fail> {
     files.push((String::from_str(alloc, "p.toml")?, blank))?;
     let mut given = MemFiles::of(alloc, files, Vec::new(alloc));
     let mut out = MemSink::of(alloc, Vec::new(alloc));
-    let mut words = Vec::new(alloc);
-    for word in LOCK.split(' ') {
-        words.push(String::from_str(alloc, word)?)?;
-    }
+    let words = words_in(alloc, LOCK)?;
     let status = run(&rt, alloc, &words, &mut given, &mut out, &Open);
     assert_eq!(rt; status, 4);
     assert!(rt; out.bytes().as_slice() == b"limit: file-bytes 16777216\n".as_slice());
@@ -247,19 +247,18 @@ fn names_the_fault_of_a_read_or_a_write(rt: HostRuntime) -> Result<(), Fail> {
 }
 
 #[test]
-fn reads_real_files_and_writes_to_standard_output(rt: HostRuntime) -> Result<(), Fail> {
+fn writes_once(rt: HostRuntime) -> Result<(), Fail> {
     let alloc = rt.alloc();
-    let path = "unilock-adapters.txt";
-    fs::write(&rt, path, "four")?;
-    let mut files = FolderFiles::new(&rt, alloc);
-    assert!(rt;
-        matches!(files.read(path, 4), Ok(Some(bytes)) if bytes.as_slice() == b"four".as_slice())
-    );
-    assert!(rt; matches!(files.read(path, 3), Err(ReadRefused::TooLong)));
-    assert!(rt; matches!(files.read("unilock-absent.txt", 3), Ok(None)));
-    assert!(rt; matches!(files.read(".", 3), Err(ReadRefused::Failed)));
-    fs::remove_file(&rt, path)?;
-    let mut out = OutSink::new(&rt);
-    assert!(rt; out.write_all(b"adapters\n").is_ok());
+    let files = project_of(alloc, "\"a==1\"", A)?;
+    for (words, status) in [(LOCK, 0), ("lock", 2), ("lock x.toml ix 1", 3)] {
+        let mut given = files_of(alloc, files.as_str(), NONE)?;
+        let mut failing = Vec::new(alloc);
+        failing.push((1, 0))?;
+        let mut out = MemSink::of(alloc, failing);
+        let list = words_in(alloc, words)?;
+        assert_eq!(rt; run(&rt, alloc, &list, &mut given, &mut out, &Open), status);
+        // The sink's second call, which fails, is this one.
+        assert_eq!(rt; out.write_all(b"more").err(), Some(SinkRefused::Failed));
+    }
     Ok(())
 }

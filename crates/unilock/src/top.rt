@@ -1,10 +1,11 @@
 //! The top call.
-ghost use Rattle.std.specs.Prelude.{◌≡◌, ◌≢◌, ◌<◌, ◌++◌, take, ◌⊎◌, ◌↔◌, ℕ, List, map, string_bytes, Some, IfOk, codes};
+ghost use Rattle.std.specs.Prelude.{◌≡◌, ◌<◌, ◌≤◌, ◌++◌, take, ◌⊎◌, ℕ, map, string_bytes, Some, IfOk, codes};
 ghost use Rattle.std.specs.Fmt.{decimal};
 ghost use Rattle.ul_base.specs.Files.{Told};
 ghost use Rattle.ul_base.specs.Causes.{Rose};
-ghost use Rattle.unilock.specs.Answer.{IsAnswer, IsRead, IsUsage, Answered, no_selection_text, read_fault_text, refused_answer, usage_text};
-ghost use Rattle.unilock.specs.Jobs.{IsCatalogText, JobGives, PrintedFor, printed};
+ghost use Rattle.unilock.specs.Answer.{no_selection_text, refused_answer, usage_text};
+ghost use Rattle.unilock.specs.Headline.{Headline, IsOutput, BytesTold, files_seen, sink_seen};
+ghost use Rattle.unilock.specs.Jobs.{IsCatalogText, JobGives, PrintedFor, status_and_text};
 ghost use Rattle.unilock.specs.Refusals.{Cause, texts_of};
 ghost use Rattle.unilock.specs.Refused.{not_built};
 ghost use Rattle.ul_pins.specs.Serving.{IsCatalog};
@@ -70,7 +71,7 @@ fn limit(alloc: Global, name: &str, number: u64) -> Result<Vec<u8>, AllocError>
 }
 
 fn unbuilt(alloc: Global, form: &str) -> Result<Output, AllocError>
-    ensures { IfOk result (λ o. printed o ≡ refused_answer (not_built form.now)) }
+    ensures { IfOk result (λ o. status_and_text o ≡ refused_answer (not_built form.now)) }
 {
     let text = format!(in alloc; "not built: {form}\n")?;
     Ok(Output {
@@ -109,7 +110,7 @@ fn output(alloc: Global, job: Result<Option<Vec<u8>>, Refusal>) -> Result<Output
 // The four lines where no selection serves: the fork, which is the whole region, its marker, which is always true, and a
 // world in it.
 fn no_selection(alloc: Global) -> Result<Output, AllocError>
-    ensures { IfOk result (λ o. printed o ≡ (1, no_selection_text)) }
+    ensures { IfOk result (λ o. status_and_text o ≡ (1, no_selection_text)) }
 {
     let text = Vec::from_slice(
         alloc,
@@ -119,7 +120,7 @@ fn no_selection(alloc: Global) -> Result<Output, AllocError>
 }
 
 fn usage(alloc: Global) -> Result<Output, AllocError>
-    ensures { IfOk result (λ o. printed o ≡ (2, usage_text)) }
+    ensures { IfOk result (λ o. status_and_text o ≡ (2, usage_text)) }
 {
     let text = Vec::from_slice(
         alloc,
@@ -130,13 +131,11 @@ fn usage(alloc: Global) -> Result<Output, AllocError>
 
 // The output of the words.
 fn answer<F: Files>(alloc: Global, files: &mut F, words: &[String]) -> Result<Output, AllocError>
-    ensures told { Told (F.map files.old) (λ m. IfOk result (λ o. o.status ≢ 5 → IsAnswer (map string_bytes words.now) m o.status o.text.items)) }
-    ensures which { Told (F.map files.old) (λ m. IfOk result (λ o. o.status ≡ 5 → (p : List ℕ) → F.last_failed files.new ≡ Some p → IsRead (map string_bytes words.now) m p)) }
-    ensures fault { IfOk result (λ o. o.status ≡ 5 → Rose (F.faults files.old) (F.faults files.new)) }
-    ensures no_fault { IfOk result (λ o. o.status ≢ 5 → F.faults files.new ≡ F.faults files.old) }
-    ensures path { IfOk result (λ o. o.status ≡ 5 → (p : List ℕ) → F.last_failed files.new ≡ Some p → o.text.items ≡ read_fault_text p) }
-    ensures usage { IfOk result (λ o. (o.status ≡ 2) ↔ IsUsage (map string_bytes words.now)) }
-    ensures status { IfOk result (λ o. o.status < 6) }
+    ensures output { IfOk result (λ o. IsOutput (map string_bytes words.now)
+        (files_seen F.map F.faults F.last_failed files.old)
+        (files_seen F.map F.faults F.last_failed files.new) o.status o.text.items) }
+    ensures same { F.map files.new ≡ F.map files.old }
+    ensures count { F.faults files.old ≤ F.faults files.new }
 {
     match ask(words) {
         Question::Usage => usage(alloc),
@@ -151,9 +150,9 @@ fn answer<F: Files>(alloc: Global, files: &mut F, words: &[String]) -> Result<Ou
 /// Answers the words of a command line: reads the files that they name, writes what is printed to the sink in one piece,
 /// and gives the status.
 ///
-/// Where the files tell their contents and neither count of faults rises, status and text are the definitions' answer
-/// (`IsAnswer`), or the status is 7 and nothing is written. Status 2 comes exactly where the words aren't one of the
-/// commands, 5 only where a read failed, and 6 only where a write failed.
+/// The status is that of the words' output over the files (`IsOutput`), whose text was then appended; or 6, where a write
+/// failed and a front of that text was appended; or 7, where memory ran out and nothing was appended. Where the files tell
+/// their contents and no read failed, the output is the definitions' answer (`IsAnswer`).
 pub fn run<R: Threads + Wait + Sync, F: Files, K: Sink, G: Gate + Sync>(
     _rt: &R,
     alloc: Global,
@@ -162,22 +161,10 @@ pub fn run<R: Threads + Wait + Sync, F: Files, K: Sink, G: Gate + Sync>(
     out: &mut K,
     _gate: &G,
 ) -> u8
-    ensures headline { Told (F.map files.old) (λ m. (had : List ℕ) → K.bytes out.old ≡ Some had
-        → ¬ Rose (F.faults files.old) (F.faults files.new) → ¬ Rose (K.faults out.old) (K.faults out.new)
-        → Answered (texts_of words.now) m result had (K.bytes out.new)) }
-    ensures read_fault { result ≡ 5 → Rose (F.faults files.old) (F.faults files.new) }
-    ensures write_fault { result ≡ 6 → Rose (K.faults out.old) (K.faults out.new) }
-    ensures usage { result ≡ 2 → IsUsage (texts_of words.now) }
-    ensures usage_alone { IsUsage (texts_of words.now) → (result ≡ 2) ⊎ (result ≡ 6) ⊎ (result ≡ 7) }
-    ensures read_rise { F.faults files.old < F.faults files.new → (result ≡ 5) ⊎ (result ≡ 6) ⊎ (result ≡ 7) }
-    ensures write_rise { K.faults out.old < K.faults out.new → result ≡ 6 }
-    ensures path { result ≡ 5 → (p had : List ℕ) → F.last_failed files.new ≡ Some p → K.bytes out.old ≡ Some had
-        → K.bytes out.new ≡ Some (had ++ read_fault_text p) }
-    ensures which { Told (F.map files.old) (λ m. result ≡ 5 → (p : List ℕ) → F.last_failed files.new ≡ Some p → IsRead (texts_of words.now) m p) }
-    // Where the write failed, a front of the answer was appended.
-    ensures cut { Told (F.map files.old) (λ m. (had : List ℕ) → K.bytes out.old ≡ Some had → ¬ Rose (F.faults files.old) (F.faults files.new) → result ≡ 6
-        → (status n : ℕ) × (bytes : List ℕ) × IsAnswer (texts_of words.now) m status bytes × (K.bytes out.new ≡ Some (had ++ take n bytes))) }
-    ensures no_memory { result ≡ 7 → K.bytes out.new ≡ K.bytes out.old }
+    ensures headline { Headline (texts_of words.now)
+        (files_seen F.map F.faults F.last_failed files.old)
+        (files_seen F.map F.faults F.last_failed files.new)
+        (sink_seen K.bytes K.faults out.old) (sink_seen K.bytes K.faults out.new) result }
 {
     match answer(alloc, files, words.as_slice()) {
         Ok(output) => print(out, &output),
@@ -185,14 +172,17 @@ pub fn run<R: Threads + Wait + Sync, F: Files, K: Sink, G: Gate + Sync>(
     }
 }
 
-// Writes an answer, and gives its status.
+// Writes an output's text, by at most one call, and gives the status that the program ends with.
 fn print<K: Sink>(out: &mut K, output: &Output) -> u8
     requires { output.now.status < 6 }
-    ensures printed { (had : List ℕ) → K.bytes out.old ≡ Some had → result < 6 → (result ≡ output.now.status) × (K.bytes out.new ≡ Some (had ++ output.now.text.items)) }
     ensures status { (result ≡ output.now.status) ⊎ (result ≡ 6) ⊎ (result ≡ 7) }
+    ensures whole { result < 6 → BytesTold (K.bytes out.old)
+        (λ had. K.bytes out.new ≡ Some (had ++ output.now.text.items)) }
+    ensures front { result ≡ 6 → BytesTold (K.bytes out.old)
+        (λ had. (n : ℕ) × (K.bytes out.new ≡ Some (had ++ take n output.now.text.items))) }
     ensures write_fault { result ≡ 6 → Rose (K.faults out.old) (K.faults out.new) }
     ensures write_rise { K.faults out.old < K.faults out.new → result ≡ 6 }
-    ensures cut { (had : List ℕ) → K.bytes out.old ≡ Some had → result ≡ 6 → (n : ℕ) × (K.bytes out.new ≡ Some (had ++ take n output.now.text.items)) }
+    ensures count { K.faults out.old ≤ K.faults out.new }
     ensures no_memory { result ≡ 7 → K.bytes out.new ≡ K.bytes out.old }
 {
     if output.text.is_empty() {

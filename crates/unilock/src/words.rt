@@ -2,7 +2,7 @@
 ghost use Rattle.std.specs.Prelude.{◌≡◌, map, string_bytes, codes};
 ghost use Rattle.std.specs.Char.{is_ascii_digit};
 ghost use Rattle.std.specs.List.{list_all};
-ghost use Rattle.unilock.specs.Words.{asked, asked_command, asked_lock, asked_why, asked_env, asked_check, asked_gen, is_workers, leads_well, is_decimal, is_number_in};
+ghost use Rattle.unilock.specs.Words.{question, asked_command, asked_lock, asked_why, asked_env, asked_check, asked_gen, is_workers, leads_well, is_decimal, is_number_in};
 ghost use Rattle.unilock.specs.Questions.{asked_of};
 
 /// What the words ask.
@@ -17,9 +17,9 @@ pub enum Question<'a> {
 }
 
 /// What the words ask.
-#[tactic(auto, unfolding(crate::specs::Words::asked))]
+#[tactic(auto, unfolding(crate::specs::Words::question))]
 pub fn ask(words: &[String]) -> Question<'_>
-    ensures { asked_of result ≡ asked (map string_bytes words.now) }
+    ensures { asked_of result ≡ question (map string_bytes words.now) }
 {
     match words {
         [] => Question::Usage,

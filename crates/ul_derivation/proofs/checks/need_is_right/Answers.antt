@@ -1,4 +1,4 @@
-use Rattle.ul_derivation.proofs.Facts.{node_read, rows_fit, needs_fit, need_tested}
+use Rattle.ul_derivation.proofs.Facts.{node_read, ok_then, rows_fit, needs_fit, need_tested}
 use Rattle.ul_derivation.proofs.checks.need_is_right.Goals as goal
 
 pub all_need-requires-clause-rows : goal.all_need-requires-clause-rows
@@ -18,5 +18,5 @@ pub returns-then-is_set_of-2 : goal.returns-then-is_set_of-2
 returns-then-is_set_of-2 c =
     let h = c.is_set_of.ensures.0 c.if-is_set_of.true in
     let k = c.is_set_of-then-is_set_of.ensures.0 c.if-is_set_of-2.true in
-    need_tested c.args.problem.now c.args.node c.args.target c.args.versions.now c.args.permitted.now _ c.as_slice-rows.result.now c.all_need.result
-    (node_read c.args.problem.now c.nodes.result.now c.args.node c.index-nodes-node.result c.nodes.ensures.value h.0) c.as_slice-rows.ensures c.all_need.ensures h k
+    ok_then c.all_need.result _ _ c.all_need.ensures (λ b t. need_tested c.args.problem.now c.args.node c.args.target c.args.versions.now c.args.permitted.now _ c.as_slice-rows.result.now b
+    (node_read c.args.problem.now c.nodes.result.now c.args.node c.index-nodes-node.result c.nodes.ensures.value h.0) c.as_slice-rows.ensures t h k)

@@ -12,11 +12,12 @@ use Rattle.ul_tree.proofs.Applied.{applied}
 use Rattle.ul_tree.proofs.Smaller.{rests_smaller, parts_smaller}
 use Rattle.ul_tree.proofs.Rebuilt.{then_none}
 use Rattle.ul_tree.proofs.Made.{stands_kept}
+use Rattle.ul_tree.proofs.Shortcuts.{at_once}
 use Rattle.ul_tree.proofs.Steps.{no_key, step_kept, keys_left, applied_is, closed_reduced, rest_at_reduced, part_at_reduced}
 use Rattle.ul_tree.proofs.join.+joined.Goals as goal
 
-pub joined-requires : goal.joined-requires
-joined-requires t c =
+pub joined_parts-joined_within-requires : goal.joined_parts-joined_within-requires
+joined_parts-joined_within-requires t c =
     let a = tree_view c.args.a.now in
     let b = tree_view c.args.b.now in
     let l = level_view c.in-Some.level in
@@ -26,8 +27,8 @@ joined-requires t c =
       (subst (λ (z : Plain). IsReduced z) (sym c.rest_at.ensures.part) (rest_at_reduced l a c.requires.a_reduced), subst (λ (z : Plain). IsReduced z) (sym c.rest_at-in-Some.ensures.part) (rest_at_reduced l b c.requires.b_reduced)),
     )
 
-pub joined-requires-in-loop-key : goal.joined-requires-in-loop-key
-joined-requires-in-loop-key t c =
+pub joined_parts-joined_within-requires-in-loop-key : goal.joined_parts-joined_within-requires-in-loop-key
+joined_parts-joined_within-requires-in-loop-key t c =
     let a = tree_view c.args.a.now in
     let b = tree_view c.args.b.now in
     let l = level_view c.in-Some.level in
@@ -38,8 +39,8 @@ joined-requires-in-loop-key t c =
       (subst (λ (z : Plain). IsReduced z) (sym c.part_at.ensures.part) (part_at_reduced l v a c.requires.a_reduced), subst (λ (z : Plain). IsReduced z) (sym c.part_at-in-loop-key.ensures.part) (part_at_reduced l v b c.requires.b_reduced)),
     )
 
-pub loop-key-preserved : goal.loop-key-preserved
-loop-key-preserved t c =
+pub joined_parts-loop-key-preserved : goal.joined_parts-loop-key-preserved
+joined_parts-loop-key-preserved t c =
     let a = tree_view c.args.a.now in
     let b = tree_view c.args.b.now in
     let l = level_view c.in-Some.level in
@@ -61,8 +62,8 @@ loop-key-preserved t c =
           (subst (λ (z : List Key). All (λ k. has_kind l k ≡ true) z) (sym c.deref-key-items.ensures.value) c.in_ok-keys-in-Some.ensures.kinds i no_key c.loop-key-test.true);
     }
 
-pub closed-requires-clause-reduced : goal.closed-requires-clause-reduced
-closed-requires-clause-reduced t c =
+pub joined_parts-closed-requires-clause-reduced : goal.joined_parts-closed-requires-clause-reduced
+joined_parts-closed-requires-clause-reduced t c =
     let a = tree_view c.args.a.now in
     let b = tree_view c.args.b.now in
     let l = level_view c.in-Some.level in
@@ -78,9 +79,9 @@ closed-requires-clause-reduced t c =
     (ap keys_view c.deref-key-items.ensures.value ∙ c.in_ok-keys-in-Some.ensures.keys)
     (sym (then_none (made_view tree_view c.loop-key.made.items)) ∙ rw (none, c.is_carried-carried.ensures) at all)
 
-pub returns-in_ok-tree-in-Some-clause-joined : goal.returns-in_ok-tree-in-Some-clause-joined
-returns-in_ok-tree-in-Some-clause-joined t c zero h = absurd (omega arith)
-returns-in_ok-tree-in-Some-clause-joined t c (suc n) h =
+pub joined_parts-returns-in_ok-tree-in-Some-clause-joined : goal.joined_parts-returns-in_ok-tree-in-Some-clause-joined
+joined_parts-returns-in_ok-tree-in-Some-clause-joined t c zero h = absurd (omega arith)
+joined_parts-returns-in_ok-tree-in-Some-clause-joined t c (suc n) h =
     let a = tree_view c.args.a.now in
     let b = tree_view c.args.b.now in
     let l = level_view c.in-Some.level in
@@ -95,11 +96,17 @@ returns-in_ok-tree-in-Some-clause-joined t c (suc n) h =
     (sym (then_none (made_view tree_view c.loop-key.made.items)) ∙ rw (none, c.is_carried-carried.ensures) at all)
     c.in_ok-tree-in-Some.ensures
 
-pub returns-in_ok-tree-in-Some-clause-reduced : goal.returns-in_ok-tree-in-Some-clause-reduced
-returns-in_ok-tree-in-Some-clause-reduced t c =
+pub joined_parts-returns-in_ok-tree-in-Some-clause-reduced : goal.joined_parts-returns-in_ok-tree-in-Some-clause-reduced
+joined_parts-returns-in_ok-tree-in-Some-clause-reduced t c =
     let a = tree_view c.args.a.now in
     let b = tree_view c.args.b.now in
     let n = size a + size b in
     let small : n < suc n = omega arith in
-    let e = returns-in_ok-tree-in-Some-clause-joined t c (suc n) small in
+    let e = joined_parts-returns-in_ok-tree-in-Some-clause-joined t c (suc n) small in
     subst (λ (z : Plain). IsReduced z) (sym e) (applied (truth_of c.args.op) (suc n) a b [] small c.requires.a_reduced c.requires.b_reduced).0
+
+-- what is known at once
+pub joined_within-returns-in-Some-clause-joined : goal.joined_within-returns-in-Some-clause-joined
+joined_within-returns-in-Some-clause-joined t c n h =
+    let k = c.in-Some.ensures in
+    c.in_ok-tree.ensures ∙ at_once (truth_of c.args.op) (tree_view c.args.a.now) (tree_view c.args.b.now) _ c.requires.a_reduced c.requires.b_reduced k.reduced k.truth n h

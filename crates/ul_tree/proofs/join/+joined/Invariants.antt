@@ -1,4 +1,4 @@
-use Rattle.std.proofs.Common.{◌≡◌, drop, ◌+◌, ◌<◌, ℕ, suc, true}
+use Rattle.std.proofs.Common.{◌≡◌, drop, ◌+◌, ◌*◌, ◌<◌, ℕ, suc, true}
 use Rattle.std.specs.List.{All}
 use Rattle.ul_tree.specs.Reduced.{IsReduced}
 use Rattle.ul_tree.specs.Apply.{size, outs, apply, part_at}
@@ -7,11 +7,14 @@ use Rattle.ul_tree.specs.Keys.{level_view, keys_view, has_kind, then_branches}
 use Rattle.ul_tree.specs.Joins.{truth_of, made_view, stands}
 use Rattle.ul_tree.proofs.join.+joined.Given as goal
 
-abbrev pub decreases-joined : goal.decreases-joined
-decreases-joined l = size (tree_view l.a.now) + size (tree_view l.b.now)
+abbrev pub decreases-joined_within : goal.decreases-joined_within
+decreases-joined_within l = 2 * (size (tree_view l.a.now) + size (tree_view l.b.now)) + 1
 
-abbrev pub invariant-loop-key : goal.invariant-loop-key
-invariant-loop-key l = record {
+abbrev pub decreases-joined_parts : goal.decreases-joined_parts
+decreases-joined_parts l = 2 * (size (tree_view l.a.now) + size (tree_view l.b.now))
+
+abbrev pub invariant-joined_parts-loop-key : goal.invariant-joined_parts-loop-key
+invariant-joined_parts-loop-key l = record {
   stays : tree_view l.other ≡ tree_view l.initial.other;
   made : (n : ℕ) → size (tree_view l.a) + size (tree_view l.b) < suc n
       → then_branches (made_view tree_view l.made.items) (outs (λ v. apply (truth_of l.op) n (part_at (level_view l.level) v (tree_view l.a)) (part_at (level_view l.level) v (tree_view l.b))) l.carried (keys_view (drop l.key-index l.key-items)) (stands l.carried (made_view tree_view l.made.items) (tree_view l.other)))

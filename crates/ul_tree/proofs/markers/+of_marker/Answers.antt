@@ -54,7 +54,6 @@ pub of_marker-returns-in_ok-tree-in-All-clause-truth : goal.of_marker-returns-in
 of_marker-returns-in_ok-tree-in-All-clause-truth t c w x h =
     let parts = c.in-All.parts in
     c.in_ok-tree-in-All.ensures.truth w x
-    ∙ ap (λ z. joint true (truths_of z w x)) c.deref-in-All-2.ensures.value
     ∙ ap (joint true) (c.in_ok-trees-in-All.ensures.truth w x h ∙ ap (map (λ m. marker_holds (marker_view m) w x)) c.deref-in-All.ensures.value)
     ∙ all_joint parts.items w x
     ∙ sym (ap (λ f. marker_holds f w x) (ap marker_view c.in-All.is ∙ marker_all parts))
@@ -63,7 +62,6 @@ pub of_marker-returns-in_ok-tree-in-Any-clause-truth : goal.of_marker-returns-in
 of_marker-returns-in_ok-tree-in-Any-clause-truth t c w x h =
     let parts = c.in-Any.parts in
     c.in_ok-tree-in-Any.ensures.truth w x
-    ∙ ap (λ z. joint false (truths_of z w x)) c.deref-in-Any-2.ensures.value
     ∙ ap (joint false) (c.in_ok-trees-in-Any.ensures.truth w x h ∙ ap (map (λ m. marker_holds (marker_view m) w x)) c.deref-in-Any.ensures.value)
     ∙ any_joint parts.items w x
     ∙ sym (ap (λ f. marker_holds f w x) (ap marker_view c.in-Any.is ∙ marker_any parts))

@@ -31,7 +31,6 @@ returns-then-within-clause-truth c w x h =
     let release = python_release c.args.full w in
     let f = λ (V : Fields). meets_clause (equal_to V) (plain release) in
     c.in_ok-tree.ensures.truth w x
-    ∙ ap (λ z. joint false (truths_of z w x)) c.deref.ensures.value
     ∙ ap (joint false) (truths_all f c.loop-version.trees.items c.args.versions.now c.loop-version.version-index w x c.loop-version-test.false (c.loop-version.invariant.truth w x h))
     ∙ listed_joint c.args.versions.now release
     ∙ ap (λ b. as_asked b (is_listed c.args.versions.now release)) (sym c.if-within.true)
@@ -42,7 +41,6 @@ returns-clause-truth c w x h =
     let f = λ (V : Fields). meets_clause (equal_to V) (plain release) in
     c.in_ok-tree-2.ensures.truth w x
     ∙ ap not (c.in_ok-tree.ensures.truth w x
-    ∙ ap (λ z. joint false (truths_of z w x)) c.deref.ensures.value
     ∙ ap (joint false) (truths_all f c.loop-version.trees.items c.args.versions.now c.loop-version.version-index w x c.loop-version-test.false (c.loop-version.invariant.truth w x h))
     ∙ listed_joint c.args.versions.now release)
     ∙ ap (λ b. as_asked b (is_listed c.args.versions.now release)) (sym c.if-within.false)

@@ -1,4 +1,4 @@
-use Rattle.std.proofs.Common.{ap, sym, ◌∙◌, List, true, subst, ◌++◌, ◌+◌, map, drop}
+use Rattle.std.proofs.Common.{[], ap, sym, ◌∙◌, List, true, subst, ◌++◌, ◌+◌, map, drop}
 use Rattle.std.specs.Prelude.{All}
 use Rattle.std.proofs.lemmas.List.Elements.{All-push}
 use Rattle.ul_version.specs.Fields.{plain}
@@ -10,6 +10,7 @@ use Rattle.ul_tree.specs.Reduced.{IsReduced}
 use Rattle.ul_tree.specs.Views.{tree_view}
 use Rattle.ul_tree.specs.declared.tree.Tree.{Tree}
 use Rattle.ul_tree.proofs.Joint.{meets_joint, truths_all, truths_more}
+use Rattle.ul_tree.proofs.TreeTruths.{no_extra}
 use Rattle.ul_tree.proofs.markers.of_python.Goals as goal
 
 pub loop-clause-preserved : goal.loop-clause-preserved
@@ -32,7 +33,11 @@ returns-clause-truth c w x h =
     let release = python_release true w in
     let f = λ (s : ClauseFields). meets_clause s (plain release) in
     c.in_ok-tree.ensures.truth w x
-    ∙ ap (λ z. joint true (truths_of z w x)) c.deref.ensures.value
     ∙ ap (joint true) (truths_all f c.loop-clause.trees.items c.deref-clause-items.result.now c.loop-clause.clause-index w x c.loop-clause-test.false (c.loop-clause.invariant.truth w x h))
     ∙ meets_joint c.deref-clause-items.result.now (plain release)
-    ∙ ap (λ z. meets_list z (plain release)) (c.deref-clause-items.ensures.value ∙ c.s.view_is)
+    ∙ ap (λ z. meets_list z (plain release)) (c.deref-clause-items.ensures.value ∙ c.specifiers.view_is)
+
+pub returns-clause-no_extra : goal.returns-clause-no_extra
+returns-clause-no_extra c =
+    let told = returns-clause-truth c in
+    no_extra.region (tree_view c.in_ok-tree.tree) (record { reduced = c.in_ok-tree.ensures.reduced; truth = λ w x h. told w x h ∙ sym (told w [] h) })

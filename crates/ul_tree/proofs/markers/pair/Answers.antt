@@ -7,12 +7,12 @@ use Rattle.ul_tree.proofs.markers.pair.Goals as goal
 
 pub returns-then-all-clause-truth : goal.returns-then-all-clause-truth
 returns-then-all-clause-truth c w x =
-    let a = tree_holds (tree_view c.args.a.now) w x in
-    let b = tree_holds (tree_view c.args.b.now) w x in
+    let a = tree_holds (tree_view c.args.front) w x in
+    let b = tree_holds (tree_view c.args.back) w x in
     c.in_ok-tree.ensures.truth w x ∙ joint_and a b ∙ ap (λ v. joint v (a ∷ b ∷ [])) (sym c.if-all.true)
 
 pub returns-clause-truth : goal.returns-clause-truth
 returns-clause-truth c w x =
-    let a = tree_holds (tree_view c.args.a.now) w x in
-    let b = tree_holds (tree_view c.args.b.now) w x in
+    let a = tree_holds (tree_view c.args.front) w x in
+    let b = tree_holds (tree_view c.args.back) w x in
     c.in_ok-tree-2.ensures.truth w x ∙ joint_or a b ∙ ap (λ v. joint v (a ∷ b ∷ [])) (sym c.if-all.false)

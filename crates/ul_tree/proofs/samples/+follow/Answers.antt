@@ -5,8 +5,8 @@ use Rattle.ul_tree.specs.Plain.{Plain}
 use Rattle.ul_tree.specs.Reduced.{Fits}
 use Rattle.ul_tree.specs.Sample.{fresh, with_level}
 use Rattle.ul_tree.specs.Views.{tree_view, points_view, python_of}
-use Rattle.ul_tree.proofs.Onward.{pieces_even}
-use Rattle.ul_tree.proofs.Follow.{view-Extra, view-Python, view-Text, view-Opaque, by_point, by_other, by_piece, by_yes, world_onward, if_ok_along}
+use Rattle.ul_tree.proofs.NextParts.{pieces_even}
+use Rattle.ul_tree.proofs.Follow.{view-Extra, view-Python, view-Text, view-Opaque, by_point, by_other, by_piece, by_yes, world_goes_on, if_ok_along}
 use Rattle.ul_tree.proofs.samples.+follow.Goals as goal
 
 pub follow-requires : goal.follow-requires
@@ -37,20 +37,20 @@ pub returns-in-Some : goal.returns-in-Some
 returns-in-Some t c =
     let e = ap tree_view c.in-Extra.is ∙ view-Extra c.in-Extra.points c.in-Extra.other in
     let o = by_point _ c.requires.reduced.0 extra_level _ _ c.requires.reduced.1 e refl _ _ (c.in-Some.ensures ∙ ap (λ z. first_branch (points_view z)) c.deref.ensures.value) in
-    if_ok_along c.follow.result _ _ _ c.follow.ensures (world_onward _ extra_level _ _ o c.args.found.now c.args.found.now refl)
+    if_ok_along c.follow.result _ _ _ c.follow.ensures (world_goes_on _ extra_level _ _ o c.args.found.now c.args.found.now refl)
 
 pub returns-in-None : goal.returns-in-None
 returns-in-None t c =
     let e = ap tree_view c.in-Extra.is ∙ view-Extra c.in-Extra.points c.in-Extra.other in
     let o = by_other _ c.requires.reduced.0 extra_level _ _ c.requires.reduced.1 e refl (c.in-None.ensures ∙ ap (λ z. first_branch (points_view z)) c.deref.ensures.value) in
-    if_ok_along c.follow-in-None.result _ _ _ (rw c.deref-in-None.ensures at c.follow-in-None.ensures) (world_onward _ extra_level _ _ o c.args.found.now c.args.found.now refl)
+    if_ok_along c.follow-in-None.result _ _ _ (rw c.deref-in-None.ensures at c.follow-in-None.ensures) (world_goes_on _ extra_level _ _ o c.args.found.now c.args.found.now refl)
 
 pub returns-in-Some-first_piece : goal.returns-in-Some-first_piece
 returns-in-Some-first_piece t c =
     let e = ap tree_view c.in-Python.is ∙ view-Python c.in-Python.starts c.in-Python.parts in
     let o = by_piece _ c.requires.reduced.0 c.in-Python.starts.items c.in-Python.parts.items c.requires.reduced.1 e _ _
     (rw (c.deref-in-Python.ensures.value, c.deref-in-Python-2.ensures.value) at c.in-Some-first_piece.ensures) in
-    if_ok_along c.follow-in-Some-first_piece.result _ _ _ c.follow-in-Some-first_piece.ensures (world_onward _ python_level _ _ o c.args.found.now c.set_number.new.self c.set_number.ensures)
+    if_ok_along c.follow-in-Some-first_piece.result _ _ _ c.follow-in-Some-first_piece.ensures (world_goes_on _ python_level _ _ o c.args.found.now c.set_number.new.self c.set_number.ensures)
 
 pub returns-in_ok-text-in-Some-first_point : goal.returns-in_ok-text-in-Some-first_point
 returns-in_ok-text-in-Some-first_point t c =
@@ -59,7 +59,7 @@ returns-in_ok-text-in-Some-first_point t c =
     let o = by_point _ c.requires.reduced.0 l _ _ c.requires.reduced.1 e refl _ _ (c.in-Some-first_point.ensures ∙ ap (λ z. first_branch (points_view z)) c.deref-in-Text.ensures.value) in
     let text : string_bytes c.in_ok-text-in-Some-first_point.text ≡ string_bytes c.in-Some-first_point.point.now.0 = cc (c.in_ok-text-in-Some-first_point.ensures.ok, c.as_str.ensures.value) in
     if_ok_along c.follow-in-Some-first_point.result _ _ _ c.follow-in-Some-first_point.ensures
-    (world_onward _ l _ _ o c.args.found.now c.set_text.new.self (c.set_text.ensures ∙ ap (λ v. with_level l v c.args.found.now) text))
+    (world_goes_on _ l _ _ o c.args.found.now c.set_text.new.self (c.set_text.ensures ∙ ap (λ v. with_level l v c.args.found.now) text))
 
 pub returns-in_ok-text-in-None-first_point : goal.returns-in_ok-text-in-None-first_point
 returns-in_ok-text-in-None-first_point t c =
@@ -69,7 +69,7 @@ returns-in_ok-text-in-None-first_point t c =
     let text : string_bytes c.in_ok-text-in-None-first_point.text ≡ fresh (points_view c.in-Text.points.items) =
     c.in_ok-text-in-None-first_point.ensures ∙ ap (λ z. fresh (points_view z)) c.deref-in-None-first_point.ensures.value in
     if_ok_along c.follow-in-None-first_point.result _ _ _ (rw c.deref-in-None-first_point-2.ensures at c.follow-in-None-first_point.ensures)
-    (world_onward _ l _ _ o c.args.found.now c.set_text-in-None-first_point.new.self (c.set_text-in-None-first_point.ensures ∙ ap (λ v. with_level l v c.args.found.now) text))
+    (world_goes_on _ l _ _ o c.args.found.now c.set_text-in-None-first_point.new.self (c.set_text-in-None-first_point.ensures ∙ ap (λ v. with_level l v c.args.found.now) text))
 
 pub returns-in_ok-add-in-Opaque : goal.returns-in_ok-add-in-Opaque
 returns-in_ok-add-in-Opaque t c =
@@ -78,4 +78,4 @@ returns-in_ok-add-in-Opaque t c =
     let not_false : is_false (tree_view c.in-Opaque.yes.value) ≡ false = cc (c.is_false.ensures, c.deref-in-Opaque.ensures, c.if-is_false.false) in
     let o = by_yes _ c.requires.reduced.0 c.in-Opaque.atom _ _ c.requires.reduced.1 e not_false in
     if_ok_along c.follow-in-Opaque.result _ _ _ (rw c.deref-in-Opaque-2.ensures at c.follow-in-Opaque.ensures)
-    (world_onward _ l _ _ o c.args.found.now c.add.new.self c.in_ok-add-in-Opaque.ensures)
+    (world_goes_on _ l _ _ o c.args.found.now c.add.new.self c.in_ok-add-in-Opaque.ensures)

@@ -1,7 +1,7 @@
 use Rattle.std.proofs.Common.{◌≡◌, true, sym, ◌∙◌}
 use Rattle.ul_tree.specs.FirstParts.{is_false}
 use Rattle.ul_tree.specs.Views.{tree_view}
-use Rattle.ul_tree.proofs.Onward.{pieces_more}
+use Rattle.ul_tree.proofs.NextParts.{pieces_more}
 use Rattle.ul_tree.proofs.samples.first_piece.Goals as goal
 
 pub loop-index-preserved : goal.loop-index-preserved

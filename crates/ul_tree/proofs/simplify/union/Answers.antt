@@ -1,32 +1,26 @@
-use Rattle.std.proofs.Common.{◌≤◌, ap, sym, ◌∙◌, subst, arith}
+use Rattle.std.proofs.Common.{◌≡◌, ◌-◌, sym, ◌∙◌, ap, subst, arith}
 use Rattle.ul_tree.specs.Plain.{Plain}
 use Rattle.ul_tree.specs.Reduced.{IsReduced}
+use Rattle.ul_tree.specs.Joins.{IsJoined}
+use Rattle.ul_tree.specs.declared.join.Join.TheVariants.{Either}
+use Rattle.ul_tree.specs.Keys.{branches_of, branch_count, rest_of}
+use Rattle.ul_tree.specs.SimplifyViews.{HoldsParts}
 use Rattle.ul_tree.specs.Views.{tree_view}
-use Rattle.ul_tree.specs.Keys.{key_view, branches_of, branch_count}
-use Rattle.ul_tree.specs.Simplify.{union_in}
-use Rattle.ul_tree.proofs.Lowering.{from_all, joined_or, part_reduced, rest_reduced, union_step}
+use Rattle.ul_tree.proofs.Halves.{rest_reduced}
+use Rattle.ul_tree.proofs.Lowering.{no_branches, union_joined}
 use Rattle.ul_tree.proofs.simplify.union.Goals as goal
 
-pub loop-index-init : goal.loop-index-init
-loop-index-init c = record {
-  reduced = subst (λ (z : Plain). IsReduced z) (sym (c.in_ok-made.ensures ∙ c.rest_of.ensures)) (rest_reduced (tree_view c.args.tree.now) c.requires);
-  left = ap (union_in (branches_of (tree_view c.args.tree.now))) (c.in_ok-made.ensures ∙ c.rest_of.ensures);
-}
+pub returns-then-count-eq0 : goal.returns-then-count-eq0
+returns-then-count-eq0 c = c.in_ok-rest.ensures ∙ c.rest_of.ensures ∙ no_branches (tree_view c.args.tree.now) c.branch_count-count.result c.branch_count-count.ensures c.if-count-eq0.true
 
-pub joined-requires-clause-b_reduced : goal.joined-requires-clause-b_reduced
-joined-requires-clause-b_reduced c = part_reduced (tree_view c.args.tree.now) c.loop-index.index _ _ _ c.requires c.branch_at.ensures.found
-
-pub loop-index-preserved : goal.loop-index-preserved
-loop-index-preserved c =
-    let t = tree_view c.args.tree.now in
-    record {
-      reduced = c.in_ok-made-2.ensures.reduced;
-      left = union_step (branches_of t) c.loop-index.index (key_view c.branch_at.result.key) (tree_view c.branch_at.result.part.now) (tree_view c.loop-index.made) (tree_view c.in_ok-made-2.made) c.branch_at.ensures.found (joined_or (tree_view c.loop-index.made) (tree_view c.branch_at.result.part.now) (tree_view c.in_ok-made-2.made) c.in_ok-made-2.ensures.joined)
-          ∙ c.loop-index.invariant.left;
-    }
+pub joined-requires-clause-a_reduced : goal.joined-requires-clause-a_reduced
+joined-requires-clause-a_reduced c = subst (λ (z : Plain). IsReduced z) (sym c.rest_of-2.ensures) (rest_reduced (tree_view c.args.tree.now) c.requires)
 
 pub returns : goal.returns
 returns c =
     let t = tree_view c.args.tree.now in
-    let n : branch_count (branches_of t) ≤ c.loop-index.index = omega arith in
-    sym (ap (λ z. union_in z (tree_view c.loop-index.made)) (from_all (branches_of t) c.loop-index.index n)) ∙ c.loop-index.invariant.left
+    let p = tree_view c.in_ok-parts.parts in
+    let all : c.branch_count-count.result - 0 ≡ branch_count (branches_of t) = omega (arith, c.branch_count-count.ensures) in
+    union_joined t p (tree_view c.in_ok-union.union) c.requires c.in_ok-parts.ensures.reduced
+    (subst (λ n. HoldsParts (branches_of t) 0 n p) all c.in_ok-parts.ensures.truth)
+    (subst (λ (z : Plain). IsJoined Either z p (tree_view c.in_ok-union.union)) c.rest_of-2.ensures c.in_ok-union.ensures.joined)

@@ -8,14 +8,14 @@ use Rattle.ul_tree.proofs.truth.+paths.Goals as goal
 
 pub paths-requires : goal.paths-requires
 paths-requires t c =
-    let a = tree_view c.args.t.now in
+    let a = tree_view c.args.tree.now in
     let m = size_part a _ _ _ c.loop-index.index c.branch_at.ensures.found in
     let d = c.decreases in
     (omega (arith, m, d), part_reduced a _ _ _ c.loop-index.index c.requires c.branch_at.ensures.found)
 
 pub returns : goal.returns
 returns t c =
-    let bs = branches_of (tree_view c.args.t.now) in
+    let bs = branches_of (tree_view c.args.tree.now) in
     let p = ap paths_in (from_end bs c.loop-index.index (omega (arith, c.branch_count-index-end.ensures))) in
     let l = c.loop-index.invariant.left in
     let b = c.loop-index.invariant.bounded in

@@ -6,10 +6,10 @@ use Rattle.ul_tree.specs.Keys.{branches_of, branches_from}
 use Rattle.ul_tree.proofs.truth.+paths.Given as goal
 
 abbrev pub decreases-paths : goal.decreases-paths
-decreases-paths l = size (tree_view l.t.now)
+decreases-paths l = size (tree_view l.tree.now)
 
 abbrev pub invariant-loop-index : goal.invariant-loop-index
 invariant-loop-index l = record {
   bounded : l.count ≤ 2 ^ 127;
-  left : min (l.count + paths_in (branches_from l.index (branches_of (tree_view l.t)))) (2 ^ 127) ≡ min (paths_of (tree_view l.t)) (2 ^ 127);
+  left : min (l.count + paths_in (branches_from l.index (branches_of (tree_view l.tree)))) (2 ^ 127) ≡ min (paths_of (tree_view l.tree)) (2 ^ 127);
 }

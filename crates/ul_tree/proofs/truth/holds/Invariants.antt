@@ -8,7 +8,7 @@ use Rattle.ul_tree.proofs.truth.holds.Given as goal
 abbrev pub invariant-loop-level : goal.invariant-loop-level
 invariant-loop-level l = record {
   reduced : IsReduced (tree_view l.tree);
-  same : tree_holds (tree_view l.tree) l.world l.extra ≡ tree_holds (tree_view l.fn.t) l.world l.extra;
+  same : tree_holds (tree_view l.tree) l.world l.extra ≡ tree_holds (tree_view l.fn.root) l.world l.extra;
 }
 
 abbrev pub decreases-loop-level : goal.decreases-loop-level

@@ -1,9 +1,7 @@
-use Rattle.std.proofs.Common.{◌≡◌, ◌∙◌, ap, sym, get_or, [], ◌++◌, ◌∷◌, Err}
+use Rattle.std.proofs.Common.{◌≡◌, ◌∙◌, ap, sym, get_or, [], ◌++◌, ◌∷◌}
 use Rattle.std.proofs.lemmas.Option.{get_or_from_slice_get}
 use Rattle.std.proofs.lemmas.Result.{err_from_is_err_and}
-use Rattle.unilock.specs.Loading.{document_path, met_all, names_in, package_of, releases_at}
-use Rattle.unilock.specs.Loaded.{FollowGives}
-use Rattle.unilock.specs.Refusals.{FailedAt}
+use Rattle.unilock.specs.Loading.{names_with_all, names_in, package_of}
 use Rattle.unilock.proofs.loading.follow.Goals as goal
 
 pub returns-in_err-releases-clause-told : goal.returns-in_err-releases-clause-told
@@ -24,7 +22,7 @@ returns-clause-told g c m e =
     let name_is : c.in_ok-name.name ≡ get_or keys c.args.index [] = c.in_ok-name.ensures ∙ sym (get_or_from_slice_get c.args.names.now.keys c.args.index c.index.result.now [] c.index.ensures) in (
       c.in_ok-releases.releases,
       (rw name_is at (c.in_ok-releases.ensures.told m e)),
-      c.in_ok-meet_releases.ensures ∙ ap (λ rs. met_all keys (names_in rs)) c.as_slice.ensures,
+      c.in_ok-meet_releases.ensures ∙ ap (λ rs. names_with_all keys (names_in rs)) c.as_slice.ensures,
       c.in_ok-push.ensures.items ∙ ap (λ n. c.args.packages.now.items ++ package_of n c.in_ok-releases.releases ∷ []) name_is,
     )
 
@@ -35,6 +33,6 @@ returns-clause-turn g c =
     record {
       releases = c.in_ok-releases.releases;
       apart = c.in_ok-releases.ensures.apart;
-      met = c.in_ok-meet_releases.ensures ∙ ap (λ rs. met_all keys (names_in rs)) c.as_slice.ensures;
-      added = c.in_ok-push.ensures.items ∙ ap (λ n. c.args.packages.now.items ++ package_of n c.in_ok-releases.releases ∷ []) name_is;
+      new_names = c.in_ok-meet_releases.ensures ∙ ap (λ rs. names_with_all keys (names_in rs)) c.as_slice.ensures;
+      new_packages = c.in_ok-push.ensures.items ∙ ap (λ n. c.args.packages.now.items ++ package_of n c.in_ok-releases.releases ∷ []) name_is;
     }

@@ -1,8 +1,7 @@
-use Rattle.std.proofs.Common.{◌≡◌, ◌∙◌, ap, sym, refl, suc, zero, Some, Ok, Err, [], ◌∷◌, ◌++◌, length, get_or, ◌<◌, arith}
+use Rattle.std.proofs.Common.{◌≡◌, ◌∙◌, ap, refl, suc, zero, [], ◌∷◌, ◌++◌, length, ◌<◌, arith}
 use Rattle.std.proofs.lemmas.Result.{err_from_is_err_and}
 use Rattle.ul_pins.specs.Best.{pinned_names}
-use Rattle.unilock.specs.Growing.{IsGrowing}
-use Rattle.unilock.specs.Loading.{met, met_all, first_names, project_package, releases_at, load_from, paths_from, IsLoaded}
+use Rattle.unilock.specs.Loading.{names_with, names_with_all, first_names, project_package}
 use Rattle.unilock.specs.Refusals.{refused_of, failed_path}
 use Rattle.unilock.proofs.Steps.{some_fault}
 use Rattle.unilock.proofs.Growth.{sown, grows, grown}
@@ -12,8 +11,8 @@ use Rattle.unilock.proofs.loading.load.Goals as goal
 pub loop-index-init : goal.loop-index-init
 loop-index-init g c =
     let names_are : c.meet_pins.new.names.keys ≡ first_names c.args.project =
-    c.in_ok-meet_pins.ensures ∙ ap (λ ps. met_all c.meet.new.names.keys (pinned_names ps)) c.as_slice.ensures
-    ∙ ap (λ ks. met_all ks (pinned_names c.args.project.pins)) (c.in_ok-meet.ensures ∙ ap (λ ks. met ks c.args.project.name) c.new-names.ensures.empty) in
+    c.in_ok-meet_pins.ensures ∙ ap (λ ps. names_with_all c.meet.new.names.keys (pinned_names ps)) c.as_slice.ensures
+    ∙ ap (λ ks. names_with_all ks (pinned_names c.args.project.pins)) (c.in_ok-meet.ensures ∙ ap (λ ks. names_with ks c.args.project.name) c.new-names.ensures.empty) in
     let packages_are : c.push.new.self.items ≡ project_package c.args.project ∷ [] =
     c.in_ok-push.ensures.items ∙ ap (λ ps. ps ++ c.in_ok-package_of.field-0 ∷ []) c.new-packages.ensures.items ∙ ap (λ p. p ∷ []) c.in_ok-package_of.ensures in
     record {

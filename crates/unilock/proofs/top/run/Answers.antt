@@ -1,7 +1,13 @@
+use Rattle.unilock.proofs.Headlines.{output_printed, nothing_printed}
 use Rattle.unilock.proofs.top.run.Goals as goal
 
-pub returns-in-Ok-clause-cut : goal.returns-in-Ok-clause-cut
-returns-in-Ok-clause-cut g c m e had h quiet six =
-    let front = c.print.ensures.cut had h six in
-    let told = c.in-Ok.ensures.told m e (λ five. quiet (c.in-Ok.ensures.fault five)) in
-    (c.in-Ok.output.status, front.0, c.in-Ok.output.text.items, (rw c.as_slice.ensures.value at told), front.1)
+pub returns-in-Ok : goal.returns-in-Ok
+returns-in-Ok g c =
+    let said = c.print.ensures in
+    record {
+      headline = output_printed _ _ _ _ _ _ _ c.in-Ok.output.text.items (rw c.as_slice.ensures.value at c.in-Ok.ensures.output) c.in-Ok.ensures.same c.in-Ok.ensures.count
+          said.status said.whole said.front said.write_fault said.write_rise said.count said.no_memory;
+    }
+
+pub returns-in-Err : goal.returns-in-Err
+returns-in-Err g c = record { headline = nothing_printed _ _ _ _ c.in-Err.ensures.same c.in-Err.ensures.count }

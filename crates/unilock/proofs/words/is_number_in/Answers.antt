@@ -1,5 +1,5 @@
 use Rattle.std.proofs.Common.{◌≡◌, ◌∙◌, sym, true, ap, arith}
-use Rattle.std.proofs.lemmas.Bool.{and_left, lt-leb, le-leb}
+use Rattle.std.proofs.lemmas.Bool.{lt-leb, le-leb}
 use Rattle.unilock.specs.Words.{is_decimal}
 use Rattle.unilock.proofs.Numbers.{parsed, unparsed}
 use Rattle.unilock.proofs.words.is_number_in.Goals as goal

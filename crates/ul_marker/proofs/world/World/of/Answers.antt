@@ -1,6 +1,6 @@
 use Rattle.std.proofs.Common.{◌≡◌, sym, ◌∙◌, ap, subst, rules, arith, length, true≢false}
 use Rattle.std.proofs.lemmas.List.{length-map}
-use Rattle.std.specs.Prelude.{All, List}
+use Rattle.std.specs.Prelude.{All, List, true}
 use Rattle.ul_marker.specs.Atoms.{AtomFields, IsAtom}
 use Rattle.ul_marker.specs.Rising.{rises}
 use Rattle.ul_marker.proofs.Rises.{rise, risen}
@@ -11,7 +11,7 @@ pub returns-then-len-ne8-clause-refused : goal.returns-then-len-ne8-clause-refus
 returns-then-len-ne8-clause-refused c _ eight increasing = elim c.then-len-ne8.branch [
   | then-len-ne8-via-then-len-ne8 w ↦ w.if-len-ne8.true (c.len.ensures ∙ eight)
   | then-len-ne8-via-else-len-ne8+then-not-rises w ↦
-      true≢false (sym (risen c.args.truths.items increasing) ∙ sym (ap rises w.deref.ensures.value) ∙ sym w.rises.ensures ∙ w.if-not-rises.true)
+      true≢false (sym (risen c.args.truths.items increasing) ∙ sym (ap rises w.deref.ensures.value) ∙ sym w.rises.ensures.rises ∙ w.if-not-rises.true)
 ]
 
 pub invariant_of-result : goal.invariant_of-result
@@ -20,6 +20,6 @@ invariant_of-result c = record {
   minor = search rules;
   patch = search rules;
   texts = let eight : length c.args.texts.items ≡ 8 = omega arith in length-map c.args.texts.items _ ∙ eight;
-  atoms = subst (λ (atoms : List AtomFields). All IsAtom atoms) c.deref-2.ensures.value c.are_atoms.ensures;
-  increasing = rise c.args.truths.items (sym (ap rises c.deref.ensures.value) ∙ sym c.rises.ensures ∙ c.if-not-rises.false);
+  atoms = subst (λ (atoms : List AtomFields). All IsAtom atoms) c.deref.ensures.value (c.rises.ensures.atoms c.if-not-rises.false);
+  increasing = rise c.args.truths.items (sym (ap rises c.deref.ensures.value) ∙ sym c.rises.ensures.rises ∙ c.if-not-rises.false);
 }

@@ -1,26 +1,5 @@
-use Rattle.std.proofs.Common.{◌≡◌, ℕ, List, Vec, Global, true, replicate, arith, ap, ◌∙◌, set, ◌-◌, ◌*◌, ◌^◌, ◌%◌, ◌/◌}
-use Rattle.ul_ranges.specs.Blocks.{flags_of, IsExact}
-use Rattle.ul_ranges.proofs.BlockLaws.{full_blocks, full_but_last, low_mask, of_full}
+use Rattle.ul_ranges.proofs.FormLaws.{all_kept}
 use Rattle.ul_ranges.proofs.ordinals.Ordinals.all.Goals as goal
-use Rattle.ul_ranges.proofs.ordinals.Ordinals.all.Goals.{then-size-ne0, else-size-ne0}
-
-made : (c : goal.Joined-size-ne0)
-    → IsExact c.args.size c.if-size-ne0.blocks.items × (flags_of c.args.size c.if-size-ne0.blocks.items ≡ replicate c.args.size true)
-made c =
-    let filled : c.in_ok-blocks.blocks.items ≡ replicate c.div_ceil.result 18446744073709551615 =
-    c.in_ok-blocks.ensures.items_if_clones_equal (λ y e. e) in
-    of_full c.args.size c.if-size-ne0.blocks.items (elim c.if-size-ne0.branch [
-      | then-size-ne0 w ↦
-          full_but_last c.args.size c.div_ceil.result c.if-size-ne0.blocks.items (1 * 2 ^ (c.args.size % 64) % 2 ^ 64 - 1)
-          (omega (arith, c.div_ceil.ensures)) (let odd = w.if-size-ne0.true in omega arith) (low_mask (c.args.size % 64) (omega arith))
-          (ap (λ (v : Vec ℕ Global). v.items) w.blocks-is ∙ ap (λ (l : List ℕ). set l (c.args.size / 64) (1 * 2 ^ (c.args.size % 64) % 2 ^ 64 - 1)) filled)
-      | else-size-ne0 w ↦
-          full_blocks c.args.size c.div_ceil.result c.if-size-ne0.blocks.items (omega (arith, c.div_ceil.ensures)) w.if-size-ne0.false
-          (ap (λ (v : Vec ℕ Global). v.items) w.blocks-is ∙ filled)
-    ])
-
-pub invariant_of-result : goal.invariant_of-result
-invariant_of-result c = (made c).0
 
 pub returns : goal.returns
-returns c = (made c).1
+returns c = all_kept _ _ c.in_ok-form.ensures

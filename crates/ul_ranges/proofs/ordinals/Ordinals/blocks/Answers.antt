@@ -1,5 +1,6 @@
-use Rattle.ul_ranges.proofs.BlockLaws.{blocks_of_set}
+use Rattle.ul_ranges.proofs.FormMaking.{ok_then}
+use Rattle.ul_ranges.proofs.FormLaws.{blocks_kept}
 use Rattle.ul_ranges.proofs.ordinals.Ordinals.blocks.Goals as goal
 
 pub returns : goal.returns
-returns c = rw c.as_slice.ensures.value (blocks_of_set _ _ _ c.self.invariant c.self.view_is)
+returns c = ok_then c.block_list.result _ _ c.block_list.ensures (λ v h. blocks_kept _ _ _ v.items (record { kept = c.self.invariant; view = c.self.view_is }) h)

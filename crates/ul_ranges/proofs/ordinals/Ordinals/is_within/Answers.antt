@@ -1,9 +1,8 @@
-use Rattle.std.proofs.Common.{◌∙◌}
-use Rattle.ul_ranges.proofs.BlockLaws.{within_blocks}
+use Rattle.ul_ranges.proofs.FormLaws.{are_forms, within_tested}
 use Rattle.ul_ranges.proofs.ordinals.Ordinals.is_within.Goals as goal
 
+pub is_within-requires : goal.is_within-requires
+is_within-requires c = are_forms _ _ _ _ _ _ (record { left = record { kept = c.self.invariant; view = c.self.view_is }; right = record { kept = c.other.invariant; view = c.other.view_is }; sizes = c.requires })
+
 pub returns : goal.returns
-returns c =
-    rw (c.as_slice.ensures.value, c.as_slice-2.ensures.value) at c.are_within.ensures
-    ∙ within_blocks _ _ _ _ _ _
-    (record { left = c.self.invariant; right = c.other.invariant; left_is = c.self.view_is; right_is = c.other.view_is; sizes = c.requires })
+returns c = within_tested _ _ _ _ _ _ (record { left = record { kept = c.self.invariant; view = c.self.view_is }; right = record { kept = c.other.invariant; view = c.other.view_is }; sizes = c.requires }) _ c.is_within.ensures

@@ -1,19 +1,8 @@
-use Rattle.std.proofs.Common.{◌≡◌}
-use Rattle.ul_ranges.specs.Flags.{both}
-use Rattle.ul_ranges.specs.Blocks.{flags_of, IsExact}
-use Rattle.ul_ranges.proofs.BlockLaws.{meet_blocks}
+use Rattle.ul_ranges.proofs.FormLaws.{right_kept, made_both}
 use Rattle.ul_ranges.proofs.ordinals.Ordinals.meet.Goals as goal
 
-made : (c : goal.In_ok-blocks)
-    → IsExact c.self.inside.size c.in_ok-blocks.blocks.items
-    × (flags_of c.self.inside.size c.in_ok-blocks.blocks.items ≡ both c.args.self.now c.args.other.now)
-made c =
-    meet_blocks _ _ _ _ _ _
-    (record { left = c.self.invariant; right = c.other.invariant; left_is = c.self.view_is; right_is = c.other.view_is; sizes = c.requires })
-    c.in_ok-blocks.blocks.items (rw (c.as_slice.ensures.value, c.as_slice-2.ensures.value) at c.in_ok-blocks.ensures)
-
-pub invariant_of-result : goal.invariant_of-result
-invariant_of-result c = (made c).0
+pub meet-requires-clause-theirs : goal.meet-requires-clause-theirs
+meet-requires-clause-theirs c = right_kept _ _ _ _ _ _ (record { left = record { kept = c.self.invariant; view = c.self.view_is }; right = record { kept = c.other.invariant; view = c.other.view_is }; sizes = c.requires })
 
 pub returns : goal.returns
-returns c = (made c).1
+returns c = made_both _ _ _ _ _ _ (record { left = record { kept = c.self.invariant; view = c.self.view_is }; right = record { kept = c.other.invariant; view = c.other.view_is }; sizes = c.requires }) _ c.in_ok-form.ensures

@@ -1,33 +1,5 @@
-use Rattle.std.proofs.Common.{◌≡◌, ◌<◌, arith, take, get_or, length}
-use Rattle.std.specs.Prelude.{All}
-use Rattle.std.proofs.lemmas.List.{take_more, take_all}
-use Rattle.ul_ranges.specs.Flags.{set_of}
-use Rattle.ul_ranges.specs.Blocks.{flags_of, IsExact}
-use Rattle.ul_ranges.proofs.BlockLaws.{unmarked, marked, of_marked}
+use Rattle.ul_ranges.proofs.FormLaws.{members_kept}
 use Rattle.ul_ranges.proofs.ordinals.Ordinals.of_list.Goals as goal
 
-pub loop-member-init : goal.loop-member-init
-loop-member-init c =
-    unmarked c.args.size _ c.div_ceil.result (omega (arith, c.div_ceil.ensures)) (c.in_ok-blocks.ensures.items_if_clones_equal (λ y e. e))
-
-pub loop-member-preserved : goal.loop-member-preserved
-loop-member-preserved c =
-    let inside : c.loop-member.member-index < length c.deref-member-items.result.now = c.loop-member-test.true in
-    let all : All (λ m. m < c.args.size) c.deref-member-items.result.now = rw c.deref-member-items.ensures.value c.requires in
-    let small : get_or c.deref-member-items.result.now c.loop-member.member-index 0 < c.args.size = all c.loop-member.member-index 0 inside in
-    rw (take_more c.deref-member-items.result.now c.loop-member.member-index 0 inside)
-    (marked c.args.size _ _ _ c.index_mut.result.now small c.loop-member.invariant c.index_mut.ensures.value)
-
-made : (c : goal.After-loop-member)
-    → IsExact c.args.size c.loop-member.blocks.items × (flags_of c.args.size c.loop-member.blocks.items ≡ set_of c.args.size c.args.members.now.items)
-made c =
-    let whole : take c.loop-member.member-index c.deref-member-items.result.now ≡ c.args.members.now.items =
-    rw c.deref-member-items.ensures.value (take_all c.loop-member.member-index c.args.members.now.items
-    (rw c.deref-member-items.ensures.value at c.loop-member-test.false)) in
-    of_marked c.args.size c.loop-member.blocks.items c.args.members.now.items c.requires (rw whole at c.loop-member.invariant)
-
-pub invariant_of-result : goal.invariant_of-result
-invariant_of-result c = (made c).0
-
 pub returns : goal.returns
-returns c = (made c).1
+returns c = members_kept _ _ _ c.requires c.in_ok-form.ensures

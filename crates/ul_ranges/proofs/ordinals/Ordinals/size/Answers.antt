@@ -1,6 +1,6 @@
 use Rattle.std.proofs.Common.{◌∙◌, sym, ap, length}
-use Rattle.ul_ranges.proofs.BlockLaws.{length-flags_of}
+use Rattle.ul_ranges.proofs.FormLaws.{length-flags_in}
 use Rattle.ul_ranges.proofs.ordinals.Ordinals.size.Goals as goal
 
 pub returns : goal.returns
-returns c = sym (length-flags_of _ _) ∙ ap length c.self.view_is
+returns c = sym (length-flags_in _ _) ∙ ap length c.self.view_is

@@ -1,7 +1,7 @@
 use Rattle.std.proofs.Common.{arith, ap, ◌∙◌}
 use Rattle.std.proofs.lemmas.Grind.{common_steps}
 use Rattle.ul_tree.specs.contracts.samples.Found.{the_view}
-use Rattle.ul_tree.proofs.Onward.{set_seen, kept_seen}
+use Rattle.ul_tree.proofs.NextParts.{set_seen, kept_seen}
 use Rattle.ul_tree.proofs.samples.Found.set_text.Goals as goal
 use Rattle.ul_tree.proofs.samples.Found.set_text.Goals.{in-Some, in_default}
 

@@ -1,0 +1,213 @@
+-- Laws of the tests on sets as they are kept, and of how they are kept.
+use Rattle.std.proofs.Common.{◌≡◌, ℕ, List, Bool, true, false, cond, refl, ap, ◌∙◌, sym, get_or, ◌+◌, ◌*◌, ◌<◌, ◌≤◌, arith, eqb, inl, inr, w64, Option, Some, None, nat_eq, lit<, ◌⊎◌}
+use Rattle.std.specs.Prelude.{bit_and, map, zip, ◌↔◌, IsTrue, not}
+use Rattle.std.specs.Option.{is_some}
+use Rattle.std.specs.Int.{bit_not}
+use Rattle.std.specs.List.{list_all}
+use Rattle.std.specs.Cmp.Lexicographic.{pointwise}
+use Rattle.std.proofs.lemmas.Slice.Eq.{slice_eq-Decides}
+use Rattle.std.proofs.lemmas.Bool.Decides.{Decides-eqb}
+use Rattle.std.proofs.lemmas.Bool.{cases_lt, eqb-true, eq-eqb, true≢false, false≢true}
+use Rattle.std.proofs.lemmas.List.{ext_get_or}
+use Rattle.ul_ranges.specs.Blocks.{flag, flag_at, IsExact}
+use Rattle.ul_ranges.specs.Forms.{bit_in, is_one, flag_in, HasTwo, IsWord, IsMany, in_both, in_first, AreForms, AreSame, AreWithin, AreApart}
+use Rattle.ul_ranges.specs.declared.forms.Form.{Form}
+use Rattle.ul_ranges.specs.declared.forms.Form.TheVariants.{Word, Few, Many}
+use Rattle.ul_ranges.proofs.BlockLaws.{flag-zero, same_word, flag_at-place, flag-and, flag-and_not, all_of_map, all_clear, clear_all, and_flagwise, less_flagwise, zip_exact, zip_flag}
+use Rattle.ul_ranges.proofs.FormLaws.{bit_within, beyond}
+
+-- two flags of one member are of one number
+pub one_only : (o : Option ℕ) (i j : ℕ) → is_one o i ≡ true → is_one o j ≡ true → i ≡ j
+one_only None i j a b = absurd (false≢true a)
+one_only (Some m) i j a b = sym (eqb-true m i a) ∙ eqb-true m j b
+
+not_two : (o : Option ℕ) (bs : List ℕ) → HasTwo bs → ((k : ℕ) → flag_at bs k ≡ true → is_one o k ≡ true) → ⊥
+not_two o bs t h = let e : t.first ≡ t.second = one_only o t.first t.second (h t.first t.first_set) (h t.second t.second_set) in omega (arith, e, t.rising)
+
+-- ---- no member
+pub word_empty : (size w : ℕ) → IsWord size w → IsTrue (eqb w 0) ↔ ((k : ℕ) → bit_in w k ≡ false)
+word_empty size w h = (
+  λ e k. elim (cases_lt k 64) [
+    | inl l ↦ bit_within w k l ∙ ap (λ (x : ℕ). flag x k) (eqb-true w 0 e) ∙ flag-zero k
+    | inr l ↦ beyond w k l
+  ],
+  λ c. eq-eqb w 0 (same_word w 0 h.fits (lit< tt) (λ i l. sym (bit_within w i l) ∙ c i ∙ sym (flag-zero i))),
+)
+
+not_false : (b : Bool) → false ≡ not b → b ≡ true
+not_false true h = refl
+not_false false h = cc
+
+not_true : (b : Bool) → true ≡ not b → b ≡ false
+not_true true h = cc
+not_true false h = refl
+
+pub few_empty : (o : Option ℕ) (r : Bool) → is_some o ≡ not r → IsTrue r ↔ ((k : ℕ) → is_one o k ≡ false)
+few_empty None r h = (λ e k. refl, λ c. not_false r h)
+few_empty (Some m) r h = (λ e. absurd (true≢false (sym e ∙ not_true r h)), λ c. absurd (true≢false (sym (eq-eqb m m refl) ∙ c m)))
+
+pub many_filled : (bs : List ℕ) → HasTwo bs → IsTrue false ↔ ((k : ℕ) → flag_at bs k ≡ false)
+many_filled bs t = (λ e. absurd (false≢true e), λ c. absurd (true≢false (sym t.first_set ∙ c t.first)))
+
+-- ---- the same members
+pub words_same : (size x y : ℕ) → IsWord size x → IsWord size y → IsTrue (eqb x y) ↔ AreSame (Word x) (Word y)
+words_same size x y a b = (
+  λ e k. ap (λ (w : ℕ). bit_in w k) (eqb-true x y e),
+  λ h. eq-eqb x y (same_word x y a.fits b.fits (λ i l. sym (bit_within x i l) ∙ h i ∙ bit_within y i l)),
+)
+
+few_equal : (a b : Option ℕ) → ((k : ℕ) → is_one a k ≡ is_one b k) → a ≡ b
+few_equal None None h = refl
+few_equal None (Some m) h = absurd (false≢true (h m ∙ eq-eqb m m refl))
+few_equal (Some m) None h = absurd (true≢false (sym (eq-eqb m m refl) ∙ h m))
+few_equal (Some m) (Some n) h = ap Some (sym (eqb-true n m (sym (h m) ∙ eq-eqb m m refl)))
+
+pub few_same : (a b : Option ℕ) (r : Bool) → IsTrue r ↔ (a ≡ b) → IsTrue r ↔ AreSame (Few a) (Few b)
+few_same a b r h = (λ e k. ap (λ (o : Option ℕ). is_one o k) (h.0 e), λ s. h.1 (few_equal a b s))
+
+many_equal : (size : ℕ) (xs ys : List ℕ) → IsExact size xs → IsExact size ys → ((k : ℕ) → flag_at xs k ≡ flag_at ys k) → xs ≡ ys
+many_equal size xs ys a b h =
+    ext_get_or 0 xs ys (a.count ∙ sym b.count) (λ j _. same_word (get_or xs j 0) (get_or ys j 0) (a.words j) (b.words j)
+    (λ i l. sym (flag_at-place xs j i l) ∙ h (64 * j + i) ∙ flag_at-place ys j i l))
+
+pub many_same : (size : ℕ) (xs ys : List ℕ) (r : Bool) → IsMany size xs → IsMany size ys → r ≡ pointwise eqb xs ys → IsTrue r ↔ AreSame (Many xs) (Many ys)
+many_same size xs ys r a b h =
+    let d = slice_eq-Decides Decides-eqb xs ys r h in (
+      λ e k. ap (λ (bs : List ℕ). flag_at bs k) (d.0 e),
+      λ s. d.1 (many_equal size xs ys a.exact b.exact s),
+    )
+
+-- sets that are kept in two ways differ
+pub few_differ : (a : Option ℕ) (g : Form) → AreForms (Few a) g → AreSame (Few a) g → (o : Option ℕ) × (g ≡ Few o)
+few_differ a (Word y) h s = absurd (omega (arith, h.right.small, h.left.large))
+few_differ a (Few o) h s = (o, refl)
+few_differ a (Many ys) h s = absurd (not_two a ys h.right.two (λ k e. s k ∙ e))
+
+pub many_differ : (xs : List ℕ) (g : Form) → AreForms (Many xs) g → AreSame (Many xs) g → (ys : List ℕ) × (g ≡ Many ys)
+many_differ xs (Word y) h s = absurd (omega (arith, h.right.small, h.left.large))
+many_differ xs (Few o) h s = absurd (not_two o xs h.left.two (λ k e. sym (s k) ∙ e))
+many_differ xs (Many ys) h s = (ys, refl)
+
+-- ---- inclusion
+pub none_within : (g : Form) → IsTrue true ↔ AreWithin (Few None) g
+none_within g = (λ e k a. absurd (false≢true a), λ h. refl)
+
+pub one_within : (m : ℕ) (g : Form) (r : Bool) → r ≡ flag_in g m → IsTrue r ↔ AreWithin (Few (Some m)) g
+one_within m g r e = (
+  λ t k a. ap (λ (i : ℕ). flag_in g i) (sym (eqb-true m k a)) ∙ sym e ∙ t,
+  λ h. e ∙ h m (eq-eqb m m refl),
+)
+
+pub words_within : (size x y : ℕ) → IsWord size x → IsWord size y → IsTrue (eqb (bit_and x (bit_not w64 y)) 0) ↔ AreWithin (Word x) (Word y)
+words_within size x y a b = (
+  λ e k h. inside k h (eqb-true (bit_and x (bit_not w64 y)) 0 e) (cases_lt k 64),
+  λ h. eq-eqb (bit_and x (bit_not w64 y)) 0 (same_word (bit_and x (bit_not w64 y)) 0 (less_flagwise.fits x y a.fits b.fits) (lit< tt)
+      (λ i l. flag-and_not x y i b.fits l ∙ out (flag x i) (flag y i) (λ p. sym (bit_within y i l) ∙ h i (bit_within x i l ∙ p)) ∙ sym (flag-zero i))),
+)
+  where
+    out : (p q : Bool) → (p ≡ true → q ≡ true) → cond q false p ≡ false
+    out true q h = ap (λ (v : Bool). cond v false true) (h refl)
+    out false true h = refl
+    out false false h = refl
+
+    into : (p q : Bool) → cond q false p ≡ false → p ≡ true → q ≡ true
+    into p true e f = refl
+    into p false e f = absurd (true≢false (sym f ∙ e))
+
+    inside : (k : ℕ) → bit_in x k ≡ true → bit_and x (bit_not w64 y) ≡ 0 → (k < 64) ⊎ (64 ≤ k) → bit_in y k ≡ true
+    inside k h e (inl l) = bit_within y k l ∙ into (flag x k) (flag y k) (sym (flag-and_not x y k b.fits l) ∙ ap (λ (w : ℕ). flag w k) e ∙ flag-zero k) (sym (bit_within x k l) ∙ h)
+    inside k h e (inr l) = absurd (true≢false (sym h ∙ beyond x k l))
+
+many_zero : (size : ℕ) (bs : List ℕ) (r : Bool) → IsExact size bs → r ≡ list_all (λ x. eqb x 0) bs → (IsTrue r → (k : ℕ) → flag_at bs k ≡ false) × (((k : ℕ) → flag_at bs k ≡ false) → IsTrue r)
+many_zero size bs r h e = (λ t k. all_clear bs (sym e ∙ t) k, λ c. e ∙ clear_all size bs h c)
+
+pub many_within : (size : ℕ) (xs ys : List ℕ) (r : Bool) → IsMany size xs → IsMany size ys
+    → r ≡ list_all (λ p. eqb (bit_and p.0 (bit_not w64 p.1)) 0) (zip xs ys) → IsTrue r ↔ AreWithin (Many xs) (Many ys)
+many_within size xs ys r a b e =
+    let z = many_zero size (map (λ (p : ℕ × ℕ). bit_and p.0 (bit_not w64 p.1)) (zip xs ys)) r
+    (zip_exact size xs ys (λ x y. bit_and x (bit_not w64 y)) in_first less_flagwise a.exact b.exact)
+    (e ∙ all_of_map (λ (p : ℕ × ℕ). bit_and p.0 (bit_not w64 p.1)) (zip xs ys)) in (
+      λ t k h. into (flag_at xs k) (flag_at ys k) (sym (each k) ∙ z.0 t k) h,
+      λ h. z.1 (λ k. each k ∙ out (flag_at xs k) (flag_at ys k) (h k)),
+    )
+  where
+    each : (k : ℕ) → flag_at (map (λ (p : ℕ × ℕ). bit_and p.0 (bit_not w64 p.1)) (zip xs ys)) k ≡ cond (flag_at ys k) false (flag_at xs k)
+    each k = zip_flag size xs ys (λ x y. bit_and x (bit_not w64 y)) in_first less_flagwise a.exact b.exact k
+
+    out : (p q : Bool) → (p ≡ true → q ≡ true) → cond q false p ≡ false
+    out true q h = ap (λ (v : Bool). cond v false true) (h refl)
+    out false true h = refl
+    out false false h = refl
+
+    into : (p q : Bool) → cond q false p ≡ false → p ≡ true → q ≡ true
+    into p true e f = refl
+    into p false e f = absurd (true≢false (sym f ∙ e))
+
+-- two members aren't within one, and no set of one size is kept as another size is
+pub many_without : (xs : List ℕ) (g : Form) → AreForms (Many xs) g → AreWithin (Many xs) g → (ys : List ℕ) × (g ≡ Many ys)
+many_without xs (Word y) h s = absurd (omega (arith, h.right.small, h.left.large))
+many_without xs (Few o) h s = absurd (not_two o xs h.left.two s)
+many_without xs (Many ys) h s = (ys, refl)
+
+-- ---- no common member
+pub none_apart : (g : Form) → IsTrue true ↔ AreApart (Few None) g
+none_apart g = (λ e k a. absurd (false≢true a), λ h. refl)
+
+pub apart_none : (f : Form) → IsTrue true ↔ AreApart f (Few None)
+apart_none f = (λ e k a. refl, λ h. refl)
+
+pub one_apart : (m : ℕ) (g : Form) (r : Bool) → r ≡ flag_in g m → (r ≡ false) ↔ AreApart (Few (Some m)) g
+one_apart m g r e = (
+  λ t k a. ap (λ (i : ℕ). flag_in g i) (sym (eqb-true m k a)) ∙ sym e ∙ t,
+  λ h. e ∙ h m (eq-eqb m m refl),
+)
+
+not_set : (b : Bool) → (b ≡ true → ⊥) → b ≡ false
+not_set true h = absurd (h refl)
+not_set false h = refl
+
+pub apart_one : (m : ℕ) (f : Form) (r : Bool) → r ≡ flag_in f m → (r ≡ false) ↔ AreApart f (Few (Some m))
+apart_one m f r e = (
+  λ t k a. not_set (nat_eq m k) (λ q. true≢false (sym a ∙ ap (λ (i : ℕ). flag_in f i) (sym (eqb-true m k q)) ∙ sym e ∙ t)),
+  λ h. e ∙ not_set (flag_in f m) (λ a. true≢false (sym (eq-eqb m m refl) ∙ h m a)),
+)
+
+pub words_apart : (size x y : ℕ) → IsWord size x → IsWord size y → IsTrue (eqb (bit_and x y) 0) ↔ AreApart (Word x) (Word y)
+words_apart size x y a b = (
+  λ e k h. inside k h (eqb-true (bit_and x y) 0 e) (cases_lt k 64),
+  λ h. eq-eqb (bit_and x y) 0 (same_word (bit_and x y) 0 (and_flagwise.fits x y a.fits b.fits) (lit< tt)
+      (λ i l. flag-and x y i ∙ out (flag x i) (flag y i) (λ p. sym (bit_within y i l) ∙ h i (bit_within x i l ∙ p)) ∙ sym (flag-zero i))),
+)
+  where
+    out : (p q : Bool) → (p ≡ true → q ≡ false) → cond p q false ≡ false
+    out true q h = h refl
+    out false q h = refl
+
+    into : (p q : Bool) → cond p q false ≡ false → p ≡ true → q ≡ false
+    into true q e f = e
+    into false q e f = absurd (false≢true f)
+
+    inside : (k : ℕ) → bit_in x k ≡ true → bit_and x y ≡ 0 → (k < 64) ⊎ (64 ≤ k) → bit_in y k ≡ false
+    inside k h e (inl l) = bit_within y k l ∙ into (flag x k) (flag y k) (sym (flag-and x y k) ∙ ap (λ (w : ℕ). flag w k) e ∙ flag-zero k) (sym (bit_within x k l) ∙ h)
+    inside k h e (inr l) = beyond y k l
+
+pub many_apart : (size : ℕ) (xs ys : List ℕ) (r : Bool) → IsMany size xs → IsMany size ys
+    → r ≡ list_all (λ p. eqb (bit_and p.0 p.1) 0) (zip xs ys) → IsTrue r ↔ AreApart (Many xs) (Many ys)
+many_apart size xs ys r a b e =
+    let z = many_zero size (map (λ (p : ℕ × ℕ). bit_and p.0 p.1) (zip xs ys)) r
+    (zip_exact size xs ys bit_and in_both and_flagwise a.exact b.exact)
+    (e ∙ all_of_map (λ (p : ℕ × ℕ). bit_and p.0 p.1) (zip xs ys)) in (
+      λ t k h. into (flag_at xs k) (flag_at ys k) (sym (each k) ∙ z.0 t k) h,
+      λ h. z.1 (λ k. each k ∙ out (flag_at xs k) (flag_at ys k) (h k)),
+    )
+  where
+    each : (k : ℕ) → flag_at (map (λ (p : ℕ × ℕ). bit_and p.0 p.1) (zip xs ys)) k ≡ cond (flag_at xs k) (flag_at ys k) false
+    each k = zip_flag size xs ys bit_and in_both and_flagwise a.exact b.exact k
+
+    out : (p q : Bool) → (p ≡ true → q ≡ false) → cond p q false ≡ false
+    out true q h = h refl
+    out false q h = refl
+
+    into : (p q : Bool) → cond p q false ≡ false → p ≡ true → q ≡ false
+    into true q e f = e
+    into false q e f = absurd (false≢true f)

@@ -1,0 +1,41 @@
+use Rattle.std.specs.Prelude.{bit_or}
+use Rattle.ul_ranges.specs.Forms.{in_either}
+use Rattle.ul_ranges.proofs.BlockLaws.{or_flagwise}
+use Rattle.ul_ranges.proofs.FormLaws.{word_joins}
+use Rattle.ul_ranges.proofs.FormMaking.{ok_then, has_blocks, zipped_of, zipped_whole, zipped_sealed, word_made}
+use Rattle.ul_ranges.proofs.forms.join.Goals as goal
+
+pub sealed-requires-clause-exact : goal.sealed-requires-clause-exact
+sealed-requires-clause-exact c =
+    zipped_whole c.args.size bit_or in_either or_flagwise c.args.mine.now c.args.theirs.now c.in_ok-blocks-in-Many-Many.blocks.items
+    (zipped_of c.args.size bit_or c.args.mine.now c.args.theirs.now c.in-Many-Many.xs c.in-Many-Many.ys _ _ c.in_ok-blocks-in-Many-Many.blocks.items
+    (has_blocks c.args.size c.args.mine.now c.in-Many-Many.xs c.in-Many-Many.is-0 c.requires.mine)
+    (has_blocks c.args.size c.args.theirs.now c.in-Many-Many.ys c.in-Many-Many.is-1 c.requires.theirs)
+    c.as_slice.ensures c.as_slice-in-Many-Many.ensures c.in_ok-blocks-in-Many-Many.ensures)
+
+pub returns-in_ok-blocks-in-Many-Many : goal.returns-in_ok-blocks-in-Many-Many
+returns-in_ok-blocks-in-Many-Many c =
+    ok_then c.sealed.result _ _ c.sealed.ensures
+    (λ f s. zipped_sealed c.args.size bit_or in_either or_flagwise c.args.mine.now c.args.theirs.now f c.in_ok-blocks-in-Many-Many.blocks.items
+    (zipped_of c.args.size bit_or c.args.mine.now c.args.theirs.now c.in-Many-Many.xs c.in-Many-Many.ys _ _ c.in_ok-blocks-in-Many-Many.blocks.items
+    (has_blocks c.args.size c.args.mine.now c.in-Many-Many.xs c.in-Many-Many.is-0 c.requires.mine)
+    (has_blocks c.args.size c.args.theirs.now c.in-Many-Many.ys c.in-Many-Many.is-1 c.requires.theirs)
+    c.as_slice.ensures c.as_slice-in-Many-Many.ensures c.in_ok-blocks-in-Many-Many.ensures) s)
+
+pub returns-in-Word-Word : goal.returns-in-Word-Word
+returns-in-Word-Word c =
+    word_made c.args.size in_either c.args.mine.now c.args.theirs.now c.in-Word-Word.x c.in-Word-Word.y _ c.in-Word-Word.is-0 c.in-Word-Word.is-1 c.requires.mine c.requires.theirs
+    (word_joins c.args.size c.in-Word-Word.x c.in-Word-Word.y)
+
+pub sealed-requires-in_default-clause-exact : goal.sealed-requires-in_default-clause-exact
+sealed-requires-in_default-clause-exact c =
+    zipped_whole c.args.size bit_or in_either or_flagwise c.args.mine.now c.args.theirs.now c.in_ok-blocks-in_default.blocks.items
+    (zipped_of c.args.size bit_or c.args.mine.now c.args.theirs.now c.in_ok-xs-in_default.xs.items c.in_ok-ys-in_default.ys.items _ _ c.in_ok-blocks-in_default.blocks.items
+    c.in_ok-xs-in_default.ensures c.in_ok-ys-in_default.ensures c.as_slice-in_default.ensures.value c.as_slice-in_default-2.ensures.value c.in_ok-blocks-in_default.ensures)
+
+pub returns-in_ok-blocks-in_default : goal.returns-in_ok-blocks-in_default
+returns-in_ok-blocks-in_default c =
+    ok_then c.sealed-in_default.result _ _ c.sealed-in_default.ensures
+    (λ f s. zipped_sealed c.args.size bit_or in_either or_flagwise c.args.mine.now c.args.theirs.now f c.in_ok-blocks-in_default.blocks.items
+    (zipped_of c.args.size bit_or c.args.mine.now c.args.theirs.now c.in_ok-xs-in_default.xs.items c.in_ok-ys-in_default.ys.items _ _ c.in_ok-blocks-in_default.blocks.items
+    c.in_ok-xs-in_default.ensures c.in_ok-ys-in_default.ensures c.as_slice-in_default.ensures.value c.as_slice-in_default-2.ensures.value c.in_ok-blocks-in_default.ensures) s)

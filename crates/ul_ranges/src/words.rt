@@ -1,0 +1,108 @@
+//! Loops over blocks of bits.
+ghost use Rattle.std.specs.Prelude.{◌≡◌, ◌<◌, ◌^◌, IfSome, length, IfOk, map, zip, bit_and, bit_or, ◌==◌};
+ghost use Rattle.std.specs.Int.{bit_not, w64};
+ghost use Rattle.std.specs.List.{list_all};
+ghost use Rattle.ul_ranges.specs.Blocks.{flag, flag_at};
+ghost use Rattle.ul_ranges.specs.Flags.{IsNext};
+
+use std::alloc::{AllocError, Global};
+
+pub fn met(alloc: Global, xs: &[u64], ys: &[u64]) -> Result<Vec<u64>, AllocError>
+    ensures { IfOk result (λ v. v.items ≡ map (λ p. bit_and p.0 p.1) (zip xs.now ys.now)) }
+{
+    xs.iter()
+        .zip(ys.iter())
+        .map(|(x, y)| *x & *y)
+        .collect(alloc)
+}
+
+pub fn joined(alloc: Global, xs: &[u64], ys: &[u64]) -> Result<Vec<u64>, AllocError>
+    ensures { IfOk result (λ v. v.items ≡ map (λ p. bit_or p.0 p.1) (zip xs.now ys.now)) }
+{
+    xs.iter()
+        .zip(ys.iter())
+        .map(|(x, y)| *x | *y)
+        .collect(alloc)
+}
+
+pub fn lessened(alloc: Global, xs: &[u64], ys: &[u64]) -> Result<Vec<u64>, AllocError>
+    ensures { IfOk result (λ v. v.items ≡ map (λ p. bit_and p.0 (bit_not w64 p.1)) (zip xs.now ys.now)) }
+{
+    xs.iter()
+        .zip(ys.iter())
+        .map(|(x, y)| *x & !*y)
+        .collect(alloc)
+}
+
+pub fn are_within(xs: &[u64], ys: &[u64]) -> bool
+    ensures { result ≡ list_all (λ p. bit_and p.0 (bit_not w64 p.1) == 0) (zip xs.now ys.now) }
+{
+    xs.iter().zip(ys.iter()).all(|(x, y)| *x & !*y == 0)
+}
+
+pub fn are_apart(xs: &[u64], ys: &[u64]) -> bool
+    ensures { result ≡ list_all (λ p. bit_and p.0 p.1 == 0) (zip xs.now ys.now) }
+{
+    xs.iter().zip(ys.iter()).all(|(x, y)| *x & *y == 0)
+}
+
+pub fn put_met(xs: &mut Vec<u64>, ys: &[u64])
+    requires { length xs.old.items ≡ length ys.now }
+    ensures { xs.new.items ≡ map (λ p. bit_and p.0 p.1) (zip xs.old.items ys.now) }
+{
+    for j in 0..ys.len() {
+        xs[j] &= ys[j];
+    }
+}
+
+pub fn put_joined(xs: &mut Vec<u64>, ys: &[u64])
+    requires { length xs.old.items ≡ length ys.now }
+    ensures { xs.new.items ≡ map (λ p. bit_or p.0 p.1) (zip xs.old.items ys.now) }
+{
+    for j in 0..ys.len() {
+        xs[j] |= ys[j];
+    }
+}
+
+pub fn put_lessened(xs: &mut Vec<u64>, ys: &[u64])
+    requires { length xs.old.items ≡ length ys.now }
+    ensures { xs.new.items ≡ map (λ p. bit_and p.0 (bit_not w64 p.1)) (zip xs.old.items ys.now) }
+{
+    for j in 0..ys.len() {
+        xs[j] &= !ys[j];
+    }
+}
+
+// The first bit of a word from a place on.
+pub fn next_bit(word: u64, from: u32) -> Option<u32>
+    requires { from < 64 }
+    ensures next { IsNext (flag word) from result }
+    ensures small { IfSome result (λ bit. bit < 64) }
+{
+    let rest = word & !((1u64 << from) - 1);
+    if rest == 0 {
+        None
+    } else {
+        Some(rest.trailing_zeros())
+    }
+}
+
+// The first bit of a list of blocks from a place on.
+pub fn next_flag(blocks: &[u64], from: usize) -> Option<usize>
+    requires { length blocks.now < 2 ^ 32 }
+    ensures { IsNext (flag_at blocks.now) from result }
+{
+    let first = from / 64;
+    if first >= blocks.len() {
+        return None;
+    }
+    if let Some(bit) = next_bit(blocks[first], (from % 64) as u32) {
+        return Some(64 * first + bit as usize);
+    }
+    for j in first + 1..blocks.len() {
+        if let Some(bit) = next_bit(blocks[j], 0) {
+            return Some(64 * j + bit as usize);
+        }
+    }
+    None
+}

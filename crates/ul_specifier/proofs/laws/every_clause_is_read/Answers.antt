@@ -1,0 +1,5 @@
+use Rattle.ul_specifier.proofs.EachRead.{clause-read, clause_operand, clauses-read, clauses_text}
+use Rattle.ul_specifier.proofs.laws.every_clause_is_read.Goals as goal
+
+pub returns : goal.returns
+returns c = record { one = λ d is. (clause_operand d, clause-read d is); list = λ cs all. (clauses_text cs, clauses-read cs all) }

@@ -1,0 +1,43 @@
+use Rattle.std.proofs.Common.{◌≡◌, ◌-◌, ◌/◌, [], ◌∷◌, List, ap, sym, ◌∙◌, subst, length, arith, take, drop, length-take}
+use Rattle.std.specs.List.{All}
+use Rattle.std.proofs.lemmas.List.Elements.{All-take}
+use Rattle.ul_tree.specs.Joining.{joint, truths_of}
+use Rattle.ul_tree.specs.Reduced.{IsReduced}
+use Rattle.ul_tree.specs.Values.{tree_holds}
+use Rattle.ul_tree.specs.Views.{tree_view}
+use Rattle.ul_tree.specs.declared.tree.Tree.{Tree}
+use Rattle.ul_tree.proofs.Joint.{last_truths}
+use Rattle.ul_tree.proofs.markers.+joined_last.Goals as goal
+
+pub joined_last-requires : goal.joined_last-requires
+joined_last-requires t c =
+    let d = c.decreases in
+    (omega (arith, d, c.requires.some, c.if-count-eq1.false), (omega (arith, c.requires.some, c.if-count-eq1.false), (omega (arith, c.requires.within), c.requires.reduced)))
+
+pub joined_last-requires-2 : goal.joined_last-requires-2
+joined_last-requires-2 t c =
+    let d = c.decreases in
+    let xs = c.args.trees.now.items in
+    let half = c.args.count / 2 in
+    let left = c.in_ok-back.ensures.left in
+    let n = ap (length {A = Tree}) left ∙ length-take (length xs - half) xs in (
+      omega (arith, d, c.requires.some, c.if-count-eq1.false),
+      (
+        omega (arith, c.requires.some),
+        (
+          omega (arith, n, c.requires.within),
+          subst (λ (zs : List Tree). All (λ t. IsReduced (tree_view t)) zs) (sym left) (All-take (λ t. IsReduced (tree_view t)) (length xs - half) xs c.requires.reduced),
+        ),
+      ),
+    )
+
+pub returns-clause-truth : goal.returns-clause-truth
+returns-clause-truth t c w x =
+    let all = c.args.all in
+    let xs = c.args.trees.now.items in
+    let half = c.args.count / 2 in
+    let front = c.joined_last.new.trees.items in
+    c.in_ok-tree.ensures.truth w x
+    ∙ ap (λ b. joint all (b ∷ tree_holds (tree_view c.in_ok-back.back) w x ∷ [])) (c.in_ok-front.ensures.truth w x)
+    ∙ ap (λ b. joint all (joint all (truths_of (drop (length front - (c.args.count - half)) front) w x) ∷ b ∷ [])) (c.in_ok-back.ensures.truth w x)
+    ∙ last_truths all xs c.joined_last.new.trees.items c.args.count half w x (omega arith) c.requires.within c.in_ok-back.ensures.left

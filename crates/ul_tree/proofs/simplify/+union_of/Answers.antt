@@ -1,0 +1,35 @@
+use Rattle.std.proofs.Common.{◌≡◌, ◌/◌, ◌-◌, ◌+◌, ap, sym, ◌∙◌, subst, arith}
+use Rattle.ul_tree.specs.Keys.{branches_of}
+use Rattle.ul_tree.specs.Plain.{Plain, holds_of}
+use Rattle.ul_tree.specs.Reduced.{IsReduced}
+use Rattle.ul_tree.specs.SimplifyViews.{HoldsParts}
+use Rattle.ul_tree.specs.Views.{tree_view}
+use Rattle.ul_tree.proofs.Halves.{part_reduced}
+use Rattle.ul_tree.proofs.Lowering.{one_part, halves_joined}
+use Rattle.ul_tree.proofs.simplify.+union_of.Goals as goal
+
+pub returns-then-count-eq1-clause-reduced : goal.returns-then-count-eq1-clause-reduced
+returns-then-count-eq1-clause-reduced t c =
+    subst (λ (z : Plain). IsReduced z) (sym c.in_ok-part.ensures) (part_reduced (tree_view c.args.tree.now) _ _ _ c.args.low c.requires.reduced c.branch_at.ensures.found)
+
+pub returns-then-count-eq1-clause-truth : goal.returns-then-count-eq1-clause-truth
+returns-then-count-eq1-clause-truth t c =
+    let bs = branches_of (tree_view c.args.tree.now) in
+    let one : HoldsParts bs c.args.low 1 (tree_view c.in_ok-part.part) = λ f. ap (λ z. holds_of z f) c.in_ok-part.ensures ∙ sym (one_part _ _ _ _ f c.branch_at.ensures.found) in
+    let e : 1 ≡ c.args.high - c.args.low = omega (arith, c.if-count-eq1.true) in
+    subst (λ n. HoldsParts bs c.args.low n (tree_view c.in_ok-part.part)) e one
+
+pub union_of-requires : goal.union_of-requires
+union_of-requires t c =
+    let d = c.decreases in
+    (omega (arith, d, c.requires.some, c.if-count-eq1.false), (c.requires.reduced, (omega (arith, c.requires.some, c.if-count-eq1.false), omega (arith, c.requires.within, c.requires.some))))
+
+pub union_of-requires-2 : goal.union_of-requires-2
+union_of-requires-2 t c =
+    let d = c.decreases in
+    (omega (arith, d, c.requires.some, c.if-count-eq1.false), (c.requires.reduced, (omega (arith, c.requires.some), c.requires.within)))
+
+pub returns-clause-truth : goal.returns-clause-truth
+returns-clause-truth t c =
+    halves_joined (branches_of (tree_view c.args.tree.now)) c.args.low (c.args.low + (c.args.high - c.args.low) / 2) c.args.high (tree_view c.in_ok-front.front) (tree_view c.in_ok-back.back) (tree_view c.in_ok-union.union)
+    (omega arith) (omega (arith, c.requires.some)) c.in_ok-front.ensures.reduced c.in_ok-back.ensures.reduced c.in_ok-union.ensures.joined c.in_ok-front.ensures.truth c.in_ok-back.ensures.truth
