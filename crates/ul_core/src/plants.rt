@@ -8,8 +8,8 @@ use std::marker::Model;
 /// A finite tree: a label and the parts in order. Contracts see it as a `Tree`.
 ///
 /// Hashing, comparing and dropping a plant recur once for each of its levels, and nothing bounds how many there
-/// are: a level takes some 200 bytes of the stack, so 10,000 levels are far within a thread's stack, and a
-/// million are not. Who makes plants of outside data bounds their depth.
+/// are: 2,000 levels are far within a thread's stack, and a million are not. Who makes plants of outside data
+/// bounds their depth.
 #[derive(Drop)]
 pub struct Plant<L: Label> {
     pub label: L,

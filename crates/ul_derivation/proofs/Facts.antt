@@ -1,24 +1,22 @@
 -- What is known of a node and of a step of a number.
-use Rattle.std.proofs.Common.{◌≡◌, ℕ, zero, suc, ◌+◌, ◌-◌, ◌<◌, ◌⊎◌, inl, inr, Bool, true, false, Option, Some, None, List, [], ◌∷◌, drop, length, get_or, subst, sym, ap, ◌∙◌, refl, slice_get, arith}
-use Rattle.std.specs.Prelude.{option_map, IsTrue, ◌↔◌, IfSome, IfOk, Result, Ok, Err}
+use Rattle.std.proofs.Common.{◌≡◌, ℕ, suc, ◌-◌, ◌<◌, Bool, true, Option, Some, None, List, [], ◌∷◌, length, get_or, subst, sym, ap, ◌∙◌, refl, slice_get, arith}
+use Rattle.std.specs.Prelude.{IsTrue, ◌↔◌, IfOk, Result, Ok, Err}
 use Rattle.std.specs.Option.{is_some}
 use Rattle.std.proofs.lemmas.Option.{none-some, same_Some, slice_get-get_or}
 use Rattle.ul_ranges.specs.Flags.{has, is_within}
-use Rattle.ul_ranges.proofs.FlagLaws.{within}
-use Rattle.ul_problem.specs.Plain.{Plain, node_at, size_in, size_of, base_in, base_of, barred_in, barred_of, needs_in, needs_of}
+use Rattle.ul_ranges.proofs.ForCallers.{within}
+use Rattle.ul_problem.specs.Plain.{Plain, node_at, size_in, size_of, base_in, barred_in, barred_of, needs_in, needs_of}
 use Rattle.ul_problem.specs.Problems.{IsWellFormed}
-use Rattle.ul_problem.specs.Serving.{IsOneOf, HasNone}
-use Rattle.ul_problem.specs.Terms.{term_on}
+use Rattle.ul_problem.specs.Serving.{IsOneOf}
 use Rattle.ul_problem.specs.Steps.{AreTermsOf, AreOfOne, HasNeed, HasTermOn, IsResolvent, IsCutOf, IsRightNeed, IsRightPython, IsRightBase, IsRight, IsStepWithin, AreRightAfter, AreRootTerms, ClosesWith, says, step_of}
 use Rattle.ul_problem.specs.declared.problem.Need.{Need}
 use Rattle.ul_problem.specs.declared.problem.NodeFacts.{NodeFacts}
 use Rattle.ul_problem.specs.declared.step.Step.{Step}
 use Rattle.ul_problem.specs.declared.step.Step.TheVariants.{Cut}
 use Rattle.ul_problem.specs.declared.term.Term.{Term}
-use Rattle.ul_problem.proofs.Rules.{barred_size, need_fits, node_whole}
-use Rattle.ul_problem.proofs.Wholes.{all_within}
-use Rattle.ul_problem.proofs.Merging.{one_resolvent}
-use Rattle.ul_problem.proofs.Soundness.{step_place, accepted_none}
+use Rattle.ul_problem.proofs.ForCallers.{all_within, barred_size, need_fits, node_whole, says_whole, step_place}
+use Rattle.ul_derivation.specs.Looking.{AreCut, IsSaid}
+use Rattle.ul_problem.specs.Terms.{IsOrdered}
 
 abbrev pub IsSetOf : Plain → ℕ → List Bool → Type 0
 IsSetOf p n s = (n < length p.nodes) × (length s ≡ size_of p n)
@@ -72,48 +70,42 @@ need_tested p n m s w x rows b e q t h k = (
   λ r. t.1 (λ v i. subst (λ (l : List Need). HasNeed l m w) (row_is p n v x rows e q) (r.4 v i)),
 )
 
--- a resolvent
-pub resolvent_tested : (m : ℕ) (left right ts wanted read : List Term) (b : Bool) → HasTermOn m left → HasTermOn m right → IsResolvent m left right wanted → read ≡ wanted → (IsTrue b ↔ (read ≡ ts))
-    → IsTrue b ↔ (HasTermOn m left × HasTermOn m right × IsResolvent m left right ts)
-resolvent_tested m left right ts wanted read b l r res e t = (
-  λ g. (l, r, subst (λ (x : List Term). IsResolvent m left right x) (sym e ∙ t.0 g) res),
-  λ g. t.1 (e ∙ one_resolvent m left right wanted ts res g.2),
+-- what a step says, as it stands in a cut or as it was made
+pub cut_said : (p : Plain) (i j m : ℕ) (ts : List Term) → IsStepWithin p (Cut i j m ts) → IsSaid p (Cut i j m ts) ts
+cut_said p i j m ts h = record { same = refl; fits = h.0; ordered = h.1.0 }
+
+pub made_said : (p : Plain) (s : Step) (ts : List Term) → IsStepWithin p s → ts ≡ says p s → AreTermsOf p ts → IsSaid p s ts
+made_said p s ts h e f = record { same = e; fits = f; ordered = subst IsOrdered (sym e) (says_whole p s h).0 }
+
+pub are_of_one : (p : Plain) (s t : Step) (l r : List Term) → IsSaid p s l → IsSaid p t r → AreOfOne l r
+are_of_one p s t l r a b = (p, a.fits, b.fits)
+
+pub cut_same : (p : Plain) (s t : Step) (m : ℕ) (l r ts : List Term) (b : Bool) → IsSaid p s l → IsSaid p t r → IsTrue b ↔ AreCut m l r ts → IsTrue b ↔ AreCut m (says p s) (says p t) ts
+cut_same p s t m l r ts b x y i = subst (λ (a : List Term). IsTrue b ↔ AreCut m a (says p t) ts) x.same (subst (λ (a : List Term). IsTrue b ↔ AreCut m l a ts) y.same i)
+
+-- a cut of the steps of two numbers
+pub cut_of_two : (p : Plain) (earlier : List Step) (i j m : ℕ) (s t : Step) (ts : List Term) (b : Bool) → step_of earlier i ≡ Some s → step_of earlier j ≡ Some t
+    → IsTrue b ↔ AreCut m (says p s) (says p t) ts → IsTrue b ↔ IsCutOf p earlier i j m ts
+cut_of_two p earlier i j m s t ts b e f g = (
+  λ h. (let c = g.0 h in (s, t, e, f, c.0, c.1, c.2)),
+  λ h. g.1 (back h),
 )
-
--- what a step of a number says
-pub within_of : (p : Plain) (earlier : List Step) (i : ℕ) (o : Option Step) (s : Step) → AreRightAfter p [] earlier → o ≡ step_of earlier i → o ≡ Some s → IsStepWithin p s
-within_of p earlier i o s r e f = let k = step_place earlier i s (sym e ∙ f) in all_within p earlier r k.0 s k.1
-
-said_from : (p : Plain) (o : Option Step) (l : List Term) → Some l ≡ option_map (λ s. says p s) o → (s : Step) × (o ≡ Some s) × (says p s ≡ l)
-said_from p None l e = absurd (none-some l (sym e))
-said_from p (Some s) l e = (s, refl, same_Some (says p s) l (sym e))
-
-pub cut_tested : (p : Plain) (earlier : List Step) (i j m : ℕ) (l r ts : List Term) (b : Bool) → Some l ≡ option_map (λ s. says p s) (step_of earlier i) → Some r ≡ option_map (λ s. says p s) (step_of earlier j)
-    → (IsTrue b ↔ (HasTermOn m l × HasTermOn m r × IsResolvent m l r ts)) → IsTrue b ↔ IsCutOf p earlier i j m ts
-cut_tested p earlier i j m l r ts b e f t =
-    let x = said_from p (step_of earlier i) l e in
-    let y = said_from p (step_of earlier j) r f in (
-      λ g. (let h = t.0 g in (
-        x.0,
-        y.0,
-        x.1,
-        y.1,
-        subst (HasTermOn m) (sym x.2) h.0,
-        subst (HasTermOn m) (sym y.2) h.1,
-        subst (λ (a : List Term). IsResolvent m a (says p y.0) ts) (sym x.2) (subst (λ (a : List Term). IsResolvent m l a ts) (sym y.2) h.2),
-      )),
-      λ g. t.1 (back x y g),
-    )
   where
-    back : (x : (s : Step) × (step_of earlier i ≡ Some s) × (says p s ≡ l)) (y : (s : Step) × (step_of earlier j ≡ Some s) × (says p s ≡ r)) → IsCutOf p earlier i j m ts → HasTermOn m l × HasTermOn m r × IsResolvent m l r ts
-    back x y (left, right, el, er, hl, hr, res) =
-        let a : says p left ≡ l = ap (says p) (same_Some left x.0 (sym el ∙ x.1)) ∙ x.2 in
-        let c : says p right ≡ r = ap (says p) (same_Some right y.0 (sym er ∙ y.1)) ∙ y.2 in
-        (subst (HasTermOn m) a hl, subst (HasTermOn m) c hr, subst (λ (d : List Term). IsResolvent m d r ts) a (subst (λ (d : List Term). IsResolvent m (says p left) d ts) c res))
+    back : IsCutOf p earlier i j m ts → AreCut m (says p s) (says p t) ts
+    back (left, right, el, er, hl, hr, res) =
+        let a : says p left ≡ says p s = ap (says p) (same_Some left s (sym el ∙ e)) in
+        let c : says p right ≡ says p t = ap (says p) (same_Some right t (sym er ∙ f)) in
+        (subst (HasTermOn m) a hl, subst (HasTermOn m) c hr, subst (λ (d : List Term). IsResolvent m d (says p t) ts) a (subst (λ (d : List Term). IsResolvent m (says p left) d ts) c res))
 
-pub cut_missing : (p : Plain) (earlier : List Step) (i j m : ℕ) (ts : List Term) → (None ≡ option_map (λ s. says p s) (step_of earlier i)) ⊎ (None ≡ option_map (λ s. says p s) (step_of earlier j)) → IsCutOf p earlier i j m ts → ⊥
-cut_missing p earlier i j m ts (inl e) (left, right, el, er, hl, hr, res) = none-some (says p left) (e ∙ ap (option_map (λ s. says p s)) el)
-cut_missing p earlier i j m ts (inr e) (left, right, el, er, hl, hr, res) = none-some (says p right) (e ∙ ap (option_map (λ s. says p s)) er)
+pub no_left : (p : Plain) (earlier : List Step) (i j m : ℕ) (ts : List Term) → step_of earlier i ≡ None → IsCutOf p earlier i j m ts → ⊥
+no_left p earlier i j m ts e (left, right, el, er, hl, hr, res) = none-some left (sym e ∙ el)
+
+pub no_right : (p : Plain) (earlier : List Step) (i j m : ℕ) (ts : List Term) → step_of earlier j ≡ None → IsCutOf p earlier i j m ts → ⊥
+no_right p earlier i j m ts e (left, right, el, er, hl, hr, res) = none-some right (sym e ∙ er)
+
+-- a step of a number, as it is read
+pub step_within : (p : Plain) (earlier : List Step) (i : ℕ) (s : Step) → AreRightAfter p [] earlier → step_of earlier i ≡ Some s → IsStepWithin p s
+step_within p earlier i s r e = let k = step_place earlier i s e in all_within p earlier r k.0 s k.1
 
 -- the last step
 closes_at : (p : Plain) (steps : List Step) (s : Step) → slice_get steps (length steps - 1) ≡ Some s → (AreRootTerms p (says p s) → ClosesWith p steps) × (ClosesWith p steps → AreRootTerms p (says p s))
@@ -137,10 +129,6 @@ last_within p steps o s r e f = all_within p steps r (length steps - 1) s (sym e
 pub ok_then : {A E : Type 0} (r : Result A E) (P Q : A → Type 0) → IfOk r P → ((x : A) → P x → Q x) → IfOk r Q
 ok_then (Ok x) P Q h f = f x h
 ok_then (Err e) P Q h f = tt
-
-pub some_fits : (p : Plain) (o : Option (List Term)) (l : List Term) → IfSome o (λ ts. AreTermsOf p ts) → o ≡ Some l → AreTermsOf p l
-some_fits p None l h e = absurd (none-some l e)
-some_fits p (Some x) l h e = subst (AreTermsOf p) (same_Some x l e) h
 
 pub right_cut : (p : Plain) (earlier : List Step) (i j m : ℕ) (ts read : List Term) (step : Step) (b : Bool) → step ≡ Cut i j m ts → read ≡ ts → AreTermsOf p read → IsTrue b ↔ IsCutOf p earlier i j m read → IsTrue b ↔ IsRight p earlier step
 right_cut p earlier i j m ts read step b e f a t =

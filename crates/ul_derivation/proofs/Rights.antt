@@ -9,9 +9,9 @@ use Rattle.ul_derivation.specs.Faults.{IsFirstBad}
 use Rattle.std.specs.Prelude.{Bool, false, IsTrue, ◌↔◌}
 use Rattle.std.proofs.lemmas.Option.{none-some, same_Some, slice_get_read, slice_get_within}
 use Rattle.std.proofs.lemmas.Bool.{cases_order, true≢false}
-use Rattle.std.proofs.Common.{zero, suc, ◌-◌, Some, slice_get, arith, ◌⊎◌, inl, inr}
+use Rattle.std.proofs.Common.{zero, suc, ◌-◌, Some, slice_get, arith, inl, inr}
 use Rattle.ul_problem.specs.Steps.{ClosesWith}
-use Rattle.ul_problem.proofs.Soundness.{accepted_none}
+use Rattle.ul_problem.proofs.ForCallers.{accepted_none}
 use Rattle.ul_problem.specs.Plain.{Plain}
 use Rattle.ul_problem.specs.Steps.{IsRight, AreRightAfter}
 use Rattle.ul_problem.specs.declared.step.Step.{Step}

@@ -1,6 +1,6 @@
 -- The worked example.
-use Rattle.std.proofs.Common.{◌≡◌, ◌≢◌, ℕ, zero, suc, ◌+◌, List, [], ◌∷◌, Bool, true, false, Option, Some, None, refl, inl, inr, arith, ◌<◌}
-use Rattle.std.proofs.lemmas.Bool.{true≢false, ne_eqb}
+use Rattle.std.proofs.Common.{◌≡◌, ℕ, zero, suc, [], ◌∷◌, true, false, None, refl, inl, inr, arith, ◌<◌}
+use Rattle.std.proofs.lemmas.Bool.{ne_eqb}
 use Rattle.std.proofs.Common.{nat_eq, subst, sym}
 use Rattle.std.proofs.lemmas.Option.{same_Some, none-some}
 use Rattle.ul_problem.specs.Serving.{IsOneOf}
@@ -9,8 +9,7 @@ use Rattle.ul_problem.specs.declared.step.Step.{Step}
 use Rattle.ul_ranges.specs.Flags.{has}
 use Rattle.ul_problem.specs.Plain.{needs_of}
 use Rattle.ul_problem.specs.Terms.{term_on}
-use Rattle.ul_problem.specs.Steps.{HasNeed, IsRight, IsResolvent, AreRightAfter, Accepts, resolved}
-use Rattle.ul_problem.specs.declared.term.Term.{Term}
+use Rattle.ul_problem.specs.Steps.{HasNeed, IsRight, IsResolvent, resolved}
 use Rattle.ul_problem.specs.declared.term.Term.TheVariants.{In, NotIn}
 use Rattle.ul_problem.specs.declared.step.Step.TheVariants.{Cut}
 use Rattle.ul_derivation.specs.Rows.{clash, first_step, second_step, ClashAccepted, ClashShort, ClashUncut}

@@ -1,5 +1,5 @@
 -- Where a derivation isn't accepted.
-use Rattle.std.specs.Prelude.{◌≡◌, ℕ, ◌+◌, ◌-◌, ◌<◌, List, [], Some, None, ◌⊎◌, slice_get, take, length}
+use Rattle.std.specs.Prelude.{◌≡◌, ℕ, ◌+◌, ◌-◌, ◌<◌, List, [], Some, ◌⊎◌, slice_get, take, length}
 use Rattle.ul_problem.specs.Plain.{Plain}
 use Rattle.ul_problem.specs.Steps.{IsRight, AreRightAfter, ClosesWith}
 use Rattle.ul_problem.specs.declared.step.Step.{Step}

@@ -1,4 +1,5 @@
-pub mod Looking
+pub mod Headline
 pub mod Faults
 pub mod Laws
 pub mod Rows
+pub mod Looking

@@ -1,13 +1,11 @@
 -- A worked example. demo 0.1 needs q with {1}, the versions 1 and 2 of q need z with {}, and z has no versions: so nothing serves.
-use Rattle.std.specs.Prelude.{◌≡◌, ℕ, List, [], ◌∷◌, Bool, true, false, Option, Some, None, codes}
+use Rattle.std.specs.Prelude.{ℕ, List, [], ◌∷◌, true, false, None, codes}
 use Rattle.ul_base.specs.declared.node.Node.{Node}
 use Rattle.ul_version.specs.Fields.{plain}
 use Rattle.ul_problem.specs.Plain.{Plain}
 use Rattle.ul_problem.specs.Steps.{Accepts}
-use Rattle.ul_problem.specs.declared.problem.Need.{Need}
 use Rattle.ul_problem.specs.declared.problem.NodeFacts.{NodeFacts}
-use Rattle.ul_problem.specs.declared.term.Term.{Term}
-use Rattle.ul_problem.specs.declared.term.Term.TheVariants.{In, NotIn}
+use Rattle.ul_problem.specs.declared.term.Term.TheVariants.{In}
 use Rattle.ul_problem.specs.declared.step.Step.{Step}
 use Rattle.ul_problem.specs.declared.step.Step.TheVariants.{Need as NeedStep, Cut}
 use Rattle.ul_derivation.specs.Faults.{IsFirstBad}

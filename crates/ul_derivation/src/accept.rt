@@ -1,8 +1,5 @@
 //! Whether a derivation is accepted.
-ghost use Rattle.std.specs.Prelude.{IfOk, IfErr};
-ghost use Rattle.ul_problem.specs.Serving.{HasNone};
-ghost use Rattle.ul_problem.specs.Steps.{Accepts};
-ghost use Rattle.ul_derivation.specs.Faults.{IsFault};
+ghost use Rattle.ul_derivation.specs.Headline.{IsJudged};
 
 use crate::checks::is_right;
 use crate::closing::closes;
@@ -23,9 +20,7 @@ pub enum AcceptFault {
 /// Whether the derivation is accepted: each step is right after those before it, and the last has only positive terms on the roots,
 /// each with a set that isn't empty. Where it is, no selection serves the problem.
 pub fn accepts(alloc: Global, problem: &Problem, derivation: &Derivation) -> Result<(), AcceptFault>
-    ensures accepted { IfOk result (λ _. Accepts problem.now derivation.now) }
-    ensures none { IfOk result (λ _. HasNone problem.now) }
-    ensures fault { IfErr result (λ e. IsFault problem.now derivation.now e) }
+    ensures { IsJudged problem.now derivation.now result }
 {
     let steps = derivation.as_slice();
     let mut index = Index::new(alloc);

@@ -2,12 +2,13 @@
 ghost use Rattle.std.specs.Prelude.{◌≡◌, ◌<◌, ◌↔◌, ℕ, [], true, length, get_or, option_map, IfOk, IfSome, IsTrue};
 ghost use Rattle.std.specs.Option.{option_copied};
 ghost use Rattle.ul_problem.specs.Plain.{size_of};
-ghost use Rattle.ul_problem.specs.Steps.{AreOfOne, AreRightAfter, AreTermsOf, HasNeed, HasTermOn, IsResolvent, IsRight, IsRightBase, IsCutOf, IsRightNeed, IsRightPython, says, step_of};
-ghost use Rattle.ul_derivation.specs.Looking.{AreNeedsOfSize, HaveNeed};
+ghost use Rattle.ul_problem.specs.Terms.{IsOrdered};
+ghost use Rattle.ul_problem.specs.Steps.{AreOfOne, AreRightAfter, AreTermsOf, HasNeed, HasTermOn, IsResolvent, IsRight, IsRightBase, IsCutOf, IsStepWithin, IsRightNeed, IsRightPython, says, step_of};
+ghost use Rattle.ul_derivation.specs.Looking.{AreCut, AreNeedsOfSize, HaveNeed, IsSaid, said_or};
 
 use crate::index::{Entry, Index};
 use std::alloc::{AllocError, Global};
-use ul_problem::{Incompat, Need, NeedRow, Problem, Step, Term, resolvent, same_terms, term_on};
+use ul_problem::{Incompat, Need, NeedRow, Problem, Step, Term, is_resolvent, term_on};
 use ul_ranges::Ordinals;
 
 // Whether the problem has the node, and the set has the size of its versions.
@@ -154,40 +155,74 @@ fn has_term_on(terms: &[Term], node: u64) -> bool
     term_on(terms, node).is_some()
 }
 
+// What a step says, where it isn't a cut, whose terms stand in it.
+fn made(alloc: Global, problem: &Problem, step: &Step) -> Result<Option<Incompat>, AllocError>
+    requires { IsStepWithin problem.now step.now }
+    ensures { IfOk result (λ o. IsSaid problem.now step.now (said_or step.now o)) }
+{
+    match step {
+        Step::Cut { .. } => Ok(None),
+        _ => {
+            let terms = step.says(alloc, problem)?;
+            Ok(Some(terms))
+        }
+    }
+}
+
+// What a step says, as it was made, or as it stands in a cut.
+fn said<'a>(step: &'a Step, made: &'a Option<Incompat>) -> &'a [Term]
+    ensures { result.now ≡ said_or step.now made.now }
+{
+    match made {
+        Some(terms) => terms.terms(),
+        None => match step {
+            Step::Cut { terms, .. } => terms.as_slice(),
+            _ => &[],
+        },
+    }
+}
+
 // Whether both have a term on the node, and the terms are their resolvent on it.
-fn is_resolvent(
+fn are_cut(
     alloc: Global,
     node: u64,
-    left: &Incompat,
-    right: &Incompat,
+    left: &[Term],
+    right: &[Term],
     terms: &[Term],
 ) -> Result<bool, AllocError>
-    requires { AreOfOne left.now right.now }
-    ensures { IfOk result (λ b. IsTrue b ↔ (HasTermOn node left.now × HasTermOn node right.now × IsResolvent node left.now right.now terms.now)) }
+    requires sizes { AreOfOne left.now right.now }
+    requires in_order { IsOrdered left.now × IsOrdered right.now }
+    ensures { IfOk result (λ b. IsTrue b ↔ AreCut node left.now right.now terms.now) }
 {
-    if has_term_on(left.terms(), node) && has_term_on(right.terms(), node) {
-        let wanted = resolvent(alloc, node, left, right)?;
-        Ok(same_terms(wanted.terms(), terms))
+    if has_term_on(left, node) && has_term_on(right, node) {
+        is_resolvent(alloc, node, left, right, terms)
     } else {
         Ok(false)
     }
 }
 
-// What the step of a number says, where there is one.
-fn said(
+// Whether the terms are what a cut of two steps on the node says.
+fn is_cut_of(
     alloc: Global,
     problem: &Problem,
-    earlier: &[Step],
-    number: u64,
-) -> Result<Option<Incompat>, AllocError>
-    requires { AreRightAfter problem.now [] earlier.now }
-    ensures value { IfOk result (λ o. o ≡ option_map (λ s. says problem.now s) (step_of earlier.now number)) }
-    ensures fits { IfOk result (λ o. IfSome o (λ ts. AreTermsOf problem.now ts)) }
+    left: &Step,
+    right: &Step,
+    node: u64,
+    terms: &[Term],
+) -> Result<bool, AllocError>
+    requires left { IsStepWithin problem.now left.now }
+    requires right { IsStepWithin problem.now right.now }
+    ensures { IfOk result (λ b. IsTrue b ↔ AreCut node (says problem.now left.now) (says problem.now right.now) terms.now) }
 {
-    match step_of(earlier, number) {
-        Some(step) => Ok(Some(step.says(alloc, problem)?)),
-        None => Ok(None),
-    }
+    let made_left = made(alloc, problem, left)?;
+    let made_right = made(alloc, problem, right)?;
+    are_cut(
+        alloc,
+        node,
+        said(left, &made_left),
+        said(right, &made_right),
+        terms,
+    )
 }
 
 // Whether the terms are the resolvent on a node of the steps of two numbers.
@@ -202,11 +237,12 @@ fn is_cut(
     requires { AreRightAfter problem.now [] earlier.now }
     ensures { IfOk result (λ b. IsTrue b ↔ IsCutOf problem.now earlier.now numbers.0 numbers.1 node terms.now) }
 {
-    let left = said(alloc, problem, earlier, numbers.0)?;
-    let right = said(alloc, problem, earlier, numbers.1)?;
-    match (&left, &right) {
-        (Some(left), Some(right)) => is_resolvent(alloc, node, left, right, terms),
-        _ => Ok(false),
+    match step_of(earlier, numbers.0) {
+        None => Ok(false),
+        Some(left) => match step_of(earlier, numbers.1) {
+            None => Ok(false),
+            Some(right) => is_cut_of(alloc, problem, left, right, node, terms),
+        },
     }
 }
 

@@ -13,9 +13,11 @@ use Rattle.ul_generations.specs.Laws.{IsBefore}
 abbrev pub leaf : List Bool → ℕ → Leaf ℕ ℕ
 leaf path n = record { path = path; region = n; done = n }
 
+-- an open region
 abbrev pub fork : List Bool → ℕ → Row ℕ ℕ
 fork path n = Open (record { path = path; region = n })
 
+-- a refused region
 abbrev pub refusal : List Bool → ℕ → Refusal ℕ ℕ
 refusal path n = record { path = path; region = n; refusal = n }
 
@@ -23,13 +25,15 @@ refusal path n = record { path = path; region = n; refusal = n }
 abbrev pub rows : List (Row ℕ ℕ)
 rows = Closed (leaf (false ∷ []) 3) ∷ fork (true ∷ false ∷ []) 5 ∷ fork (true ∷ true ∷ []) 6 ∷ []
 
--- the one is done and the other split; both are refused; the second is refused
+-- outcomes of the two: one is done and the other split
 abbrev pub done_and_split : List (Outcome ℕ ℕ ℕ)
 done_and_split = Done 5 ∷ Split 1 2 ∷ []
 
+-- both are refused
 abbrev pub both_refused : List (Outcome ℕ ℕ ℕ)
 both_refused = Refused 5 ∷ Refused 6 ∷ []
 
+-- the second is refused
 abbrev pub second_refused : List (Outcome ℕ ℕ ℕ)
 second_refused = Done 5 ∷ Refused 6 ∷ []
 

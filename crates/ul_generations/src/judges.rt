@@ -53,7 +53,7 @@ pub trait Judge<L: Label>: Sync {
         ensures learns { Knows pass.old pass.new }
         ensures outcome { IfOk result (λ o. outcome self.now region.now o) }
         ensures may { IfOk result (λ o. MayGoOn (may self.now) o) }
-        ensures known { IfOk result (λ o. IsKnown (region_known pass.new) (done_known pass.new) (refusal_known pass.new) o) };
+        ensures known { IfOk result (IsKnown (region_known pass.new) (done_known pass.new) (refusal_known pass.new)) };
 
     // What is ready or known stays so when a pass learns more.
     ghost ready_stays: { (j : Self) (p q : Held L) → Knows p q → ready j p → ready j q };

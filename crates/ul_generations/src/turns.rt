@@ -7,7 +7,7 @@ ghost use Rattle.ul_generations.specs.Rows.{open_regions};
 ghost use Rattle.ul_generations.specs.Generations.{AreOutcomes};
 ghost use Rattle.ul_generations.specs.Answers.{Answers, Fails};
 ghost use Rattle.ul_generations.specs.Known.{RowsKnown, OutcomeKnown, StepKnown, AnswerKnown};
-ghost use Rattle.ul_generations.specs.Steps.{IsStep};
+ghost use Rattle.ul_generations.specs.Steps.{MakesStep};
 
 use crate::answers::{ForkFault, Forked};
 use crate::jobs::Generation;
@@ -73,7 +73,7 @@ fn turn<R: Threads + Wait + Sync, L: Label, J: Judge<L>, G: Gate + Sync>(
     requires ready { J.ready judge.now pass.old }
     requires known { RowsKnown (J.may judge.now) (J.region_known pass.old) (J.done_known pass.old) rows.items }
     ensures learns { Knows pass.old pass.new }
-    ensures step { IfOk result (λ s. (os : List (Outcome J.Region J.Done J.Refusal)) × AreOutcomes (J.outcome judge.now) rows.items os × IsStep rows.items os s) }
+    ensures step { IfOk result (MakesStep (J.outcome judge.now) rows.items) }
     ensures known { IfOk result (λ s. StepKnown (J.may judge.now) (J.region_known pass.new) (J.done_known pass.new) (J.refusal_known pass.new) s) }
     ensures round { OnOk result (rounds.new.items ≡ rounds.old.items ++ (workers, length (open_regions rows.items)) ∷ []) }
 {

@@ -3,7 +3,7 @@ use Rattle.std.proofs.Common.{◌≡◌, ℕ, suc, ◌+◌, List, [], ◌∷◌,
 use Rattle.std.proofs.lemmas.Bool.{eqb-true, eqb-false, ne_eqb, ltb-true, ltb-false, cases_order}
 use Rattle.std.proofs.lemmas.Option.{none-some, same_Some}
 use Rattle.std.proofs.lemmas.List.{append-nil, take_all}
-use Rattle.std.specs.Prelude.{slice_get}
+use Rattle.std.specs.Prelude.{slice_get, IsTrue, ◌↔◌}
 use Rattle.std.specs.Option.{option_to_list}
 use Rattle.ul_ranges.specs.Flags.{is_blank}
 use Rattle.ul_problem.specs.Terms.{node_of, meet_of, join_of, term_on, IsOrdered, IsOrderedFrom}
@@ -281,6 +281,13 @@ same_terms_on (t ∷ ts) (u ∷ us) a b h = which (cases_order (node_of t) (node
 -- a resolvent is the only one
 pub one_resolvent : (m : ℕ) (left right ts us : List Term) → IsResolvent m left right ts → IsResolvent m left right us → ts ≡ us
 one_resolvent m left right ts us a b = same_terms_on ts us a.ordered b.ordered (λ k. a.each k ∙ sym (b.each k))
+
+-- the resolvent compared with a list
+pub wanted_same : (m : ℕ) (left right wanted read ts : List Term) (b : Bool) → IsResolvent m left right wanted → read ≡ wanted → (IsTrue b ↔ (read ≡ ts)) → IsTrue b ↔ IsResolvent m left right ts
+wanted_same m left right wanted read ts b res e t = (
+  λ g. subst (λ (x : List Term). IsResolvent m left right x) (sym e ∙ t.0 g) res,
+  λ r. t.1 (e ∙ one_resolvent m left right wanted ts res r),
+)
 
 -- the loop of a merge
 pub record Merges (m : ℕ) (left right out : List Term) (i j : ℕ) : Type 0 where

@@ -1,5 +1,6 @@
 -- A turn of the merge of two lists of terms by their nodes.
-use Rattle.std.specs.Prelude.{◌≡◌, ℕ, cond, Option, Some, None, length, nat_eq, nat_lt}
+use Rattle.std.specs.Prelude.{◌≡◌, ℕ, ◌≤◌, ◌++◌, List, take, cond, Option, Some, None, length, nat_eq, nat_lt}
+use Rattle.std.specs.Option.{option_to_list}
 use Rattle.ul_problem.specs.Terms.{node_of, set_of}
 use Rattle.ul_problem.specs.Steps.{resolved}
 use Rattle.ul_problem.specs.declared.term.Term.{Term}
@@ -34,3 +35,8 @@ turn_of m None (Some u) = right_turn m u
 turn_of m (Some t) None = left_turn m t
 turn_of m (Some t) (Some u) =
     cond (nat_eq (node_of t) (node_of u)) (both_turn m t u) (cond (nat_lt (node_of u) (node_of t)) (right_turn m u) (left_turn m t))
+
+-- a term, where there is one, stands at a place of a list, and the next place follows it
+pub record IsPassed (terms : List Term) (place : ℕ) (term : Option Term) (next : ℕ) : Type 0 where
+  pub within : next ≤ length terms
+  pub taken : take next terms ≡ take place terms ++ option_to_list term

@@ -17,6 +17,6 @@ mod term;
 pub use incompat::Incompat;
 pub use lists::{Places, Versions};
 pub use problem::{Need, NeedRow, NeedRows, NodeFacts, Problem};
-pub use resolving::resolvent;
+pub use resolving::{is_resolvent, resolvent};
 pub use step::{Derivation, Step};
 pub use term::{Relation, Term, Terms, same_terms, term_on};

@@ -3,3 +3,4 @@ pub mod Blocks
 pub mod Marks
 pub mod Forms
 pub mod Pieces
+pub mod Examples

@@ -56,12 +56,15 @@ impl Cuts {
         self.starts.as_slice()
     }
 
-    /// The number of the piece that has `x`.
-    pub fn piece_of(&self, x: u128) -> usize
-        requires { x < 2 ^ 96 }
-        ensures { IsPiece self.now result x }
+    /// The place of the piece that has a number.
+    pub fn piece_of(&self, number: u128) -> usize
+        requires { number < 2 ^ 96 }
+        ensures { IsPiece self.now result number }
     {
-        self.starts.as_slice().partition_point(|start| *start <= x) - 1
+        self.starts
+            .as_slice()
+            .partition_point(|start| *start <= number)
+            - 1
     }
 
     /// The pieces cut by both.

@@ -1,8 +1,9 @@
 //! Worked examples of the definitions. None of these functions does anything.
-ghost use Rattle.std.specs.Prelude.{◌≡◌, ◌+◌, ◌*◌, ◌^◌, ◌-◌, [], ◌∷◌, true, false, Some, None, replicate};
+ghost use Rattle.std.specs.Prelude.{◌≡◌, ◌+◌, ◌*◌, ◌^◌, ◌-◌, [], ◌∷◌, true, false, Some, None, map, replicate};
 ghost use Rattle.ul_ranges.specs.Flags.{has, both, either, less, is_apart, is_blank, is_within, set_of, first_in};
 ghost use Rattle.ul_ranges.specs.Blocks.{block_count, flags_of, IsExact};
 ghost use Rattle.ul_ranges.specs.Pieces.{AreStarts, IsPiece, IsRefinement};
+ghost use Rattle.ul_ranges.specs.Examples.{from_3_8, interpreters};
 
 /// Sets of the numbers below five: {1, 3} and {3, 4}.
 pub fn sets()
@@ -24,7 +25,7 @@ pub fn sets()
 
 /// Blocks: the lowest bit of a block is its first flag, and the flags of the second block begin at 64.
 pub fn blocks()
-    ensures counts { block_count 0 ∷ block_count 1 ∷ block_count 64 ∷ block_count 65 ∷ block_count 257 ∷ [] ≡ 0 ∷ 1 ∷ 1 ∷ 2 ∷ 5 ∷ [] }
+    ensures counts { map block_count (0 ∷ 1 ∷ 64 ∷ 65 ∷ 257 ∷ []) ≡ 0 ∷ 1 ∷ 1 ∷ 2 ∷ 5 ∷ [] }
     ensures low { flags_of 5 (10 ∷ []) ≡ set_of 5 (1 ∷ 3 ∷ []) }
     ensures high { flags_of 66 (0 ∷ 2 ∷ []) ≡ set_of 66 (65 ∷ []) }
     ensures whole { flags_of 64 ((2 ^ 64 - 1) ∷ []) ≡ replicate 64 true }
@@ -33,10 +34,10 @@ pub fn blocks()
 /// Pieces from 0, 3.8 and 3.10, where a.b.c is a * 2^64 + b * 2^32 + c: 3.8 begins the second piece, 3.9.1 lies in it, and the
 /// last number of all in the third.
 pub fn pieces()
-    ensures starts { AreStarts (0 ∷ (3 * 2 ^ 64 + 8 * 2 ^ 32) ∷ (3 * 2 ^ 64 + 10 * 2 ^ 32) ∷ []) }
-    ensures before { IsPiece (0 ∷ (3 * 2 ^ 64 + 8 * 2 ^ 32) ∷ (3 * 2 ^ 64 + 10 * 2 ^ 32) ∷ []) 0 (3 * 2 ^ 64 + 8 * 2 ^ 32 - 1) }
-    ensures at { IsPiece (0 ∷ (3 * 2 ^ 64 + 8 * 2 ^ 32) ∷ (3 * 2 ^ 64 + 10 * 2 ^ 32) ∷ []) 1 (3 * 2 ^ 64 + 8 * 2 ^ 32) }
-    ensures inside { IsPiece (0 ∷ (3 * 2 ^ 64 + 8 * 2 ^ 32) ∷ (3 * 2 ^ 64 + 10 * 2 ^ 32) ∷ []) 1 (3 * 2 ^ 64 + 9 * 2 ^ 32 + 1) }
-    ensures last { IsPiece (0 ∷ (3 * 2 ^ 64 + 8 * 2 ^ 32) ∷ (3 * 2 ^ 64 + 10 * 2 ^ 32) ∷ []) 2 (2 ^ 96 - 1) }
+    ensures starts { AreStarts interpreters }
+    ensures before { IsPiece interpreters 0 (from_3_8 - 1) }
+    ensures at { IsPiece interpreters 1 from_3_8 }
+    ensures inside { IsPiece interpreters 1 (from_3_8 + 2 ^ 32 + 1) }
+    ensures last { IsPiece interpreters 2 (2 ^ 96 - 1) }
     ensures refined { IsRefinement (0 ∷ 7 ∷ 9 ∷ []) (0 ∷ 5 ∷ 9 ∷ []) (0 ∷ 5 ∷ 7 ∷ 9 ∷ []) }
 {}

@@ -20,14 +20,14 @@ pub enum Form {
 }
 
 // Whether the number is a member.
-pub fn has_in(form: &Form, k: u32) -> bool
-    ensures { result ≡ flag_in form.now k }
+pub fn has_in(form: &Form, number: u32) -> bool
+    ensures { result ≡ flag_in form.now number }
 {
     match form {
-        Form::Word(word) => has_bit(*word, k),
-        Form::Few(Some(member)) => *member == k,
+        Form::Word(word) => has_bit(*word, number),
+        Form::Few(Some(member)) => *member == number,
         Form::Few(None) => false,
-        Form::Many(blocks) => has_flag(blocks.as_slice(), k),
+        Form::Many(blocks) => has_flag(blocks.as_slice(), number),
     }
 }
 

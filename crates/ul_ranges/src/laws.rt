@@ -32,7 +32,8 @@ pub fn tests()
 /// The set of a list of numbers has this size, and its members are the numbers of the list below the size.
 pub fn listed()
     ensures size { (size : ℕ) (members : List ℕ) → length (set_of size members) ≡ size }
-    ensures members { (k size : ℕ) (members : List ℕ) → IsTrue (has k (set_of size members)) ↔ ((k < size) × Contains members k) }
+    ensures members { (k size : ℕ) (members : List ℕ)
+        → IsTrue (has k (set_of size members)) ↔ ((k < size) × Contains members k) }
 {}
 
 /// The first of a list in a set is a member, no earlier number of the list is, and it is missing exactly where none is a member.
@@ -50,7 +51,7 @@ pub fn pieces()
 
 /// Two numbers of one piece of a refinement are of one piece of each that it refines, and a refinement is the only one.
 pub fn refinements()
-    ensures pieces { (a b starts : List ℕ) (i j k x y : ℕ) → IsRefinement a b starts → IsPiece starts k x → IsPiece starts k y
-        → (IsPiece a i x → IsPiece a i y) × (IsPiece b j x → IsPiece b j y) }
+    ensures pieces { (a b starts : List ℕ) (i j k x y : ℕ) → IsRefinement a b starts
+        → IsPiece starts k x → IsPiece starts k y → (IsPiece a i x → IsPiece a i y) × (IsPiece b j x → IsPiece b j y) }
     ensures only { (a b c d : List ℕ) → IsRefinement a b c → IsRefinement a b d → c ≡ d }
 {}

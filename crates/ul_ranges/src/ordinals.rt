@@ -42,18 +42,18 @@ impl Ordinals {
         forms::block_list(alloc, self.size, &self.form)
     }
 
-    /// Whether the set has `k`; past the size it has none.
-    pub fn has(&self, k: u32) -> bool
-        ensures { result ≡ has k self.now }
+    /// Whether the set has a number; past the size it has none.
+    pub fn has(&self, number: u32) -> bool
+        ensures { result ≡ has number self.now }
     {
-        forms::has_in(&self.form, k)
+        forms::has_in(&self.form, number)
     }
 
-    /// The first member from `k` on, if there is one: so the members are walked in increasing order, in time by blocks.
-    pub fn next_from(&self, k: u32) -> Option<u32>
-        ensures { IsNextMember self.now k result }
+    /// The first member from a number on, if there is one: so the members are walked in increasing order, in time by blocks.
+    pub fn next_from(&self, from: u32) -> Option<u32>
+        ensures { IsNextMember self.now from result }
     {
-        forms::next_in(&self.form, self.size, k)
+        forms::next_in(&self.form, self.size, from)
     }
 
     /// Whether the set has no member.
@@ -172,13 +172,13 @@ impl Ordinals {
     }
 
     /// The set of one number below `size`. It takes no memory.
-    pub fn one(size: u32, k: u32) -> Ordinals
-        requires { k < size }
-        ensures { result ≡ set_of size (k ∷ []) }
+    pub fn one(size: u32, member: u32) -> Ordinals
+        requires { member < size }
+        ensures { result ≡ set_of size (member ∷ []) }
     {
         Ordinals {
             size,
-            form: forms::one(size, k),
+            form: forms::one(size, member),
         }
     }
 

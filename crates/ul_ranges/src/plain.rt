@@ -14,35 +14,35 @@ pub fn of_list(alloc: Global, size: u32, members: &[u32]) -> Result<Vec<bool>, A
     (0..size).map(|k| members.contains(&k)).collect(alloc)
 }
 
-/// Whether the set has `k`.
-pub fn has(flags: &[bool], k: u32) -> bool
-    ensures { result ≡ has k flags.now }
+/// Whether the set has a number.
+pub fn has(flags: &[bool], number: u32) -> bool
+    ensures { result ≡ has number flags.now }
 {
-    flags.get(k as usize).copied().unwrap_or(false)
+    flags.get(number as usize).copied().unwrap_or(false)
 }
 
 /// The members of both.
-pub fn meet(alloc: Global, xs: &[bool], ys: &[bool]) -> Result<Vec<bool>, AllocError>
-    requires { length xs.now ≡ length ys.now }
-    ensures { IfOk result (λ v. v.items ≡ both xs.now ys.now) }
+pub fn meet(alloc: Global, left: &[bool], right: &[bool]) -> Result<Vec<bool>, AllocError>
+    requires { length left.now ≡ length right.now }
+    ensures { IfOk result (λ v. v.items ≡ both left.now right.now) }
 {
-    meet_pairs(alloc, xs, ys)
+    meet_pairs(alloc, left, right)
 }
 
 /// The members of either.
-pub fn join(alloc: Global, xs: &[bool], ys: &[bool]) -> Result<Vec<bool>, AllocError>
-    requires { length xs.now ≡ length ys.now }
-    ensures { IfOk result (λ v. v.items ≡ either xs.now ys.now) }
+pub fn join(alloc: Global, left: &[bool], right: &[bool]) -> Result<Vec<bool>, AllocError>
+    requires { length left.now ≡ length right.now }
+    ensures { IfOk result (λ v. v.items ≡ either left.now right.now) }
 {
-    join_pairs(alloc, xs, ys)
+    join_pairs(alloc, left, right)
 }
 
 /// The members that the second lacks.
-pub fn less(alloc: Global, xs: &[bool], ys: &[bool]) -> Result<Vec<bool>, AllocError>
-    requires { length xs.now ≡ length ys.now }
-    ensures { IfOk result (λ v. v.items ≡ less xs.now ys.now) }
+pub fn less(alloc: Global, left: &[bool], right: &[bool]) -> Result<Vec<bool>, AllocError>
+    requires { length left.now ≡ length right.now }
+    ensures { IfOk result (λ v. v.items ≡ less left.now right.now) }
 {
-    less_pairs(alloc, xs, ys)
+    less_pairs(alloc, left, right)
 }
 
 /// Whether there is no member.
@@ -64,15 +64,15 @@ pub fn first_in(flags: &[bool], order: &[u32]) -> Option<u32>
     order.iter().copied().find(|k| has(flags, *k))
 }
 
-/// The number of the piece that has `x`, from the first start on.
-pub fn piece_of(starts: &[u128], x: u128) -> usize
+/// The place of the piece that has a number, from the first start on.
+pub fn piece_of(starts: &[u128], number: u128) -> usize
     requires cuts { AreStarts starts.now }
-    requires small { x < 2 ^ 96 }
-    ensures { IsPiece starts.now result x }
+    requires small { number < 2 ^ 96 }
+    ensures { IsPiece starts.now result number }
 {
     let mut piece = 0;
     for (index, start) in starts.iter().enumerate() {
-        if *start <= x {
+        if *start <= number {
             piece = index;
         }
     }
@@ -80,41 +80,41 @@ pub fn piece_of(starts: &[u128], x: u128) -> usize
 }
 
 /// The starts of either, sorted and without repeats.
-pub fn refine(alloc: Global, xs: &[u128], ys: &[u128]) -> Result<Vec<u128>, AllocError>
-    requires xs { AreStarts xs.now }
-    requires ys { AreStarts ys.now }
-    ensures { IfOk result (λ v. IsRefinement xs.now ys.now v.items) }
+pub fn refine(alloc: Global, left: &[u128], right: &[u128]) -> Result<Vec<u128>, AllocError>
+    requires left { AreStarts left.now }
+    requires right { AreStarts right.now }
+    ensures { IfOk result (λ v. IsRefinement left.now right.now v.items) }
 {
-    let mut starts = Vec::from_slice(alloc, xs)?;
-    starts.extend_from_slice(ys)?;
+    let mut starts = Vec::from_slice(alloc, left)?;
+    starts.extend_from_slice(right)?;
     starts.sort_unstable();
     starts.dedup();
     Ok(starts)
 }
 
-fn meet_pairs(alloc: Global, xs: &[bool], ys: &[bool]) -> Result<Vec<bool>, AllocError>
-    ensures { IfOk result (λ v. v.items ≡ map (λ p. cond p.0 p.1 false) (zip xs.now ys.now)) }
+fn meet_pairs(alloc: Global, left: &[bool], right: &[bool]) -> Result<Vec<bool>, AllocError>
+    ensures { IfOk result (λ v. v.items ≡ map (λ p. cond p.0 p.1 false) (zip left.now right.now)) }
 {
-    xs.iter()
-        .zip(ys.iter())
+    left.iter()
+        .zip(right.iter())
         .map(|(x, y)| if *x { *y } else { false })
         .collect(alloc)
 }
 
-fn join_pairs(alloc: Global, xs: &[bool], ys: &[bool]) -> Result<Vec<bool>, AllocError>
-    ensures { IfOk result (λ v. v.items ≡ map (λ p. cond p.0 true p.1) (zip xs.now ys.now)) }
+fn join_pairs(alloc: Global, left: &[bool], right: &[bool]) -> Result<Vec<bool>, AllocError>
+    ensures { IfOk result (λ v. v.items ≡ map (λ p. cond p.0 true p.1) (zip left.now right.now)) }
 {
-    xs.iter()
-        .zip(ys.iter())
+    left.iter()
+        .zip(right.iter())
         .map(|(x, y)| if *x { true } else { *y })
         .collect(alloc)
 }
 
-fn less_pairs(alloc: Global, xs: &[bool], ys: &[bool]) -> Result<Vec<bool>, AllocError>
-    ensures { IfOk result (λ v. v.items ≡ map (λ p. cond p.1 false p.0) (zip xs.now ys.now)) }
+fn less_pairs(alloc: Global, left: &[bool], right: &[bool]) -> Result<Vec<bool>, AllocError>
+    ensures { IfOk result (λ v. v.items ≡ map (λ p. cond p.1 false p.0) (zip left.now right.now)) }
 {
-    xs.iter()
-        .zip(ys.iter())
+    left.iter()
+        .zip(right.iter())
         .map(|(x, y)| if *y { false } else { *x })
         .collect(alloc)
 }

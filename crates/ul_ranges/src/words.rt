@@ -7,69 +7,69 @@ ghost use Rattle.ul_ranges.specs.Flags.{IsNext};
 
 use std::alloc::{AllocError, Global};
 
-pub fn met(alloc: Global, xs: &[u64], ys: &[u64]) -> Result<Vec<u64>, AllocError>
-    ensures { IfOk result (λ v. v.items ≡ map (λ p. bit_and p.0 p.1) (zip xs.now ys.now)) }
+pub fn met(alloc: Global, mine: &[u64], theirs: &[u64]) -> Result<Vec<u64>, AllocError>
+    ensures { IfOk result (λ v. v.items ≡ map (λ p. bit_and p.0 p.1) (zip mine.now theirs.now)) }
 {
-    xs.iter()
-        .zip(ys.iter())
+    mine.iter()
+        .zip(theirs.iter())
         .map(|(x, y)| *x & *y)
         .collect(alloc)
 }
 
-pub fn joined(alloc: Global, xs: &[u64], ys: &[u64]) -> Result<Vec<u64>, AllocError>
-    ensures { IfOk result (λ v. v.items ≡ map (λ p. bit_or p.0 p.1) (zip xs.now ys.now)) }
+pub fn joined(alloc: Global, mine: &[u64], theirs: &[u64]) -> Result<Vec<u64>, AllocError>
+    ensures { IfOk result (λ v. v.items ≡ map (λ p. bit_or p.0 p.1) (zip mine.now theirs.now)) }
 {
-    xs.iter()
-        .zip(ys.iter())
+    mine.iter()
+        .zip(theirs.iter())
         .map(|(x, y)| *x | *y)
         .collect(alloc)
 }
 
-pub fn lessened(alloc: Global, xs: &[u64], ys: &[u64]) -> Result<Vec<u64>, AllocError>
-    ensures { IfOk result (λ v. v.items ≡ map (λ p. bit_and p.0 (bit_not w64 p.1)) (zip xs.now ys.now)) }
+pub fn lessened(alloc: Global, mine: &[u64], theirs: &[u64]) -> Result<Vec<u64>, AllocError>
+    ensures { IfOk result (λ v. v.items ≡ map (λ p. bit_and p.0 (bit_not w64 p.1)) (zip mine.now theirs.now)) }
 {
-    xs.iter()
-        .zip(ys.iter())
+    mine.iter()
+        .zip(theirs.iter())
         .map(|(x, y)| *x & !*y)
         .collect(alloc)
 }
 
-pub fn are_within(xs: &[u64], ys: &[u64]) -> bool
-    ensures { result ≡ list_all (λ p. bit_and p.0 (bit_not w64 p.1) == 0) (zip xs.now ys.now) }
+pub fn are_within(mine: &[u64], theirs: &[u64]) -> bool
+    ensures { result ≡ list_all (λ p. bit_and p.0 (bit_not w64 p.1) == 0) (zip mine.now theirs.now) }
 {
-    xs.iter().zip(ys.iter()).all(|(x, y)| *x & !*y == 0)
+    mine.iter().zip(theirs.iter()).all(|(x, y)| *x & !*y == 0)
 }
 
-pub fn are_apart(xs: &[u64], ys: &[u64]) -> bool
-    ensures { result ≡ list_all (λ p. bit_and p.0 p.1 == 0) (zip xs.now ys.now) }
+pub fn are_apart(mine: &[u64], theirs: &[u64]) -> bool
+    ensures { result ≡ list_all (λ p. bit_and p.0 p.1 == 0) (zip mine.now theirs.now) }
 {
-    xs.iter().zip(ys.iter()).all(|(x, y)| *x & *y == 0)
+    mine.iter().zip(theirs.iter()).all(|(x, y)| *x & *y == 0)
 }
 
-pub fn put_met(xs: &mut Vec<u64>, ys: &[u64])
-    requires { length xs.old.items ≡ length ys.now }
-    ensures { xs.new.items ≡ map (λ p. bit_and p.0 p.1) (zip xs.old.items ys.now) }
+pub fn put_met(mine: &mut Vec<u64>, theirs: &[u64])
+    requires { length mine.old.items ≡ length theirs.now }
+    ensures { mine.new.items ≡ map (λ p. bit_and p.0 p.1) (zip mine.old.items theirs.now) }
 {
-    for j in 0..ys.len() {
-        xs[j] &= ys[j];
+    for j in 0..theirs.len() {
+        mine[j] &= theirs[j];
     }
 }
 
-pub fn put_joined(xs: &mut Vec<u64>, ys: &[u64])
-    requires { length xs.old.items ≡ length ys.now }
-    ensures { xs.new.items ≡ map (λ p. bit_or p.0 p.1) (zip xs.old.items ys.now) }
+pub fn put_joined(mine: &mut Vec<u64>, theirs: &[u64])
+    requires { length mine.old.items ≡ length theirs.now }
+    ensures { mine.new.items ≡ map (λ p. bit_or p.0 p.1) (zip mine.old.items theirs.now) }
 {
-    for j in 0..ys.len() {
-        xs[j] |= ys[j];
+    for j in 0..theirs.len() {
+        mine[j] |= theirs[j];
     }
 }
 
-pub fn put_lessened(xs: &mut Vec<u64>, ys: &[u64])
-    requires { length xs.old.items ≡ length ys.now }
-    ensures { xs.new.items ≡ map (λ p. bit_and p.0 (bit_not w64 p.1)) (zip xs.old.items ys.now) }
+pub fn put_lessened(mine: &mut Vec<u64>, theirs: &[u64])
+    requires { length mine.old.items ≡ length theirs.now }
+    ensures { mine.new.items ≡ map (λ p. bit_and p.0 (bit_not w64 p.1)) (zip mine.old.items theirs.now) }
 {
-    for j in 0..ys.len() {
-        xs[j] &= !ys[j];
+    for j in 0..theirs.len() {
+        mine[j] &= !theirs[j];
     }
 }
 

@@ -247,32 +247,6 @@ fn releases_are_padded(rt: HostRuntime) {
 }
 
 #[test]
-fn versions_differ_in_each_part(rt: HostRuntime) -> Result<(), Fail> {
-    let texts = [
-        "1.0",
-        "1.0.0",
-        "1!1.0",
-        "1.0a1",
-        "1.0b1",
-        "1.0a2",
-        "1.0.post1",
-        "1.0.dev1",
-        "1.0+1",
-        "1.0+a",
-        "1.0+a.1",
-        "1.0+b",
-    ];
-    for text in texts {
-        let version = Version::read(rt.alloc(), text)?;
-        for other in texts {
-            let same = version.same(&Version::read(rt.alloc(), other)?);
-            assert_eq!(rt; same, text == other, "{text} and {other}");
-        }
-    }
-    Ok(())
-}
-
-#[test]
 fn bytes_are_of_their_classes(rt: HostRuntime) {
     for (byte, classes) in [
         (b' ', [true, true, false, false, false, false]),

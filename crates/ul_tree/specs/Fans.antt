@@ -49,6 +49,7 @@ inner_of stop = stop
 inner_of end = stop
 inner_of (edge s more rest) = more
 
+-- the paths that don't begin with the first step
 abbrev pub rest_of : Fan → Fan
 rest_of stop = stop
 rest_of end = stop

@@ -1,7 +1,7 @@
 -- How two truths are joined, and the branches of a tree that is being made.
 use Rattle.std.specs.Prelude.{ℕ, ◌+◌, ◌<◌, List, [], ◌∷◌, Bool, true, false, not, ◌≡◌, if◌then◌else◌}
-use Rattle.ul_tree.specs.Plain.{Plain, truth, Branches, done, branch, carried}
-use Rattle.ul_tree.specs.Apply.{size, apply, both, either, same, same_bool}
+use Rattle.ul_tree.specs.Plain.{Plain, truth, node, Branches, done, branch, carried}
+use Rattle.ul_tree.specs.Apply.{size, apply, close, both, either, same, same_bool}
 use Rattle.ul_tree.specs.Views.{tree_view}
 use Rattle.ul_tree.specs.Keys.{key_view, then_branches, has_kind, KeysOf}
 use Rattle.ul_tree.specs.declared.level.Key.{Key}
@@ -57,3 +57,11 @@ IsAdded carried other key next before after =
 -- a branch more keeps that the keys are those of a level
 abbrev pub KeepsKeys : Key → List (Key × Tree) → List (Key × Tree) → Type 0
 KeepsKeys key before after = (l : List ℕ) → KeysOf l before → has_kind l key ≡ true → KeysOf l after
+
+-- a tree is the node of a level with these branches
+abbrev pub IsNodeOf : List ℕ → Tree → List (Key × Tree) → Tree → Type 0
+IsNodeOf level other made t = tree_view t ≡ node level (tree_view other) (trees_made made)
+
+-- a tree is that node, or the other part alone where there are no branches
+abbrev pub IsClosed : List ℕ → Tree → List (Key × Tree) → Tree → Type 0
+IsClosed level other made t = tree_view t ≡ close level (tree_view other) (trees_made made)

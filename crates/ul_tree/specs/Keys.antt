@@ -3,7 +3,7 @@ use Rattle.std.specs.Prelude.{ℕ, zero, suc, List, [], ◌∷◌, map, Bool, tr
 use Rattle.std.specs.Ordering.{is_eq}
 use Rattle.ul_marker.specs.Atoms.{atom_key, text_number}
 use Rattle.ul_tree.specs.Plain.{Plain, truth, node, Branches, done, branch, text_cmp, pick}
-use Rattle.ul_tree.specs.Apply.{same_bool}
+use Rattle.ul_tree.specs.Apply.{same_bool, both_keys}
 use Rattle.ul_tree.specs.Levels.{extra_level, python_level, text_level, atom_level}
 use Rattle.ul_tree.specs.declared.level.Level.{Level}
 use Rattle.ul_tree.specs.declared.level.Level.TheVariants.{Extra, Python, Text, Opaque}
@@ -129,3 +129,7 @@ same_tops (truth a) (truth b) = same_bool a b
 same_tops (truth a) (node k e cs) = false
 same_tops (node l d bs) (truth b) = false
 same_tops (node l d bs) (node k e cs) = is_eq (text_cmp l k)
+
+-- the keys of two trees at a level, each once
+abbrev pub keys_of_both : Level → Plain → Plain → List (List ℕ)
+keys_of_both level a b = both_keys (level_view level) a b

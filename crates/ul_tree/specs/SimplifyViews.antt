@@ -5,7 +5,7 @@ use Rattle.ul_tree.specs.Plain.{Plain, truth, node, Branches, done, branch, text
 use Rattle.ul_tree.specs.Apply.{either}
 use Rattle.ul_tree.specs.Reduced.{IsReduced, Fits}
 use Rattle.ul_tree.specs.Keys.{key_view, keys_view, level_view, has_kind, branches_from, branches_of, rest_of, KeysOf}
-use Rattle.ul_tree.specs.Simplify.{Results, Simplifies, Pieces, reduced_branches, settled, union_in}
+use Rattle.ul_tree.specs.Simplify.{Results, Simplifies, Pieces, filled, reduced_branches, settled, union_in}
 use Rattle.ul_tree.specs.Views.{tree_view}
 use Rattle.ul_tree.specs.declared.level.Level.{Level}
 use Rattle.ul_tree.specs.declared.tree.Tree.{Tree}
@@ -109,3 +109,7 @@ IsLowered level region made = Lowered (level_view level) (tree_view region) (reg
 -- the results of pieces at keys of a level
 abbrev pub PiecesAre : Level → Tree → Tree → List Key → List (Key × Option Tree) → Type 0
 PiecesAre level tree region keys results = Pieces (level_view level) (tree_view tree) (tree_view region) (keys_view keys) (result_trees results)
+
+-- the parts of keys, where a piece without a result has the part before it
+abbrev pub filled_trees : List (Key × Option Tree) → Tree → List (List ℕ × Plain)
+filled_trees results first = filled (result_trees results) (tree_view first)

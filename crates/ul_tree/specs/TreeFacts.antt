@@ -2,18 +2,22 @@
 use Rattle.std.specs.Prelude.{ℕ, suc, List, map, Bool, true, ◌≡◌}
 use Rattle.std.specs.Str.{bytes_eq}
 use Rattle.ul_marker.specs.Atoms.{AtomFields, has_atom}
-use Rattle.ul_marker.specs.Truth.{as_asked, equals_extra, marker_holds, python_release}
+use Rattle.ul_marker.specs.Truth.{as_asked, equals_extra, is_listed, marker_holds, python_release}
 use Rattle.ul_marker.specs.Views.{marker_view}
 use Rattle.ul_marker.specs.Worlds.{WorldFields, IsWorld, text_at}
 use Rattle.ul_marker.specs.declared.marker.Marker.{Marker}
 use Rattle.ul_marker.specs.declared.variable.Variable.{Variable}
 use Rattle.ul_tree.specs.Joining.{truths_of}
-use Rattle.ul_tree.specs.Keys.{branches_from}
+use Rattle.ul_tree.specs.Keys.{branches_from, branches_of, key_view}
 use Rattle.ul_tree.specs.Plain.{Plain, Branches, branch}
 use Rattle.ul_tree.specs.Reduced.{IsReduced}
 use Rattle.ul_tree.specs.Values.{tree_holds}
 use Rattle.ul_tree.specs.Views.{tree_view}
+use Rattle.ul_tree.specs.declared.level.Key.{Key}
 use Rattle.ul_tree.specs.declared.tree.Tree.{Tree}
+use Rattle.ul_version.specs.Fields.{Fields, plain}
+use Rattle.ul_specifier.specs.Clauses.{ClauseFields}
+use Rattle.ul_specifier.specs.Meaning.{meets_clause}
 
 -- a tree is reduced
 abbrev pub IsTree : Tree → Type 0
@@ -58,3 +62,15 @@ AgreesWithin region tree made = (w : WorldFields) (x : List ℕ) → tree_holds 
 -- the branch at a place
 abbrev pub IsBranchAt : Branches → ℕ → List ℕ → Plain → Type 0
 IsBranchAt bs index key part = branches_from index bs ≡ branch key part (branches_from (suc index) bs)
+
+-- the branch of a tree at a place
+abbrev pub IsTreeBranch : Tree → ℕ → Key → Tree → Type 0
+IsTreeBranch tree index key part = IsBranchAt (branches_of (tree_view tree)) index (key_view key) (tree_view part)
+
+-- whether a release meets a clause
+abbrev pub meets_release : ClauseFields → List ℕ → Bool
+meets_release clause release = meets_clause clause (plain release)
+
+-- whether a release is one of a list, or isn't, as is asked
+abbrev pub listed_truth : List Fields → Bool → List ℕ → Bool
+listed_truth versions within release = as_asked within (is_listed versions release)

@@ -7,7 +7,7 @@ ghost use Rattle.ul_tree.specs.Reduced.{IsReduced};
 ghost use Rattle.ul_tree.specs.Apply.{close};
 ghost use Rattle.ul_tree.specs.Views.{tree_view, points_view};
 ghost use Rattle.ul_tree.specs.Keys.{level_view, is_literal_key, is_number_key, KeysOf};
-ghost use Rattle.ul_tree.specs.Joins.{truth_of, IsJoined, stands, at_once_view, past_truth, trees_made, IsAdded, KeepsKeys};
+ghost use Rattle.ul_tree.specs.Joins.{truth_of, IsJoined, stands, at_once_view, past_truth, trees_made, IsAdded, KeepsKeys, IsNodeOf, IsClosed};
 ghost use Rattle.ul_tree.specs.JoinSteps.{JoinsTo};
 ghost use Rattle.ul_tree.specs.SimplifyViews.{IfSome};
 
@@ -80,7 +80,7 @@ fn points_of(alloc: Global, made: Vec<(Key<'_>, Tree)>) -> Result<Vec<(String, T
 // The node of the interpreter that has these branches.
 fn pieces_of(alloc: Global, other: Tree, made: Vec<(Key<'_>, Tree)>) -> Result<Tree, AllocError>
     requires { All (λ e. is_number_key e.0 ≡ true) made.items }
-    ensures { IfOk result (λ t. tree_view t ≡ node python_level (tree_view other) (trees_made made.entry.items)) }
+    ensures { IfOk result (IsNodeOf python_level other made.entry.items) }
 {
     let mut starts = Vec::new(alloc);
     let mut parts = Vec::new(alloc);
@@ -107,7 +107,7 @@ fn marked(
     made: Vec<(Key<'_>, Tree)>,
 ) -> Result<Tree, AllocError>
     requires { IsReduced (node (atom_level atom.now) (tree_view other) (trees_made made.items)) }
-    ensures { IfOk result (λ t. tree_view t ≡ node (atom_level atom.now) (tree_view other) (trees_made made.entry.items)) }
+    ensures { IfOk result (IsNodeOf (atom_level atom.now) other made.entry.items) }
 {
     let mut made = made;
     match made.pop() {
@@ -130,7 +130,7 @@ pub fn closed(
 ) -> Result<Tree, AllocError>
     requires kinds { KeysOf (level_view level) made.items }
     requires reduced { IsReduced (close (level_view level) (tree_view other) (trees_made made.items)) }
-    ensures { IfOk result (λ t. tree_view t ≡ close (level_view level.entry) (tree_view other) (trees_made made.entry.items)) }
+    ensures { IfOk result (IsClosed (level_view level.entry) other made.entry.items) }
 {
     if made.is_empty() {
         return Ok(other);

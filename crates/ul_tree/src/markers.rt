@@ -1,6 +1,6 @@
 //! Trees of markers and of specifiers.
 ghost use Rattle.std.specs.Prelude.{◌≡◌, ◌<◌, ◌≤◌, ◌-◌, ◌∷◌, [], ℕ, List, IfOk, All, map, take, drop, length, true, if◌then◌else◌, false};
-ghost use Rattle.ul_tree.specs.TreeFacts.{IsTree, HoldsAs, HoldsAtWorlds, HoldsByPython, HoldAsMarkers};
+ghost use Rattle.ul_tree.specs.TreeFacts.{IsTree, HoldsAs, HoldsAtWorlds, HoldsByPython, HoldAsMarkers, listed_truth, meets_release};
 ghost use Rattle.ul_tree.specs.Sample.{asks_extra};
 ghost use Rattle.ul_tree.specs.Apply.{same_bool};
 ghost use Rattle.ul_version.specs.Fields.{IsVersion, plain};
@@ -98,7 +98,7 @@ fn list_tree(
 ) -> Result<Tree, AllocError>
     requires { All IsVersion versions.now }
     ensures reduced { IfOk result IsTree }
-    ensures truth { IfOk result (λ t. HoldsByPython t full (λ release. as_asked within (is_listed versions.now release))) }
+    ensures truth { IfOk result (λ t. HoldsByPython t full (listed_truth versions.now within)) }
 {
     let mut trees = Vec::new(alloc);
     for version in versions {
@@ -116,7 +116,7 @@ fn list_tree(
 fn version_tree(alloc: Global, version: &Version, full: bool) -> Result<Tree, AllocError>
     requires { IsVersion version.now }
     ensures reduced { IfOk result IsTree }
-    ensures truth { IfOk result (λ t. HoldsByPython t full (λ release. meets_clause (equal_to version.now) (plain release))) }
+    ensures truth { IfOk result (λ t. HoldsByPython t full (meets_release (equal_to version.now))) }
 {
     let clause = Clause {
         op: Op::Equal,

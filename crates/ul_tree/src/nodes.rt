@@ -6,8 +6,8 @@ ghost use Rattle.std.specs.Prelude.{◌≡◌, ◌<◌, ℕ, suc, List, option_m
 ghost use Rattle.ul_tree.specs.TreeFacts.{IsBranchAt};
 ghost use Rattle.ul_tree.specs.Plain.{Plain};
 ghost use Rattle.ul_tree.specs.Reduced.{IsReduced};
-ghost use Rattle.ul_tree.specs.Apply.{first_of, keys, merged, rest_at, part_at, keys_at, both_keys};
-ghost use Rattle.ul_tree.specs.Keys.{level_view, key_view, keys_view, top_of, rest_of, branches_of, branch_count, is_level, is_key_of, AreKeysOf, part_by};
+ghost use Rattle.ul_tree.specs.Apply.{first_of, keys, merged, rest_at, part_at, keys_at};
+ghost use Rattle.ul_tree.specs.Keys.{level_view, key_view, keys_view, top_of, rest_of, branches_of, branch_count, is_level, is_key_of, AreKeysOf, keys_of_both, part_by};
 
 use crate::level::{Key, Level};
 use std::alloc::{AllocError, Global};
@@ -177,7 +177,7 @@ pub fn level_keys<'a, N: Nodes>(
 ) -> Result<Vec<Key<'a>>, AllocError>
     requires a_reduced { IsReduced (N.tree a.now) }
     requires b_reduced { IsReduced (N.tree b.now) }
-    ensures keys { IfOk result (λ ks. keys_view ks.items ≡ both_keys (level_view level.entry) (N.tree a.now) (N.tree b.now)) }
+    ensures keys { IfOk result (λ ks. keys_view ks.items ≡ keys_of_both level.entry (N.tree a.now) (N.tree b.now)) }
     ensures kinds { IfOk result (λ ks. AreKeysOf (level_view level.entry) ks.items) }
 {
     let of_a = keys_at::<N>(alloc, a, level)?;

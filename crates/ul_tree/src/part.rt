@@ -1,6 +1,6 @@
 //! Trees as nodes: the top level, the part without a key, and the branches.
 ghost use Rattle.std.specs.Prelude.{◌≡◌, ◌<◌, suc, length, option_map, true};
-ghost use Rattle.ul_tree.specs.TreeFacts.{IsTree, IsBranchAt};
+ghost use Rattle.ul_tree.specs.TreeFacts.{IsTree, IsBranchAt, IsTreeBranch};
 ghost use Rattle.ul_tree.specs.Apply.{known as known_plain, truth_value as truth_value_plain};
 ghost use Rattle.ul_tree.specs.FirstParts.{is_false as is_false_plain};
 ghost use Rattle.ul_tree.specs.Sample.{asks_extra as asks_extra_plain};
@@ -127,7 +127,7 @@ pub fn branch_count(tree: &Tree) -> usize
 pub fn branch_at(tree: &Tree, index: usize) -> Branch<'_, Tree>
     requires reduced { IsTree tree.now }
     requires within { index < branch_count (branches_of (tree_view tree.now)) }
-    ensures found { IsBranchAt (branches_of (tree_view tree.now)) index (key_view result.key) (tree_view result.part.now) }
+    ensures found { IsTreeBranch tree.now index result.key result.part.now }
     ensures kind { is_key_of (tree_view tree.now) result.key ≡ true }
 {
     match tree {

@@ -2,7 +2,7 @@
 ghost use Rattle.std.specs.Prelude.{◌≡◌, ℕ, List, IfOk};
 ghost use Rattle.ul_version.specs.Fields.{plain};
 ghost use Rattle.ul_specifier.specs.Meaning.{meets_clause};
-ghost use Rattle.ul_tree.specs.TreeFacts.{IsTree, HoldsByPython};
+ghost use Rattle.ul_tree.specs.TreeFacts.{IsTree, HoldsByPython, meets_release};
 ghost use Rattle.ul_tree.specs.Pieces;
 ghost use Rattle.ul_tree.specs.Pieces.{major_of, minor_of, patch_of, starts_of, stepped_of};
 ghost use Rattle.ul_tree.specs.Views.{tree_view};
@@ -23,7 +23,7 @@ const END: u128 = 1 << 96;
 /// The clause is evaluated at each interpreter where its truth may change, and the tree has those where it does.
 pub fn clause_tree(alloc: Global, clause: &Clause, full: bool) -> Result<Tree, AllocError>
     ensures reduced { IfOk result IsTree }
-    ensures truth { IfOk result (λ t. HoldsByPython t full (λ release. meets_clause clause.now (plain release))) }
+    ensures truth { IfOk result (λ t. HoldsByPython t full (meets_release clause.now)) }
 {
     let starts = starts(alloc, clause, full)?;
     let tree = stepped(alloc, meets_at(clause, full, 0), &starts)?;

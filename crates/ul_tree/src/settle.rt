@@ -6,7 +6,7 @@ ghost use Rattle.ul_tree.specs.Reduced.{IsReduced};
 ghost use Rattle.ul_tree.specs.Keys.{level_view, KeysOf};
 ghost use Rattle.ul_tree.specs.Joins.{trees_made};
 ghost use Rattle.ul_tree.specs.Simplify.{own_or, filled};
-ghost use Rattle.ul_tree.specs.SimplifyViews.{PartsFit, ResultFits, ResultsFit, result_trees, part_trees, reduced_parts, settled_tree};
+ghost use Rattle.ul_tree.specs.SimplifyViews.{PartsFit, ResultFits, ResultsFit, result_trees, part_trees, filled_trees, reduced_parts, settled_tree};
 
 use crate::Tree;
 use crate::copy::copy;
@@ -31,7 +31,7 @@ fn filled<'a>(
     results: Vec<(Key<'a>, Option<Tree>)>,
     first: &Tree,
 ) -> Result<Vec<(Key<'a>, Tree)>, AllocError>
-    ensures parts { IfOk result (λ ps. part_trees ps.items ≡ filled (result_trees results.entry.items) (tree_view first.now)) }
+    ensures parts { IfOk result (λ ps. part_trees ps.items ≡ filled_trees results.entry.items first.now) }
     ensures kinds { IfOk result (λ ps. (l : List ℕ) → KeysOf l results.entry.items → KeysOf l ps.items) }
 {
     let mut parts: Vec<(Key<'a>, Tree)> = Vec::new(alloc);

@@ -68,10 +68,13 @@ fn deepest_trees_are_handled(rt: HostRuntime) -> Result<(), Fail> {
     Ok(())
 }
 
+// So deep a tree, also of a hostile marker, is refused before the stack ends.
 #[test]
 fn deeper_trees_are_refused_by_want_of_memory(rt: HostRuntime) -> Result<(), Fail> {
     let alloc = rt.alloc();
-    let marker = Marker::read(alloc, opaque(alloc, DEEPEST + 1)?.as_str())?;
-    assert!(rt; of_marker(alloc, &marker).is_err());
+    for count in [DEEPEST + 1, 100_000] {
+        let marker = Marker::read(alloc, opaque(alloc, count)?.as_str())?;
+        assert!(rt; of_marker(alloc, &marker).is_err(), "{count}");
+    }
     Ok(())
 }

@@ -1,6 +1,6 @@
 use Rattle.std.proofs.lemmas.Bool.{true≢false}
 use Rattle.std.proofs.Common.{◌∙◌, sym, refl}
-use Rattle.ul_ranges.proofs.FlagLaws.{within}
+use Rattle.ul_ranges.proofs.ForCallers.{within}
 use Rattle.ul_derivation.proofs.Needs.{one_at, need_here, need_past}
 use Rattle.ul_derivation.proofs.checks.has_need.Goals as goal
 use Rattle.ul_derivation.proofs.checks.has_need.Goals.{else-need-target-via-then-need-target+else-is_within, else-need-target-via-else-need-target}

@@ -1,5 +1,5 @@
 use Rattle.std.proofs.Common.{refl}
-use Rattle.ul_problem.proofs.Soundness.{accepted_none}
+use Rattle.ul_problem.proofs.ForCallers.{accepted_none}
 use Rattle.ul_derivation.proofs.Facts.{last_within, closes_tested}
 use Rattle.ul_derivation.proofs.closing.closes.Goals as goal
 

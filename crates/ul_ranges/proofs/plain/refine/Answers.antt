@@ -6,6 +6,6 @@ use Rattle.ul_ranges.proofs.plain.refine.Goals as goal
 pub returns : goal.returns
 returns c =
     rw (dedup_is eqb c.sort_unstable.new.self.items c.dedup.new.self.items c.dedup.ensures.filtered)
-    (sorted_refines c.args.xs.now c.args.ys.now _ c.sort_unstable.new.self.items c.requires.xs c.requires.ys
+    (sorted_refines c.args.left.now c.args.right.now _ c.sort_unstable.new.self.items c.requires.left c.requires.right
     (c.in_ok-extend_from_slice.ensures.items ∙ rw c.in_ok-starts.ensures.items refl) c.sort_unstable.ensures.permutation
     c.sort_unstable.ensures.sorted)

@@ -7,7 +7,7 @@ pub loop-j-init : goal.loop-j-init
 loop-j-init c = put_start _ _ _
 
 pub loop-j-preserved : goal.loop-j-preserved
-loop-j-preserved c = put_next bit_or c.args.xs.now.items c.args.ys.now c.loop-j.xs.items c.loop-j.j c.index_mut.result.now c.loop-j.invariant (omega arith) c.index_mut.ensures.value
+loop-j-preserved c = put_next bit_or c.args.mine.now.items c.args.theirs.now c.loop-j.mine.items c.loop-j.j c.index_mut.result.now c.loop-j.invariant (omega arith) c.index_mut.ensures.value
 
 pub returns : goal.returns
-returns c = put_end bit_or c.args.xs.now.items c.args.ys.now c.loop-j.xs.items c.loop-j.j refl c.loop-j.invariant (omega arith) c.requires
+returns c = put_end bit_or c.args.mine.now.items c.args.theirs.now c.loop-j.mine.items c.loop-j.j refl c.loop-j.invariant (omega arith) c.requires

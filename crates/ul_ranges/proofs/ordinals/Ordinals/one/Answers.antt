@@ -4,4 +4,4 @@ use Rattle.ul_ranges.proofs.FormLaws.{members_kept}
 use Rattle.ul_ranges.proofs.ordinals.Ordinals.one.Goals as goal
 
 pub returns : goal.returns
-returns c = members_kept _ _ _ (All-cons (λ m. m < c.args.size) c.args.k [] c.requires (All-nil (λ m. m < c.args.size))) c.one.ensures
+returns c = members_kept _ _ _ (All-cons (λ m. m < c.args.size) c.args.member [] c.requires (All-nil (λ m. m < c.args.size))) c.one.ensures

@@ -1,0 +1,17 @@
+mod JsonReading
+mod EachRead
+mod FileOrder
+mod FilesRead
+mod Packages
+mod Values
+mod Faults
+mod UsableReleases
+mod Ordered
+mod Orders
+mod Rising
+mod Serving
+mod Inserted
+mod OrderedPlaces
+mod Finding
+mod ReleaseExamples
+mod DocumentExamples

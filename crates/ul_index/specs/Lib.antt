@@ -1,0 +1,17 @@
+pub mod Regions
+pub mod Catalogs
+pub mod Eligible
+pub mod Applied
+pub mod Serves
+pub mod Preference
+pub mod Laws
+pub mod Places
+pub mod Json
+pub mod Results
+pub mod Usable
+pub mod Documents
+pub mod Answers
+pub mod FileSets
+pub mod Seen
+pub mod VersionOrders
+pub mod Vectors

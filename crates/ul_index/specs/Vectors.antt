@@ -1,0 +1,145 @@
+-- Worked examples: eligible releases, usable entries, lower Python bounds, preference, and documents.
+use Rattle.std.specs.Prelude.{◌≡◌, ℕ, List, [], ◌∷◌, map, codes, Bool, true, false, Option, Some, None, Result, Ok, Err, option_map}
+use Rattle.ul_version.specs.Fields.{Fields, plain}
+use Rattle.ul_version.specs.Reading.{version_of}
+use Rattle.ul_specifier.specs.Reading.{specifiers_of}
+use Rattle.ul_marker.specs.Worlds.{WorldFields}
+use Rattle.ul_requirement.specs.Fields.{PackageFields, ReleaseFields, WishFields}
+use Rattle.ul_requirement.specs.Grammar.{requirement_of}
+use Rattle.ul_requirement.specs.declared.wish.Mode.{Mode}
+use Rattle.ul_requirement.specs.declared.wish.Mode.TheVariants.{Highest, Lowest, LowestDirect}
+use Rattle.ul_requirement.specs.declared.wish.Strategy.TheVariants.{Fewest}
+use Rattle.ul_index.specs.Catalogs.{Packages, is_release_fit}
+use Rattle.ul_index.specs.Documents.{document_of, not_json, shape, wrong_name}
+use Rattle.ul_index.specs.Eligible.{eligible}
+use Rattle.ul_index.specs.Preference.{preference}
+use Rattle.ul_index.specs.Results.{option_bind, read_each}
+use Rattle.ul_index.specs.Usable.{EntryFields, usable}
+use Rattle.ul_index.specs.declared.place.EntryKey.TheVariants.{Version, RequiresDist, Files}
+use Rattle.ul_index.specs.declared.place.Place.TheVariants.{Document, Versions, Entry, Key, File}
+
+-- ---- eligible releases
+
+-- a release without requirements, and whether it was withdrawn
+abbrev pub bare : Fields → Bool → ReleaseFields
+bare version yanked = record { version = version; python = []; requirements = []; yanked = yanked; files = [] }
+
+-- a release of a version's text
+abbrev pub release_named : List ℕ × Bool → Option ReleaseFields
+release_named p = option_map (λ v. bare v p.1) (version_of p.0)
+
+-- a project with direct requirements, and a package `a`
+abbrev pub two_packages : List (List ℕ) → List (List ℕ × Bool) → Option Packages
+two_packages directs releases =
+    option_bind (read_each requirement_of directs) (λ qs.
+    option_bind (read_each release_named releases) (λ rs.
+    Some (record { name = codes "demo"; entries = 1; releases = record { version = plain (0 ∷ []); python = []; requirements = qs; yanked = false; files = [] } ∷ [] }
+    ∷ record { name = codes "a"; entries = 9; releases = rs } ∷ [])))
+
+-- the eligible versions of `a`
+abbrev pub eligible_among : List (List ℕ) → List (List ℕ × Bool) → Option (List Fields)
+eligible_among directs releases = option_map (λ c. eligible c (codes "a")) (two_packages directs releases)
+
+-- versions
+abbrev pub versions : List (List ℕ) → Option (List Fields)
+versions = read_each version_of
+
+-- a release that stands, and one that was withdrawn
+abbrev pub stands : List ℕ → List ℕ × Bool
+stands text = (text, false)
+
+abbrev pub withdrawn : List ℕ → List ℕ × Bool
+withdrawn text = (text, true)
+
+-- a pre-release and a final release
+abbrev pub pre_and_final : List (List ℕ × Bool)
+pre_and_final = stands (codes "2.0a1") ∷ stands (codes "1.0") ∷ []
+
+-- a withdrawn release and another
+abbrev pub withdrawn_and_other : List (List ℕ × Bool)
+withdrawn_and_other = withdrawn (codes "2") ∷ stands (codes "1") ∷ []
+
+pub record EligibleReleases : Type 0 where
+  pub increasing : eligible_among (codes "a" ∷ []) (stands (codes "1.10") ∷ stands (codes "1.9") ∷ stands (codes "1!0") ∷ []) ≡ versions (codes "1.9" ∷ codes "1.10" ∷ codes "1!0" ∷ [])
+  pub pre_alone : eligible_among (codes "a" ∷ []) (stands (codes "2.0a1") ∷ []) ≡ versions (codes "2.0a1" ∷ [])
+  pub pre_beside_final : eligible_among (codes "a" ∷ []) pre_and_final ≡ versions (codes "1.0" ∷ [])
+  pub pre_named : eligible_among (codes "a>=2.0a0" ∷ []) pre_and_final ≡ versions (codes "1.0" ∷ codes "2.0a1" ∷ [])
+  pub pre_excluded : eligible_among (codes "a!=2.0a1" ∷ []) pre_and_final ≡ versions (codes "1.0" ∷ [])
+  pub pre_named_elsewhere : eligible_among (codes "b>=2.0a0" ∷ []) pre_and_final ≡ versions (codes "1.0" ∷ [])
+  pub dev_is_pre : eligible_among [] (stands (codes "1.dev1") ∷ stands (codes "0.9") ∷ []) ≡ versions (codes "0.9" ∷ [])
+  pub withdrawn_final_counts : eligible_among [] (stands (codes "1a1") ∷ withdrawn (codes "0.9") ∷ []) ≡ Some []
+  pub withdrawn_passed : eligible_among (codes "a" ∷ []) withdrawn_and_other ≡ versions (codes "1" ∷ [])
+  pub withdrawn_pinned : eligible_among (codes "a==2.0" ∷ []) withdrawn_and_other ≡ versions (codes "1" ∷ codes "2" ∷ [])
+  pub withdrawn_front : eligible_among (codes "a==2.*" ∷ []) withdrawn_and_other ≡ versions (codes "1" ∷ [])
+  pub pinned_by_any_marker : eligible_among (codes "a" ∷ codes "a==2; os_name=='x'" ∷ []) withdrawn_and_other ≡ versions (codes "1" ∷ codes "2" ∷ [])
+  pub both_reasons : eligible_among (codes "a==2a1" ∷ []) (withdrawn (codes "2a1") ∷ withdrawn (codes "3a1") ∷ []) ≡ versions (codes "2a1" ∷ [])
+
+-- ---- preference
+
+-- the versions of `a` in the order of preference, with versions that an old lock has
+abbrev pub preferred : Mode → List (List ℕ) → List (List ℕ) → List (List ℕ × Bool) → Option (List Fields)
+preferred mode kept directs releases =
+    option_bind (versions kept) (λ vs.
+    option_map (λ c. preference c (record { mode = mode; strategy = Fewest; kept = map (λ v. (codes "a", v)) vs }) (codes "a")) (two_packages directs releases))
+
+-- four releases
+abbrev pub four : List (List ℕ × Bool)
+four = stands (codes "1") ∷ stands (codes "4") ∷ stands (codes "3") ∷ stands (codes "2") ∷ []
+
+pub record Preferences : Type 0 where
+  pub newest : preferred Highest [] [] four ≡ versions (codes "4" ∷ codes "3" ∷ codes "2" ∷ codes "1" ∷ [])
+  pub oldest : preferred Lowest [] [] four ≡ versions (codes "1" ∷ codes "2" ∷ codes "3" ∷ codes "4" ∷ [])
+  pub oldest_of_direct : preferred LowestDirect [] (codes "a" ∷ []) four ≡ versions (codes "1" ∷ codes "2" ∷ codes "3" ∷ codes "4" ∷ [])
+  pub newest_of_others : preferred LowestDirect [] (codes "b" ∷ []) four ≡ versions (codes "4" ∷ codes "3" ∷ codes "2" ∷ codes "1" ∷ [])
+  pub kept_newest_first : preferred Lowest (codes "2.0" ∷ codes "3" ∷ codes "9" ∷ []) [] four ≡ versions (codes "3" ∷ codes "2" ∷ codes "1" ∷ codes "4" ∷ [])
+
+-- ---- lower Python bounds
+
+-- whether a release with this Python bound is fit at an interpreter
+abbrev pub fit_at : List ℕ → ℕ → ℕ → ℕ → Option Bool
+fit_at text major minor patch =
+    option_map (λ python. is_release_fit (record { version = plain (1 ∷ []); python = python; requirements = []; yanked = false; files = [] })
+    (record { major = major; minor = minor; patch = patch; texts = []; truths = [] })) (specifiers_of text)
+
+pub record LowerBounds : Type 0 where
+  pub below : fit_at (codes ">=3.8") 3 7 9 ≡ Some false
+  pub at : fit_at (codes ">=3.8") 3 8 0 ≡ Some true
+  pub upper_is_nothing : fit_at (codes ">=3.8,<3.10,!=3.12.*,<=3.9") 3 12 0 ≡ Some true
+  pub front_from_below : fit_at (codes "==3.8.*") 3 7 0 ≡ Some false
+  pub front_to_above : fit_at (codes "==3.8.*") 3 9 0 ≡ Some true
+  pub compatible_to_above : fit_at (codes "~=3.8") 4 0 0 ≡ Some true
+  pub none : fit_at [] 2 7 18 ≡ Some true
+
+-- ---- usable entries
+
+-- what an entry of these texts says
+abbrev pub entry_of : List ℕ → List (List ℕ) → EntryFields
+entry_of version requirements =
+    record { version = version_of version; python = Some []; requirements = read_each requirement_of requirements; yanked = false; files = [] }
+
+-- the versions of the usable releases
+abbrev pub usable_versions : List EntryFields → List Fields
+usable_versions entries = map (λ r. r.version) (usable entries)
+
+pub record UsableEntries : Type 0 where
+  pub no_requirement : usable_versions (entry_of (codes "1") [] ∷ entry_of (codes "2") (codes "!!" ∷ []) ∷ []) ≡ plain (1 ∷ []) ∷ []
+  pub address : usable_versions (entry_of (codes "1") (codes "b @ https://x/y" ∷ []) ∷ entry_of (codes "2") (codes "b" ∷ []) ∷ []) ≡ plain (2 ∷ []) ∷ []
+  pub no_version : usable_versions (entry_of (codes "x") [] ∷ entry_of (codes "1") [] ∷ []) ≡ plain (1 ∷ []) ∷ []
+  pub earlier_equal : usable_versions (entry_of (codes "1.0") [] ∷ entry_of (codes "1") [] ∷ []) ≡ plain (1 ∷ 0 ∷ []) ∷ []
+  pub earlier_unusable : usable_versions (entry_of (codes "1.0") (codes "!!" ∷ []) ∷ entry_of (codes "1") [] ∷ []) ≡ []
+
+-- ---- documents
+
+pub record DocumentExamples : Type 0 where
+  pub empty : document_of (codes "a-b") (codes "{\"name\": \"A.B\", \"versions\": []}") ≡ Ok (record { name = codes "a-b"; entries = 0; releases = [] })
+  pub one : document_of (codes "a") (codes "{\"name\": \"a\", \"versions\": [{\"version\": \"1\", \"yanked\": \"bad\"}]}")
+      ≡ Ok (record { name = codes "a"; entries = 1; releases = bare (plain (1 ∷ [])) true ∷ [] })
+  pub unusable : document_of (codes "a") (codes "{\"name\": \"a\", \"versions\": [{\"version\": \"1\", \"requires_dist\": [\"!!\"]}]}")
+      ≡ Ok (record { name = codes "a"; entries = 1; releases = [] })
+  pub no_json : document_of (codes "a") (codes "{") ≡ Err not_json
+  pub no_object : document_of (codes "a") (codes "[]") ≡ Err (shape Document)
+  pub no_versions : document_of (codes "a") (codes "{\"name\": \"b\"}") ≡ Err (shape Versions)
+  pub other_name : document_of (codes "a") (codes "{\"name\": \"b\", \"versions\": [0]}") ≡ Err wrong_name
+  pub no_entry : document_of (codes "a") (codes "{\"name\": \"a\", \"versions\": [0]}") ≡ Err (shape (Entry 0))
+  pub no_text : document_of (codes "a") (codes "{\"name\": \"a\", \"versions\": [{\"version\": \"x\"}, {\"version\": \"1\", \"requires_dist\": [1]}]}") ≡ Err (shape (Key 1 RequiresDist))
+  pub no_file : document_of (codes "a") (codes "{\"name\": \"a\", \"versions\": [{\"version\": \"1\", \"files\": [{\"file\": \"\"}]}]}") ≡ Err (shape (File 0 0))

@@ -1,0 +1,148 @@
+//! Eligible releases.
+
+ghost use Rattle.std.specs.Prelude.{◌≡◌, ◌<◌, ◌^◌, Bool, filter, length, map, IfOk, Some};
+ghost use Rattle.std.specs.List.{list_all, list_any};
+ghost use Rattle.std.specs.Str.{bytes_eq};
+ghost use Rattle.ul_version.specs.Fields.{is_pre_of};
+ghost use Rattle.ul_specifier.specs.Meaning.{lower_list, meets_list, names_pre_of, pins_of};
+ghost use Rattle.ul_marker.specs.Truth.{python_release};
+ghost use Rattle.ul_requirement.specs.Fields.{RequirementFields, VersionsDiffer};
+ghost use Rattle.ul_index.specs.Catalogs.{is_release_fit, releases_of};
+ghost use Rattle.ul_index.specs.Eligible as Eligible;
+ghost use Rattle.ul_index.specs.Eligible.{eligible, on_name, version_at};
+ghost use Rattle.ul_index.specs.VersionOrders.{IsOrder};
+
+use crate::Catalog;
+use crate::version_order::VersionOrder;
+use std::alloc::{AllocError, Global};
+use ul_base::Name;
+use ul_requirement::{Release, Requirement};
+use ul_specifier::Specifiers;
+use ul_version::Version;
+
+fn is_on(requirement: &Requirement, name: &Name) -> bool
+    ensures { result ≡ bytes_eq requirement.now.name name.now }
+{
+    let own: &Name = &requirement.name;
+    own.text() == name.text()
+}
+
+fn names_pre(requirement: &Requirement) -> bool
+    ensures { result ≡ names_pre_of requirement.now.specifiers }
+{
+    let specifiers: &Specifiers = &requirement.specifiers;
+    specifiers.names_pre()
+}
+
+fn pins(requirement: &Requirement, version: &Version) -> bool
+    ensures { result ≡ pins_of requirement.now.specifiers version.now }
+{
+    let specifiers: &Specifiers = &requirement.specifiers;
+    specifiers.pins(version)
+}
+
+// Whether a direct requirement on the name names a pre-release.
+fn any_names_pre(directs: &[Requirement], name: &Name) -> bool
+    ensures { result ≡ list_any (λ q. names_pre_of q.specifiers) (filter (on_name name.now) directs.now) }
+{
+    for requirement in directs {
+        if is_on(requirement, name) && names_pre(requirement) {
+            return true;
+        }
+    }
+    false
+}
+
+// Whether a direct requirement on the name pins the version.
+fn any_pins(directs: &[Requirement], name: &Name, version: &Version) -> bool
+    ensures { result ≡ list_any (λ q. pins_of q.specifiers version.now) (filter (on_name name.now) directs.now) }
+{
+    for requirement in directs {
+        if is_on(requirement, name) && pins(requirement, version) {
+            return true;
+        }
+    }
+    false
+}
+
+fn is_pre(release: &Release) -> bool
+    ensures { result ≡ is_pre_of release.now.version }
+{
+    let version: &Version = &release.version;
+    version.is_pre()
+}
+
+// Whether all releases are pre-releases.
+fn are_pre(releases: &[Release]) -> bool
+    ensures { result ≡ list_all (λ r. is_pre_of r.version) releases.now }
+{
+    for release in releases {
+        if !is_pre(release) {
+            return false;
+        }
+    }
+    true
+}
+
+// Whether pre-releases of the name count.
+fn takes_pre(directs: &[Requirement], name: &Name, releases: &[Release]) -> bool
+    ensures { result ≡ Eligible.takes_pre (filter (on_name name.now) directs.now) releases.now }
+{
+    any_names_pre(directs, name) || are_pre(releases)
+}
+
+fn version_of(release: &Release) -> &Version
+    ensures { result.now ≡ release.now.version }
+{
+    let version: &Version = &release.version;
+    version
+}
+
+// Whether a release counts.
+fn passes(directs: &[Requirement], name: &Name, pre: bool, release: &Release) -> bool
+    ensures { result ≡ Eligible.passes (filter (on_name name.now) directs.now) pre release.now }
+{
+    let version: &Version = &release.version;
+    (!version.is_pre() || pre) && (!release.yanked || any_pins(directs, name, version))
+}
+
+// The places of the releases that count, in the order of their versions.
+fn order<'a>(
+    alloc: Global,
+    directs: &[Requirement],
+    name: &Name,
+    releases: &'a [Release],
+) -> Result<VersionOrder<'a>, AllocError>
+    requires differ { VersionsDiffer releases.now }
+    requires few { length releases.now < 2 ^ 32 }
+    ensures { IfOk result (IsOrder (filter (on_name name.now) directs.now) releases.now) }
+{
+    let pre = takes_pre(directs, name, releases);
+    let mut order = VersionOrder::new(alloc);
+    let mut place = releases.len();
+    while place > 0 {
+        place -= 1;
+        let release: &Release = &releases[place];
+        if !passes(directs, name, pre, release) {
+            continue;
+        }
+        let _added = order.add(version_of(release), place as u32)?;
+    }
+    Ok(order)
+}
+
+/// The places of a name's eligible releases, in increasing order of their versions.
+///
+/// A pre-release is passed over, unless some direct requirement on the name has a clause other than `!=` that names
+/// one, or all releases of the package are pre-releases. A yanked release (PEP 592) is passed over, unless some direct
+/// requirement on the name has a clause `==V` without `.*` whose V is equal to its version. A direct requirement is one
+/// of the project's, whatever its marker. A name that the catalog doesn't have has no eligible releases.
+pub fn eligible(alloc: Global, catalog: &Catalog, name: &Name) -> Result<Vec<u32>, AllocError>
+    ensures { IfOk result (λ places.
+        map (version_at (releases_of catalog.now name.now)) places.items ≡ map Some (eligible catalog.now name.now)) }
+{
+    let releases = catalog.releases_of(name);
+    let order = order(alloc, catalog.directs(), name, releases)?;
+    let places = order.places(alloc)?;
+    Ok(places)
+}

@@ -1,0 +1,5 @@
+mod Places
+mod Runs
+mod Names
+mod Faults
+mod Examples

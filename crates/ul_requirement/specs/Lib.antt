@@ -1,0 +1,5 @@
+pub mod Fields
+pub mod Truth
+pub mod Grammar
+pub mod Answers
+pub mod Vectors

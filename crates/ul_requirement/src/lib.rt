@@ -1,0 +1,16 @@
+//! Requirements, releases and packages, and what a run wishes for.
+#![tactic(auto)]
+
+mod copy;
+mod fault;
+pub mod laws;
+mod package;
+mod reading;
+mod requirement;
+mod truth;
+mod wish;
+
+pub use fault::ReqFault;
+pub use package::{FileEntry, Package, Release};
+pub use requirement::Requirement;
+pub use wish::{Mode, Strategy, Wish};

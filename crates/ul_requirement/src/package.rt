@@ -1,0 +1,83 @@
+//! Releases and packages.
+
+use crate::Requirement;
+use std::marker::Model;
+use ul_base::Name;
+use ul_specifier::Specifiers;
+use ul_version::Version;
+
+/// A file of a release, with the sum of its bytes.
+///
+/// Contracts see it as the record `FileFields`.
+#[derive(Drop)]
+pub struct FileEntry {
+    /// One or more printable bytes of ASCII without space, `"` and `\\`.
+    pub file: String,
+    /// 64 hexadecimal digits in lower case.
+    pub sha256: String,
+}
+
+impl Model for FileEntry {
+    ghost use Rattle.std.specs.Prelude.{string_bytes};
+    ghost use Rattle.ul_requirement.specs.Fields.{FileFields, IsFile};
+
+    ghost Value = { FileFields };
+
+    ghost view = { λ f. record { file = string_bytes f.file; sha256 = string_bytes f.sha256 } };
+
+    ghost invariant = { λ f. IsFile (record { file = string_bytes f.file; sha256 = string_bytes f.sha256 }) };
+}
+
+/// A usable release of a package.
+///
+/// The files are in byte order of their names, each once. Contracts see a release as the record
+/// `ReleaseFields`.
+#[derive(Drop)]
+pub struct Release {
+    pub version: Version,
+    /// The interpreters that it asks for; none where it asks for nothing.
+    pub python: Specifiers,
+    pub requirements: Vec<Requirement>,
+    /// Whether it was withdrawn (PEP 592).
+    pub yanked: bool,
+    pub files: Vec<FileEntry>,
+}
+
+impl Model for Release {
+    ghost use Rattle.std.specs.Coded.{codes};
+    ghost use Rattle.ul_marker.specs.Codes.{formula_code};
+    ghost use Rattle.ul_requirement.specs.Fields.{ReleaseFields, IsRelease};
+
+    ghost Value = { ReleaseFields };
+
+    ghost coded = { Prim.hlevel (codes, formula_code) };
+
+    ghost view = { λ r. record { version = r.version; python = r.python; requirements = r.requirements.items; yanked = r.yanked; files = r.files.items } };
+
+    ghost invariant = { λ r. IsRelease (record { version = r.version; python = r.python; requirements = r.requirements.items; yanked = r.yanked; files = r.files.items }) };
+}
+
+/// A package: its usable releases, in the order of its document.
+///
+/// The versions of the releases differ, by the order of versions. Contracts see it as the record `PackageFields`.
+#[derive(Drop)]
+pub struct Package {
+    pub name: Name,
+    /// How many releases the document lists, unusable ones included.
+    pub entries: u64,
+    pub releases: Vec<Release>,
+}
+
+impl Model for Package {
+    ghost use Rattle.std.specs.Coded.{codes};
+    ghost use Rattle.ul_marker.specs.Codes.{formula_code};
+    ghost use Rattle.ul_requirement.specs.Fields.{PackageFields, IsPackage};
+
+    ghost Value = { PackageFields };
+
+    ghost coded = { Prim.hlevel (codes, formula_code) };
+
+    ghost view = { λ p. record { name = p.name; entries = p.entries; releases = p.releases.items } };
+
+    ghost invariant = { λ p. IsPackage (record { name = p.name; entries = p.entries; releases = p.releases.items }) };
+}
