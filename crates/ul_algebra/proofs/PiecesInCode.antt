@@ -13,7 +13,8 @@ use Rattle.ul_tree.specs.Keys.{key_view, keys_view, has_kind, then_branches}
 use Rattle.ul_tree.specs.Joins.{stands, added}
 use Rattle.ul_tree.specs.Simplify.{Results, Pieces, Piece, own_or, filled, earliest, latest, reduced_branches}
 use Rattle.ul_algebra.specs.Made.{results_view, parts_view}
-use Rattle.ul_tree.specs.SimplifyViews.{last_part, KeysOf, PartsFit, ResultFits, ResultsFit}
+use Rattle.ul_tree.specs.SimplifyViews.{last_part, PartsFit, ResultFits, ResultsFit}
+use Rattle.ul_tree.specs.Keys.{KeysOf}
 use Rattle.ul_tree.proofs.ForCallers.{then_none, then_then}
 use Rattle.ul_algebra.proofs.Made.{stands_then}
 use Rattle.ul_tree.proofs.ForCallers.{filled_fit, own_fits, earliest_fits, latest_fits}
