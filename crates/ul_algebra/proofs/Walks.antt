@@ -1,0 +1,63 @@
+-- The branches of a tree, one after another.
+use Rattle.std.proofs.Common.{◌≡◌, ◌≢◌, ℕ, suc, ◌+◌, ◌≤◌, List, [], ◌∷◌, ◌++◌, ap, sym, ◌∙◌, subst, add-one, Some, None, true}
+use Rattle.ul_tree.specs.Plain.{Plain, truth, node, Branches, done, branch}
+use Rattle.ul_tree.specs.Reduced.{IsReduced}
+use Rattle.ul_tree.specs.Apply.{close}
+use Rattle.ul_tree.specs.Keys.{key_view, top_of, rest_of, branches_of, branches_from, branch_count, then_branches, is_key_of, has_kind}
+use Rattle.ul_tree.specs.Joins.{made_view as plain_view}
+use Rattle.ul_tree.specs.Views.{tree_view}
+use Rattle.ul_tree.specs.declared.level.Key.{Key}
+use Rattle.ul_tree.specs.declared.tree.Tree.{Tree}
+use Rattle.ul_tree.proofs.ForCallers.{then_none}
+use Rattle.ul_tree.proofs.ForCallers.{from_end}
+use Rattle.ul_tree.proofs.ForCallers.{made_push as plain_push}
+use Rattle.ul_algebra.specs.Made.{made_view}
+use Rattle.ul_algebra.specs.Spelled.{tree_of}
+use Rattle.ul_algebra.proofs.Levels.{Seen}
+use Rattle.ul_algebra.proofs.Made.{made_push}
+
+pub a_node : (l : List ℕ) (t : Plain) → Some l ≡ top_of t → top_of t ≢ None
+a_node l t e q = let r : Some l ≡ None = e ∙ q in absurd (no r)
+  where
+    no : Some l ≡ None → ⊥
+    no r = cc
+
+-- a reduced node is its other part and its branches
+pub whole : (l : List ℕ) (t : Plain) → Some l ≡ top_of t → IsReduced t → close l (rest_of t) (branches_of t) ≡ t
+whole l (truth b) e h = absurd (no e)
+  where
+    no : Some l ≡ None → ⊥
+    no r = cc
+whole l (node k d done) e h = absurd h.1
+whole l (node k d (branch j c rest)) e h = ap (λ z. node z d (branch j c rest)) (the_same e)
+  where
+    the_same : Some l ≡ Some k → l ≡ k
+    the_same q = cc
+
+-- the keys of a node's branches are of its level
+pub kind_of : (l : List ℕ) (t : Plain) (k : Key) → Some l ≡ top_of t → is_key_of t k ≡ true → has_kind l k ≡ true
+kind_of l (truth b) k e h = cc
+kind_of l (node j d bs) k e h = subst (λ (z : List ℕ). has_kind z k ≡ true) (sym (the_same e)) h
+  where
+    the_same : Some l ≡ Some j → l ≡ j
+    the_same q = cc
+
+-- one branch more
+pub walk_step : (bs : Branches) (made next : List (Key × Seen)) (k : Key) (m : Seen) (c : Plain) (i : ℕ) → next ≡ made ++ (k, m) ∷ [] → tree_of m ≡ c → branches_from i bs ≡ branch (key_view k) c (branches_from (suc i) bs)
+    → then_branches (made_view made) (branches_from i bs) ≡ bs → then_branches (made_view next) (branches_from (i + 1) bs) ≡ bs
+walk_step bs made next k m c i p e f h =
+    ap (λ z. then_branches (made_view z) (branches_from (i + 1) bs)) p ∙ made_push made (k, m) (branches_from (i + 1) bs)
+    ∙ ap (λ z. then_branches (made_view made) (branch (key_view k) z (branches_from (i + 1) bs))) e
+    ∙ ap (λ j. then_branches (made_view made) (branch (key_view k) c (branches_from j bs))) (add-one i)
+    ∙ ap (then_branches (made_view made)) (sym f) ∙ h
+
+pub walk_end : (bs made : Branches) (i : ℕ) → branch_count bs ≤ i → then_branches made (branches_from i bs) ≡ bs → made ≡ bs
+walk_end bs made i h e = sym (then_none made) ∙ ap (then_branches made) (sym (from_end bs i h)) ∙ e
+
+pub plain_step : (bs : Branches) (made next : List (Key × Tree)) (k : Key) (t : Tree) (c : Plain) (i : ℕ) → next ≡ made ++ (k, t) ∷ [] → tree_view t ≡ c → branches_from i bs ≡ branch (key_view k) c (branches_from (suc i) bs)
+    → then_branches (plain_view tree_view made) (branches_from i bs) ≡ bs → then_branches (plain_view tree_view next) (branches_from (i + 1) bs) ≡ bs
+plain_step bs made next k t c i p e f h =
+    ap (λ z. then_branches (plain_view tree_view z) (branches_from (i + 1) bs)) p ∙ plain_push tree_view made (k, t) (branches_from (i + 1) bs)
+    ∙ ap (λ z. then_branches (plain_view tree_view made) (branch (key_view k) z (branches_from (i + 1) bs))) e
+    ∙ ap (λ j. then_branches (plain_view tree_view made) (branch (key_view k) c (branches_from j bs))) (add-one i)
+    ∙ ap (then_branches (plain_view tree_view made)) (sym f) ∙ h

@@ -1,0 +1,209 @@
+use Rattle.std.proofs.Common.{◌<◌, ◌≡◌, ℕ, List, ap, sym, ◌∙◌, refl, subst, arith, get_or, false}
+use Rattle.std.specs.Option.{option_map}
+use Rattle.ul_interner.proofs.ForCallers.{known_stays, knows_then}
+use Rattle.ul_tree.specs.Plain.{Plain, truth}
+use Rattle.ul_tree.specs.Reduced.{IsReduced}
+use Rattle.ul_tree.specs.Apply.{size, rest_at, part_at}
+use Rattle.ul_tree.specs.Keys.{level_view, key_view, keys_view}
+use Rattle.ul_tree.specs.SimplifyViews.{is_above as is_above_plain}
+use Rattle.ul_tree.specs.Simplify.{Simplifies, Pieces, Piece, settled}
+use Rattle.ul_tree.proofs.ForCallers.{no_key}
+use Rattle.ul_tree.proofs.ForCallers.{tree_part, tree_rest, region_part, region_rest, part_smaller, rest_smaller, piece_outside, piece_inside, truth_done, all_done, level_done, result_reduced, results_reduced, simpler_reduced}
+use Rattle.ul_tree.specs.declared.level.Key.{Key}
+use Rattle.ul_algebra.specs.Spelled.{tree_of}
+use Rattle.ul_algebra.specs.Made.{results_view, OwnKnown}
+use Rattle.ul_algebra.proofs.Made.{all_more, all_push}
+use Rattle.ul_algebra.proofs.PiecesInCode.{results_step, results_end, kind_step}
+use Rattle.ul_algebra.proofs.Kept.{still, part_diagram, own_more}
+use Rattle.ul_algebra.proofs.simplify.+simplify.Goals as goal
+use Rattle.ul_algebra.proofs.simplify.+simplify.Goals.{simplified_at-In_ok-rest}
+
+-- ---- piece
+
+pub piece-returns-then-is_false-clause-piece : goal.piece-returns-then-is_false-clause-piece
+piece-returns-then-is_false-clause-piece g t c = piece_outside (tree_of c.args.f.now) (tree_of c.args.c.now) (sym c.is_false.ensures ∙ c.if-is_false.true)
+
+pub piece-returns-clause-piece : goal.piece-returns-clause-piece
+piece-returns-clause-piece g t c = piece_inside (tree_of c.args.f.now) (tree_of c.args.c.now) (tree_of c.in_ok-d.d) (sym c.is_false.ensures ∙ c.if-is_false.false) c.in_ok-d.ensures.rule
+
+-- ---- results
+
+pub results-piece-requires : goal.results-piece-requires
+results-piece-requires g t c =
+    let l = level_view c.args.level in
+    let f = tree_of c.args.f.now in
+    let r = tree_of c.args.region.now in
+    let h = c.args.algebra.now in
+    let v = key_view (get_or c.args.keys.now c.loop-key.key-index no_key) in
+    let m : size (tree_of c.part_at.result.now) < size f = part_smaller l v f (tree_of c.part_at.result.now) c.requires.top c.part_at.ensures.part in
+    let d = c.decreases in λ κs o. (
+      omega (arith, m, d),
+      (
+        o,
+        (
+          part_diagram h c.loop-key.algebra c.args.f.now c.part_at.result.now (part_at l v f) c.loop-key.invariant.knows c.requires.f c.part_at.ensures.known c.part_at.ensures.part (tree_part l v f c.requires.top c.requires.f.reduced),
+          part_diagram h c.loop-key.algebra c.args.region.now c.part_at-in-loop-key.result.now (part_at l v r) c.loop-key.invariant.knows c.requires.region c.part_at-in-loop-key.ensures.known c.part_at-in-loop-key.ensures.part (region_part l v r c.requires.not_above c.requires.region.reduced),
+        ),
+      ),
+    )
+
+pub results-returns-in_err-result-clause-knows : goal.results-returns-in_err-result-clause-knows
+results-returns-in_err-result-clause-knows g t c = knows_then _ _ _ c.loop-key.invariant.knows c.in_err-result.ensures.knows
+
+pub results-returns-in_err-push-clause-knows : goal.results-returns-in_err-push-clause-knows
+results-returns-in_err-push-clause-knows g t c = knows_then _ _ _ c.loop-key.invariant.knows c.in_ok-result.ensures.knows
+
+pub results-loop-key-preserved : goal.results-loop-key-preserved
+results-loop-key-preserved g t c = record {
+  knows = knows_then _ _ _ c.loop-key.invariant.knows c.in_ok-result.ensures.knows;
+  known = all_push (λ r. OwnKnown c.piece.new.algebra r.1) c.loop-key.made.items c.push.new.self.items (get_or c.args.keys.now c.loop-key.key-index no_key, c.in_ok-result.result) c.in_ok-push.ensures.items
+      (all_more (λ r. OwnKnown c.loop-key.algebra r.1) (λ r. OwnKnown c.piece.new.algebra r.1) c.loop-key.made.items (λ r k. own_more c.loop-key.algebra c.piece.new.algebra c.in_ok-result.ensures.knows r.1 k) c.loop-key.invariant.known)
+      c.in_ok-result.ensures.known;
+  pieces = results_step (level_view c.args.level) (tree_of c.args.f.now) (tree_of c.args.region.now) c.args.keys.now c.loop-key.key-index _ c.in_ok-result.result c.loop-key.made.items c.push.new.self.items
+      (tree_of c.part_at.result.now) (tree_of c.part_at-in-loop-key.result.now) c.loop-key-test.true c.in_ok-push.ensures.items c.part_at.ensures.part c.part_at-in-loop-key.ensures.part c.in_ok-result.ensures.piece c.loop-key.invariant.pieces;
+  kinds = kind_step (level_view c.args.level) c.args.keys.now c.loop-key.key-index _ c.in_ok-result.result c.loop-key.made.items c.push.new.self.items c.loop-key-test.true c.in_ok-push.ensures.items c.requires.kinds c.loop-key.invariant.kinds;
+}
+
+pub results-returns-clause-pieces : goal.results-returns-clause-pieces
+results-returns-clause-pieces g t c =
+    results_end (level_view c.args.level) (tree_of c.args.f.now) (tree_of c.args.region.now) c.args.keys.now c.loop-key.key-index c.loop-key.made.items (omega arith) c.loop-key.invariant.pieces
+
+-- ---- simplified
+
+pub simplified-remember-requires-clause-a : goal.simplified-remember-requires-clause-a
+simplified-remember-requires-clause-a g t c = known_stays c.args.algebra.now c.simplified_anew.new.algebra c.in_ok-made.ensures.knows c.args.f.now c.requires.f.known
+
+pub simplified-remember-requires-clause-b : goal.simplified-remember-requires-clause-b
+simplified-remember-requires-clause-b g t c = known_stays c.args.algebra.now c.simplified_anew.new.algebra c.in_ok-made.ensures.knows c.args.c.now c.requires.c.known
+
+-- ---- simplified_anew
+
+pub simplified_anew-simplified_at-requires : goal.simplified_anew-simplified_at-requires
+simplified_anew-simplified_at-requires g t c =
+    let l = level_view c.in-Some.level in
+    let h = c.args.algebra.now in
+    let more = c.in_ok-made-in-Some.ensures.knows in
+    let low = c.in_ok-made-in-Some.ensures.lowered in
+    let d = c.decreases in λ κs o. (
+      omega (arith, d),
+      (
+        o,
+        (
+          still h c.lowered.new.algebra c.args.f.now more c.requires.f,
+          (
+            record {
+              known = c.region.ensures.known c.lowered.new.algebra c.in_ok-made-in-Some.ensures.known (known_stays h c.lowered.new.algebra more c.args.c.now c.requires.c.known);
+              reduced = subst (λ (z : Plain). IsReduced z) (sym c.region.ensures.part) low.lowers.reduced;
+            },
+            (
+              c.in-Some.ensures,
+              (
+                subst (λ (z : Plain). z ≡ truth false → ⊥) (sym c.region.ensures.part) low.lowers.not_false,
+                subst (λ (z : Plain). is_above_plain l z ≡ false) (sym c.region.ensures.part) low.not_above,
+              ),
+            ),
+          ),
+        ),
+      ),
+    )
+
+pub simplified_anew-returns-in_err-d-in-Some-clause-knows : goal.simplified_anew-returns-in_err-d-in-Some-clause-knows
+simplified_anew-returns-in_err-d-in-Some-clause-knows g t c = knows_then _ _ _ c.in_ok-made-in-Some.ensures.knows c.in_err-d-in-Some.ensures.knows
+
+pub simplified_anew-returns-in_ok-d-in-Some-clause-knows : goal.simplified_anew-returns-in_ok-d-in-Some-clause-knows
+simplified_anew-returns-in_ok-d-in-Some-clause-knows g t c = knows_then _ _ _ c.in_ok-made-in-Some.ensures.knows c.in_ok-d-in-Some.ensures.knows
+
+pub simplified_anew-returns-in_ok-d-in-None-clause-rule : goal.simplified_anew-returns-in_ok-d-in-None-clause-rule
+simplified_anew-returns-in_ok-d-in-None-clause-rule g t c = truth_done (tree_of c.args.f.now) (tree_of c.args.c.now) (tree_of c.in_ok-d-in-None.d) c.in-None.ensures (ap tree_of c.in_ok-d-in-None.ensures)
+
+-- ---- simplified_at
+
+pub simplified_at-returns-then-known-clause-rule : goal.simplified_at-returns-then-known-clause-rule
+simplified_at-returns-then-known-clause-rule g t c = all_done (tree_of c.args.f.now) (tree_of c.args.region.now) (tree_of c.in_ok-d.d) (sym c.known.ensures ∙ c.if-known.true) (ap tree_of c.in_ok-d.ensures)
+
+pub simplified_at-piece-requires : goal.simplified_at-piece-requires
+simplified_at-piece-requires g t c =
+    let l = level_view c.args.level in
+    let f = tree_of c.args.f.now in
+    let r = tree_of c.args.region.now in
+    let h = c.args.algebra.now in
+    let more = c.in_ok-results.ensures.knows in
+    let m = rest_smaller l f (tree_of c.rest_at.result.now) c.requires.top c.rest_at.ensures.part in
+    let d = c.decreases in λ κs o. (
+      omega (arith, m, d),
+      (
+        o,
+        (
+          part_diagram h c.results.new.algebra c.args.f.now c.rest_at.result.now (rest_at l f) more c.requires.f c.rest_at.ensures.known c.rest_at.ensures.part (tree_rest l f c.requires.top c.requires.f.reduced),
+          part_diagram h c.results.new.algebra c.args.region.now c.rest_at-2.result.now (rest_at l r) more c.requires.region c.rest_at-2.ensures.known c.rest_at-2.ensures.part (region_rest l r c.requires.not_above c.requires.region.reduced),
+        ),
+      ),
+    )
+
+-- the level put together from the results
+settles : (g : _) (t : ℕ) (c : simplified_at-In_ok-rest g t) → Simplifies (tree_of c.args.f.now) (tree_of c.args.region.now)
+    (settled (level_view c.args.level) (results_view c.in_ok-results.results.items) (option_map tree_of c.in_ok-rest.rest) (rest_at (level_view c.args.level) (tree_of c.args.f.now)))
+settles g t c =
+    let l = level_view c.args.level in
+    let f = tree_of c.args.f.now in
+    let r = tree_of c.args.region.now in
+    let rs = results_view c.in_ok-results.results.items in
+    let o = option_map tree_of c.in_ok-rest.rest in
+    level_done f r (settled l rs o (rest_at l f)) l (keys_view c.in_ok-keys.keys.items) rs o c.requires.top c.requires.not_above c.requires.not_false
+    (sym c.known.ensures ∙ c.if-known.false) c.in_ok-keys.ensures.keys
+    (subst (λ (z : List Key). Pieces l f r (keys_view z) rs) c.deref.ensures.value c.in_ok-results.ensures.pieces)
+    (subst (λ (z : Plain). Piece z (rest_at l r) o) c.rest_at.ensures.part (subst (λ (z : Plain). Piece (tree_of c.rest_at.result.now) z o) c.rest_at-2.ensures.part c.in_ok-rest.ensures.piece))
+    refl
+
+pub simplified_at-returns-clause-rule : goal.simplified_at-returns-clause-rule
+simplified_at-returns-clause-rule g t c =
+    let l = level_view c.args.level in
+    subst (λ (z : Plain). Simplifies (tree_of c.args.f.now) (tree_of c.args.region.now) z)
+    (sym (c.in_ok-d-2.ensures.tree ∙ ap (settled l (results_view c.in_ok-results.results.items) (option_map tree_of c.in_ok-rest.rest)) c.rest_at-3.ensures.part))
+    (settles g t (goal.at.simplified_at-returns-clause-rule g t c).In_ok-rest)
+
+pub simplified_at-settled-requires-clause-results_reduced : goal.simplified_at-settled-requires-clause-results_reduced
+simplified_at-settled-requires-clause-results_reduced g t c =
+    let l = level_view c.args.level in
+    let f = tree_of c.args.f.now in
+    let r = tree_of c.args.region.now in
+    results_reduced c.in_ok-results.ensures.pieces (λ v. tree_part l v f c.requires.top c.requires.f.reduced) (λ v. region_part l v r c.requires.not_above c.requires.region.reduced)
+
+pub simplified_at-settled-requires-clause-rest_reduced : goal.simplified_at-settled-requires-clause-rest_reduced
+simplified_at-settled-requires-clause-rest_reduced g t c =
+    let l = level_view c.args.level in
+    let f = tree_of c.args.f.now in
+    let r = tree_of c.args.region.now in
+    result_reduced (tree_of c.rest_at.result.now) (tree_of c.rest_at-2.result.now) (option_map tree_of c.in_ok-rest.rest) c.in_ok-rest.ensures.piece
+    (subst (λ (z : Plain). IsReduced z) (sym c.rest_at.ensures.part) (tree_rest l f c.requires.top c.requires.f.reduced))
+    (subst (λ (z : Plain). IsReduced z) (sym c.rest_at-2.ensures.part) (region_rest l r c.requires.not_above c.requires.region.reduced))
+
+pub simplified_at-settled-requires-clause-otherwise_reduced : goal.simplified_at-settled-requires-clause-otherwise_reduced
+simplified_at-settled-requires-clause-otherwise_reduced g t c =
+    subst (λ (z : Plain). IsReduced z) (sym c.rest_at-3.ensures.part) (tree_rest (level_view c.args.level) (tree_of c.args.f.now) c.requires.top c.requires.f.reduced)
+
+pub simplified_at-settled-requires-clause-reduced : goal.simplified_at-settled-requires-clause-reduced
+simplified_at-settled-requires-clause-reduced g t c =
+    let l = level_view c.args.level in
+    let rs = results_view c.in_ok-results.results.items in
+    let o = option_map tree_of c.in_ok-rest.rest in
+    subst (λ (z : Plain). IsReduced (settled l rs o z)) (sym c.rest_at-3.ensures.part)
+    (simpler_reduced (tree_of c.args.f.now) (tree_of c.args.region.now) (settled l rs o (rest_at l (tree_of c.args.f.now)))
+    (settles g t (goal.at.simplified_at-settled-requires-clause-reduced g t c).In_ok-rest) c.requires.f.reduced c.requires.region.reduced)
+
+pub simplified_at-settled-requires-clause-results_known : goal.simplified_at-settled-requires-clause-results_known
+simplified_at-settled-requires-clause-results_known g t c =
+    all_more (λ r. OwnKnown c.results.new.algebra r.1) (λ r. OwnKnown c.piece.new.algebra r.1) c.in_ok-results.results.items (λ r k. own_more c.results.new.algebra c.piece.new.algebra c.in_ok-rest.ensures.knows r.1 k) c.in_ok-results.ensures.known
+
+pub simplified_at-settled-requires-clause-otherwise_known : goal.simplified_at-settled-requires-clause-otherwise_known
+simplified_at-settled-requires-clause-otherwise_known g t c =
+    c.rest_at-3.ensures.known c.piece.new.algebra (known_stays c.args.algebra.now c.piece.new.algebra (knows_then _ _ _ c.in_ok-results.ensures.knows c.in_ok-rest.ensures.knows) c.args.f.now c.requires.f.known)
+
+pub simplified_at-returns-in_err-rest-clause-knows : goal.simplified_at-returns-in_err-rest-clause-knows
+simplified_at-returns-in_err-rest-clause-knows g t c = knows_then _ _ _ c.in_ok-results.ensures.knows c.in_err-rest.ensures.knows
+
+pub simplified_at-returns-in_err-d-2-clause-knows : goal.simplified_at-returns-in_err-d-2-clause-knows
+simplified_at-returns-in_err-d-2-clause-knows g t c = knows_then _ _ _ c.in_ok-results.ensures.knows (knows_then _ _ _ c.in_ok-rest.ensures.knows c.in_err-d-2.ensures.knows)
+
+pub simplified_at-returns-clause-knows : goal.simplified_at-returns-clause-knows
+simplified_at-returns-clause-knows g t c = knows_then _ _ _ c.in_ok-results.ensures.knows (knows_then _ _ _ c.in_ok-rest.ensures.knows c.in_ok-d-2.ensures.knows)

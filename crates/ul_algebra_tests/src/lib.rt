@@ -1,0 +1,5 @@
+//! Tests of the algebra of diagrams, over its public surface.
+#![tactic(auto)]
+
+#[cfg(test)]
+mod diagrams;
