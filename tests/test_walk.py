@@ -15,7 +15,9 @@ from pathlib import Path
 
 from making import TOP, plain_wheel
 
-PROGRAM = TOP / "crates" / "unilock" / "out" / "unilock"
+# The script `unilock` keeps the program in out/; a build by hand leaves it in its crate.
+BUILT = [TOP / "out" / "unilock", TOP / "crates" / "unilock" / "out" / "unilock"]
+PROGRAM = next((it for it in BUILT if it.exists()), BUILT[0])
 PROJECT = """[project]
 name = "walk"
 version = "1"
