@@ -18,6 +18,7 @@ use Rattle.ul_trail.specs.Facts.{is_open, IsHeld, IsFailed, AreHeld, AreHeldBut,
 use Rattle.ul_trail.specs.Propagation.{IsDerived, AreDerivedAfter, AreForbidden, IsTrailOf, IsAlive, IsConflict, said_by}
 use Rattle.ul_trail.proofs.ForCallers.{take_next, take_whole, get_more, get_last, last_cases, append_within, right_join, cut_held, but_on, negation_node, said_at, said_of}
 use Rattle.ul_conflict.specs.Satisfiers.{IsHeldApart, TakesPart, IsSatisfier}
+use Rattle.ul_conflict.specs.Needed.{ClosesAt}
 use Rattle.ul_conflict.specs.Headline.{LastDerives, IsBackjump}
 use Rattle.ul_conflict.specs.Resolved.{IsResolved, IsResolvedBy, IsLevelBefore, IsCut, IsSaid, IsAdded, IsNumbered, LeadsBack}
 use Rattle.ul_conflict.specs.declared.analysis.Resolvent.{Resolvent}
@@ -64,7 +65,7 @@ cause_terms p t i f c h = (slice_get_within t.terms c (says p h.step) h.said, sl
 pub held_at_satisfier : (p : Plain) (t : Track) (terms : List Term) (number : ℕ) (learned : List Step) (place at : ℕ) → IsResolved p t terms number learned place → IsSatisfier t.facts terms None place at → AreHeld (take at t.facts) terms
 held_at_satisfier p t terms number learned place at s h = apart_held (take at t.facts) terms s.whole.0 (h.held (held_apart (take place t.facts) terms s.held))
 
-right_last : (p : Plain) (earlier xs : List Step) (s : Step) → AreRightAfter p earlier xs → IsRight p (earlier ++ xs) s → AreRightAfter p earlier (xs ++ s ∷ [])
+pub right_last : (p : Plain) (earlier xs : List Step) (s : Step) → AreRightAfter p earlier xs → IsRight p (earlier ++ xs) s → AreRightAfter p earlier (xs ++ s ∷ [])
 right_last p earlier [] s h i = (subst (λ (l : List Step). IsRight p l s) (append-nil earlier) i, tt)
 right_last p earlier (x ∷ xs) s h i = (h.0, right_last p (earlier ++ x ∷ []) xs s h.1 (subst (λ (l : List Step). IsRight p l s) (sym (append_assoc earlier (x ∷ []) xs)) i))
 
@@ -289,23 +290,30 @@ conflict_place p t conflict w (s, e, h) =
     (omega arith, a)
 
 -- the end
-right_front : (p : Plain) (earlier steps : List Step) (k : ℕ) → AreRightAfter p earlier steps → AreRightAfter p earlier (take k steps)
-right_front p earlier steps zero h = tt
-right_front p earlier [] (suc k) h = tt
-right_front p earlier (x ∷ xs) (suc k) h = (h.0, right_front p (earlier ++ x ∷ []) xs k h.1)
-
-closes_front : (p : Plain) (steps : List Step) (k : ℕ) (s : Step) → slice_get steps k ≡ Some s → AreRootTerms p (says p s) → ClosesWith p (take (suc k) steps)
+pub closes_front : (p : Plain) (steps : List Step) (k : ℕ) (s : Step) → slice_get steps k ≡ Some s → AreRootTerms p (says p s) → ClosesWith p (take (suc k) steps)
 closes_front p [] k s e h = absurd (none-some s e)
 closes_front p (x ∷ xs) zero s e h = subst (λ (y : Step). AreRootTerms p (says p y)) (sym (same_Some x s e)) h
 closes_front p (x ∷ []) (suc k) s e h = absurd (none-some s e)
 closes_front p (x ∷ y ∷ xs) (suc k) s e h = closes_front p (y ∷ xs) k s e h
 
-pub ended_accepted : (p : Plain) (t : Track) (terms : List Term) (number : ℕ) (learned derivation : List Step) (place : ℕ) → IsTrailOf p t → IsResolved p t terms number learned place → AreRootTerms p terms → derivation ≡ take number (t.steps ++ learned) → Accepts p derivation
-ended_accepted p t terms number learned derivation place w s r e =
+-- what the end of a derivation wants
+pub record IsEnd (p : Plain) (steps : List Step) (number : ℕ) : Type 0 where
+  pub right : AreRightAfter p [] steps
+  pub closes : ClosesAt p steps number
+  pub there : number ≤ length steps
+  pub some : 0 < number
+
+pub ended : (p : Plain) (t : Track) (terms : List Term) (number : ℕ) (learned : List Step) (place : ℕ) → IsTrailOf p t → IsResolved p t terms number learned place → AreRootTerms p terms → IsEnd p (t.steps ++ learned) number
+ended p t terms number learned place w s r =
     let k = place_of (t.steps ++ learned) number s.step s.is in
-    let right = right_front p [] (t.steps ++ learned) number (right_join p [] t.steps learned w.follow.right s.right) in
-    let closes = closes_front p (t.steps ++ learned) k.0 s.step k.2 (subst (AreRootTerms p) (sym s.said) r) in
-    subst (Accepts p) (sym e) (right, subst (λ (n : ℕ). ClosesWith p (take n (t.steps ++ learned))) (sym k.1) closes)
+    let e = k.1 in
+    let l = slice_get_within (t.steps ++ learned) k.0 s.step k.2 in
+    record {
+      right = right_join p [] t.steps learned w.follow.right s.right;
+      closes = (s.step, s.is, subst (AreRootTerms p) (sym s.said) r);
+      there = omega arith;
+      some = omega arith;
+    }
 
 -- a step stays right after more steps
 right_more : (p : Plain) (earlier more : List Step) (s : Step) → IsRight p earlier s → IsRight p (earlier ++ more) s

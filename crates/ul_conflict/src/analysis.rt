@@ -1,14 +1,14 @@
 //! Conflict analysis: from the conflict down the facts, a cut at each fact that takes part, until the resolvent derives something at a
 //! lower level, or forbids the roots.
 ghost use Rattle.std.specs.Prelude.{◌≡◌, ◌≤◌, ◌<◌, List, Some, length, slice_get, IfOk};
-ghost use Rattle.ul_problem.specs.Steps.{AreTermsOf};
+ghost use Rattle.ul_problem.specs.Steps.{AreRootTerms, AreTermsOf, Accepts};
 ghost use Rattle.ul_problem.specs.declared.term.Term.{Term};
 ghost use Rattle.ul_trail.specs.Propagation.{IsTrailOf, IsConflict};
 ghost use Rattle.ul_conflict.specs.Headline.{IsOutcome};
 ghost use Rattle.ul_conflict.specs.Resolved.{IsResolvedBy, IsTurned, IsCut, IsLevelBefore, LeadsBackOf};
 
-use crate::closing::closed;
 use crate::held::place_of;
+use crate::pruning::derivation_of;
 use crate::satisfier::satisfier;
 use std::alloc::{AllocError, Global};
 use ul_problem::{Derivation, Incompat, Problem, Step, resolvent};
@@ -174,6 +174,26 @@ fn jump(
     Ok(Outcome::Backjump { level, learned })
 }
 
+// The derivation that the resolvent, which forbids the roots, ends.
+fn closed(
+    alloc: Global,
+    problem: &Problem,
+    trail: &Trail,
+    resolved: Resolvent,
+    place: usize,
+) -> Result<Derivation, AllocError>
+    requires right { IsTrailOf problem.now trail.now }
+    requires state { IsResolvedBy problem.now trail.now resolved place }
+    requires roots { AreRootTerms problem.now resolved.terms }
+    ensures { IfOk result (λ d. Accepts problem.now d) }
+{
+    let _ = place;
+    let held = trail.steps().as_slice();
+    let learned = resolved.learned.as_slice();
+    let derivation = derivation_of(alloc, problem, held, learned, resolved.number)?;
+    Ok(derivation)
+}
+
 /// What a conflict comes to: a level to go back to with the steps learned, or an accepted derivation.
 pub fn resolve(
     alloc: Global,
@@ -198,7 +218,7 @@ pub fn resolve(
                 return Ok(outcome);
             }
             Turn::Close => {
-                let derivation = closed(alloc, trail, resolved)?;
+                let derivation = closed(alloc, problem, trail, resolved, place)?;
                 return Ok(Outcome::Closed(derivation));
             }
         }
