@@ -327,9 +327,59 @@ fn long_derivation(alloc: Global, count: u32, rounds: u32) -> Result<Derivation,
 
 #[test]
 fn long_derivations_are_judged_at_once(rt: HostRuntime) -> Result<(), Fail> {
-    let problem = chain(rt.alloc(), 2000)?;
-    let derivation = long_derivation(rt.alloc(), 2000, 26)?;
-    assert!(rt; derivation.as_slice().len() > 100000);
+    let problem = chain(rt.alloc(), 1000)?;
+    let derivation = long_derivation(rt.alloc(), 1000, 101)?;
+    assert!(rt; derivation.as_slice().len() > 200000);
     assert_eq!(rt; fault(rt.alloc(), &problem, &derivation)?, 0);
+    Ok(())
+}
+
+// demo needs each of many nodes, from the last on, and the first of them again with both versions; they need nothing.
+fn wide(alloc: Global, count: u32) -> Result<Problem, Fail> {
+    let mut nodes = Vec::new(alloc);
+    let mut needs = Vec::new(alloc);
+    for k in 1..count {
+        let permitted = set(alloc, 2, 0, 1)?;
+        needs.push(Need {
+            node: (count - k) as u64,
+            permitted,
+        })?;
+    }
+    let permitted = set(alloc, 2, 1, 2)?;
+    needs.push(Need { node: 1, permitted })?;
+    let mut rows = Vec::new(alloc);
+    rows.push(NeedRow::of(needs))?;
+    nodes.push(facts(alloc, node(alloc, "p1000000", None)?, None, rows, 1)?)?;
+    for k in 1..count {
+        let mut rows = Vec::new(alloc);
+        rows.push(NeedRow::of(Vec::new(alloc)))?;
+        rows.push(NeedRow::of(Vec::new(alloc)))?;
+        let name = format!(in alloc; "p{}", 1000000 + k as u64)?;
+        nodes.push(facts(alloc, node(alloc, name.as_str(), None)?, None, rows, 2)?)?;
+    }
+    problem_of(alloc, nodes)
+}
+
+#[test]
+fn needs_of_long_rows_are_judged(rt: HostRuntime) -> Result<(), Fail> {
+    let alloc = rt.alloc();
+    let problem = wide(alloc, 300)?;
+    for (target, low, high, want) in [
+        (1, 0, 1, 2),
+        (1, 1, 2, 2),
+        (2, 0, 1, 2),
+        (2, 0, 2, 2),
+        (2, 1, 2, 1),
+        (299, 0, 1, 2),
+        (0, 0, 0, 1),
+    ] {
+        let step = need(0, set(alloc, 1, 0, 1)?, target, set(alloc, 2, low, high)?);
+        let derivation = alone(alloc, step)?;
+        assert_eq!(rt;
+            fault(alloc, &problem, &derivation)?,
+            want,
+            "need of {target}"
+        );
+    }
     Ok(())
 }

@@ -5,7 +5,8 @@ use std::alloc::{AllocError, Global};
 use std::test::Fail;
 use ul_base::{Name, Node};
 use ul_problem::{
-    Need, NeedRow, NeedRows, NodeFacts, Places, Problem, Relation, Step, Term, Terms, Versions,
+    Incompat, Need, NeedRow, NeedRows, NodeFacts, Places, Problem, Relation, Step, Term, Versions,
+    same_terms,
 };
 use ul_ranges::Ordinals;
 use ul_version::Version;
@@ -156,67 +157,67 @@ fn problems_are_tested(rt: HostRuntime) -> Result<(), Fail> {
     Ok(())
 }
 
+// A term on node 7: whether it is positive, and its numbers from the first to before the second.
+type Row = (bool, u32, u32);
+
+// Two terms, their meet, their join, and what the first tells of the second.
+const ROWS: [(Row, Row, Row, Row, Relation); 6] = [
+    (
+        (true, 0, 2),
+        (true, 1, 3),
+        (true, 1, 2),
+        (true, 0, 3),
+        Relation::Unknown,
+    ),
+    (
+        (true, 0, 2),
+        (false, 1, 3),
+        (true, 0, 1),
+        (false, 2, 3),
+        Relation::Unknown,
+    ),
+    (
+        (false, 0, 2),
+        (true, 1, 3),
+        (true, 2, 3),
+        (false, 0, 1),
+        Relation::Unknown,
+    ),
+    (
+        (false, 0, 2),
+        (false, 1, 3),
+        (false, 0, 3),
+        (false, 1, 2),
+        Relation::Unknown,
+    ),
+    (
+        (true, 1, 2),
+        (true, 1, 3),
+        (true, 1, 2),
+        (true, 1, 3),
+        Relation::Holds,
+    ),
+    (
+        (true, 1, 2),
+        (false, 1, 3),
+        (true, 1, 1),
+        (false, 2, 3),
+        Relation::Fails,
+    ),
+];
+
 #[test]
 fn terms_are_met_joined_and_told(rt: HostRuntime) -> Result<(), Fail> {
     let alloc = rt.alloc();
-    for (a, b, met, joined, told) in [
-        (
-            (true, 0, 2),
-            (true, 1, 3),
-            (true, 1, 2),
-            (true, 0, 3),
-            Relation::Unknown,
-        ),
-        (
-            (true, 0, 2),
-            (false, 1, 3),
-            (true, 0, 1),
-            (false, 2, 3),
-            Relation::Unknown,
-        ),
-        (
-            (false, 0, 2),
-            (true, 1, 3),
-            (true, 2, 3),
-            (false, 0, 1),
-            Relation::Unknown,
-        ),
-        (
-            (false, 0, 2),
-            (false, 1, 3),
-            (false, 0, 3),
-            (false, 1, 2),
-            Relation::Unknown,
-        ),
-        (
-            (true, 1, 2),
-            (true, 1, 3),
-            (true, 1, 2),
-            (true, 1, 3),
-            Relation::Holds,
-        ),
-        (
-            (true, 1, 2),
-            (false, 1, 3),
-            (true, 1, 1),
-            (false, 2, 3),
-            Relation::Fails,
-        ),
-    ] {
+    for (a, b, met, joined, told) in ROWS {
         let known = term(alloc, a.0, 7, a.1, a.2)?;
         let other = term(alloc, b.0, 7, b.1, b.2)?;
         assert_eq!(rt; known.set().size(), other.set().size());
         assert_eq!(rt; known.node(), other.node());
-        assert!(rt;
-            known
-                .meet(alloc, &other)?
-                .same(&term(alloc, met.0, 7, met.1, met.2)?)
-        );
-        assert!(rt;
-            known
-                .join(alloc, &other)?
-                .same(&term(alloc, joined.0, 7, joined.1, joined.2)?)
-        );
+        let meet = known.meet(alloc, &other)?;
+        assert!(rt; meet.same(&term(alloc, met.0, 7, met.1, met.2)?));
+        let join = known.join(alloc, &other)?;
+        assert!(rt; join.same(&term(alloc, joined.0, 7, joined.1, joined.2)?));
         assert_eq!(rt; other.relation(&known), told);
         assert!(rt; known.copy(alloc)?.same(&known));
         assert!(rt; known.negation(alloc)?.negation(alloc)?.same(&known));
@@ -251,5 +252,73 @@ fn problems_give_their_parts(rt: HostRuntime) -> Result<(), Fail> {
         assert_eq!(rt; facts.needs.as_slice().len(), size);
         assert_eq!(rt; facts.base, base);
     }
+    Ok(())
+}
+
+#[test]
+fn problems_are_read_by_node(rt: HostRuntime) -> Result<(), Fail> {
+    let problem = small(rt.alloc())?.ok_or("problem")?;
+    assert_eq!(rt; problem.nodes().len(), 3);
+    for (node, size, base, needs) in [(0, 1, None, 1), (1, 2, None, 0), (2, 2, Some(1), 0)] {
+        if node < problem.nodes().len() as u64 {
+            assert_eq!(rt; problem.size_at(node), size);
+            assert_eq!(rt; problem.base_at(node), base);
+            assert_eq!(rt; problem.order_at(node).len(), size as usize);
+            if problem.size_at(node) > 0 {
+                assert_eq!(rt; problem.needs_at(node, 0).len(), needs);
+            }
+        }
+    }
+    Ok(())
+}
+
+// A problem of many nodes with one version each, and no needs.
+fn many(alloc: Global, count: u32) -> Result<Option<Problem>, Fail> {
+    let mut nodes = Vec::new(alloc);
+    for k in 0..count {
+        let name = format!(in alloc; "p{}", 1000000 + k as u64)?;
+        nodes.push(facts(alloc, name.as_str(), None, 1)?)?;
+    }
+    let roots = vec![in alloc; 0u64]?;
+    if Problem::fits(alloc, roots.as_slice(), nodes.as_slice())? {
+        Ok(Some(Problem::of(roots, nodes)))
+    } else {
+        Ok(None)
+    }
+}
+
+#[test]
+fn nodes_are_found(rt: HostRuntime) -> Result<(), Fail> {
+    let alloc = rt.alloc();
+    let problem = many(alloc, 300)?.ok_or("problem")?;
+    for k in 0..300u64 {
+        let text = format!(in alloc; "p{}", 1000000 + k)?;
+        let name = Name::read(alloc, text.as_str())?;
+        assert_eq!(rt; problem.place_of(&Node { name, extra: None }), Some(k));
+    }
+    for text in ["a", "p1000150b", "z"] {
+        let name = Name::read(alloc, text)?;
+        assert_eq!(rt; problem.place_of(&Node { name, extra: None }), None);
+    }
+    Ok(())
+}
+
+// What a step on the node of demo says.
+fn said(alloc: Global, problem: &Problem) -> Result<Option<Incompat>, AllocError> {
+    if problem.nodes().len() != 3 {
+        return Ok(None);
+    }
+    let versions = Ordinals::all(alloc, problem.size_at(0))?;
+    let step = Step::Python { node: 0, versions };
+    Ok(Some(step.copy(alloc)?.says(alloc, problem)?))
+}
+
+#[test]
+fn incompatibilities_are_copied(rt: HostRuntime) -> Result<(), Fail> {
+    let problem = small(rt.alloc())?.ok_or("problem")?;
+    let said = said(rt.alloc(), &problem)?.ok_or("said")?;
+    let copy = said.copy(rt.alloc())?;
+    assert_eq!(rt; copy.terms().len(), 1);
+    assert!(rt; same_terms(copy.terms(), said.terms()));
     Ok(())
 }
