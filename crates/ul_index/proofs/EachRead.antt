@@ -1,14 +1,11 @@
 -- What was read, before what is left to read.
-use Rattle.std.proofs.Common.{◌≡◌, ◌++◌, List, [], ◌∷◌, Option, Some, None, Bool, true, false, is_some, refl, ap, sym, ◌∙◌, append_assoc, append-nil}
-use Rattle.std.specs.Prelude.{ℕ, Result, Ok, Err}
+use Rattle.std.proofs.Common.{◌≡◌, ◌++◌, List, [], ◌∷◌, Option, Some, None, true, false, is_some, refl, ap, sym, append_assoc, append-nil}
+use Rattle.std.specs.Prelude.{ℕ, Ok, Err}
 use Rattle.serde_json.specs.Data.{Data}
 use Rattle.serde_json.specs.Find.{as_str}
-use Rattle.serde_json.specs.View.{view, items_view}
-use Rattle.serde_json.specs.declared.value.Value.{Value}
 use Rattle.ul_requirement.specs.Fields.{RequirementFields}
-use Rattle.ul_requirement.specs.Grammar.{requirement_of}
-use Rattle.ul_index.specs.Documents.{DocumentFault, Reading, requirement_in, shape, texts_at}
-use Rattle.ul_index.specs.Json.{items_list}
+use Rattle.ul_requirement.specs.Reading.{requirement_of}
+use Rattle.ul_index.specs.Documents.{Reading, requirement_in, shape, texts_at}
 use Rattle.ul_index.specs.Results.{◌>>=◌, option_bind, or_fault, read_each}
 use Rattle.ul_index.specs.declared.place.Place.{Place}
 

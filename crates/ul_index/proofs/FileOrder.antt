@@ -1,17 +1,14 @@
 -- Files in the order of their names.
-use Rattle.std.proofs.Common.{◌≡◌, ◌++◌, ◌&&◌, ◌||◌, ℕ, List, [], ◌∷◌, map, fold, Option, Some, None, Bool, true, false, cond, refl, ap, sym, ◌∙◌}
-use Rattle.std.specs.Prelude.{not}
+use Rattle.std.proofs.Common.{◌≡◌, ◌++◌, ◌||◌, ℕ, List, [], ◌∷◌, map, fold, Option, Some, None, Bool, true, false, cond, refl, ap, sym, ◌∙◌}
 use Rattle.std.specs.BTreeSet.{insert_key}
 use Rattle.std.specs.Cmp.Lexicographic.{nat_list_eq_equiv, slice_cmp, texts_ties}
 use Rattle.std.specs.List.{AllByRecursion, list_any}
 use Rattle.std.specs.List.Sorted.{IsStrictlySortedBy}
-use Rattle.std.specs.Ordering.{is_eq, match_ordering, nat_cmp, on}
+use Rattle.std.specs.Ordering.{is_eq, nat_cmp, on}
 use Rattle.std.specs.Str.{bytes_eq}
-use Rattle.std.specs.declared.cmp.Ordering.{Ordering}
-use Rattle.std.specs.declared.cmp.Ordering.TheVariants.{Less, Equal, Greater}
+use Rattle.std.specs.declared.cmp.Ordering.TheVariants.{Less}
 use Rattle.ul_requirement.specs.Fields.{FileFields, FilesRise}
-use Rattle.ul_index.specs.Documents.{by_name, differ_after, files_in_order, has_file, ordered_files}
-use Rattle.ul_index.specs.FileSets.{files_in, has_name}
+use Rattle.ul_index.specs.Documents.{by_name, differ_after, has_file, ordered_files}
 use Rattle.ul_index.specs.declared.file_set.ByName.{ByName}
 use Rattle.ul_index.proofs.Inserted.{insert_mapped}
 

@@ -1,8 +1,8 @@
 -- The releases of a name that was found in a catalog.
-use Rattle.std.proofs.Common.{◌≡◌, ◌+◌, ◌<◌, ◌≤◌, ◌^◌, ℕ, List, [], ◌∷◌, length, find, cond, Bool, true, false, Option, Some, None, option_map, refl, sym, ap, ◌∙◌, arith}
+use Rattle.std.proofs.Common.{◌≡◌, ◌<◌, ◌≤◌, ◌^◌, ℕ, List, [], ◌∷◌, length, find, cond, Bool, true, false, Option, Some, None, option_map, sym, ap, ◌∙◌, arith}
 use Rattle.std.specs.Borrow.{Bor}
 use Rattle.std.specs.Str.{bytes_eq}
-use Rattle.ul_requirement.specs.Fields.{PackageFields, ReleaseFields}
+use Rattle.ul_requirement.specs.Fields.{PackageFields}
 use Rattle.ul_index.specs.Catalogs.{IsCatalog, Packages, release_count, releases_in, releases_of}
 
 viewed : (o : Option (Bor PackageFields)) (x : Bor PackageFields) → o ≡ Some x → option_map (λ p. p.now) o ≡ Some x.now

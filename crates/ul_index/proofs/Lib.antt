@@ -1,3 +1,4 @@
+pub mod ForCallers
 mod JsonReading
 mod EachRead
 mod FileOrder
@@ -13,5 +14,7 @@ mod Serving
 mod Inserted
 mod OrderedPlaces
 mod Finding
+mod NamePlaces
 mod ReleaseExamples
 mod DocumentExamples
+mod DocumentFacts

@@ -1,19 +1,19 @@
 -- Places in the order of their versions.
-use Rattle.std.proofs.Common.{◌≡◌, ◌+◌, ◌<◌, ℕ, zero, suc, List, [], ◌∷◌, map, filter, drop, length, get_or, Bool, true, false, cond, Option, Some, None, Contains, refl, sym, ap, subst, ◌∙◌, arith}
+use Rattle.std.proofs.Common.{◌≡◌, ◌+◌, ◌<◌, ℕ, zero, suc, List, [], ◌∷◌, map, filter, drop, length, get_or, Bool, true, false, cond, Option, Some, None, refl, sym, ap, subst, ◌∙◌, arith}
 use Rattle.std.specs.Prelude.{All}
 use Rattle.std.proofs.lemmas.List.{drop_more}
 use Rattle.std.proofs.lemmas.List.Elements.{All-nil}
 use Rattle.std.proofs.lemmas.Map.Views.{All-insert_key}
 use Rattle.std.proofs.lemmas.Option.{slice_get_read}
 use Rattle.std.specs.BTreeSet.{insert_key}
-use Rattle.std.specs.Ordering.{is_lt, match_ordering, on}
+use Rattle.std.specs.Ordering.{is_lt, match_ordering}
 use Rattle.std.specs.declared.cmp.Ordering.{Ordering}
 use Rattle.std.specs.declared.cmp.Ordering.TheVariants.{Less, Equal, Greater}
 use Rattle.ul_version.specs.Fields.{Fields}
 use Rattle.ul_version.specs.Order.{version_cmp}
 use Rattle.ul_requirement.specs.Fields.{ReleaseFields, RequirementFields, VersionsDiffer}
 use Rattle.ul_index.specs.Catalogs.{Packages, directs, releases_of}
-use Rattle.ul_index.specs.Eligible.{eligible, in_order, on_name, passes, passing, placed, takes_pre, version_at}
+use Rattle.ul_index.specs.Eligible.{eligible, in_order, on_name, passing, increasing_with, version_at}
 use Rattle.ul_index.specs.VersionOrders.{IsOrder, IsPlaceIn, by_version, place_list, places_in}
 use Rattle.ul_index.specs.declared.version_order.VersionOrder.{VersionOrder}
 use Rattle.ul_index.specs.declared.version_order.Versioned.{Versioned}
@@ -29,9 +29,9 @@ by_order Less a b c d apart same = refl
 by_order Equal a b c d apart same = absurd (apart refl)
 by_order Greater a b c d apart same = same
 
-insert_placed : (v : Fields) (xs : List Fields) → Differs v xs → insert_key version_cmp xs v ≡ placed v xs
+insert_placed : (v : Fields) (xs : List Fields) → Differs v xs → insert_key version_cmp xs v ≡ increasing_with v xs
 insert_placed v [] h = refl
-insert_placed v (x ∷ xs) h = by_order (version_cmp v x) (v ∷ x ∷ xs) (x ∷ xs) (x ∷ insert_key version_cmp xs v) (x ∷ placed v xs) (h x (contains_first x xs))
+insert_placed v (x ∷ xs) h = by_order (version_cmp v x) (v ∷ x ∷ xs) (x ∷ xs) (x ∷ insert_key version_cmp xs v) (x ∷ increasing_with v xs) (h x (contains_first x xs))
     (ap (λ l. x ∷ l) (insert_placed v xs (λ y m. h y (contains_later x xs y m))))
 
 -- ---- a loop from the last release to the first

@@ -1,5 +1,5 @@
 -- The package of a document.
-use Rattle.std.proofs.Common.{◌≡◌, ℕ, List, refl, codes, length, ap, ◌∙◌}
+use Rattle.std.proofs.Common.{◌≡◌, ℕ, List, refl, codes, length}
 use Rattle.std.specs.Prelude.{Ok}
 use Rattle.serde_json.specs.Data.{Data}
 use Rattle.serde_json.specs.Find.{get}

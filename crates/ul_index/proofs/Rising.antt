@@ -1,5 +1,5 @@
 -- The eligible versions strictly increase.
-use Rattle.std.proofs.Common.{◌≡◌, ℕ, List, [], ◌∷◌, map, filter, Bool, true, false, cond, Option, Some, None, Contains, refl, sym, ap, subst, ◌∙◌}
+use Rattle.std.proofs.Common.{◌≡◌, List, [], ◌∷◌, map, filter, Bool, true, false, cond, Option, Some, None, Contains, refl, sym, ap, ◌∙◌}
 use Rattle.std.specs.Prelude.{All}
 use Rattle.std.proofs.lemmas.List.Elements.{All-contains}
 use Rattle.std.specs.Ordering.{is_lt, ordering_reverse}
@@ -10,7 +10,7 @@ use Rattle.ul_version.specs.Order.{version_cmp}
 use Rattle.ul_version.proofs.ForCallers.{version_total}
 use Rattle.ul_requirement.specs.Fields.{ReleaseFields, IsOtherVersion, VersionsDiffer}
 use Rattle.ul_index.specs.Catalogs.{releases_of}
-use Rattle.ul_index.specs.Eligible.{placed, in_order, passes, takes_pre, directs_on, passing, eligible}
+use Rattle.ul_index.specs.Eligible.{increasing_with, in_order, passes, takes_pre, directs_on, passing, eligible}
 use Rattle.ul_index.specs.Laws.{IsVersionAfter, VersionsRise, EligibleRises}
 use Rattle.ul_base.proofs.ForCallers.{contains_first, contains_later}
 use Rattle.ul_base.proofs.ForCallers.{contains_from_map}
@@ -40,9 +40,9 @@ head_rises : (v x : Fields) (xs ys : List Fields) (b : Option Fields) (t : Bool)
 head_rises v x xs ys b true t a h d later = (a, (less_is (version_cmp v x) t, h.1))
 head_rises v x xs ys b false t a h d later = (h.0, later (turned (version_cmp v x) (version_cmp x v) t d (version_total.antisymm x v)))
 
-placed_rises : (v : Fields) (xs : List Fields) (b : Option Fields) → IsVersionAfter b v → VersionsRise b xs → Differs v xs → VersionsRise b (placed v xs)
+placed_rises : (v : Fields) (xs : List Fields) (b : Option Fields) → IsVersionAfter b v → VersionsRise b xs → Differs v xs → VersionsRise b (increasing_with v xs)
 placed_rises v [] b a h d = (a, tt)
-placed_rises v (x ∷ xs) b a h d = head_rises v x xs (placed v xs) b (is_lt (version_cmp v x)) refl a h (d x (contains_first x xs))
+placed_rises v (x ∷ xs) b a h d = head_rises v x xs (increasing_with v xs) b (is_lt (version_cmp v x)) refl a h (d x (contains_first x xs))
     (λ k. placed_rises v xs (Some x) k h.1 (λ y m. d y (contains_later x xs y m)))
 
 order_rises : (vs : List Fields) → AllDiffer vs → VersionsRise None (in_order vs)

@@ -1,12 +1,9 @@
 -- What the answers of readers say.
-use Rattle.std.specs.Prelude.{◌≡◌, ◌||◌, ℕ, List, Bool, Option, Some, None, Result, Ok, Err, Vec, option_map}
+use Rattle.std.specs.Prelude.{◌≡◌, ℕ, List, Option, Some, None, Result, Ok, Err, Vec, option_map}
 use Rattle.std.specs.Borrow.{Bor}
-use Rattle.std.specs.Ordering.{is_eq}
 use Rattle.serde_json.specs.View.{view, items_view}
 use Rattle.serde_json.specs.Data.{Data}
 use Rattle.serde_json.specs.declared.value.Value.{Value}
-use Rattle.ul_version.specs.Fields.{Fields}
-use Rattle.ul_specifier.specs.Clauses.{ClauseFields}
 use Rattle.ul_specifier.specs.declared.fault.SpecFault.{SpecFault}
 use Rattle.ul_specifier.specs.declared.fault.SpecFault.TheVariants as spec
 use Rattle.ul_requirement.specs.Fields.{RequirementFields, FileFields, ReleaseFields}

@@ -7,7 +7,7 @@ use Rattle.std.specs.Ordering.{nat_cmp, on}
 use Rattle.std.specs.declared.cmp.Ordering.{Ordering}
 use Rattle.std.specs.List.{list_any}
 use Rattle.std.specs.Str.{bytes_eq, str_to_ascii_lowercase}
-use Rattle.serde_json.specs.Data.{Data, null, boolean, string, array, object, Items, no_items, item}
+use Rattle.serde_json.specs.Data.{Data, null, boolean, string, array, object}
 use Rattle.serde_json.specs.Find.{get, as_str}
 use Rattle.ul_base.specs.Names.{name_of}
 use Rattle.ul_version.specs.Fields.{Fields}
@@ -15,7 +15,7 @@ use Rattle.ul_version.specs.Reading.{version_of}
 use Rattle.ul_specifier.specs.Clauses.{ClauseFields}
 use Rattle.ul_specifier.specs.Reading.{specifiers_of}
 use Rattle.ul_requirement.specs.Fields.{FileFields, PackageFields, ReleaseFields, RequirementFields, is_digest, is_file_name}
-use Rattle.ul_requirement.specs.Grammar.{requirement_of}
+use Rattle.ul_requirement.specs.Reading.{requirement_of}
 use Rattle.ul_index.specs.Json.{items_list, json_of}
 use Rattle.ul_index.specs.Results.{◌>>=◌, option_bind, or_fault, read_each}
 use Rattle.ul_index.specs.Usable.{EntryFields, usable}

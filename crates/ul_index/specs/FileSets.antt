@@ -1,11 +1,8 @@
 -- Files in the order of their names.
-use Rattle.std.specs.Prelude.{ℕ, List, Bool, map}
-use Rattle.std.specs.List.{list_any}
-use Rattle.std.specs.Ordering.{nat_cmp, on, is_eq}
+use Rattle.std.specs.Prelude.{◌≡◌, ◌||◌, ℕ, List, Bool, map}
 use Rattle.std.specs.Cmp.{IsTotalOrder, on_total}
-use Rattle.std.specs.Cmp.Lexicographic.{nat_list_cmp_total, slice_cmp}
+use Rattle.std.specs.Cmp.Lexicographic.{nat_list_cmp_total}
 use Rattle.std.specs.Str.{bytes_eq}
-use Rattle.std.specs.declared.cmp.Ordering.{Ordering}
 use Rattle.ul_requirement.specs.Fields.{FileFields}
 use Rattle.ul_index.specs.Documents.{by_name, has_file}
 use Rattle.ul_index.specs.declared.file_set.FileSet.{FileSet}
@@ -21,3 +18,7 @@ files_in set = map (λ k. k.file) set.keys.keys
 -- a file of this name is there
 abbrev pub has_name : FileSet → List ℕ → Bool
 has_name set name = has_file (files_in set) name
+
+-- a name is there now beside those that were
+abbrev pub NotesName : FileSet → FileSet → List ℕ → Type 0
+NotesName set now file = (name : List ℕ) → has_name now name ≡ (bytes_eq file name || has_name set name)

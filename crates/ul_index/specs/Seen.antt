@@ -1,5 +1,5 @@
 -- Which versions were met, and what becomes of an entry behind them.
-use Rattle.std.specs.Prelude.{◌≡◌, Bool, Option, List}
+use Rattle.std.specs.Prelude.{◌≡◌, ◌||◌, Bool, Option, List}
 use Rattle.std.specs.List.{list_any}
 use Rattle.std.specs.Ordering.{is_eq}
 use Rattle.ul_version.specs.Fields.{Fields}
@@ -11,6 +11,10 @@ use Rattle.ul_index.specs.declared.seen.Seen.{Seen}
 -- an equal version was met
 abbrev pub was_seen : Seen → Fields → Bool
 was_seen seen version = list_any (λ k. is_eq (version_cmp version k.version)) seen.keys.keys
+
+-- a version is met beside those that were
+abbrev pub Notes : Seen → Seen → Fields → Type 0
+Notes seen now version = (v : Fields) → was_seen now v ≡ (is_eq (version_cmp version v) || was_seen seen v)
 
 -- the versions that were met are these
 abbrev pub Has : Seen → List Fields → Type 0

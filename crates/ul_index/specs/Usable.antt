@@ -1,6 +1,6 @@
 -- The releases of a document that may be used: their texts have readings, none of their requirements is one by a
 -- URL, and no earlier entry whose version has a reading has an equal version.
-use Rattle.std.specs.Prelude.{List, [], ◌∷◌, ◌++◌, Bool, true, false, not, Option, Some, None, if◌then◌else◌}
+use Rattle.std.specs.Prelude.{List, [], ◌∷◌, ◌++◌, Bool, false, not, Option, Some, None, if◌then◌else◌}
 use Rattle.std.specs.List.{list_any}
 use Rattle.std.specs.Ordering.{is_eq}
 use Rattle.ul_version.specs.Fields.{Fields}

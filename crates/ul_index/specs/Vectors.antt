@@ -1,11 +1,10 @@
 -- Worked examples: eligible releases, usable entries, lower Python bounds, preference, and documents.
-use Rattle.std.specs.Prelude.{◌≡◌, ℕ, List, [], ◌∷◌, map, codes, Bool, true, false, Option, Some, None, Result, Ok, Err, option_map}
+use Rattle.std.specs.Prelude.{◌≡◌, ℕ, List, [], ◌∷◌, map, codes, Bool, true, false, Option, Some, Ok, Err, option_map}
 use Rattle.ul_version.specs.Fields.{Fields, plain}
 use Rattle.ul_version.specs.Reading.{version_of}
 use Rattle.ul_specifier.specs.Reading.{specifiers_of}
-use Rattle.ul_marker.specs.Worlds.{WorldFields}
-use Rattle.ul_requirement.specs.Fields.{PackageFields, ReleaseFields, WishFields}
-use Rattle.ul_requirement.specs.Grammar.{requirement_of}
+use Rattle.ul_requirement.specs.Fields.{ReleaseFields}
+use Rattle.ul_requirement.specs.Reading.{requirement_of}
 use Rattle.ul_requirement.specs.declared.wish.Mode.{Mode}
 use Rattle.ul_requirement.specs.declared.wish.Mode.TheVariants.{Highest, Lowest, LowestDirect}
 use Rattle.ul_requirement.specs.declared.wish.Strategy.TheVariants.{Fewest}
@@ -15,7 +14,7 @@ use Rattle.ul_index.specs.Eligible.{eligible}
 use Rattle.ul_index.specs.Preference.{preference}
 use Rattle.ul_index.specs.Results.{option_bind, read_each}
 use Rattle.ul_index.specs.Usable.{EntryFields, usable}
-use Rattle.ul_index.specs.declared.place.EntryKey.TheVariants.{Version, RequiresDist, Files}
+use Rattle.ul_index.specs.declared.place.EntryKey.TheVariants.{RequiresDist}
 use Rattle.ul_index.specs.declared.place.Place.TheVariants.{Document, Versions, Entry, Key, File}
 
 -- ---- eligible releases
@@ -44,10 +43,11 @@ eligible_among directs releases = option_map (λ c. eligible c (codes "a")) (two
 abbrev pub versions : List (List ℕ) → Option (List Fields)
 versions = read_each version_of
 
--- a release that stands, and one that was withdrawn
+-- a release that stands
 abbrev pub stands : List ℕ → List ℕ × Bool
 stands text = (text, false)
 
+-- one that was withdrawn
 abbrev pub withdrawn : List ℕ → List ℕ × Bool
 withdrawn text = (text, true)
 
@@ -59,6 +59,7 @@ pre_and_final = stands (codes "2.0a1") ∷ stands (codes "1.0") ∷ []
 abbrev pub withdrawn_and_other : List (List ℕ × Bool)
 withdrawn_and_other = withdrawn (codes "2") ∷ stands (codes "1") ∷ []
 
+-- pre-releases, withdrawn releases (PEP 592), and both, beside the direct requirements on the package
 pub record EligibleReleases : Type 0 where
   pub increasing : eligible_among (codes "a" ∷ []) (stands (codes "1.10") ∷ stands (codes "1.9") ∷ stands (codes "1!0") ∷ []) ≡ versions (codes "1.9" ∷ codes "1.10" ∷ codes "1!0" ∷ [])
   pub pre_alone : eligible_among (codes "a" ∷ []) (stands (codes "2.0a1") ∷ []) ≡ versions (codes "2.0a1" ∷ [])
@@ -77,8 +78,8 @@ pub record EligibleReleases : Type 0 where
 -- ---- preference
 
 -- the versions of `a` in the order of preference, with versions that an old lock has
-abbrev pub preferred : Mode → List (List ℕ) → List (List ℕ) → List (List ℕ × Bool) → Option (List Fields)
-preferred mode kept directs releases =
+abbrev pub preference_among : Mode → List (List ℕ) → List (List ℕ) → List (List ℕ × Bool) → Option (List Fields)
+preference_among mode kept directs releases =
     option_bind (versions kept) (λ vs.
     option_map (λ c. preference c (record { mode = mode; strategy = Fewest; kept = map (λ v. (codes "a", v)) vs }) (codes "a")) (two_packages directs releases))
 
@@ -86,12 +87,13 @@ preferred mode kept directs releases =
 abbrev pub four : List (List ℕ × Bool)
 four = stands (codes "1") ∷ stands (codes "4") ∷ stands (codes "3") ∷ stands (codes "2") ∷ []
 
+-- each mode, and versions of an old lock
 pub record Preferences : Type 0 where
-  pub newest : preferred Highest [] [] four ≡ versions (codes "4" ∷ codes "3" ∷ codes "2" ∷ codes "1" ∷ [])
-  pub oldest : preferred Lowest [] [] four ≡ versions (codes "1" ∷ codes "2" ∷ codes "3" ∷ codes "4" ∷ [])
-  pub oldest_of_direct : preferred LowestDirect [] (codes "a" ∷ []) four ≡ versions (codes "1" ∷ codes "2" ∷ codes "3" ∷ codes "4" ∷ [])
-  pub newest_of_others : preferred LowestDirect [] (codes "b" ∷ []) four ≡ versions (codes "4" ∷ codes "3" ∷ codes "2" ∷ codes "1" ∷ [])
-  pub kept_newest_first : preferred Lowest (codes "2.0" ∷ codes "3" ∷ codes "9" ∷ []) [] four ≡ versions (codes "3" ∷ codes "2" ∷ codes "1" ∷ codes "4" ∷ [])
+  pub newest : preference_among Highest [] [] four ≡ versions (codes "4" ∷ codes "3" ∷ codes "2" ∷ codes "1" ∷ [])
+  pub oldest : preference_among Lowest [] [] four ≡ versions (codes "1" ∷ codes "2" ∷ codes "3" ∷ codes "4" ∷ [])
+  pub oldest_of_direct : preference_among LowestDirect [] (codes "a" ∷ []) four ≡ versions (codes "1" ∷ codes "2" ∷ codes "3" ∷ codes "4" ∷ [])
+  pub newest_of_others : preference_among LowestDirect [] (codes "b" ∷ []) four ≡ versions (codes "4" ∷ codes "3" ∷ codes "2" ∷ codes "1" ∷ [])
+  pub kept_newest_first : preference_among Lowest (codes "2.0" ∷ codes "3" ∷ codes "9" ∷ []) [] four ≡ versions (codes "3" ∷ codes "2" ∷ codes "1" ∷ codes "4" ∷ [])
 
 -- ---- lower Python bounds
 
@@ -101,6 +103,7 @@ fit_at text major minor patch =
     option_map (λ python. is_release_fit (record { version = plain (1 ∷ []); python = python; requirements = []; yanked = false; files = [] })
     (record { major = major; minor = minor; patch = patch; texts = []; truths = [] })) (specifiers_of text)
 
+-- clauses that bound from below, and clauses that say nothing of the lower bound
 pub record LowerBounds : Type 0 where
   pub below : fit_at (codes ">=3.8") 3 7 9 ≡ Some false
   pub at : fit_at (codes ">=3.8") 3 8 0 ≡ Some true
@@ -121,6 +124,7 @@ entry_of version requirements =
 abbrev pub usable_versions : List EntryFields → List Fields
 usable_versions entries = map (λ r. r.version) (usable entries)
 
+-- entries whose texts have no reading, an address, and versions that are equal by PEP 440
 pub record UsableEntries : Type 0 where
   pub no_requirement : usable_versions (entry_of (codes "1") [] ∷ entry_of (codes "2") (codes "!!" ∷ []) ∷ []) ≡ plain (1 ∷ []) ∷ []
   pub address : usable_versions (entry_of (codes "1") (codes "b @ https://x/y" ∷ []) ∷ entry_of (codes "2") (codes "b" ∷ []) ∷ []) ≡ plain (2 ∷ []) ∷ []
@@ -130,6 +134,7 @@ pub record UsableEntries : Type 0 where
 
 -- ---- documents
 
+-- whole documents, and one of each fault
 pub record DocumentExamples : Type 0 where
   pub empty : document_of (codes "a-b") (codes "{\"name\": \"A.B\", \"versions\": []}") ≡ Ok (record { name = codes "a-b"; entries = 0; releases = [] })
   pub one : document_of (codes "a") (codes "{\"name\": \"a\", \"versions\": [{\"version\": \"1\", \"yanked\": \"bad\"}]}")

@@ -4,7 +4,7 @@ ghost use Rattle.std.specs.Prelude.{◌≡◌, IfOk, option_map, is_some};
 ghost use Rattle.serde_json.specs.Find.{as_str};
 ghost use Rattle.serde_json.specs.View.{items_view, view};
 ghost use Rattle.ul_version.specs.Reading.{version_of};
-ghost use Rattle.ul_requirement.specs.Grammar.{requirement_of};
+ghost use Rattle.ul_requirement.specs.Reading.{requirement_of};
 ghost use Rattle.ul_index.specs.Answers.{Gives, Reads, requirements_view, text_view, value_view, values_view};
 ghost use Rattle.ul_index.specs.Documents as Documents;
 ghost use Rattle.ul_index.specs.Documents.{requirement_in};

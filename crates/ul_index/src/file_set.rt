@@ -9,7 +9,7 @@ ghost use Rattle.std.specs.Str.{bytes_eq};
 ghost use Rattle.std.proofs.Common.{refl};
 ghost use Rattle.ul_requirement.specs.Fields.{FilesRise};
 ghost use Rattle.ul_index.specs.Documents.{by_name};
-ghost use Rattle.ul_index.specs.FileSets.{by_name_total, files_in, has_name};
+ghost use Rattle.ul_index.specs.FileSets.{NotesName, by_name_total, files_in, has_name};
 
 use std::alloc::{AllocError, Global};
 use std::cmp::Ordering;
@@ -34,7 +34,7 @@ impl FileSet {
     /// Adds a file, and answers whether no file of its name was there before.
     pub(crate) fn add(&mut self, file: FileEntry) -> Result<bool, AllocError>
         ensures new { IfOk result (λ added. added ≡ not (has_name self.old file.file)) }
-        ensures noted { OnOk result ((name : List ℕ) → has_name self.new name ≡ (bytes_eq file.file name || has_name self.old name)) }
+        ensures noted { OnOk result (NotesName self.old self.new file.file) }
         ensures files { OnOk result (files_in self.new ≡ insert_key by_name (files_in self.old) file) }
     {
         let added = self.keys.insert(ByName { file })?;

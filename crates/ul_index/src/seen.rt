@@ -7,7 +7,7 @@ ghost use Rattle.std.proofs.Common.{refl};
 ghost use Rattle.ul_version.specs.Fields.{Fields};
 ghost use Rattle.ul_version.specs.Order.{version_cmp};
 ghost use Rattle.ul_version.proofs.ForCallers.{version_total};
-ghost use Rattle.ul_index.specs.Seen.{was_seen};
+ghost use Rattle.ul_index.specs.Seen.{Notes, was_seen};
 
 use std::alloc::{AllocError, Global};
 use std::cmp::Ordering;
@@ -33,7 +33,7 @@ impl Seen {
     /// Notes a version, and answers whether none that is equal to it, in the order of versions, was met before.
     pub(crate) fn add(&mut self, alloc: Global, version: &Version) -> Result<bool, AllocError>
         ensures new { IfOk result (λ added. added ≡ not (was_seen self.old version.now)) }
-        ensures noted { OnOk result ((v : Fields) → was_seen self.new v ≡ (is_eq (version_cmp version.now v) || was_seen self.old v)) }
+        ensures noted { OnOk result (Notes self.old self.new version.now) }
     {
         let version = version.copy(alloc)?;
         let added = self.keys.insert(Key { version })?;

@@ -1,5 +1,6 @@
-mod Places
+mod Cutting
 mod Runs
 mod Names
 mod Faults
+mod Spelled
 mod Examples

@@ -8,7 +8,7 @@ use Rattle.std.specs.List.Sorted.{IsStrictlySortedBy}
 use Rattle.ul_base.specs.Names.{name_cmp, name_of}
 use Rattle.ul_version.specs.Reading.{◌>>=◌}
 use Rattle.ul_version.specs.Ascii.{comma, is_blank, text_between}
-use Rattle.ul_requirement.specs.Grammar.{names_of}
+use Rattle.ul_requirement.specs.Reading.{names_of}
 
 -- names before those that follow
 abbrev pub added : List (List ℕ) → Option (List (List ℕ)) → Option (List (List ℕ))

@@ -1,18 +1,18 @@
 -- Bytes of ASCII are a text.
-use Rattle.std.proofs.Common.{◌≡◌, ℕ, zero, suc, ◌<◌, List, [], ◌∷◌, length, get_or, take, refl, arith, Bool, true, Option, Some, None, inl, inr}
-use Rattle.std.specs.Prelude.{◌&&◌, ◌==◌, ◌+◌, IfSome, drop}
+use Rattle.std.proofs.Common.{◌≡◌, ℕ, zero, suc, ◌<◌, List, [], ◌∷◌, ◌++◌, length, get_or, refl, sym, ap, ◌∙◌, arith, Bool, true, Option, Some, None, inl, inr}
+use Rattle.std.specs.Prelude.{◌&&◌, IfSome}
 use Rattle.std.specs.Borrow.{Bor}
 use Rattle.std.proofs.lemmas.Bool.{and_parts, and_from, cases_Bool}
 use Rattle.std.proofs.lemmas.Bool.Decides.{nat_tests}
 use Rattle.std.proofs.lemmas.Str.{IsUtf8-from_ascii}
 use Rattle.std.proofs.lemmas.Str.Ascii.{IsAscii-from_all}
 use Rattle.std.specs.Str.{IsUtf8}
-use Rattle.std.specs.List.{list_all, position}
+use Rattle.std.specs.List.{list_all}
 use Rattle.ul_base.specs.Names.{is_name, is_name_byte, has_ends, name_of}
-use Rattle.ul_version.specs.Reading.{◌>>=◌}
 use Rattle.ul_version.specs.Ascii.{after_all, before_all, semicolon, text_between, unless_last}
 use Rattle.ul_requirement.specs.Answers.{text_view}
-use Rattle.ul_requirement.specs.Grammar.{is_inner_byte, parts_at, parts_of}
+use Rattle.ul_requirement.specs.Reading.{cut_at, is_inner_byte, parts_at, parts_of}
+use Rattle.ul_requirement.proofs.Cutting.{cut-is}
 
 run_at : (p : ℕ → Bool) → ((b : ℕ) → p b ≡ true → b < 128) → (xs : List ℕ) (k d : ℕ) → list_all p xs ≡ true → k < length xs → get_or xs k d < 128
 run_at p small [] k d h lt = absurd (omega arith)
@@ -42,17 +42,6 @@ no_name xs other_bytes = elim (cases_Bool (has_ends xs && list_all is_name_byte 
 
 -- ---- parts of a text whose bytes all pass a test
 
-all-take : (p : ℕ → Bool) (n : ℕ) (xs : List ℕ) → list_all p xs ≡ true → list_all p (take n xs) ≡ true
-all-take p zero xs h = refl
-all-take p (suc n) [] h = refl
-all-take p (suc n) (x ∷ xs) h =
-    let q = and_parts (p x) (list_all p xs) h in and_from (p x) (list_all p (take n xs)) q.0 (all-take p n xs q.1)
-
-all-drop : (p : ℕ → Bool) (n : ℕ) (xs : List ℕ) → list_all p xs ≡ true → list_all p (drop n xs) ≡ true
-all-drop p zero xs h = h
-all-drop p (suc n) [] h = refl
-all-drop p (suc n) (x ∷ xs) h = all-drop p n xs (and_parts (p x) (list_all p xs) h).1
-
 all-after : (p test : ℕ → Bool) (xs : List ℕ) → list_all p xs ≡ true → list_all p (after_all test xs) ≡ true
 all-after p test [] h = refl
 all-after p test (x ∷ xs) h = elim (cases_Bool (test x)) [
@@ -79,20 +68,25 @@ all-between p test xs h = all-before p test (after_all test xs) (all-after p tes
 abbrev pub MayPass : (ℕ → Bool) → Option (List ℕ) → Type 0
 MayPass p o = IfSome o (λ text. list_all p text ≡ true)
 
-abbrev cut_parts : List ℕ → Option ℕ → List ℕ × Option (List ℕ)
-cut_parts text None = (text, None)
-cut_parts text (Some n) = (take n text, Some (drop (n + 1) text))
+all-front : (p : ℕ → Bool) (xs ys : List ℕ) → list_all p (xs ++ ys) ≡ true → list_all p xs ≡ true
+all-front p [] ys h = refl
+all-front p (x ∷ xs) ys h =
+    let q = and_parts (p x) (list_all p (xs ++ ys)) h in and_from (p x) (list_all p xs) q.0 (all-front p xs ys q.1)
 
-cut_parts-is : (text : List ℕ) (o : Option ℕ) → cut_parts text o ≡ parts_at text (o >>= λ n. Some (take n text, drop (n + 1) text))
-cut_parts-is text None = refl
-cut_parts-is text (Some n) = refl
+all-back : (p : ℕ → Bool) (xs ys : List ℕ) → list_all p (xs ++ ys) ≡ true → list_all p ys ≡ true
+all-back p [] ys h = h
+all-back p (x ∷ xs) ys h = all-back p xs ys (and_parts (p x) (list_all p (xs ++ ys)) h).1
 
-all-cut : (p : ℕ → Bool) (text : List ℕ) (o : Option ℕ) → list_all p text ≡ true → (list_all p (cut_parts text o).0 ≡ true) × MayPass p (cut_parts text o).1
-all-cut p text None h = (h, tt)
-all-cut p text (Some n) h = (all-take p n text h, all-drop p (n + 1) text h)
+parts-pass : (p : ℕ → Bool) (text : List ℕ) (o : Option (List ℕ × List ℕ)) → cut_at semicolon text ≡ o → list_all p text ≡ true
+    → (list_all p (parts_at text o).0 ≡ true) × MayPass p (parts_at text o).1
+parts-pass p text None cut h = (h, tt)
+parts-pass p text (Some q) cut h =
+    let t = cut-is semicolon text q cut in
+    let whole : list_all p (q.0 ++ semicolon ∷ q.1) ≡ true = ap (list_all p) (sym t.0) ∙ h in
+    (all-front p q.0 (semicolon ∷ q.1) whole, (and_parts (p semicolon) (list_all p q.1) (all-back p q.0 (semicolon ∷ q.1) whole)).1)
 
 pub all-parts : (p : ℕ → Bool) (text : List ℕ) → list_all p text ≡ true → (list_all p (parts_of text).0 ≡ true) × MayPass p (parts_of text).1
-all-parts p text h = rw (← cut_parts-is text (position (λ b. b == semicolon) text)) (all-cut p text (position (λ b. b == semicolon) text) h)
+all-parts p text h = parts-pass p text (cut_at semicolon text) refl h
 
 pub pass-viewed : (p : ℕ → Bool) (o : Option (Bor (List ℕ))) → MayPass p (text_view o) → IfSome o (λ text. list_all p text.now ≡ true)
 pass-viewed p None h = tt

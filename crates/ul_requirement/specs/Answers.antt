@@ -12,7 +12,7 @@ use Rattle.ul_marker.specs.declared.fault.MarkerFault.{MarkerFault}
 use Rattle.ul_marker.specs.declared.fault.MarkerFault.TheVariants as marker
 use Rattle.ul_marker.specs.declared.marker.Marker.{Marker}
 use Rattle.ul_requirement.specs.Fields.{RequirementFields}
-use Rattle.ul_requirement.specs.Grammar.{Front, Reading, requirement, by_url, unread}
+use Rattle.ul_requirement.specs.Reading.{Front, Reading, requirement, by_url, unread}
 use Rattle.ul_requirement.specs.declared.fault.PartFault.{PartFault}
 use Rattle.ul_requirement.specs.declared.fault.PartFault.TheVariants as part
 use Rattle.ul_requirement.specs.declared.fault.ReqFault.{ReqFault}
@@ -31,15 +31,17 @@ Reads view (Ok x) reading = reading ≡ Some (view x)
 Reads view (Err part.NoReading) reading = reading ≡ None
 Reads view (Err part.NoMemory) reading = Unit {0}
 
--- the fault of a part, by that of its name, its specifiers or its marker
+-- the fault of a part, by that of its name
 abbrev pub part_of_name : NameFault → PartFault
 part_of_name name.NoReading = part.NoReading
 part_of_name name.NoMemory = part.NoMemory
 
+-- the fault of a part, by that of its specifiers
 abbrev pub part_of_spec : SpecFault → PartFault
 part_of_spec spec.NoReading = part.NoReading
 part_of_spec spec.NoMemory = part.NoMemory
 
+-- the fault of a part, by that of its marker
 abbrev pub part_of_marker : MarkerFault → PartFault
 part_of_marker marker.NoReading = part.NoReading
 part_of_marker marker.NoMemory = part.NoMemory

@@ -1,138 +1,92 @@
--- The texts of requirements (PEP 508, "Grammar"), without requirements by a URL:
---     requirement = name ["[" [name *("," name)] "]"] [specifiers | "(" specifiers ")"] [";" marker]
--- Space and tab may stand between all parts, and white space of any kind at the ends of the text. Empty
--- parentheses are beyond PEP 508. Where `@` follows the name or the extras, the requirement is one by a URL.
-use Rattle.std.specs.Prelude.{ℕ, ◌+◌, ◌==◌, ◌&&◌, ◌||◌, nat_le, Bool, false, not, List, [], ◌∷◌, fold, take, drop, codes, Option, Some, None, if◌then◌else◌}
-use Rattle.std.specs.BTreeSet.{insert_key}
-use Rattle.std.specs.List.{list_all, position, slice_split}
-use Rattle.ul_base.specs.Names.{is_name_byte, name_cmp, name_of}
-use Rattle.ul_version.specs.Ascii.{after_all, at_sign, before_end, begins, comma, is_blank, is_white, left_bracket, left_parenthesis, right_bracket, run_length, semicolon, space, tab, text_between, tilde}
-use Rattle.ul_version.specs.Reading.{◌>>=◌}
+-- The grammar of requirements as a relation between a text and the requirement that it spells (PEP 508, "Grammar"):
+--     requirement = name [extras] [specifiers | "(" specifiers ")"] [";" marker]
+--     address     = name [extras] "@" ..
+--     extras      = "[" [name *("," name)] "]"
+-- Each definition is one rule. Blanks, which are space and tab, may stand between all parts, and white space of any
+-- kind at the ends of the text. A requirement by a URL is an address here, whatever stands behind the `@`.
+use Rattle.std.specs.Prelude.{◌≡◌, ◌⊎◌, ℕ, ◌==◌, true, false, List, [], ◌∷◌, ◌++◌, Option, Some, None}
+use Rattle.std.specs.List.{list_all, list_any, slice_split}
+use Rattle.ul_base.specs.Names.{is_name_byte, name_of}
+use Rattle.ul_version.specs.Ascii.{after_all, at_sign, begins, comma, is_blank, is_white, left_bracket, left_parenthesis, right_bracket, right_parenthesis, semicolon, text_between}
 use Rattle.ul_specifier.specs.Clauses.{ClauseFields}
 use Rattle.ul_specifier.specs.Reading.{specifiers_of}
 use Rattle.ul_marker.specs.Formulas.{Formula}
 use Rattle.ul_marker.specs.Reading.{marker_of}
 use Rattle.ul_requirement.specs.Fields.{RequirementFields}
+use Rattle.ul_requirement.specs.Reading.{is_inner_byte, name_set}
 
--- what a text is read as: a requirement, one by a URL, or nothing
-pub data Reading : Type 0 where
-  requirement : RequirementFields → Reading
-  by_url : Reading
-  unread : Reading
+-- a byte stands in front of a text
+abbrev pub IsFirstByte : ℕ → List ℕ → Type 0
+IsFirstByte byte text = begins (λ b. b == byte) text ≡ true
 
--- ---- the name
+-- another byte, or none, stands in front of a text
+abbrev pub IsNotFirstByte : ℕ → List ℕ → Type 0
+IsNotFirstByte byte text = begins (λ b. b == byte) text ≡ false
 
--- the longest run of bytes of a name in front
-abbrev pub name_text : List ℕ → List ℕ
-name_text text = take (run_length is_name_byte text) text
+-- a text doesn't have a byte
+abbrev pub HasNo : ℕ → List ℕ → Type 0
+HasNo byte text = list_any (λ b. b == byte) text ≡ false
 
--- the text after that run
-abbrev pub after_name : List ℕ → List ℕ
-after_name text = drop (run_length is_name_byte text) text
+-- each piece is a name, with blanks around it
+abbrev pub AreNames : List (List ℕ) → List (List ℕ) → Type 0
+AreNames [] [] = Unit {0}
+AreNames [] (name ∷ names) = ⊥
+AreNames (piece ∷ pieces) [] = ⊥
+AreNames (piece ∷ pieces) (name ∷ names) = (name_of (text_between is_blank piece) ≡ Some name) × AreNames pieces names
 
--- ---- the extras
+-- [name *("," name)]: names between commas, in their order, each once
+abbrev pub AreExtraNames : List ℕ → List (List ℕ) → Type 0
+AreExtraNames [] extras = extras ≡ []
+AreExtraNames (b ∷ text) extras =
+    (names : List (List ℕ)) × AreNames (slice_split (λ c. c == comma) (b ∷ text)) names × (extras ≡ name_set names)
 
--- what stands before the first such byte and what after it, where there is one
-abbrev pub cut_at : ℕ → List ℕ → Option (List ℕ × List ℕ)
-cut_at byte text = position (λ b. b == byte) text >>= λ n. Some (take n text, drop (n + 1) text)
+-- ["[" [name *("," name)] "]"], and what stands behind it
+pub data AreExtras (text : List ℕ) (extras : List (List ℕ)) (rest : List ℕ) : Type 0 where
+  no_extras : IsNotFirstByte left_bracket text → extras ≡ [] → rest ≡ text → AreExtras text extras rest
+  bracketed : (inside : List ℕ) → text ≡ left_bracket ∷ (inside ++ right_bracket ∷ rest) → HasNo right_bracket inside
+      → AreExtraNames (text_between is_blank inside) extras → AreExtras text extras rest
 
--- a name for each piece
-unfoldable pub names_of : List (List ℕ) → Option (List (List ℕ))
-names_of [] = Some []
-names_of (piece ∷ pieces) = name_of (text_between is_blank piece) >>= λ n. names_of pieces >>= λ ns. Some (n ∷ ns)
+-- name [extras]: the name is the longest run of its bytes, and what stands behind begins with no blank
+pub record IsFront (text name : List ℕ) (extras : List (List ℕ)) (behind : List ℕ) : Type 0 where
+  pub name_text : List ℕ
+  pub after_name : List ℕ
+  pub after_extras : List ℕ
+  pub spelled : text ≡ name_text ++ after_name
+  pub is_name : name_of name_text ≡ Some name
+  pub longest : begins is_name_byte after_name ≡ false
+  pub are_extras : AreExtras (after_all is_blank after_name) extras after_extras
+  pub is_behind : behind ≡ after_all is_blank after_extras
 
--- names in their order, each once
-abbrev pub name_set : List (List ℕ) → List (List ℕ)
-name_set = fold (insert_key name_cmp) []
+-- specifiers | "(" specifiers ")"
+pub data AreSpecifiers (text : List ℕ) (clauses : List ClauseFields) : Type 0 where
+  bare : IsNotFirstByte left_parenthesis text → specifiers_of text ≡ Some clauses → AreSpecifiers text clauses
+  enclosed : (inside : List ℕ) → text ≡ left_parenthesis ∷ (inside ++ right_parenthesis ∷ []) → specifiers_of inside ≡ Some clauses → AreSpecifiers text clauses
 
--- the names between commas
-abbrev pub names_in : List ℕ → Option (List (List ℕ))
-names_in [] = Some []
-names_in (b ∷ text) = names_of (slice_split (λ c. c == comma) (b ∷ text))
+-- behind the front a semicolon stands, and behind it a marker
+abbrev pub HasMarker : List ℕ → List ℕ → Option Formula → Type 0
+HasMarker text front marker =
+    (after : List ℕ) × (formula : Formula) × (text ≡ front ++ semicolon ∷ after)
+    × (marker_of after ≡ Some formula) × (marker ≡ Some formula)
 
--- the extras between brackets
-unfoldable pub extras_in : List ℕ → Option (List (List ℕ))
-extras_in text = names_in (text_between is_blank text) >>= λ names. Some (name_set names)
+-- [specifiers] [";" marker], of printable ASCII and tabs
+pub record IsTail (text : List ℕ) (clauses : List ClauseFields) (marker : Option Formula) : Type 0 where
+  pub front : List ℕ
+  pub inner : list_all is_inner_byte text ≡ true
+  pub are_specifiers : AreSpecifiers (text_between is_blank front) clauses
+  pub no_semicolon : HasNo semicolon front
+  pub is_marker : ((text ≡ front) × (marker ≡ None)) ⊎ HasMarker text front marker
 
--- the extras in front, of which there may be none, and the text after them
-unfoldable pub extras_front : List ℕ → Option (List (List ℕ) × List ℕ)
-extras_front [] = Some ([], [])
-extras_front (b ∷ text) =
-    if b == left_bracket then (cut_at right_bracket text >>= λ p. extras_in p.0 >>= λ extras. Some (extras, p.1))
-    else Some ([], b ∷ text)
+-- a text spells a requirement
+pub record Spells (text : List ℕ) (q : RequirementFields) : Type 0 where
+  pub behind : List ℕ
+  pub is_front : IsFront (text_between is_white text) q.name q.extras behind
+  pub no_address : IsNotFirstByte at_sign behind
+  pub is_tail : IsTail behind q.specifiers q.marker
 
--- a name, extras, and the text behind them, which begins with no blank
-pub record Front : Type 0 where
+-- a text spells a requirement by a URL
+pub record IsAddress (text : List ℕ) : Type 0 where
   pub name : List ℕ
   pub extras : List (List ℕ)
-  pub rest : List ℕ
-
--- the name and the extras in front
-unfoldable pub front_of : List ℕ → Option Front
-front_of text =
-    name_of (name_text text) >>= λ name.
-    extras_front (after_all is_blank (after_name text)) >>= λ e.
-    Some (record { name = name; extras = e.0; rest = after_all is_blank e.1 })
-
--- ---- specifiers and marker
-
--- a byte that may stand behind the extras: printable ASCII, or tab
-abbrev pub is_inner_byte : ℕ → Bool
-is_inner_byte b = (nat_le space b && nat_le b tilde) || b == tab
-
--- specifiers, which may stand in parentheses
-unfoldable pub specifiers_in : List ℕ → Option (List ClauseFields)
-specifiers_in [] = Some []
-specifiers_in (b ∷ text) = if b == left_parenthesis then (before_end (codes ")") text >>= specifiers_of) else specifiers_of (b ∷ text)
-
--- a marker, where there is a text for one
-unfoldable pub marker_in : Option (List ℕ) → Option (Option Formula)
-marker_in None = Some None
-marker_in (Some text) = marker_of text >>= λ m. Some (Some m)
-
--- a text that was cut, or the whole text where it was not
-abbrev pub parts_at : List ℕ → Option (List ℕ × List ℕ) → List ℕ × Option (List ℕ)
-parts_at text None = (text, None)
-parts_at text (Some p) = (p.0, Some p.1)
-
--- the text before the first semicolon, and the text after it where there is one
-abbrev pub parts_of : List ℕ → List ℕ × Option (List ℕ)
-parts_of text = parts_at text (cut_at semicolon text)
-
--- the specifiers and the marker of two parts
-abbrev pub parts_read : List ℕ × Option (List ℕ) → Option (List ClauseFields × Option Formula)
-parts_read p = specifiers_in (text_between is_blank p.0) >>= λ s. marker_in p.1 >>= λ m. Some (s, m)
-
--- the specifiers and the marker that stand behind a name and its extras
-unfoldable pub tail_of : List ℕ → Option (List ClauseFields × Option Formula)
-tail_of text = if list_all is_inner_byte text then parts_read (parts_of text) else None
-
--- ---- the whole text
-
--- the text begins with `@`
-abbrev pub is_address : List ℕ → Bool
-is_address = begins (λ b. b == at_sign)
-
--- the requirement of a name and extras, and of the specifiers and the marker behind them
-abbrev pub reading_with : Front → Option (List ClauseFields × Option Formula) → Reading
-reading_with f None = unread
-reading_with f (Some t) = requirement (record { name = f.name; extras = f.extras; specifiers = t.0; marker = t.1 })
-
--- what a text is read as by what stands in front
-abbrev pub reading_behind : Option Front → Reading
-reading_behind None = unread
-reading_behind (Some f) = if is_address f.rest then by_url else reading_with f (tail_of f.rest)
-
--- what a text is read as
-unfoldable pub reading_of : List ℕ → Reading
-reading_of text = reading_behind (front_of (text_between is_white text))
-
--- the requirement of a reading
-abbrev pub read_requirement : Reading → Option RequirementFields
-read_requirement (requirement q) = Some q
-read_requirement by_url = None
-read_requirement unread = None
-
--- the requirement that a text spells
-abbrev pub requirement_of : List ℕ → Option RequirementFields
-requirement_of text = read_requirement (reading_of text)
+  pub behind : List ℕ
+  pub is_front : IsFront (text_between is_white text) name extras behind
+  pub is_address : IsFirstByte at_sign behind

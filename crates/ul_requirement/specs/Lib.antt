@@ -1,5 +1,7 @@
 pub mod Fields
 pub mod Truth
 pub mod Grammar
-pub mod Answers
+pub mod Laws
+pub mod Reading
 pub mod Vectors
+pub mod Answers

@@ -8,7 +8,7 @@ use Rattle.ul_marker.specs.Formulas.{Formula, extra, python, text, any, formulas
 use Rattle.ul_marker.specs.Worlds.{WorldFields}
 use Rattle.ul_marker.specs.declared.variable.Variable.TheVariants.{OsName}
 use Rattle.ul_requirement.specs.Fields.{RequirementFields}
-use Rattle.ul_requirement.specs.Grammar.{reading_of, requirement, by_url, unread}
+use Rattle.ul_requirement.specs.Reading.{reading_of, requirement, by_url, unread}
 use Rattle.ul_requirement.specs.Truth.{applies_at, base, targets, with_extra}
 
 -- a requirement of a name

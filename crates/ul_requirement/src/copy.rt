@@ -1,13 +1,14 @@
-//! Copies of requirements.
+//! Copies of requirements, releases and packages.
 
 ghost use Rattle.std.specs.Prelude.{◌≡◌, IfOk, option_map};
 ghost use Rattle.ul_marker.specs.Views.{marker_view};
 
-use crate::Requirement;
+use crate::{FileEntry, Package, Release, Requirement};
 use std::alloc::{AllocError, Global};
 use ul_base::Name;
 use ul_marker::Marker;
 use ul_specifier::{Clause, Specifiers};
+use ul_version::Version;
 
 // Equal names.
 fn copy_names(alloc: Global, names: &[Name]) -> Result<Vec<Name>, AllocError>
@@ -68,6 +69,93 @@ impl Requirement {
             extras,
             specifiers,
             marker,
+        })
+    }
+}
+
+// Equal requirements.
+fn copy_requirements(
+    alloc: Global,
+    requirements: &[Requirement],
+) -> Result<Vec<Requirement>, AllocError>
+    ensures { IfOk result (λ v. v.items ≡ requirements.now) }
+{
+    let mut list = Vec::with_capacity(alloc, requirements.len())?;
+    for requirement in requirements {
+        list.push(requirement.copy(alloc)?)?;
+    }
+    Ok(list)
+}
+
+impl FileEntry {
+    /// An equal file.
+    pub fn copy(&self, alloc: Global) -> Result<FileEntry, AllocError>
+        ensures { IfOk result (λ f. f ≡ self.now) }
+    {
+        let file = String::from_str(alloc, self.file.as_str())?;
+        let sha256 = String::from_str(alloc, self.sha256.as_str())?;
+        Ok(FileEntry { file, sha256 })
+    }
+}
+
+// Equal files.
+fn copy_files(alloc: Global, files: &[FileEntry]) -> Result<Vec<FileEntry>, AllocError>
+    ensures { IfOk result (λ v. v.items ≡ files.now) }
+{
+    let mut list = Vec::with_capacity(alloc, files.len())?;
+    for file in files {
+        list.push(file.copy(alloc)?)?;
+    }
+    Ok(list)
+}
+
+impl Release {
+    /// An equal release.
+    pub fn copy(&self, alloc: Global) -> Result<Release, AllocError>
+        ensures { IfOk result (λ r. r ≡ self.now) }
+    {
+        let version: &Version = &self.version;
+        let version = version.copy(alloc)?;
+        let python: &Specifiers = &self.python;
+        let python = copy_specifiers(alloc, python)?;
+        let requirements: &Vec<Requirement> = &self.requirements;
+        let requirements = copy_requirements(alloc, requirements)?;
+        let files: &Vec<FileEntry> = &self.files;
+        let files = copy_files(alloc, files)?;
+        Ok(Release {
+            version,
+            python,
+            requirements,
+            yanked: self.yanked,
+            files,
+        })
+    }
+}
+
+// Equal releases.
+fn copy_releases(alloc: Global, releases: &[Release]) -> Result<Vec<Release>, AllocError>
+    ensures { IfOk result (λ v. v.items ≡ releases.now) }
+{
+    let mut list = Vec::with_capacity(alloc, releases.len())?;
+    for release in releases {
+        list.push(release.copy(alloc)?)?;
+    }
+    Ok(list)
+}
+
+impl Package {
+    /// An equal package.
+    pub fn copy(&self, alloc: Global) -> Result<Package, AllocError>
+        ensures { IfOk result (λ p. p ≡ self.now) }
+    {
+        let name: &Name = &self.name;
+        let name = name.copy(alloc)?;
+        let releases: &Vec<Release> = &self.releases;
+        let releases = copy_releases(alloc, releases)?;
+        Ok(Package {
+            name,
+            entries: self.entries,
+            releases,
         })
     }
 }

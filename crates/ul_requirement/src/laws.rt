@@ -1,6 +1,14 @@
 //! Laws of requirements, and worked examples: each function's contract is proved, and its body does nothing.
 
+ghost use Rattle.ul_requirement.specs.Laws.{ReadingIsGrammar, SpelledOnce};
 ghost use Rattle.ul_requirement.specs.Vectors.{Addresses, NoReadings, Readings, Truths};
+
+/// A text is read as a requirement, or as one by a URL, exactly where the grammar spells it so, and it spells one at
+/// most.
+pub fn reading_is_grammar()
+    ensures grammar { ReadingIsGrammar }
+    ensures once { SpelledOnce }
+{}
 
 /// Worked examples: requirements and their texts, requirements by a URL, texts without a reading, and where
 /// requirements apply.

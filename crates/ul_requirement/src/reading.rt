@@ -1,7 +1,7 @@
 //! Reading requirements from their texts.
 
-ghost use Rattle.std.specs.Prelude.{◌≡◌, ◌≤◌, ◌<◌, ◌+◌, ◌==◌, [], ◌∷◌, fold, IfOk, IfSome, IsTrue, length, take, drop};
-ghost use Rattle.std.specs.List.{list_all, position_or_len, slice_split};
+ghost use Rattle.std.specs.Prelude.{◌≡◌, ◌≤◌, ◌<◌, ◌==◌, ℕ, ◌≢◌, IfOk, IfSome, IsTrue, length, slice_index};
+ghost use Rattle.std.specs.List.{list_all, slice_split};
 ghost use Rattle.std.specs.List.Sorted.{IsStrictlySortedBy};
 ghost use Rattle.ul_base.specs.Names as Names;
 ghost use Rattle.ul_version.specs.Ascii.{comma, is_blank, text_between};
@@ -9,7 +9,7 @@ ghost use Rattle.ul_specifier.specs.Reading.{specifiers_of};
 ghost use Rattle.ul_marker.specs.Reading.{marker_of};
 ghost use Rattle.ul_requirement.specs.Answers.{IsReading, Reads, extras_view, front_view, names_view, optional_marker, pair_view, parts_view, tail_view, text_view};
 ghost use Rattle.ul_requirement.specs.Fields.{MayBeFormula};
-ghost use Rattle.ul_requirement.specs.Grammar as spec;
+ghost use Rattle.ul_requirement.specs.Reading as spec;
 
 use crate::fault::PartFault;
 use crate::{ReqFault, Requirement};
@@ -41,7 +41,7 @@ impl ByteClass for NameByte {
 struct InnerByte;
 
 impl ByteClass for InnerByte {
-    ghost use Rattle.ul_requirement.specs.Grammar.{is_inner_byte};
+    ghost use Rattle.ul_requirement.specs.Reading.{is_inner_byte};
 
     ghost has = { λ _ byte. is_inner_byte byte };
 
@@ -52,8 +52,9 @@ impl ByteClass for InnerByte {
 
 // How many bytes stand before the first such byte, or in the whole text.
 fn place_of(input: &[u8], byte: u8) -> usize
-    ensures place { result ≡ position_or_len (λ b. b == byte) input.now }
     ensures fits { result ≤ length input.now }
+    ensures before { (k : ℕ) → k < result → slice_index input.now k ≢ byte }
+    ensures found { result < length input.now → slice_index input.now result ≡ byte }
 {
     for i in 0..input.len() {
         if input[i] == byte {
@@ -122,7 +123,7 @@ fn name_set(alloc: Global, names: Vec<Name>) -> Result<Vec<Name>, AllocError>
 }
 
 // The extras between brackets.
-#[tactic(auto, unfolding(crate::specs::Grammar::extras_in))]
+#[tactic(auto, unfolding(crate::specs::Reading::extras_in))]
 fn extras_in(alloc: Global, input: &[u8]) -> Result<Vec<Name>, PartFault>
     ensures extras { Reads names_view result (spec.extras_in input.now) }
     ensures rises { IfOk result (λ v. IsStrictlySortedBy Names.name_cmp v.items) }
@@ -137,7 +138,7 @@ fn extras_in(alloc: Global, input: &[u8]) -> Result<Vec<Name>, PartFault>
 }
 
 // The extras in front, and the text after them.
-#[tactic(auto, unfolding(crate::specs::Grammar::extras_front))]
+#[tactic(auto, unfolding(crate::specs::Reading::extras_front))]
 fn extras_front(alloc: Global, input: &[u8]) -> Result<(Vec<Name>, &[u8]), PartFault>
     ensures extras { Reads extras_view result (spec.extras_front input.now) }
     ensures rises { IfOk result (λ p. IsStrictlySortedBy Names.name_cmp p.0.items) }
@@ -156,7 +157,7 @@ fn extras_front(alloc: Global, input: &[u8]) -> Result<(Vec<Name>, &[u8]), PartF
 }
 
 // The name and the extras in front, and the text behind them.
-#[tactic(auto, unfolding(crate::specs::Grammar::front_of))]
+#[tactic(auto, unfolding(crate::specs::Reading::front_of))]
 fn front(alloc: Global, input: &[u8]) -> Result<(Name, Vec<Name>, &[u8]), PartFault>
     ensures front { Reads front_view result (spec.front_of input.now) }
     ensures rises { IfOk result (λ p. IsStrictlySortedBy Names.name_cmp p.1.items) }
@@ -180,7 +181,7 @@ fn clauses(alloc: Global, text: &[u8]) -> Result<Specifiers, PartFault>
 }
 
 // The specifiers of a text, which may stand in parentheses.
-#[tactic(auto, unfolding(crate::specs::Grammar::specifiers_in))]
+#[tactic(auto, unfolding(crate::specs::Reading::specifiers_in))]
 fn specifiers_in(alloc: Global, input: &[u8]) -> Result<Specifiers, PartFault>
     requires { IsTrue (list_all spec.is_inner_byte input.now) }
     ensures { Reads (λ s. s) result (spec.specifiers_in input.now) }
@@ -200,7 +201,7 @@ fn specifiers_in(alloc: Global, input: &[u8]) -> Result<Specifiers, PartFault>
 }
 
 // The marker of a text, where there is one.
-#[tactic(auto, unfolding(crate::specs::Grammar::marker_in))]
+#[tactic(auto, unfolding(crate::specs::Reading::marker_in))]
 fn marker_in(alloc: Global, input: Option<&[u8]>) -> Result<Option<Marker>, PartFault>
     requires { IfSome input (λ text. IsTrue (list_all spec.is_inner_byte text.now)) }
     ensures marker { Reads optional_marker result (spec.marker_in (text_view input.entry)) }
@@ -227,7 +228,7 @@ fn parts(input: &[u8]) -> (&[u8], Option<&[u8]>)
 }
 
 // The specifiers and the marker behind a name and its extras.
-#[tactic(auto, unfolding(crate::specs::Grammar::tail_of))]
+#[tactic(auto, unfolding(crate::specs::Reading::tail_of))]
 fn tail(alloc: Global, input: &[u8]) -> Result<(Specifiers, Option<Marker>), PartFault>
     ensures tail { Reads tail_view result (spec.tail_of input.now) }
     ensures valid { IfOk result (λ p. MayBeFormula (optional_marker p.1)) }
@@ -249,7 +250,7 @@ impl Requirement {
     /// the text is dropped. Empty parentheses, which PEP 508 doesn't have, are read as no specifiers. `Url` is
     /// the answer exactly where `@` follows the name or the extras, and `NoReading` exactly where the text
     /// has no other reading.
-    #[tactic(auto, unfolding(crate::specs::Grammar::reading_of))]
+    #[tactic(auto, unfolding(crate::specs::Reading::reading_of))]
     pub fn read(alloc: Global, text: &str) -> Result<Requirement, ReqFault>
         ensures { IsReading result (spec.reading_of text.now) }
     {

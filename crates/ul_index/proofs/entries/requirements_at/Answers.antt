@@ -1,8 +1,6 @@
-use Rattle.std.proofs.Common.{◌∙◌, ap, sym}
+use Rattle.std.proofs.Common.{◌∙◌, ap}
 use Rattle.std.specs.Prelude.{Ok}
 use Rattle.ul_index.specs.Answers.{values_view}
-use Rattle.ul_index.specs.Documents.{Reading, requirements_in}
-use Rattle.ul_index.specs.Results.{◌>>=◌}
 use Rattle.ul_index.proofs.EachRead.{texts_fail, texts_then}
 use Rattle.ul_index.proofs.entries.requirements_at.Goals as goal
 

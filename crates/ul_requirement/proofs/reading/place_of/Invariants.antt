@@ -1,6 +1,5 @@
-use Rattle.std.proofs.Common.{◌≡◌, ℕ, ◌<◌, false, get_or}
-use Rattle.std.specs.Prelude.{◌==◌}
+use Rattle.std.proofs.Common.{◌≡◌, ℕ, ◌<◌, get_or}
 use Rattle.ul_requirement.proofs.reading.place_of.Given as goal
 
 abbrev pub invariant-loop-i : goal.invariant-loop-i
-invariant-loop-i l = (k : ℕ) → k < l.i → (get_or l.input k 0 == l.byte) ≡ false
+invariant-loop-i l = (k : ℕ) → k < l.i → get_or l.input k 0 ≡ l.byte → ⊥

@@ -1,6 +1,6 @@
 use Rattle.std.proofs.Common.{sym, ap}
 use Rattle.ul_version.specs.Ascii.{is_blank}
-use Rattle.ul_requirement.specs.Grammar.{is_inner_byte}
+use Rattle.ul_requirement.specs.Reading.{is_inner_byte}
 use Rattle.ul_requirement.proofs.Runs.{all-parts, all-between, pass-viewed}
 use Rattle.ul_requirement.proofs.reading.tail.Goals as goal
 

@@ -1,0 +1,15 @@
+-- The laws that the crate's functions carry.
+use Rattle.std.specs.Prelude.{◌≡◌, ◌↔◌, ℕ, List}
+use Rattle.ul_requirement.specs.Fields.{RequirementFields}
+use Rattle.ul_requirement.specs.Grammar.{IsAddress, Spells}
+use Rattle.ul_requirement.specs.Reading.{by_url, reading_of, requirement}
+
+-- a text is read as what the grammar spells it as
+pub record ReadingIsGrammar : Type 0 where
+  pub requirements : (text : List ℕ) (q : RequirementFields) → (reading_of text ≡ requirement q) ↔ Spells text q
+  pub addresses : (text : List ℕ) → (reading_of text ≡ by_url) ↔ IsAddress text
+
+-- a text spells one requirement at most, and no address besides
+pub record SpelledOnce : Type 0 where
+  pub one : (text : List ℕ) (q r : RequirementFields) → Spells text q → Spells text r → q ≡ r
+  pub alone : (text : List ℕ) (q : RequirementFields) → Spells text q → IsAddress text → ⊥
