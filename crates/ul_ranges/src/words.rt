@@ -4,6 +4,7 @@ ghost use Rattle.std.specs.Int.{bit_not, w64};
 ghost use Rattle.std.specs.List.{list_all};
 ghost use Rattle.ul_ranges.specs.Blocks.{flag, flag_at};
 ghost use Rattle.ul_ranges.specs.Flags.{IsNext};
+ghost use Rattle.ul_ranges.specs.Operations.{word_by};
 
 use std::alloc::{AllocError, Global};
 
@@ -46,30 +47,32 @@ pub fn are_apart(mine: &[u64], theirs: &[u64]) -> bool
     mine.iter().zip(theirs.iter()).all(|(x, y)| *x & *y == 0)
 }
 
-pub fn put_met(mine: &mut Vec<u64>, theirs: &[u64])
-    requires { length mine.old.items ≡ length theirs.now }
-    ensures { mine.new.items ≡ map (λ p. bit_and p.0 p.1) (zip mine.old.items theirs.now) }
+// An operation on two sets: the members of both, of either, or of the first alone.
+#[derive(Clone, Copy)]
+pub enum Operation {
+    Meet,
+    Join,
+    Less,
+}
+
+// What the operation makes of two words.
+fn word_by(operation: Operation, x: u64, y: u64) -> u64
+    ensures { result ≡ word_by operation x y }
 {
-    for j in 0..theirs.len() {
-        mine[j] &= theirs[j];
+    match operation {
+        Operation::Meet => x & y,
+        Operation::Join => x | y,
+        Operation::Less => x & !y,
     }
 }
 
-pub fn put_joined(mine: &mut Vec<u64>, theirs: &[u64])
+// Writes what the operation makes of each word and the other's.
+pub fn put(operation: Operation, mine: &mut Vec<u64>, theirs: &[u64])
     requires { length mine.old.items ≡ length theirs.now }
-    ensures { mine.new.items ≡ map (λ p. bit_or p.0 p.1) (zip mine.old.items theirs.now) }
+    ensures { mine.new.items ≡ map (λ p. word_by operation p.0 p.1) (zip mine.old.items theirs.now) }
 {
     for j in 0..theirs.len() {
-        mine[j] |= theirs[j];
-    }
-}
-
-pub fn put_lessened(mine: &mut Vec<u64>, theirs: &[u64])
-    requires { length mine.old.items ≡ length theirs.now }
-    ensures { mine.new.items ≡ map (λ p. bit_and p.0 (bit_not w64 p.1)) (zip mine.old.items theirs.now) }
-{
-    for j in 0..theirs.len() {
-        mine[j] &= !theirs[j];
+        mine[j] = word_by(operation, mine[j], theirs[j]);
     }
 }
 

@@ -1,5 +1,5 @@
 use Rattle.std.specs.Prelude.{bit_or}
-use Rattle.ul_ranges.specs.Forms.{in_either}
+use Rattle.ul_ranges.specs.Operations.{in_either}
 use Rattle.ul_ranges.proofs.BlockLaws.{or_flagwise}
 use Rattle.ul_ranges.proofs.FormLaws.{word_joins}
 use Rattle.ul_ranges.proofs.FormMaking.{ok_then, has_blocks, zipped_of, zipped_whole, zipped_sealed, word_made}

@@ -1,7 +1,8 @@
 use Rattle.std.proofs.Common.{subst, sym}
 use Rattle.std.specs.Prelude.{bit_and}
 use Rattle.std.specs.Int.{bit_not, w64}
-use Rattle.ul_ranges.specs.Forms.{HasBlocks, in_first}
+use Rattle.ul_ranges.specs.Forms.{HasBlocks}
+use Rattle.ul_ranges.specs.Operations.{in_first}
 use Rattle.ul_ranges.specs.declared.forms.Form.{Form}
 use Rattle.ul_ranges.proofs.BlockLaws.{less_flagwise}
 use Rattle.ul_ranges.proofs.FormLaws.{word_lessens}

@@ -1,5 +1,5 @@
 use Rattle.std.specs.Prelude.{bit_and}
-use Rattle.ul_ranges.specs.Forms.{in_both}
+use Rattle.ul_ranges.specs.Operations.{in_both}
 use Rattle.ul_ranges.proofs.BlockLaws.{and_flagwise}
 use Rattle.ul_ranges.proofs.FormLaws.{word_meets}
 use Rattle.ul_ranges.proofs.FormMaking.{ok_then, has_blocks, zipped_of, zipped_whole, zipped_sealed, word_made}
