@@ -8,7 +8,7 @@ ghost use Rattle.ul_ranges.specs.Forms.{AreApart, AreForms, AreLevel, AreSame, A
 ghost use Rattle.ul_ranges.specs.Operations.{flag_by, in_both, in_either, in_first, word_by};
 
 use crate::shared::{SharedList, put_shared};
-use crate::words::{Operation, are_apart, are_within, joined, lessened, met, next_bit, next_flag};
+use crate::words::{Operation, are_apart, are_within, next_bit, next_flag, words_by};
 use std::alloc::{AllocError, Global};
 
 // How a set is kept: up to 64 numbers by the bits of one word; more by the one member that there may be, or by blocks of bits where
@@ -162,7 +162,7 @@ pub fn meet(alloc: Global, size: u32, mine: &Form, theirs: &Form) -> Result<Form
         (_, Form::Few(one)) => Ok(Form::Few(only_in(*one, mine))),
         (Form::Word(x), Form::Word(y)) => Ok(Form::Word(*x & *y)),
         (Form::Many(xs), Form::Many(ys)) => {
-            let blocks = met(alloc, xs.as_slice(), ys.as_slice())?;
+            let blocks = words_by(alloc, Operation::Meet, xs.as_slice(), ys.as_slice())?;
             sealed(alloc, size, blocks)
         }
         _ => unreachable!(),
@@ -179,12 +179,12 @@ pub fn less(alloc: Global, size: u32, mine: &Form, theirs: &Form) -> Result<Form
         (Form::Few(one), _) => Ok(Form::Few(only_out(*one, theirs))),
         (Form::Word(x), Form::Word(y)) => Ok(Form::Word(*x & !*y)),
         (Form::Many(xs), Form::Many(ys)) => {
-            let blocks = lessened(alloc, xs.as_slice(), ys.as_slice())?;
+            let blocks = words_by(alloc, Operation::Less, xs.as_slice(), ys.as_slice())?;
             sealed(alloc, size, blocks)
         }
         (Form::Many(xs), Form::Few(one)) => {
             let ys = few_blocks(alloc, size, *one)?;
-            let blocks = lessened(alloc, xs.as_slice(), ys.as_slice())?;
+            let blocks = words_by(alloc, Operation::Less, xs.as_slice(), ys.as_slice())?;
             sealed(alloc, size, blocks)
         }
         _ => unreachable!(),
@@ -202,13 +202,13 @@ pub fn join(alloc: Global, size: u32, mine: &Form, theirs: &Form) -> Result<Form
         (_, Form::Few(None)) => copy(alloc, mine),
         (Form::Word(x), Form::Word(y)) => Ok(Form::Word(*x | *y)),
         (Form::Many(xs), Form::Many(ys)) => {
-            let blocks = joined(alloc, xs.as_slice(), ys.as_slice())?;
+            let blocks = words_by(alloc, Operation::Join, xs.as_slice(), ys.as_slice())?;
             sealed(alloc, size, blocks)
         }
         _ => {
             let xs = block_list(alloc, size, mine)?;
             let ys = block_list(alloc, size, theirs)?;
-            let blocks = joined(alloc, xs.as_slice(), ys.as_slice())?;
+            let blocks = words_by(alloc, Operation::Join, xs.as_slice(), ys.as_slice())?;
             sealed(alloc, size, blocks)
         }
     }

@@ -1,5 +1,5 @@
 //! Loops over blocks of bits.
-ghost use Rattle.std.specs.Prelude.{◌≡◌, ◌+◌, ◌<◌, ◌≤◌, ◌^◌, IfSome, length, IfOk, map, zip, bit_and, bit_or, ◌==◌};
+ghost use Rattle.std.specs.Prelude.{◌≡◌, ◌+◌, ◌<◌, ◌≤◌, ◌^◌, IfSome, length, IfOk, map, zip, bit_and, ◌==◌};
 ghost use Rattle.std.specs.Int.{bit_not, w64};
 ghost use Rattle.std.specs.List.{list_all};
 ghost use Rattle.std.specs.Simd.Lanes.{chunk, put_chunk, zip2};
@@ -9,33 +9,6 @@ ghost use Rattle.ul_ranges.specs.Operations.{word_by};
 
 use std::alloc::{AllocError, Global};
 use std::simd::prelude::*;
-
-pub fn met(alloc: Global, mine: &[u64], theirs: &[u64]) -> Result<Vec<u64>, AllocError>
-    ensures { IfOk result (λ v. v.items ≡ map (λ p. bit_and p.0 p.1) (zip mine.now theirs.now)) }
-{
-    mine.iter()
-        .zip(theirs.iter())
-        .map(|(x, y)| *x & *y)
-        .collect(alloc)
-}
-
-pub fn joined(alloc: Global, mine: &[u64], theirs: &[u64]) -> Result<Vec<u64>, AllocError>
-    ensures { IfOk result (λ v. v.items ≡ map (λ p. bit_or p.0 p.1) (zip mine.now theirs.now)) }
-{
-    mine.iter()
-        .zip(theirs.iter())
-        .map(|(x, y)| *x | *y)
-        .collect(alloc)
-}
-
-pub fn lessened(alloc: Global, mine: &[u64], theirs: &[u64]) -> Result<Vec<u64>, AllocError>
-    ensures { IfOk result (λ v. v.items ≡ map (λ p. bit_and p.0 (bit_not w64 p.1)) (zip mine.now theirs.now)) }
-{
-    mine.iter()
-        .zip(theirs.iter())
-        .map(|(x, y)| *x & !*y)
-        .collect(alloc)
-}
 
 pub fn are_within(mine: &[u64], theirs: &[u64]) -> bool
     ensures { result ≡ list_all (λ p. bit_and p.0 (bit_not w64 p.1) == 0) (zip mine.now theirs.now) }
@@ -111,6 +84,21 @@ pub fn put(operation: Operation, mine: &mut Vec<u64>, theirs: &[u64])
     ensures { mine.new.items ≡ map (λ p. word_by operation p.0 p.1) (zip mine.old.items theirs.now) }
 {
     put_words(operation, mine.as_mut_slice(), theirs);
+}
+
+// What the operation makes of each word and the other's.
+pub fn words_by(
+    alloc: Global,
+    operation: Operation,
+    mine: &[u64],
+    theirs: &[u64],
+) -> Result<Vec<u64>, AllocError>
+    requires { length mine.now ≡ length theirs.now }
+    ensures { IfOk result (λ v. v.items ≡ map (λ p. word_by operation p.0 p.1) (zip mine.now theirs.now)) }
+{
+    let mut words = Vec::from_slice(alloc, mine)?;
+    put_words(operation, words.as_mut_slice(), theirs);
+    Ok(words)
 }
 
 // The first bit of a word from a place on.
