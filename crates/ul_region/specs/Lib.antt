@@ -1,0 +1,4 @@
+pub mod Best
+pub mod Problem
+pub mod Naming
+pub mod Laws

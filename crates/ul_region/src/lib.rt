@@ -1,0 +1,4 @@
+//! A region.
+#![tactic(auto)]
+
+pub mod laws;
