@@ -8,7 +8,7 @@ use Rattle.std.proofs.lemmas.Bool.{cases_Bool, eqb-true, and_parts, or_left, or_
 use Rattle.std.proofs.lemmas.Bool.Decides.{nat_tests}
 use Rattle.std.specs.Char.{is_ascii_digit, is_ascii_lowercase}
 use Rattle.ul_version.specs.Fields.{Fields, is_word_byte}
-use Rattle.ul_version.specs.Grammar.{IsNum, IsOptionalNum, IsOptionalSeparator, IsOneOf, IsSuffix, IsEpoch, ArePoints, IsRelease, IsPre, IsPost, IsDev, IsSpelledSegment, AreSegments, IsLocal, IsSpelled}
+use Rattle.ul_version.specs.Grammar.{IsNum, IsOptionalNum, IsOptionalSeparator, IsSuffix, IsEpoch, ArePoints, IsRelease, IsPre, IsPost, IsDev, IsSpelledSegment, AreSegments, IsLocal, IsSpelled}
 use Rattle.ul_version.specs.Reading.{Cut, number, value_after, needed, begins, epoch, marked, after_word, points, release, pre, any_kind, kind_words, suffix_number, after_optional, is_separator, post, post_words, after_any, dev, segment, segments, local, fields_of}
 use Rattle.ul_version.specs.declared.fields.Pre.{Pre}
 use Rattle.ul_version.specs.declared.fields.PreKind.{PreKind}
@@ -16,6 +16,7 @@ use Rattle.ul_version.specs.declared.fields.PreKind.TheVariants.{A, B, Rc}
 use Rattle.ul_version.specs.declared.fields.Segment.{Segment}
 use Rattle.ul_version.specs.declared.fields.Segment.TheVariants.{Number, Word}
 use Rattle.ul_version.proofs.RoundTrip.{Ends, first_digit, number-digits, digit-separator, digit-other, word-separators, digits-word, nonempty-test, any-letter}
+use Rattle.ul_version.proofs.Words.{IsOneOf, one_of}
 
 -- a part that was read, what holds of the text after it, and how long that is at most
 pub record Reads {X : Type 0} (T : List ℕ → Type 0) (cut : Cut X) (most : ℕ) : Type 0 where
@@ -222,7 +223,7 @@ begins-shape test (b ∷ rest) h = (b, rest, refl, h)
 
 pub suffix-lettered : (words : List (List ℕ)) (part rest : List ℕ) (n : ℕ) → list_all (begins is_ascii_lowercase) words ≡ true → IsSuffix words part n → Lettered (part ++ rest)
 suffix-lettered words part rest n letters h =
-    let (b, others, shape, letter) = begins-shape is_ascii_lowercase h.word (word-first is_ascii_lowercase words h.word letters h.is_word) in
+    let (b, others, shape, letter) = begins-shape is_ascii_lowercase h.word (word-first is_ascii_lowercase words h.word letters (one_of words h.word h.is_word)) in
     record {
       before = h.before;
       first = b;
@@ -235,14 +236,14 @@ suffix-lettered words part rest n letters h =
 pub suffix-optional : (words : List (List ℕ)) (part rest : List ℕ) (n : ℕ) → list_all (begins is_ascii_lowercase) words ≡ true → (h : IsSuffix words part n)
     → after_optional is_separator (part ++ rest) ≡ h.word ++ (h.between ++ (h.digits ++ rest))
 suffix-optional words part rest n letters h =
-    let (b, others, shape, letter) = begins-shape is_ascii_lowercase h.word (word-first is_ascii_lowercase words h.word letters h.is_word) in
+    let (b, others, shape, letter) = begins-shape is_ascii_lowercase h.word (word-first is_ascii_lowercase words h.word letters (one_of words h.word h.is_word)) in
     let u = h.between ++ (h.digits ++ rest) in
     ap (λ (l : List ℕ). after_optional is_separator l) (suffix-shape words part rest n h ∙ ap (λ (w : List ℕ). h.before ++ (w ++ u)) shape)
     ∙ optional-letter h.before b (others ++ u) h.is_before letter ∙ ap (λ (w : List ℕ). w ++ u) (sym shape)
 
 suffix-opens : (words : List (List ℕ)) (part rest : List ℕ) (n : ℕ) → list_all (begins is_next) words ≡ true → IsSuffix words part n → opens is_next (part ++ rest) ≡ true
 suffix-opens words part rest n nexts h =
-    let (b, others, shape, next) = begins-shape is_next h.word (word-first is_next words h.word nexts h.is_word) in
+    let (b, others, shape, next) = begins-shape is_next h.word (word-first is_next words h.word nexts (one_of words h.word h.is_word)) in
     let u = h.between ++ (h.digits ++ rest) in
     let whole = suffix-shape words part rest n h ∙ ap (λ (w : List ℕ). h.before ++ (w ++ u)) shape in
     rw whole (go h.before b (others ++ u) h.is_before next)
@@ -275,7 +276,7 @@ word-digit words word rest letters o =
 suffix-trims : (words : List (List ℕ)) (part rest : List ℕ) (n : ℕ) → list_all (begins is_ascii_lowercase) words ≡ true → (h : IsSuffix words part n)
     → number (after_optional is_separator (part ++ rest)) ≡ Some (0, h.word ++ (h.between ++ (h.digits ++ rest)))
 suffix-trims words part rest n letters h =
-    rw (suffix-optional words part rest n letters h) (none-number _ (word-digit words h.word _ letters h.is_word))
+    rw (suffix-optional words part rest n letters h) (none-number _ (word-digit words h.word _ letters (one_of words h.word h.is_word)))
 
 -- what follows a part is no longer than the whole
 behind : (text part rest : List ℕ) → text ≡ part ++ rest → length rest ≤ length text
@@ -345,7 +346,7 @@ dev-reads-by text None part rest h last whole =
 dev-reads-by text (Some n) part rest h last whole =
     let u = h.between ++ (h.digits ++ rest) in
     let r = suffix-reads Last Last-follows h.between h.digits rest n h.is_between h.are_digits last in
-    record { value = Some r.value; rest = r.rest; is = rw (whole, suffix-optional dev_words part rest n refl h, dev-word h.word u h.is_word, r.is) refl; holds = r.holds; shorter = r.shorter }
+    record { value = Some r.value; rest = r.rest; is = rw (whole, suffix-optional dev_words part rest n refl h, dev-word h.word u (one_of dev_words h.word h.is_word), r.is) refl; holds = r.holds; shorter = r.shorter }
 
 pub dev-reads : (text : List ℕ) (t : FromDev text) → Reads Last (dev text) (length t.rest)
 dev-reads text t = dev-reads-by text t.value t.part t.rest t.is_part t.last t.whole
@@ -440,7 +441,7 @@ post-none text (Some n) part rest h last whole =
     let l = suffix-lettered dev_words part rest n refl h in
     rw whole (
       rw l.shape (marked-letter 45 l.before l.first l.others (omega arith) l.is_before l.letter),
-      rw (suffix-optional dev_words part rest n refl h) (no_post h.word _ h.is_word),
+      rw (suffix-optional dev_words part rest n refl h) (no_post h.word _ (one_of dev_words h.word h.is_word)),
     )
 
 num-begins : (digits rest : List ℕ) (n : ℕ) → IsNum digits n → begins is_ascii_digit (digits ++ rest) ≡ true
@@ -464,7 +465,7 @@ post-reads-by text (Some n) part rest (inr h) later whole =
     let no_dash : marked (codes "-") (part ++ rest) ≡ None = rw l.shape (marked-letter 45 l.before l.first l.others (omega arith) l.is_before l.letter) in
     let other = opens-other u 101 (word-opens h.between h.digits rest n h.is_between h.are_digits (FromDev-opens rest later)) refl in
     let r = suffix-reads FromDev FromDev-follows h.between h.digits rest n h.is_between h.are_digits later in
-    record { value = Some r.value; rest = r.rest; is = rw (whole, no_dash, suffix-optional post_words part rest n refl h, post-word h.word u h.is_word other, r.is) refl; holds = r.holds; shorter = r.shorter }
+    record { value = Some r.value; rest = r.rest; is = rw (whole, no_dash, suffix-optional post_words part rest n refl h, post-word h.word u (one_of post_words h.word h.is_word) other, r.is) refl; holds = r.holds; shorter = r.shorter }
 
 pub post-reads : (text : List ℕ) (t : FromPost text) → Reads FromDev (post text) (length t.rest)
 post-reads text t = post-reads-by text t.value t.part t.rest t.is_part t.later t.whole
@@ -521,7 +522,7 @@ dev-word-no_kind word u (inr none) = absurd none
 
 dev-no_kind : (text : List ℕ) (value : Option ℕ) (part rest : List ℕ) → IsDev part value → Last rest → text ≡ part ++ rest → any_kind (after_optional is_separator text) ≡ None
 dev-no_kind text None part rest h last whole = rw (whole, h) (last-no_kind rest last)
-dev-no_kind text (Some n) part rest h last whole = rw (whole, suffix-optional dev_words part rest n refl h) (dev-word-no_kind h.word _ h.is_word)
+dev-no_kind text (Some n) part rest h last whole = rw (whole, suffix-optional dev_words part rest n refl h) (dev-word-no_kind h.word _ (one_of dev_words h.word h.is_word))
 
 post-word-no_kind : (word u : List ℕ) → IsOneOf post_words word → opens is_next u ≡ true → any_kind (word ++ u) ≡ None
 unfolding after_word
@@ -543,7 +544,7 @@ post-no_kind text (Some n) part rest (inl (digits, num, dash)) later whole =
     rw (whole, dash, d.shape) (digit-no_kind d.first (d.others ++ rest) d.digit)
 post-no_kind text (Some n) part rest (inr h) later whole =
     rw (whole, suffix-optional post_words part rest n refl h)
-    (post-word-no_kind h.word _ h.is_word (word-opens h.between h.digits rest n h.is_between h.are_digits (FromDev-opens rest later)))
+    (post-word-no_kind h.word _ (one_of post_words h.word h.is_word) (word-opens h.between h.digits rest n h.is_between h.are_digits (FromDev-opens rest later)))
 
 pre-reads-by : (text : List ℕ) (value : Option Pre) (part rest : List ℕ) → IsPre part value → FromPost rest → text ≡ part ++ rest → Reads FromPost (pre text) (length rest)
 unfolding pre
@@ -556,7 +557,7 @@ pre-reads-by text (Some p) part rest h later whole =
     record {
       value = Some (record { kind = p.kind; number = r.value });
       rest = r.rest;
-      is = rw (whole, suffix-optional (kind_words p.kind) part rest p.number (kind-letters p.kind) h, kind-word p.kind h.word u h.is_word o, r.is) refl;
+      is = rw (whole, suffix-optional (kind_words p.kind) part rest p.number (kind-letters p.kind) h, kind-word p.kind h.word u (one_of (kind_words p.kind) h.word h.is_word) o, r.is) refl;
       holds = r.holds;
       shorter = r.shorter;
     }

@@ -4,6 +4,7 @@ pub mod OrderLaws
 pub mod Fronts
 pub mod Cuts
 pub mod Faults
+mod Words
 pub mod Spelling
 pub mod Bounds
 pub mod RoundTrip

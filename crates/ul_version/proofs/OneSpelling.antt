@@ -8,6 +8,7 @@ use Rattle.ul_version.specs.declared.fields.Pre.{Pre}
 use Rattle.ul_version.proofs.RoundTrip.{first_digit, number-digits, digit-separator}
 use Rattle.ul_version.proofs.Spelling.{cut_same, inside}
 use Rattle.ul_version.proofs.Complete.{Last, FromDev, FromPost, FromPre, FromPre-ends, epoch-read, release-read, local-read, opens-other, marked-letter, optional-number, word-opens, suffix-lettered, suffix-optional, dev_words, dev-word, post-word, marked-dash, kind-letters, kind-word}
+use Rattle.ul_version.proofs.Words.{one_of}
 
 -- ---- a part that stands alone is read whole
 
@@ -29,7 +30,7 @@ pre-alone part (Some p) h =
     let o = word-opens h.between h.digits [] p.number h.is_between h.are_digits refl in
     rw (
       suffix-optional (kind_words p.kind) part [] p.number (kind-letters p.kind) h,
-      kind-word p.kind h.word u h.is_word o,
+      kind-word p.kind h.word u (one_of (kind_words p.kind) h.word h.is_word) o,
       number-alone h.between h.digits p.number h.is_between h.are_digits,
     ) refl
 
@@ -47,7 +48,7 @@ post-alone part (Some n) (inr h) =
     rw (
       no_dash,
       suffix-optional post_words part [] n refl h,
-      post-word h.word u h.is_word other,
+      post-word h.word u (one_of post_words h.word h.is_word) other,
       number-alone h.between h.digits n h.is_between h.are_digits,
     ) refl
 
@@ -57,7 +58,7 @@ dev-alone part None h = rw h refl
 dev-alone part (Some n) h =
     rw (
       suffix-optional dev_words part [] n refl h,
-      dev-word h.word (h.between ++ (h.digits ++ [])) h.is_word,
+      dev-word h.word (h.between ++ (h.digits ++ [])) (one_of dev_words h.word h.is_word),
       number-alone h.between h.digits n h.is_between h.are_digits,
     ) refl
 

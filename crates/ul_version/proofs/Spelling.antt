@@ -7,7 +7,7 @@ use Rattle.std.proofs.lemmas.List.{append_assoc}
 use Rattle.std.proofs.lemmas.Bool.{cases_Bool, ltb-true, eqb-true, and_from, and_parts, or_parts, or_cases, or_left, or_right, not-false, eqb-false}
 use Rattle.std.specs.Char.{is_ascii_digit, is_ascii_lowercase}
 use Rattle.ul_version.specs.Fields.{Fields, is_word_byte}
-use Rattle.ul_version.specs.Grammar.{IsNum, IsOptionalNum, IsOptionalSeparator, IsOneOf, IsSuffix, IsEpoch, ArePoints, IsRelease, IsPre, IsPost, IsDev, IsSpelledSegment, AreSegments, IsLocal, IsSpelled}
+use Rattle.ul_version.specs.Grammar.{IsNum, IsOptionalNum, IsOptionalSeparator, IsSuffix, IsEpoch, ArePoints, IsRelease, IsPre, IsPost, IsDev, IsSpelledSegment, AreSegments, IsLocal, IsSpelled}
 use Rattle.ul_version.specs.Reading.{◌>>=◌, Cut, or_else, number, value_after, digits, after_digits, needed, begins, epoch, epoch_from, marked, after_word, points, onto, release, pre, pre_from, any_kind, kind_in_front, kind_words, suffix_number, suffix_from, after_optional, is_separator, post, post_words, after_any, dev, segment, segments, local, fields_of}
 use Rattle.ul_version.specs.declared.fields.Pre.{Pre}
 use Rattle.ul_version.specs.declared.fields.PreKind.{PreKind}
@@ -15,6 +15,7 @@ use Rattle.ul_version.specs.declared.fields.PreKind.TheVariants.{A, B, Rc}
 use Rattle.ul_version.specs.declared.fields.Segment.{Segment}
 use Rattle.ul_version.specs.declared.fields.Segment.TheVariants.{Number, Word}
 use Rattle.ul_version.proofs.Cuts.{bind_some}
+use Rattle.ul_version.proofs.Words.{IsOneOf, contains_word}
 
 -- a choice between an answer and none that gave an answer
 pub cond_some : {X : Type 0} (b : Bool) (o : Option X) (y : X) → (if b then o else None) ≡ Some y → (b ≡ true) × (o ≡ Some y)
@@ -135,7 +136,7 @@ suffix-spelled words text after rest n w e =
         between = t.front;
         digits = d.front;
         is_before = s.holds;
-        is_word = w.holds;
+        is_word = contains_word words w.front w.holds;
         is_between = t.holds;
         are_digits = d.holds;
         spelled = refl;

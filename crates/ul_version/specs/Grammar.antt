@@ -2,6 +2,7 @@
 -- specifiers", with the spellings of "Normalization". Each definition is one rule of the grammar; a part
 -- in brackets may be the empty text. The text has lower-case letters and no white space at its ends.
 use Rattle.std.specs.Prelude.{◌≡◌, ℕ, ◌+◌, ◌-◌, ◌*◌, ◌^◌, ◌<◌, IsTrue, List, [], ◌∷◌, ◌++◌, length, codes, Option, Some, None, ◌⊎◌}
+use Rattle.std.specs.List.{Contains}
 use Rattle.std.specs.Char.{is_ascii_digit}
 use Rattle.std.specs.List.{list_all}
 use Rattle.ul_version.specs.Fields.{Fields, is_word}
@@ -32,11 +33,6 @@ IsOptionalNum text n = ((text ≡ []) × (n ≡ 0)) ⊎ IsNum text n
 abbrev pub IsOptionalSeparator : List ℕ → Type 0
 IsOptionalSeparator text = (text ≡ []) ⊎ ((b : ℕ) × (text ≡ b ∷ []) × IsTrue (is_separator b))
 
--- one of the words
-abbrev pub IsOneOf : List (List ℕ) → List ℕ → Type 0
-IsOneOf [] text = ⊥
-IsOneOf (word ∷ words) text = (text ≡ word) ⊎ IsOneOf words text
-
 -- [sep] WORD [sep] [num]
 pub record IsSuffix (words : List (List ℕ)) (text : List ℕ) (n : ℕ) : Type 0 where
   pub before : List ℕ
@@ -44,7 +40,7 @@ pub record IsSuffix (words : List (List ℕ)) (text : List ℕ) (n : ℕ) : Type
   pub between : List ℕ
   pub digits : List ℕ
   pub is_before : IsOptionalSeparator before
-  pub is_word : IsOneOf words word
+  pub is_word : Contains words word
   pub is_between : IsOptionalSeparator between
   pub are_digits : IsOptionalNum digits n
   pub spelled : text ≡ before ++ (word ++ (between ++ digits))
