@@ -9,8 +9,7 @@ use Rattle.std.proofs.lemmas.List.Elements.{All-head, All-tail}
 use Rattle.ul_version.specs.Fields.{Fields, IsVersion}
 use Rattle.ul_version.specs.Reading.{is_white, version_of}
 use Rattle.ul_version.specs.Texts.{is_text_byte, version_text}
-use Rattle.ul_version.proofs.LawProofs.{plain}
-use Rattle.ul_version.proofs.RoundTrip.{version-read}
+use Rattle.ul_version.proofs.ForCallers.{plain, version-read}
 use Rattle.ul_specifier.specs.Clauses.{ClauseFields, IsClause, has_local, is_bare, is_compatible, is_equality}
 use Rattle.ul_specifier.specs.Grammar.{AreClauses, EndsInStar, IsOperand, IsPiece, IsRunOperand, operator_text}
 use Rattle.ul_specifier.specs.Reading.{clause_with, is_blank, is_version_byte, may_stand, specifiers_of, star_of, stripped}

@@ -13,13 +13,12 @@ use Rattle.ul_version.specs.Fields.{Fields, is_pre_of, is_post_of, plain, withou
 use Rattle.ul_version.specs.Order.{has_release_front, numbers_cmp, padded, release_cmp, version_cmp}
 use Rattle.ul_version.specs.declared.fields.Pre.{Pre}
 use Rattle.ul_version.specs.declared.fields.Segment.{Segment}
-use Rattle.ul_version.proofs.ForCallers.{get_or-padded, length-padded}
+use Rattle.ul_version.proofs.ForCallers.{front-differs, get_or-padded, length-padded}
 use Rattle.ul_specifier.specs.Clauses.{ClauseFields, IsClause, has_local, is_bare, is_equality}
 use Rattle.ul_specifier.specs.Laws.{CompatibleIsTwoParts, LessIsNegation, LowerIsSettled, LowerIsWeaker, MoreIsNegation, ReadsClauses, UnequalIsNegation}
 use Rattle.ul_specifier.specs.Meaning.{begins_as, is_of_release, lower_clause, lower_list, lower_op, meets_clause, meets_list, meets_op}
 use Rattle.ul_specifier.specs.declared.clause.Op.{Op}
 use Rattle.ul_specifier.specs.declared.clause.Op.TheVariants.{Equal, Unequal, AtLeast, AtMost, More, Less, Compatible}
-use Rattle.ul_version.proofs.Fronts.{front-differs}
 use Rattle.ul_specifier.proofs.Public.{plain-own, public-bare}
 use Rattle.ul_specifier.proofs.Texts.{clause_with-clause, specifiers-clauses}
 
