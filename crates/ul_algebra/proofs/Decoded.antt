@@ -22,7 +22,7 @@ use Rattle.ul_tree.proofs.ForCallers.{cmp_equal, cmp_itself}
 use Rattle.ul_tree.proofs.ForCallers.{fits_weaker}
 use Rattle.ul_algebra.specs.declared.labels.DiagramLabel.{DiagramLabel}
 use Rattle.ul_algebra.specs.declared.labels.DiagramLabel.TheVariants.{Truth, Extra, Python, Text, Opaque}
-use Rattle.ul_algebra.specs.Spelled.{other_of, branches_by, keyed, spelled, spell_step, spells, tree_of}
+use Rattle.ul_algebra.specs.Spelled.{other_of, branches_by, keyed_node, spelling, spell_step, spells, tree_of}
 
 -- ---- variables and kinds by their numbers
 
@@ -152,7 +152,7 @@ pub first_key : (bs : Branches) (l : List ℕ) (d : Plain) → HasBranch bs → 
 first_key done l d h f = absurd h
 first_key (branch k c rest) l d h f = (k, f.0)
 
-pub decoded_spelled : (l : DiagramLabel) (ps : List Plain) → IsReduced (spelled l ps) → decoded (spelled l ps) ≡ (l, ps)
+pub decoded_spelled : (l : DiagramLabel) (ps : List Plain) → IsReduced (spelling l ps) → decoded (spelling l ps) ≡ (l, ps)
 decoded_spelled (Truth b) [] h = refl
 decoded_spelled (Truth b) (p ∷ ps) h = absurd h.1
 decoded_spelled (Extra points) ps h = let s = keyed_shape points ps extra_level h.2 in λ i. (Extra (s.keys i), s.parts i)
@@ -183,13 +183,13 @@ each_in : (bs : Branches) (l : List ℕ) (d : Plain) → text_cmp [] l ≡ Less 
 each_in done l d o h = tt
 each_in (branch k c rest) l d o h = (fits_weaker c l [] o h.2, each_in rest l (carried (carries l) c d) o h.4)
 
-keyed_reduced : (l : List ℕ) (ks : List (List ℕ)) (ps : List Plain) → IsReduced (keyed l ks ps) → EachReduced ps
+keyed_reduced : (l : List ℕ) (ks : List (List ℕ)) (ps : List Plain) → IsReduced (keyed_node l ks ps) → EachReduced ps
 keyed_reduced l ks ps h =
     let s = keyed_shape ks ps l h.2 in
     subst (λ (z : List Plain). EachReduced z) s.parts
     (each_then (parts_in (branches_by ks ps)) (other_of ks ps) (each_in (branches_by ks ps) l (other_of ks ps) h.0 h.3) (fits_weaker (other_of ks ps) l [] h.0 h.2))
 
-pub spelled_reduced : (l : DiagramLabel) (ps : List Plain) → IsReduced (spelled l ps) → EachReduced ps
+pub spelled_reduced : (l : DiagramLabel) (ps : List Plain) → IsReduced (spelling l ps) → EachReduced ps
 spelled_reduced (Truth b) [] h = tt
 spelled_reduced (Truth b) (p ∷ ps) h = absurd h.1
 spelled_reduced (Extra points) ps h = keyed_reduced extra_level points ps h
@@ -225,8 +225,8 @@ one_plant = ind-Tree DiagramLabel Told (λ x y is. subst (λ z. Told (roll-Tree 
     let v = out-Tree DiagramLabel u in
     let here = fold-roll-Tree DiagramLabel Plain spell_step z in
     let there = fold_out-Tree DiagramLabel Plain spell_step u in
-    let same : spelled y.label ps ≡ spelled v.label (map spells v.parts) = sym here ∙ (e ∙ there) in
-    let reduced : IsReduced (spelled y.label ps) = subst (λ (w : Plain). IsReduced w) here r in
+    let same : spelling y.label ps ≡ spelling v.label (map spells v.parts) = sym here ∙ (e ∙ there) in
+    let reduced : IsReduced (spelling y.label ps) = subst (λ (w : Plain). IsReduced w) here r in
     let both : (y.label, ps) ≡ (v.label, map spells v.parts) =
     sym (decoded_spelled y.label ps reduced) ∙ ap decoded same ∙ decoded_spelled v.label (map spells v.parts) (subst (λ (w : Plain). IsReduced w) same reduced) in
     let rest = told_row y.parts v.parts (spelled_reduced y.label ps reduced) (ap (λ k. k.1) both) in
@@ -238,10 +238,10 @@ map_twice : (ps : List (Marked DiagramLabel)) → map spells (map plain ps) ≡ 
 map_twice [] = refl
 map_twice (p ∷ ps) = ap (λ z. tree_of p ∷ z) (map_twice ps)
 
-pub grown_is : (l : DiagramLabel) (ps : List (Marked DiagramLabel)) → spells (tree_with l (map plain ps)) ≡ spelled l (map tree_of ps)
-grown_is l ps = fold-roll-Tree DiagramLabel Plain spell_step record { label = l; parts = map plain ps } ∙ ap (spelled l) (map_twice ps)
+pub grown_is : (l : DiagramLabel) (ps : List (Marked DiagramLabel)) → spells (tree_with l (map plain ps)) ≡ spelling l (map tree_of ps)
+grown_is l ps = fold-roll-Tree DiagramLabel Plain spell_step record { label = l; parts = map plain ps } ∙ ap (spelling l) (map_twice ps)
 
-pub tree_is : (m : Marked DiagramLabel) → tree_of m ≡ spelled (label_of m) (map tree_of (parts_of m))
+pub tree_is : (m : Marked DiagramLabel) → tree_of m ≡ spelling (label_of m) (map tree_of (parts_of m))
 tree_is m = ap spells (fold_out-Tree _ _ plain_step m) ∙ grown_is (label_of m) (parts_of m)
 
 -- of diagrams, one tree has one plant

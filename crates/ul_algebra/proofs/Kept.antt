@@ -7,14 +7,14 @@ use Rattle.ul_core.specs.declared.trees.Tree.{Tree}
 use Rattle.ul_interner.specs.Marked.{plain, id_of}
 use Rattle.ul_interner.specs.Known.{Held, Known, Knows, tree_at}
 use Rattle.ul_interner.proofs.ForCallers.{known_here, stays, known_stays}
-use Rattle.ul_tree.specs.Plain.{Plain}
+use Rattle.ul_tree.specs.Plain.{Plain, truth}
 use Rattle.ul_algebra.specs.declared.labels.DiagramLabel.{DiagramLabel}
 use Rattle.ul_algebra.specs.declared.questions.Question.{Question}
 use Rattle.ul_algebra.specs.Spelled.{spells, tree_of}
 use Rattle.ul_tree.specs.Reduced.{IsReduced}
-use Rattle.ul_algebra.specs.Answers.{IsAnswer, Answer, IsDiagram}
+use Rattle.ul_algebra.specs.Answers.{IsAnswer, Answer, IsDiagram, IsKeptTruth}
 use Rattle.ul_algebra.specs.Made.{OwnKnown}
-use Rattle.ul_algebra.proofs.Levels.{Seen}
+use Rattle.ul_algebra.specs.Made.{Seen}
 use Rattle.ul_algebra.specs.contracts.questions.QuestionPartialEq.TheImpl.{eq-value}
 
 -- an answer stays one where more is known
@@ -75,13 +75,15 @@ found_in (Some d) P x e f = f d.now (sym e)
 
 -- ---- diagrams where more is known
 
-pub still : (g h : Held DiagramLabel) (m : Seen) → Knows g h → IsDiagram g m → IsDiagram h m
-still g h m more d = record { known = known_stays g h more m d.known; reduced = d.reduced }
+-- a diagram is one where more is known
+pub diagram_stays : (g h : Held DiagramLabel) (m : Seen) → Knows g h → IsDiagram g m → IsDiagram h m
+diagram_stays g h m more d = record { known = known_stays g h more m d.known; reduced = d.reduced }
 
 -- a part of a diagram
 pub part_diagram : (g h : Held DiagramLabel) (m p : Seen) (t : Plain) → Knows g h → IsDiagram g m → ((k : Held DiagramLabel) → Known k m → Known k p) → tree_of p ≡ t → IsReduced t → IsDiagram h p
 part_diagram g h m p t more d f e r = record { known = f h (known_stays g h more m d.known); reduced = subst (λ (z : Plain). IsReduced z) (sym e) r }
 
+-- what holds of a mark holds of another handle on it
 pub if_share : (r : Result Seen AllocError) (m : Seen) (P : Seen → Type 0) → IfOk r (λ d. d ≡ m) → P m → IfOk r P
 if_share (Ok d) m P e p = subst P (sym e) p
 if_share (Err e) m P q p = tt
@@ -90,3 +92,16 @@ if_share (Err e) m P q p = tt
 pub own_more : (g h : Held DiagramLabel) → Knows g h → (o : Option Seen) → OwnKnown g o → OwnKnown h o
 own_more g h more None k = tt
 own_more g h more (Some m) k = known_stays g h more m k
+
+-- a truth that is kept stays so where more is known
+pub truth_kept : (g h : Held DiagramLabel) (value : Bool) (o : Option Seen) → Knows g h → IsKeptTruth g value o → IsKeptTruth h value o
+truth_kept g h value None more k = tt
+truth_kept g h value (Some m) more k = (known_stays g h more m k.0, k.1)
+
+-- and it is known, and the tree of that truth
+pub truth_there : (h : Held DiagramLabel) (value : Bool) (o : Option Seen) (r : Seen) → IsKeptTruth h value o → o ≡ Some r → Known h r × (tree_of r ≡ truth value)
+truth_there h value None r k e = absurd (let f : None ≡ Some r = e in cc)
+truth_there h value (Some m) r k e = subst (λ z. Known h z × (tree_of z ≡ truth value)) (some_mark m r e) k
+  where
+    some_mark : (m r : Seen) → Some m ≡ Some r → m ≡ r
+    some_mark m r e = cc

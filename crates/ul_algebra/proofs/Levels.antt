@@ -2,24 +2,20 @@
 use Rattle.std.proofs.Common.{◌≡◌, ℕ, zero, suc, ◌<◌, List, [], ◌∷◌, map, length, get_or, refl, ap, sym, ◌∙◌, subst, arith, Bool, true, false, Some, None}
 use Rattle.std.specs.List.{slice_get}
 use Rattle.std.proofs.lemmas.List.{length-map}
-use Rattle.ul_core.specs.declared.trees.Tree.{Tree}
-use Rattle.ul_interner.specs.Marked.{Marked, label_of, parts_of}
+use Rattle.ul_interner.specs.Marked.{label_of, parts_of}
 use Rattle.ul_tree.specs.Levels.{python_level}
 use Rattle.ul_tree.specs.Plain.{Plain, truth, Branches, done, branch}
 use Rattle.ul_tree.specs.Reduced.{IsReduced, Fits}
-use Rattle.ul_tree.specs.Apply.{keys, known}
+use Rattle.ul_tree.specs.Apply.{keys, known, truth_value}
 use Rattle.ul_tree.specs.FirstParts.{is_false}
 use Rattle.ul_tree.specs.Keys.{top_of, rest_of, branches_of, branch_count, branches_from, is_key_of}
 use Rattle.ul_tree.specs.declared.level.Key.TheVariants.{Number}
 use Rattle.ul_tree.specs.Views.{python_of, pieces_of}
 use Rattle.ul_algebra.specs.declared.labels.DiagramLabel.{DiagramLabel}
 use Rattle.ul_algebra.specs.declared.labels.DiagramLabel.TheVariants.{Truth}
-use Rattle.ul_algebra.specs.Spelled.{other_of, branches_by, keyed, spelled, tree_of}
+use Rattle.ul_algebra.specs.Made.{Seen}
+use Rattle.ul_algebra.specs.Spelled.{other_of, branches_by, keyed_node, spelling, tree_of}
 use Rattle.ul_algebra.proofs.Decoded.{tree_is, keyed_shape, pieces_shape}
-
--- what contracts see of a diagram
-abbrev pub Seen : Type 0
-Seen = Marked DiagramLabel
 
 some_is : (a b : Seen) → Some a ≡ Some b → a ≡ b
 some_is a b e = cc
@@ -28,15 +24,15 @@ none_is : (a : Seen) → None ≡ Some a → ⊥
 none_is a e = cc
 
 -- a diagram's tree, by its label
-pub tree_as : (m : Seen) (l : DiagramLabel) → l ≡ label_of m → tree_of m ≡ spelled l (map tree_of (parts_of m))
-tree_as m l e = tree_is m ∙ ap (λ z. spelled z (map tree_of (parts_of m))) (sym e)
+pub tree_as : (m : Seen) (l : DiagramLabel) → l ≡ label_of m → tree_of m ≡ spelling l (map tree_of (parts_of m))
+tree_as m l e = tree_is m ∙ ap (λ z. spelling z (map tree_of (parts_of m))) (sym e)
 
-pub reduced_as : (m : Seen) (l : DiagramLabel) → l ≡ label_of m → IsReduced (tree_of m) → IsReduced (spelled l (map tree_of (parts_of m)))
+pub reduced_as : (m : Seen) (l : DiagramLabel) → l ≡ label_of m → IsReduced (tree_of m) → IsReduced (spelling l (map tree_of (parts_of m)))
 reduced_as m l e h = subst (λ (z : Plain). IsReduced z) (tree_as m l e) h
 
 -- ---- a truth
 
-truth_alone : (b : Bool) (ps : List Plain) → IsReduced (spelled (Truth b) ps) → spelled (Truth b) ps ≡ truth b
+truth_alone : (b : Bool) (ps : List Plain) → IsReduced (spelling (Truth b) ps) → spelling (Truth b) ps ≡ truth b
 truth_alone b [] h = refl
 truth_alone b (p ∷ ps) h = absurd h.1
 
@@ -49,11 +45,11 @@ count_keys : (bs : Branches) → branch_count bs ≡ length (keys bs)
 count_keys done = refl
 count_keys (branch k c rest) = ap suc (count_keys rest)
 
-pub keyed_count : (l : List ℕ) (ks : List (List ℕ)) (ps : List Plain) → IsReduced (keyed l ks ps) → branch_count (branches_by ks ps) ≡ length ks
+pub keyed_count : (l : List ℕ) (ks : List (List ℕ)) (ps : List Plain) → IsReduced (keyed_node l ks ps) → branch_count (branches_by ks ps) ≡ length ks
 keyed_count l ks ps h = let s = keyed_shape ks ps l h.2 in count_keys (branches_by ks ps) ∙ ap length s.keys
 
 -- as many parts as keys, and one more
-pub keyed_parts : (l : List ℕ) (ks : List (List ℕ)) (ms : List Seen) → IsReduced (keyed l ks (map tree_of ms)) → length ms ≡ suc (length ks)
+pub keyed_parts : (l : List ℕ) (ks : List (List ℕ)) (ms : List Seen) → IsReduced (keyed_node l ks (map tree_of ms)) → length ms ≡ suc (length ks)
 keyed_parts l ks ms h = let s = keyed_shape ks (map tree_of ms) l h.2 in sym (length-map ms tree_of) ∙ s.count
 
 other_at : (ks : List (List ℕ)) (ms : List Seen) (r : Seen) (l : List ℕ) → Fits (other_of ks (map tree_of ms)) l → slice_get ms (length ks) ≡ Some r → tree_of r ≡ other_of ks (map tree_of ms)
@@ -63,7 +59,7 @@ other_at [] (m ∷ n ∷ ms) r l h e = absurd h.1
 other_at (k ∷ ks) [] r l h e = absurd h.1
 other_at (k ∷ ks) (m ∷ ms) r l h e = other_at ks ms r l h e
 
-pub keyed_other : (l : List ℕ) (ks : List (List ℕ)) (ms : List Seen) (r : Seen) → IsReduced (keyed l ks (map tree_of ms)) → slice_get ms (length ks) ≡ Some r → tree_of r ≡ other_of ks (map tree_of ms)
+pub keyed_other : (l : List ℕ) (ks : List (List ℕ)) (ms : List Seen) (r : Seen) → IsReduced (keyed_node l ks (map tree_of ms)) → slice_get ms (length ks) ≡ Some r → tree_of r ≡ other_of ks (map tree_of ms)
 keyed_other l ks ms r h e = other_at ks ms r l h.2 e
 
 pub keyed_from : (ks : List (List ℕ)) (ms : List Seen) (i : ℕ) (r : Seen) → i < length ks → slice_get ms i ≡ Some r
@@ -86,6 +82,12 @@ python_known [] ps = refl
 python_known (suc s ∷ ss) ps = refl
 python_known (zero ∷ ss) [] = refl
 python_known (zero ∷ ss) (p ∷ ps) = refl
+
+pub python_value : (ss : List ℕ) (ps : List Plain) → truth_value (python_of ss ps) ≡ None
+python_value [] ps = refl
+python_value (suc s ∷ ss) ps = refl
+python_value (zero ∷ ss) [] = refl
+python_value (zero ∷ ss) (p ∷ ps) = refl
 
 pub python_no_truth : (ss : List ℕ) (ps : List Plain) → is_false (python_of ss ps) ≡ false
 python_no_truth [] ps = refl

@@ -4,18 +4,11 @@ use Rattle.ul_tree.specs.Plain.{Plain, truth, node, Branches, done, branch}
 use Rattle.ul_tree.specs.Reduced.{IsReduced}
 use Rattle.ul_tree.specs.Apply.{close}
 use Rattle.ul_tree.specs.Keys.{key_view, top_of, rest_of, branches_of, branches_from, branch_count, then_branches, is_key_of, has_kind}
-use Rattle.ul_tree.specs.Joins.{made_view as plain_view}
-use Rattle.ul_tree.specs.Views.{tree_view}
+use Rattle.ul_tree.specs.Joins.{made_view}
 use Rattle.ul_tree.specs.declared.level.Key.{Key}
-use Rattle.ul_tree.specs.declared.tree.Tree.{Tree}
-use Rattle.ul_tree.proofs.ForCallers.{then_none}
-use Rattle.ul_tree.proofs.ForCallers.{from_end}
-use Rattle.ul_tree.proofs.ForCallers.{made_push as plain_push}
-use Rattle.ul_algebra.specs.Made.{made_view}
-use Rattle.ul_algebra.specs.Spelled.{tree_of}
-use Rattle.ul_algebra.proofs.Levels.{Seen}
-use Rattle.ul_algebra.proofs.Made.{made_push}
+use Rattle.ul_tree.proofs.ForCallers.{from_end, made_push, then_none}
 
+-- a tree that has a top level is a node
 pub a_node : (l : List ℕ) (t : Plain) → Some l ≡ top_of t → top_of t ≢ None
 a_node l t e q = let r : Some l ≡ None = e ∙ q in absurd (no r)
   where
@@ -43,21 +36,14 @@ kind_of l (node j d bs) k e h = subst (λ (z : List ℕ). has_kind z k ≡ true)
     the_same q = cc
 
 -- one branch more
-pub walk_step : (bs : Branches) (made next : List (Key × Seen)) (k : Key) (m : Seen) (c : Plain) (i : ℕ) → next ≡ made ++ (k, m) ∷ [] → tree_of m ≡ c → branches_from i bs ≡ branch (key_view k) c (branches_from (suc i) bs)
-    → then_branches (made_view made) (branches_from i bs) ≡ bs → then_branches (made_view next) (branches_from (i + 1) bs) ≡ bs
-walk_step bs made next k m c i p e f h =
-    ap (λ z. then_branches (made_view z) (branches_from (i + 1) bs)) p ∙ made_push made (k, m) (branches_from (i + 1) bs)
-    ∙ ap (λ z. then_branches (made_view made) (branch (key_view k) z (branches_from (i + 1) bs))) e
-    ∙ ap (λ j. then_branches (made_view made) (branch (key_view k) c (branches_from j bs))) (add-one i)
-    ∙ ap (then_branches (made_view made)) (sym f) ∙ h
+pub walk_step : {A : Type 0} (view : A → Plain) (bs : Branches) (made next : List (Key × A)) (k : Key) (m : A) (c : Plain) (i : ℕ) → next ≡ made ++ (k, m) ∷ [] → view m ≡ c
+    → branches_from i bs ≡ branch (key_view k) c (branches_from (suc i) bs) → then_branches (made_view view made) (branches_from i bs) ≡ bs → then_branches (made_view view next) (branches_from (i + 1) bs) ≡ bs
+walk_step view bs made next k m c i p e f h =
+    ap (λ z. then_branches (made_view view z) (branches_from (i + 1) bs)) p ∙ made_push view made (k, m) (branches_from (i + 1) bs)
+    ∙ ap (λ z. then_branches (made_view view made) (branch (key_view k) z (branches_from (i + 1) bs))) e
+    ∙ ap (λ j. then_branches (made_view view made) (branch (key_view k) c (branches_from j bs))) (add-one i)
+    ∙ ap (then_branches (made_view view made)) (sym f) ∙ h
 
+-- all branches
 pub walk_end : (bs made : Branches) (i : ℕ) → branch_count bs ≤ i → then_branches made (branches_from i bs) ≡ bs → made ≡ bs
 walk_end bs made i h e = sym (then_none made) ∙ ap (then_branches made) (sym (from_end bs i h)) ∙ e
-
-pub plain_step : (bs : Branches) (made next : List (Key × Tree)) (k : Key) (t : Tree) (c : Plain) (i : ℕ) → next ≡ made ++ (k, t) ∷ [] → tree_view t ≡ c → branches_from i bs ≡ branch (key_view k) c (branches_from (suc i) bs)
-    → then_branches (plain_view tree_view made) (branches_from i bs) ≡ bs → then_branches (plain_view tree_view next) (branches_from (i + 1) bs) ≡ bs
-plain_step bs made next k t c i p e f h =
-    ap (λ z. then_branches (plain_view tree_view z) (branches_from (i + 1) bs)) p ∙ plain_push tree_view made (k, t) (branches_from (i + 1) bs)
-    ∙ ap (λ z. then_branches (plain_view tree_view made) (branch (key_view k) z (branches_from (i + 1) bs))) e
-    ∙ ap (λ j. then_branches (plain_view tree_view made) (branch (key_view k) c (branches_from j bs))) (add-one i)
-    ∙ ap (then_branches (plain_view tree_view made)) (sym f) ∙ h

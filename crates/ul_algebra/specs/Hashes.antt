@@ -7,6 +7,7 @@ use Rattle.ul_marker.specs.Atoms.{variable_number, kind_number}
 use Rattle.ul_algebra.specs.declared.labels.DiagramLabel.{DiagramLabel}
 use Rattle.ul_algebra.specs.declared.labels.DiagramLabel.TheVariants.{Truth, Extra, Python, Text, Opaque}
 
+-- the hash of a label, by its kind
 abbrev pub label_hash : DiagramLabel → ℕ
 label_hash (Truth true) = 1
 label_hash (Truth false) = 0

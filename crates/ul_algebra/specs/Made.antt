@@ -1,42 +1,137 @@
--- The branches of a diagram that is being made.
-use Rattle.ul_interner.specs.Marked.{Marked}
-use Rattle.std.specs.Prelude.{ℕ, List, [], ◌∷◌, map, All, Option, Some, None, option_map}
-use Rattle.ul_core.specs.declared.trees.Tree.{Tree}
-use Rattle.ul_tree.specs.Plain.{Plain, Branches, done, branch}
-use Rattle.ul_tree.specs.Simplify.{Results}
+-- The branches, results and parts of a diagram that is being made.
+use Rattle.std.specs.Prelude.{ℕ, suc, ◌+◌, ◌<◌, ◌≡◌, List, [], ◌∷◌, map, All, Option, option_map, Bool, true}
 use Rattle.ul_interner.specs.Known.{Held, Known}
-use Rattle.ul_tree.specs.Keys.{key_view}
+use Rattle.ul_interner.specs.Marked.{Marked}
+use Rattle.ul_marker.specs.Atoms.{AtomFields}
+use Rattle.ul_tree.specs.Levels.{python_level, atom_level}
+use Rattle.ul_tree.specs.Plain.{Plain, Branches, node, carries}
+use Rattle.ul_tree.specs.Apply.{apply, close, outs, part_at, same, size}
+use Rattle.ul_tree.specs.Joins.{made_view, stands, added}
+use Rattle.ul_tree.specs.Keys.{level_view, key_view, keys_view, has_kind, branches_of, rest_of, KeysOf}
+use Rattle.ul_tree.specs.Simplify.{Results, Pieces, Piece, filled, reduced_branches, settled, union_in}
+use Rattle.ul_tree.specs.SimplifyViews.{results_view, parts_view, region_view, IfSome, Lowered}
+use Rattle.ul_tree.specs.Views.{python_of}
 use Rattle.ul_tree.specs.declared.level.Key.{Key}
+use Rattle.ul_tree.specs.declared.level.Level.{Level}
+use Rattle.ul_algebra.specs.Joinings.{truth_of}
+use Rattle.ul_algebra.specs.Spelled.{keyed_node, tree_of}
 use Rattle.ul_algebra.specs.declared.labels.DiagramLabel.{DiagramLabel}
-use Rattle.ul_algebra.specs.Spelled.{tree_of}
+use Rattle.ul_algebra.specs.declared.questions.Joining.{Joining}
 
--- branches that were made
-abbrev pub made_view : List (Key × Marked DiagramLabel) → Branches
-made_view [] = done
-made_view (p ∷ ps) = branch (key_view p.0) (tree_of p.1) (made_view ps)
+-- what contracts see of a diagram
+abbrev pub Seen : Type 0
+Seen = Marked DiagramLabel
+
+-- ---- rows, as plain data
+
+-- branches of diagrams that were made
+abbrev pub diagrams_made : List (Key × Marked DiagramLabel) → Branches
+diagrams_made = made_view tree_of
 
 -- pieces in a row, each with its key and its result
-abbrev pub results_view : List (Key × Option (Marked DiagramLabel)) → Results
-results_view = map (λ r. (key_view r.0, option_map tree_of r.1))
+abbrev pub result_diagrams : List (Key × Option (Marked DiagramLabel)) → Results
+result_diagrams = results_view tree_of
 
 -- parts in a row, each with its key
-abbrev pub parts_view : List (Key × Marked DiagramLabel) → List (List ℕ × Plain)
-parts_view = map (λ p. (key_view p.0, tree_of p.1))
+abbrev pub part_diagrams : List (Key × Marked DiagramLabel) → List (List ℕ × Plain)
+part_diagrams = parts_view tree_of
+
+-- ---- what is known
+
+-- diagrams are known
+abbrev pub AreKnown : Held DiagramLabel → List Seen → Type 0
+AreKnown h ds = All (λ d. Known h d) ds
 
 -- a result, if there is one, is known
-abbrev pub OwnKnown : Held DiagramLabel → Option (Marked DiagramLabel) → Type 0
-OwnKnown h None = Unit {0}
-OwnKnown h (Some d) = Known h d
+abbrev pub OwnKnown : Held DiagramLabel → Option Seen → Type 0
+OwnKnown h = IfSome (Known h)
 
 -- the results of pieces are known
-abbrev pub ResultsKnown : Held DiagramLabel → List (Key × Option (Marked DiagramLabel)) → Type 0
+abbrev pub ResultsKnown : Held DiagramLabel → List (Key × Option Seen) → Type 0
 ResultsKnown h rs = All (λ r. OwnKnown h r.1) rs
 
--- parts are known
-abbrev pub PartsKnown : Held DiagramLabel → List (Key × Marked DiagramLabel) → Type 0
+-- parts of keys are known
+abbrev pub PartsKnown : Held DiagramLabel → List (Key × Seen) → Type 0
 PartsKnown h ps = All (λ p. Known h p.1) ps
 
--- a region that was made, or else the one that stands
-abbrev pub region_view : Option (Marked DiagramLabel) → Plain → Plain
-region_view None c = c
-region_view (Some d) c = tree_of d
+-- whoever knows a diagram knows another
+abbrev pub KnownWith : Seen → Seen → Type 0
+KnownWith d p = (h : Held DiagramLabel) → Known h d → Known h p
+
+-- whoever knows branches and the other part knows the parts of their node
+abbrev pub PartsKnownWith : List (Key × Seen) → Seen → List Seen → Type 0
+PartsKnownWith made other parts = (h : Held DiagramLabel) → PartsKnown h made → Known h other → AreKnown h parts
+
+-- whoever knows the results of pieces and the first part knows the parts
+abbrev pub FilledKnownWith : List (Key × Option Seen) → Seen → List (Key × Seen) → Type 0
+FilledKnownWith results first parts = (h : Held DiagramLabel) → ResultsKnown h results → Known h first → PartsKnown h parts
+
+-- keys of a level stay keys of it
+abbrev pub KeepsLevel : {A B : Type 0} → List (Key × A) → List (Key × B) → Type 0
+KeepsLevel before after = (l : List ℕ) → KeysOf l before → KeysOf l after
+
+-- ---- joining
+
+-- a branch more, unless its part is the one that stands
+abbrev pub IsAdded : Bool → Seen → Key → Seen → List (Key × Seen) → List (Key × Seen) → Type 0
+IsAdded carried other key next before after =
+    diagrams_made after ≡ added (same (tree_of next) (stands carried (diagrams_made before) (tree_of other))) (diagrams_made before) (key_view key) (tree_of next)
+
+-- a branch more keeps that the keys are those of a level
+abbrev pub KeepsKeys : Key → List (Key × Seen) → List (Key × Seen) → Type 0
+KeepsKeys key before after = (l : List ℕ) → KeysOf l before → has_kind l key ≡ true → KeysOf l after
+
+-- keys and parts are those of branches and the other part
+abbrev pub AreKeyed : Seen → List (Key × Seen) → List (List ℕ) → List Seen → Type 0
+AreKeyed other made points parts = (l : List ℕ) → keyed_node l points (map tree_of parts) ≡ node l (tree_of other) (diagrams_made made)
+
+-- the same of starts and the parts of pieces
+abbrev pub ArePieces : Seen → List (Key × Seen) → List ℕ → List Seen → Type 0
+ArePieces other made starts parts = python_of starts (map tree_of parts) ≡ node python_level (tree_of other) (diagrams_made made)
+
+-- parts are those where an opaque comparison holds, and where it doesn't
+abbrev pub AreHalves : AtomFields → Seen → List (Key × Seen) → List Seen → Type 0
+AreHalves atom other made parts = keyed_node (atom_level atom) ((1 ∷ []) ∷ []) (map tree_of parts) ≡ node (atom_level atom) (tree_of other) (diagrams_made made)
+
+-- the branches of keys: the parts of two diagrams there, joined, without those that say what stands already
+abbrev pub AreJoined : Joining → Level → Seen → Seen → List Key → Seen → List (Key × Seen) → Type 0
+AreJoined op level a b keys other made = (n : ℕ) → size (tree_of a) + size (tree_of b) < suc n
+    → diagrams_made made ≡ outs (λ v. apply (truth_of op) n (part_at (level_view level) v (tree_of a)) (part_at (level_view level) v (tree_of b))) (carries (level_view level)) (keys_view keys) (tree_of other)
+
+-- the tree of a node of a level with these branches, or the other part alone where there are none
+abbrev pub closed_tree : Level → Seen → List (Key × Seen) → Plain
+closed_tree level other made = close (level_view level) (tree_of other) (diagrams_made made)
+
+-- ---- simplifying
+
+-- the parts of keys: each piece's own result, or the part before it
+abbrev pub filled_parts : List (Key × Option Seen) → Seen → List (List ℕ × Plain)
+filled_parts results first = filled (result_diagrams results) (tree_of first)
+
+-- the branches of parts, those left out that say what stands already
+abbrev pub reduced_parts : Bool → List (Key × Seen) → Seen → Branches
+reduced_parts carried parts other = reduced_branches carried (part_diagrams parts) (tree_of other)
+
+-- a level put together from the results of its pieces
+abbrev pub settled_tree : Level → List (Key × Option Seen) → Option Seen → Seen → Plain
+settled_tree level results rest otherwise = settled (level_view level) (result_diagrams results) (option_map tree_of rest) (tree_of otherwise)
+
+-- the tree of a region that was made, or else of the one that stands
+abbrev pub region_tree : Option Seen → Seen → Plain
+region_tree made stands = region_view tree_of made (tree_of stands)
+
+-- what stays of a region when its levels above another are taken away, if any is
+abbrev pub IsLowered : Level → Seen → Option Seen → Type 0
+IsLowered level region made = Lowered (level_view level) (tree_of region) (region_tree made region)
+
+-- the union of all parts of a tree
+abbrev pub union_parts : Plain → Plain
+union_parts t = union_in (branches_of t) (rest_of t)
+
+-- the results of pieces at keys of a level
+abbrev pub PiecesAre : Level → Seen → Seen → List Key → List (Key × Option Seen) → Type 0
+PiecesAre level f region keys results = Pieces (level_view level) (tree_of f) (tree_of region) (keys_view keys) (result_diagrams results)
+
+-- what a piece becomes
+abbrev pub IsPiece : Seen → Seen → Option Seen → Type 0
+IsPiece f c made = Piece (tree_of f) (tree_of c) (option_map tree_of made)

@@ -25,20 +25,21 @@ branches_by (k ∷ ks) [] = done
 branches_by (k ∷ ks) (p ∷ ps) = branch k p (branches_by ks ps)
 
 -- a node of keys, whose parts are theirs and the other one
-abbrev pub keyed : List ℕ → List (List ℕ) → List Plain → Plain
-keyed l ks ps = node l (other_of ks ps) (branches_by ks ps)
+abbrev pub keyed_node : List ℕ → List (List ℕ) → List Plain → Plain
+keyed_node l ks ps = node l (other_of ks ps) (branches_by ks ps)
 
 -- one node
-abbrev pub spelled : DiagramLabel → List Plain → Plain
-spelled (Truth b) [] = truth b
-spelled (Truth b) (p ∷ ps) = shapeless
-spelled (Extra points) ps = keyed extra_level points ps
-spelled (Python starts) ps = python_of starts ps
-spelled (Text variable points) ps = keyed (text_level variable) points ps
-spelled (Opaque atom) ps = keyed (atom_level atom) ((1 ∷ []) ∷ []) ps
+abbrev pub spelling : DiagramLabel → List Plain → Plain
+spelling (Truth b) [] = truth b
+spelling (Truth b) (p ∷ ps) = shapeless
+spelling (Extra points) ps = keyed_node extra_level points ps
+spelling (Python starts) ps = python_of starts ps
+spelling (Text variable points) ps = keyed_node (text_level variable) points ps
+spelling (Opaque atom) ps = keyed_node (atom_level atom) ((1 ∷ []) ∷ []) ps
 
+-- the tree of one node whose parts are trees already
 abbrev pub spell_step : Tree-F DiagramLabel Plain → Plain
-spell_step n = spelled n.label n.parts
+spell_step n = spelling n.label n.parts
 
 -- the tree that a plant spells
 abbrev pub spells : Tree DiagramLabel → Plain

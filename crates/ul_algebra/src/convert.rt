@@ -1,16 +1,17 @@
 //! Diagrams of trees, and trees of diagrams.
-ghost use Rattle.std.specs.Prelude.{◌≡◌, IfOk, All, Some, true};
+ghost use Rattle.std.specs.Prelude.{◌≡◌, IfOk, Some};
 ghost use Rattle.ul_interner.specs.Known.{Known, Knows};
 ghost use Rattle.ul_tree.specs.Reduced.{IsReduced};
 ghost use Rattle.ul_tree.specs.Views.{tree_view};
-ghost use Rattle.ul_tree.specs.Keys.{level_view, top_of, branches_of, has_kind};
-ghost use Rattle.ul_tree.specs.Joins.{made_view as plain_view};
-ghost use Rattle.ul_algebra.specs.Made.{made_view};
+ghost use Rattle.ul_tree.specs.Keys.{level_view, top_of, branches_of, KeysOf};
+ghost use Rattle.ul_tree.specs.Joins.{trees_made};
+ghost use Rattle.ul_algebra.specs.Made.{diagrams_made, PartsKnown};
 ghost use Rattle.ul_algebra.specs.Spelled.{tree_of};
 ghost use Rattle.ul_algebra.specs.Answers.{IsDiagram};
 
 use crate::algebra::Algebra;
-use crate::join::{closed, truth_diagram};
+use crate::depth::{DEEPEST, deeper};
+use crate::join::closed;
 use crate::{Diagram, nodes};
 use std::alloc::{AllocError, Global};
 use std::sync::Wait;
@@ -28,14 +29,14 @@ impl<'a> Algebra<'a> {
         &mut self,
         rt: &R,
         alloc: Global,
-        t: &Tree,
+        tree: &Tree,
     ) -> Result<Diagram, AllocError>
-        requires { IsReduced (tree_view t.now) }
+        requires { IsReduced (tree_view tree.now) }
         ensures knows { Knows self.old self.new }
-        ensures diagram { IfOk result (λ d. IsDiagram self.new d) }
-        ensures tree { IfOk result (λ d. tree_of d ≡ tree_view t.now) }
+        ensures diagram { IfOk result (IsDiagram self.new) }
+        ensures tree { IfOk result (λ d. tree_of d ≡ tree_view tree.now) }
     {
-        let d = diagram_of(self, rt, alloc, t)?;
+        let d = diagram_of(self, rt, alloc, tree, DEEPEST)?;
         Ok(d)
     }
 
@@ -44,36 +45,38 @@ impl<'a> Algebra<'a> {
     /// # Errors
     ///
     /// Only for want of memory.
-    pub fn tree(&self, alloc: Global, d: &Diagram) -> Result<Tree, AllocError>
-        requires { IsDiagram self.now d.now }
-        ensures { IfOk result (λ t. tree_view t ≡ tree_of d.now) }
+    pub fn tree(&self, alloc: Global, diagram: &Diagram) -> Result<Tree, AllocError>
+        requires { IsDiagram self.now diagram.now }
+        ensures { IfOk result (λ t. tree_view t ≡ tree_of diagram.now) }
     {
-        let t = spelled_tree(alloc, d)?;
+        let t = spelled_tree(alloc, diagram, DEEPEST)?;
         Ok(t)
     }
 }
 
-// The diagram of a tree, part by part.
+// The diagram of a tree, part by part; want of memory where a path has more levels than `room`.
 #[cycle(diagram_of)]
 fn diagram_of<R: Wait>(
     algebra: &mut Algebra<'_>,
     rt: &R,
     alloc: Global,
-    t: &Tree,
+    tree: &Tree,
+    room: usize,
 ) -> Result<Diagram, AllocError>
-    requires { IsReduced (tree_view t.now) }
+    requires { IsReduced (tree_view tree.now) }
     ensures knows { Knows algebra.old algebra.new }
-    ensures tree { IfOk result (λ d. tree_of d ≡ tree_view t.now) }
-    ensures known { IfOk result (λ d. Known algebra.new d) }
+    ensures tree { IfOk result (λ d. tree_of d ≡ tree_view tree.now) }
+    ensures known { IfOk result (Known algebra.new) }
 {
-    match part::level_of(t) {
+    match part::level_of(tree) {
         None => {
-            let d = truth_diagram(algebra, rt, alloc, part::known(t))?;
+            let d = algebra.truth(rt, alloc, part::known(tree))?;
             Ok(d)
         }
         Some(level) => {
-            let made = diagrams_in(algebra, rt, alloc, t, level)?;
-            let other = diagram_of(algebra, rt, alloc, part::rest_of(t))?;
+            let room = deeper(room)?;
+            let made = diagrams_in(algebra, rt, alloc, tree, level, room)?;
+            let other = diagram_of(algebra, rt, alloc, part::rest_of(tree), room)?;
             let d = closed(algebra, rt, alloc, level, &other, made)?;
             Ok(d)
         }
@@ -86,36 +89,38 @@ fn diagrams_in<'x, R: Wait>(
     algebra: &mut Algebra<'_>,
     rt: &R,
     alloc: Global,
-    t: &'x Tree,
+    tree: &'x Tree,
     level: Level<'_>,
+    room: usize,
 ) -> Result<Vec<(Key<'x>, Diagram)>, AllocError>
-    requires reduced { IsReduced (tree_view t.now) }
-    requires top { Some (level_view level) ≡ top_of (tree_view t.now) }
+    requires reduced { IsReduced (tree_view tree.now) }
+    requires top { Some (level_view level) ≡ top_of (tree_view tree.now) }
     ensures knows { Knows algebra.old algebra.new }
-    ensures made { IfOk result (λ bs. made_view bs.items ≡ branches_of (tree_view t.now)) }
-    ensures kinds { IfOk result (λ bs. All (λ e. has_kind (level_view level.entry) e.0 ≡ true) bs.items) }
-    ensures parts { IfOk result (λ bs. All (λ e. Known algebra.new e.1) bs.items) }
+    ensures made { IfOk result (λ bs. diagrams_made bs.items ≡ branches_of (tree_view tree.now)) }
+    ensures kinds { IfOk result (λ bs. KeysOf (level_view level.entry) bs.items) }
+    ensures parts { IfOk result (λ bs. PartsKnown algebra.new bs.items) }
 {
     let mut made: Vec<(Key<'x>, Diagram)> = Vec::new(alloc);
-    for index in 0..part::branch_count(t) {
-        let branch = part::branch_at(t, index);
-        let next = diagram_of(algebra, rt, alloc, branch.part)?;
+    for index in 0..part::branch_count(tree) {
+        let branch = part::branch_at(tree, index);
+        let next = diagram_of(algebra, rt, alloc, branch.part, room)?;
         made.push((branch.key, next))?;
     }
     Ok(made)
 }
 
-// The tree of a diagram, part by part.
+// The tree of a diagram, part by part; want of memory where a path has more levels than `room`.
 #[cycle(spelled_tree)]
-fn spelled_tree(alloc: Global, d: &Diagram) -> Result<Tree, AllocError>
-    requires { IsReduced (tree_of d.now) }
-    ensures { IfOk result (λ t. tree_view t ≡ tree_of d.now) }
+fn spelled_tree(alloc: Global, diagram: &Diagram, room: usize) -> Result<Tree, AllocError>
+    requires { IsReduced (tree_of diagram.now) }
+    ensures { IfOk result (λ t. tree_view t ≡ tree_of diagram.now) }
 {
-    match nodes::level_of(d) {
-        None => Ok(Tree::Truth(nodes::known(d))),
+    match nodes::level_of(diagram) {
+        None => Ok(Tree::Truth(nodes::known(diagram))),
         Some(level) => {
-            let made = trees_in(alloc, d, level)?;
-            let other = spelled_tree(alloc, nodes::rest_of(d))?;
+            let room = deeper(room)?;
+            let made = trees_in(alloc, diagram, level, room)?;
+            let other = spelled_tree(alloc, nodes::rest_of(diagram), room)?;
             let t = closed_tree(alloc, level, other, made)?;
             Ok(t)
         }
@@ -126,18 +131,19 @@ fn spelled_tree(alloc: Global, d: &Diagram) -> Result<Tree, AllocError>
 #[cycle(spelled_tree)]
 fn trees_in<'x>(
     alloc: Global,
-    d: &'x Diagram,
+    diagram: &'x Diagram,
     level: Level<'_>,
+    room: usize,
 ) -> Result<Vec<(Key<'x>, Tree)>, AllocError>
-    requires reduced { IsReduced (tree_of d.now) }
-    requires top { Some (level_view level) ≡ top_of (tree_of d.now) }
-    ensures made { IfOk result (λ bs. plain_view tree_view bs.items ≡ branches_of (tree_of d.now)) }
-    ensures kinds { IfOk result (λ bs. All (λ e. has_kind (level_view level.entry) e.0 ≡ true) bs.items) }
+    requires reduced { IsReduced (tree_of diagram.now) }
+    requires top { Some (level_view level) ≡ top_of (tree_of diagram.now) }
+    ensures made { IfOk result (λ bs. trees_made bs.items ≡ branches_of (tree_of diagram.now)) }
+    ensures kinds { IfOk result (λ bs. KeysOf (level_view level.entry) bs.items) }
 {
     let mut made: Vec<(Key<'x>, Tree)> = Vec::new(alloc);
-    for index in 0..nodes::branch_count(d) {
-        let branch = nodes::branch_at(d, index);
-        let next = spelled_tree(alloc, branch.part)?;
+    for index in 0..nodes::branch_count(diagram) {
+        let branch = nodes::branch_at(diagram, index);
+        let next = spelled_tree(alloc, branch.part, room)?;
         made.push((branch.key, next))?;
     }
     Ok(made)

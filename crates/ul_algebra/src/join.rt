@@ -1,81 +1,31 @@
 //! A diagram made of two, part by part.
-ghost use Rattle.std.specs.Prelude.{◌≡◌, ℕ, suc, ◌+◌, ◌<◌, Some, List, [], ◌∷◌, IfOk, All, true, option_map, map};
-ghost use Rattle.ul_interner.specs.Known.{Held, Known, Knows};
-ghost use Rattle.ul_tree.specs.Plain.{node, truth, carries};
-ghost use Rattle.ul_tree.specs.Levels.{python_level, atom_level};
+ghost use Rattle.std.specs.Prelude.{◌≡◌, ℕ, List, Some, IfOk, All, true};
+ghost use Rattle.ul_interner.specs.Known.{Known, Knows};
+ghost use Rattle.ul_tree.specs.Plain.{node};
+ghost use Rattle.ul_tree.specs.Levels.{atom_level};
 ghost use Rattle.ul_tree.specs.Reduced.{IsReduced};
-ghost use Rattle.ul_tree.specs.Apply.{size, apply, outs, part_at, first_of, branches_at, merged, keys, close, same as same_plain};
-ghost use Rattle.ul_tree.specs.Keys.{level_view, key_view, keys_view, has_kind, is_literal_key, is_number_key};
-ghost use Rattle.ul_tree.specs.Joins.{stands, added};
-ghost use Rattle.ul_tree.specs.Views.{python_of};
-ghost use Rattle.ul_algebra.specs.Spelled.{keyed, tree_of};
-ghost use Rattle.ul_algebra.specs.Made.{made_view};
-ghost use Rattle.ul_algebra.specs.Joinings.{truth_of, IsJoinedBy};
+ghost use Rattle.ul_tree.specs.Apply.{first_of};
+ghost use Rattle.ul_tree.specs.Joins.{stands};
+ghost use Rattle.ul_tree.specs.Keys.{level_view, is_literal_key, is_number_key, AreKeysOf, KeysOf};
+ghost use Rattle.ul_tree.specs.SimplifyViews.{IfSome};
 ghost use Rattle.ul_algebra.specs.Answers.{IsDiagram};
+ghost use Rattle.ul_algebra.specs.Joinings.{IsJoin, IsJoinAtOnce, at_once_tree, FollowsSide};
+ghost use Rattle.ul_algebra.specs.Made.{diagrams_made, PartsKnown, PartsKnownWith, IsAdded, KeepsKeys, AreKeyed, ArePieces, AreHalves, AreJoined, closed_tree};
+ghost use Rattle.ul_algebra.specs.Spelled.{tree_of};
 
 use crate::Diagram;
 use crate::algebra::Algebra;
+use crate::depth::deeper;
 use crate::labels::DiagramLabel;
 use crate::lists::{Points, Starts};
-use crate::nodes::{keys_at, known, level_of, part_at, rest_at};
-use crate::questions::{Joining, Operation};
+use crate::nodes::{Diagrams, known, truth_value};
+use crate::questions::{AtOnce, Joining, Operation};
 use std::alloc::{AllocError, Global};
-use std::cmp::Ordering;
 use std::sync::Wait;
 use ul_marker::Atom;
 use ul_tree::level::{Key, Level};
-use ul_tree::nodes::merged_keys;
-
-// The first level of two diagrams.
-fn first_level<'a>(a: &'a Diagram, b: &'a Diagram) -> Option<Level<'a>>
-    requires a_reduced { IsReduced (tree_of a.now) }
-    requires b_reduced { IsReduced (tree_of b.now) }
-    ensures { option_map level_view result ≡ first_of (tree_of a.now) (tree_of b.now) }
-{
-    match level_of(a) {
-        None => level_of(b),
-        Some(own) => match level_of(b) {
-            None => Some(own),
-            Some(found) => match own.cmp(found) {
-                Ordering::Less => Some(own),
-                Ordering::Equal => Some(own),
-                Ordering::Greater => Some(found),
-            },
-        },
-    }
-}
-
-// The keys of two diagrams at a level, in order, each once.
-pub(crate) fn level_keys<'a>(
-    alloc: Global,
-    level: Level<'_>,
-    a: &'a Diagram,
-    b: &'a Diagram,
-) -> Result<Vec<Key<'a>>, AllocError>
-    requires a_reduced { IsReduced (tree_of a.now) }
-    requires b_reduced { IsReduced (tree_of b.now) }
-    ensures keys { IfOk result (λ ks. keys_view ks.items ≡ merged (keys (branches_at (level_view level.entry) (tree_of a.now))) (keys (branches_at (level_view level.entry) (tree_of b.now)))) }
-    ensures kinds { IfOk result (λ ks. All (λ k. has_kind (level_view level.entry) k ≡ true) ks.items) }
-{
-    let of_a = keys_at(alloc, a, level)?;
-    let of_b = keys_at(alloc, b, level)?;
-    let keys = merged_keys(alloc, &of_a, &of_b)?;
-    Ok(keys)
-}
-
-// The part that stands after branches: at the interpreter that of the last, elsewhere the other part.
-fn standing<'a>(made: &'a [(Key<'_>, Diagram)], other: &'a Diagram, carried: bool) -> &'a Diagram
-    ensures part { tree_of result.now ≡ stands carried (made_view made.now) (tree_of other.now) }
-    ensures known { (h : Held _) → All (λ e. Known h e.1) made.now → Known h other.now → Known h result.now }
-{
-    if !carried {
-        return other;
-    }
-    match made.last() {
-        Some(branch) => &branch.1,
-        None => other,
-    }
-}
+use ul_tree::nodes::{first_level, level_keys, part_at, rest_at};
+use ul_tree::results::standing;
 
 // A branch more, unless its part is the one that stands.
 pub(crate) fn add<'a>(
@@ -88,11 +38,11 @@ pub(crate) fn add<'a>(
 ) -> Result<(), AllocError>
     requires next { IsDiagram algebra.now next }
     requires other { Known algebra.now other.now }
-    requires parts { All (λ e. Known algebra.now e.1) made.old.items }
-    requires stands_reduced { IsReduced (stands carried (made_view made.old.items) (tree_of other.now)) }
-    ensures made { IfOk result (λ u. made_view made.new.items ≡ added (same_plain (tree_of next) (stands carried (made_view made.old.items) (tree_of other.now))) (made_view made.old.items) (key_view key.entry) (tree_of next)) }
-    ensures kinds { IfOk result (λ u. (l : List ℕ) → All (λ e. has_kind l e.0 ≡ true) made.old.items → has_kind l key.entry ≡ true → All (λ e. has_kind l e.0 ≡ true) made.new.items) }
-    ensures parts { IfOk result (λ u. All (λ e. Known algebra.now e.1) made.new.items) }
+    requires parts { PartsKnown algebra.now made.old.items }
+    requires stands_reduced { IsReduced (stands carried (diagrams_made made.old.items) (tree_of other.now)) }
+    ensures made { IfOk result (λ u. IsAdded carried other.now key.entry next made.old.items made.new.items) }
+    ensures kinds { IfOk result (λ u. KeepsKeys key.entry made.old.items made.new.items) }
+    ensures parts { IfOk result (λ u. PartsKnown algebra.now made.new.items) }
 {
     if algebra.same(&next, standing(made, other, carried)) {
         return Ok(());
@@ -108,8 +58,8 @@ fn points_of(
     other: &Diagram,
 ) -> Result<(Points, Vec<Diagram>), AllocError>
     requires { All (λ e. is_literal_key e.0 ≡ true) made.items }
-    ensures tree { IfOk result (λ r. (l : List ℕ) → keyed l r.0 (map tree_of r.1.items) ≡ node l (tree_of other.now) (made_view made.entry.items)) }
-    ensures known { IfOk result (λ r. (h : Held _) → All (λ e. Known h e.1) made.entry.items → Known h other.now → All (λ p. Known h p) r.1.items) }
+    ensures tree { IfOk result (λ r. AreKeyed other.now made.entry.items r.0 r.1.items) }
+    ensures known { IfOk result (λ r. PartsKnownWith made.entry.items other.now r.1.items) }
 {
     let mut texts = Vec::new(alloc);
     let mut parts = Vec::new(alloc);
@@ -134,8 +84,8 @@ fn pieces_of(
     made: Vec<(Key<'_>, Diagram)>,
 ) -> Result<(Starts, Vec<Diagram>), AllocError>
     requires { All (λ e. is_number_key e.0 ≡ true) made.items }
-    ensures tree { IfOk result (λ r. python_of r.0 (map tree_of r.1.items) ≡ node python_level (tree_of other.now) (made_view made.entry.items)) }
-    ensures known { IfOk result (λ r. (h : Held _) → All (λ e. Known h e.1) made.entry.items → Known h other.now → All (λ p. Known h p) r.1.items) }
+    ensures tree { IfOk result (λ r. ArePieces other.now made.entry.items r.0 r.1.items) }
+    ensures known { IfOk result (λ r. PartsKnownWith made.entry.items other.now r.1.items) }
 {
     let mut starts = Vec::new(alloc);
     let mut parts = Vec::new(alloc);
@@ -161,9 +111,9 @@ fn marked(
     made: Vec<(Key<'_>, Diagram)>,
     other: &Diagram,
 ) -> Result<Vec<Diagram>, AllocError>
-    requires { IsReduced (node (atom_level atom.now) (tree_of other.now) (made_view made.items)) }
-    ensures tree { IfOk result (λ ps. keyed (atom_level atom.now) ((1 ∷ []) ∷ []) (map tree_of ps.items) ≡ node (atom_level atom.now) (tree_of other.now) (made_view made.entry.items)) }
-    ensures known { IfOk result (λ ps. (h : Held _) → All (λ e. Known h e.1) made.entry.items → Known h other.now → All (λ p. Known h p) ps.items) }
+    requires { IsReduced (node (atom_level atom.now) (tree_of other.now) (diagrams_made made.items)) }
+    ensures tree { IfOk result (λ ps. AreHalves atom.now other.now made.entry.items ps.items) }
+    ensures known { IfOk result (λ ps. PartsKnownWith made.entry.items other.now ps.items) }
 {
     let mut made = made;
     match made.pop() {
@@ -186,13 +136,13 @@ pub(crate) fn closed<R: Wait>(
     other: &Diagram,
     made: Vec<(Key<'_>, Diagram)>,
 ) -> Result<Diagram, AllocError>
-    requires kinds { All (λ e. has_kind (level_view level) e.0 ≡ true) made.items }
-    requires reduced { IsReduced (close (level_view level) (tree_of other.now) (made_view made.items)) }
-    requires parts { All (λ e. Known algebra.old e.1) made.items }
+    requires kinds { KeysOf (level_view level) made.items }
+    requires reduced { IsReduced (closed_tree level other.now made.items) }
+    requires parts { PartsKnown algebra.old made.items }
     requires other { Known algebra.old other.now }
     ensures knows { Knows algebra.old algebra.new }
-    ensures tree { IfOk result (λ d. tree_of d ≡ close (level_view level.entry) (tree_of other.now) (made_view made.entry.items)) }
-    ensures known { IfOk result (λ d. Known algebra.new d) }
+    ensures tree { IfOk result (λ d. tree_of d ≡ closed_tree level.entry other.now made.entry.items) }
+    ensures known { IfOk result (Known algebra.new) }
 {
     if made.is_empty() {
         return other.share();
@@ -222,23 +172,87 @@ pub(crate) fn closed<R: Wait>(
     }
 }
 
-/// The diagram of a truth.
-pub(crate) fn truth_diagram<R: Wait>(
+// What follows the truth of a side, where that is a truth or the side itself.
+fn following(on_true: bool, on_false: bool, side: AtOnce) -> Option<AtOnce>
+    ensures { IfSome (λ k. FollowsSide on_true on_false side k) result }
+{
+    if on_true {
+        if on_false {
+            return Some(AtOnce::Truth(true));
+        }
+        return Some(side);
+    }
+    if on_false {
+        return None;
+    }
+    Some(AtOnce::Truth(false))
+}
+
+// The join of two diagrams where it is known at once: one of them is a truth, or they are equal.
+fn at_once(algebra: &Algebra<'_>, op: Joining, a: &Diagram, b: &Diagram) -> Option<AtOnce>
+    requires a { IsDiagram algebra.now a.now }
+    requires b { IsDiagram algebra.now b.now }
+    ensures { IfSome (λ k. IsJoinAtOnce op a.now b.now k) result }
+{
+    if let Some(value) = truth_value(a) {
+        return following(
+            op.truth(value, true),
+            op.truth(value, false),
+            AtOnce::Second,
+        );
+    }
+    if let Some(value) = truth_value(b) {
+        return following(op.truth(true, value), op.truth(false, value), AtOnce::First);
+    }
+    if algebra.same(a, b) {
+        return following(op.truth(true, true), op.truth(false, false), AtOnce::First);
+    }
+    None
+}
+
+// The diagram that is known at once.
+fn taken<R: Wait>(
     algebra: &mut Algebra<'_>,
     rt: &R,
     alloc: Global,
-    value: bool,
+    found: AtOnce,
+    a: &Diagram,
+    b: &Diagram,
 ) -> Result<Diagram, AllocError>
+    requires a { Known algebra.old a.now }
+    requires b { Known algebra.old b.now }
     ensures knows { Knows algebra.old algebra.new }
-    ensures tree { IfOk result (λ d. tree_of d ≡ truth value) }
-    ensures known { IfOk result (λ d. Known algebra.new d) }
+    ensures tree { IfOk result (λ d. tree_of d ≡ at_once_tree (tree_of a.now) (tree_of b.now) found) }
+    ensures known { IfOk result (Known algebra.new) }
 {
-    let d = algebra.node(rt, alloc, DiagramLabel::Truth(value), Vec::new(alloc))?;
-    Ok(d)
+    match found {
+        AtOnce::Truth(value) => {
+            let d = algebra.truth(rt, alloc, value)?;
+            Ok(d)
+        }
+        AtOnce::First => {
+            let d = a.share()?;
+            Ok(d)
+        }
+        AtOnce::Second => {
+            let d = b.share()?;
+            Ok(d)
+        }
+    }
 }
 
-/// The diagram that has the joined truth of two. An answer that was found before is found again by the two
-/// identities, so each pair of nodes is joined once.
+// Whether the identity of one diagram is before that of another.
+fn is_before(a: &Diagram, b: &Diagram) -> bool {
+    let (shard, place) = a.id();
+    let (other_shard, other_place) = b.id();
+    if shard == other_shard {
+        return place < other_place;
+    }
+    shard < other_shard
+}
+
+/// The diagram that has the joined truth of two; want of memory where a path has more levels than `room`. Where
+/// the two sides may change places, they are joined in the order of their identities.
 #[cycle(joined)]
 pub(crate) fn joined<R: Wait>(
     algebra: &mut Algebra<'_>,
@@ -247,18 +261,52 @@ pub(crate) fn joined<R: Wait>(
     op: Joining,
     a: &Diagram,
     b: &Diagram,
+    room: usize,
 ) -> Result<Diagram, AllocError>
     requires a { IsDiagram algebra.old a.now }
     requires b { IsDiagram algebra.old b.now }
     ensures knows { Knows algebra.old algebra.new }
-    ensures joined { IfOk result (λ d. IsJoinedBy (truth_of op) (tree_of a.now) (tree_of b.now) (tree_of d)) }
-    ensures known { IfOk result (λ d. Known algebra.new d) }
+    ensures joined { IfOk result (IsJoin op a.now b.now) }
+    ensures known { IfOk result (Known algebra.new) }
+    ensures reduced { IfOk result (λ d. IsReduced (tree_of d)) }
+{
+    if let Some(found) = at_once(algebra, op, a, b) {
+        let made = taken(algebra, rt, alloc, found, a, b)?;
+        return Ok(made);
+    }
+    if op.commutes() {
+        if is_before(b, a) {
+            let made = joined_once(algebra, rt, alloc, op, b, a, room)?;
+            return Ok(made);
+        }
+    }
+    let made = joined_once(algebra, rt, alloc, op, a, b, room)?;
+    Ok(made)
+}
+
+// The same in this order. An answer that was found before is found again by the two identities, so each pair of
+// nodes is joined once.
+#[cycle(joined)]
+fn joined_once<R: Wait>(
+    algebra: &mut Algebra<'_>,
+    rt: &R,
+    alloc: Global,
+    op: Joining,
+    a: &Diagram,
+    b: &Diagram,
+    room: usize,
+) -> Result<Diagram, AllocError>
+    requires a { IsDiagram algebra.old a.now }
+    requires b { IsDiagram algebra.old b.now }
+    ensures knows { Knows algebra.old algebra.new }
+    ensures joined { IfOk result (IsJoin op a.now b.now) }
+    ensures known { IfOk result (Known algebra.new) }
     ensures reduced { IfOk result (λ d. IsReduced (tree_of d)) }
 {
     if let Some(found) = algebra.recall(Operation::Joined(op), a, b) {
         return found.share();
     }
-    let made = joined_anew(algebra, rt, alloc, op, a, b)?;
+    let made = joined_anew(algebra, rt, alloc, op, a, b, room)?;
     algebra.remember(Operation::Joined(op), a, b, &made)?;
     Ok(made)
 }
@@ -272,23 +320,33 @@ fn joined_anew<R: Wait>(
     op: Joining,
     a: &Diagram,
     b: &Diagram,
+    room: usize,
 ) -> Result<Diagram, AllocError>
     requires a { IsDiagram algebra.old a.now }
     requires b { IsDiagram algebra.old b.now }
     ensures knows { Knows algebra.old algebra.new }
-    ensures joined { IfOk result (λ d. IsJoinedBy (truth_of op) (tree_of a.now) (tree_of b.now) (tree_of d)) }
-    ensures known { IfOk result (λ d. Known algebra.new d) }
+    ensures joined { IfOk result (IsJoin op a.now b.now) }
+    ensures known { IfOk result (Known algebra.new) }
     ensures reduced { IfOk result (λ d. IsReduced (tree_of d)) }
 {
-    match first_level(a, b) {
+    let room = deeper(room)?;
+    match first_level::<Diagrams>(a, b) {
         None => {
-            let d = truth_diagram(algebra, rt, alloc, op.truth(known(a), known(b)))?;
+            let d = algebra.truth(rt, alloc, op.truth(known(a), known(b)))?;
             Ok(d)
         }
         Some(level) => {
-            let keys = level_keys(alloc, level, a, b)?;
-            let other = joined(algebra, rt, alloc, op, rest_at(a, level), rest_at(b, level))?;
-            let made = branches(algebra, rt, alloc, op, a, b, level, &keys, &other)?;
+            let keys = level_keys::<Diagrams>(alloc, level, a, b)?;
+            let other = joined(
+                algebra,
+                rt,
+                alloc,
+                op,
+                rest_at::<Diagrams>(a, level),
+                rest_at::<Diagrams>(b, level),
+                room,
+            )?;
+            let made = branches(algebra, rt, alloc, op, a, b, level, &keys, &other, room)?;
             let d = closed(algebra, rt, alloc, level, &other, made)?;
             Ok(d)
         }
@@ -307,16 +365,17 @@ fn branches<'x, R: Wait>(
     level: Level<'_>,
     keys: &[Key<'x>],
     other: &Diagram,
+    room: usize,
 ) -> Result<Vec<(Key<'x>, Diagram)>, AllocError>
     requires a { IsDiagram algebra.old a.now }
     requires b { IsDiagram algebra.old b.now }
     requires other { IsDiagram algebra.old other.now }
     requires first { Some (level_view level) ≡ first_of (tree_of a.now) (tree_of b.now) }
-    requires kinds { All (λ k. has_kind (level_view level) k ≡ true) keys.now }
+    requires kinds { AreKeysOf (level_view level) keys.now }
     ensures knows { Knows algebra.old algebra.new }
-    ensures made { IfOk result (λ bs. (n : ℕ) → size (tree_of a.now) + size (tree_of b.now) < suc n → made_view bs.items ≡ outs (λ v. apply (truth_of op) n (part_at (level_view level.entry) v (tree_of a.now)) (part_at (level_view level.entry) v (tree_of b.now))) (carries (level_view level.entry)) (keys_view keys.now) (tree_of other.now)) }
-    ensures kinds { IfOk result (λ bs. All (λ e. has_kind (level_view level.entry) e.0 ≡ true) bs.items) }
-    ensures parts { IfOk result (λ bs. All (λ e. Known algebra.new e.1) bs.items) }
+    ensures made { IfOk result (λ bs. AreJoined op level.entry a.now b.now keys.now other.now bs.items) }
+    ensures kinds { IfOk result (λ bs. KeysOf (level_view level.entry) bs.items) }
+    ensures parts { IfOk result (λ bs. PartsKnown algebra.new bs.items) }
 {
     let carried = level.is_carried();
     let mut made: Vec<(Key<'x>, Diagram)> = Vec::new(alloc);
@@ -326,8 +385,9 @@ fn branches<'x, R: Wait>(
             rt,
             alloc,
             op,
-            part_at(a, level, *key),
-            part_at(b, level, *key),
+            part_at::<Diagrams>(a, level, *key),
+            part_at::<Diagrams>(b, level, *key),
+            room,
         )?;
         add(algebra, &mut made, other, carried, *key, next)?;
     }

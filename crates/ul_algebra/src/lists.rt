@@ -37,11 +37,11 @@ impl Points {
     }
 
     /// The text at a place.
-    pub fn get(&self, k: usize) -> &str
-        requires { k < length self.now }
-        ensures { result.now ≡ slice_index_or self.now k [] }
+    pub fn get(&self, place: usize) -> &str
+        requires { place < length self.now }
+        ensures { result.now ≡ slice_index_or self.now place [] }
     {
-        self.texts[k].as_str()
+        self.texts[place].as_str()
     }
 
     /// Whether both have the same texts in the same order.
@@ -124,22 +124,22 @@ impl Starts {
     }
 
     /// The number at a place.
-    pub fn get(&self, k: usize) -> u128
-        requires { k < length self.now }
-        ensures { result ≡ slice_index self.now k }
+    pub fn get(&self, place: usize) -> u128
+        requires { place < length self.now }
+        ensures { result ≡ slice_index self.now place }
     {
-        self.numbers[k]
+        self.numbers[place]
     }
 
     /// The number after a place, and its place.
-    pub fn after(&self, k: usize) -> (u128, usize)
-        requires { k + 1 < length self.now }
-        ensures number { result.0 ≡ slice_index self.now (k + 1) }
-        ensures place { result.1 ≡ k + 1 }
+    pub fn after(&self, place: usize) -> (u128, usize)
+        requires { place + 1 < length self.now }
+        ensures number { result.0 ≡ slice_index self.now (place + 1) }
+        ensures place { result.1 ≡ place + 1 }
     {
         let numbers = &self.numbers;
-        let place = k + 1;
-        (numbers[place], place)
+        let next = place + 1;
+        (numbers[next], next)
     }
 
     /// Whether both have the same numbers in the same order.

@@ -1,25 +1,17 @@
-//! What a diagram is at a level: its top level, its parts, and the part that a value takes.
-ghost use Rattle.std.specs.Prelude.{◌≡◌, ◌<◌, suc, length, option_map, IfOk, All, true};
-ghost use Rattle.ul_interner.specs.Known.{Held, Known};
-ghost use Rattle.ul_tree.specs.Plain.{branch, carries, pick};
+//! Diagrams as nodes of decision trees: the top level, the part without a key, and the branches.
+ghost use Rattle.std.specs.Prelude.{◌≡◌, ◌<◌, option_map, true};
 ghost use Rattle.ul_tree.specs.Reduced.{IsReduced};
-ghost use Rattle.ul_tree.specs.Apply.{known as known_plain, keys, rest_at, branches_at, part_at};
+ghost use Rattle.ul_tree.specs.TreeFacts.{IsBranchAt};
+ghost use Rattle.ul_tree.specs.Apply.{known as known_plain, truth_value as truth_value_plain};
 ghost use Rattle.ul_tree.specs.FirstParts.{is_false as is_false_plain};
-ghost use Rattle.ul_tree.specs.Keys.{level_view, key_view, keys_view, top_of, rest_of, branches_of, branch_count, branches_from, is_level, has_kind, is_key_of};
+ghost use Rattle.ul_tree.specs.Keys.{level_view, key_view, top_of, rest_of, branches_of, branch_count, is_key_of};
+ghost use Rattle.ul_algebra.specs.Made.{KnownWith};
 ghost use Rattle.ul_algebra.specs.Spelled.{tree_of};
 
 use crate::Diagram;
 use crate::labels::DiagramLabel;
-use std::alloc::{AllocError, Global};
 use ul_tree::level::{Key, Level};
-use ul_tree::nodes::{all_keys, is_at, part_of};
-
-/// A branch of a node: its key, and the part that it leads to.
-#[derive(Clone, Copy)]
-pub(crate) struct Branch<'a> {
-    pub(crate) key: Key<'a>,
-    pub(crate) part: &'a Diagram,
-}
+use ul_tree::nodes::{Branch, Nodes};
 
 /// The truth that a diagram is; false for a node.
 pub(crate) fn known(d: &Diagram) -> bool
@@ -32,6 +24,20 @@ pub(crate) fn known(d: &Diagram) -> bool
         DiagramLabel::Python { .. } => false,
         DiagramLabel::Text { .. } => false,
         DiagramLabel::Opaque { .. } => false,
+    }
+}
+
+/// The truth that a diagram is, if it is one.
+pub(crate) fn truth_value(d: &Diagram) -> Option<bool>
+    requires { IsReduced (tree_of d.now) }
+    ensures { result ≡ truth_value_plain (tree_of d.now) }
+{
+    match d.label() {
+        DiagramLabel::Truth(value) => Some(*value),
+        DiagramLabel::Extra { .. } => None,
+        DiagramLabel::Python { .. } => None,
+        DiagramLabel::Text { .. } => None,
+        DiagramLabel::Opaque { .. } => None,
     }
 }
 
@@ -67,7 +73,7 @@ pub(crate) fn level_of(d: &Diagram) -> Option<Level<'_>>
 pub(crate) fn rest_of(d: &Diagram) -> &Diagram
     requires { IsReduced (tree_of d.now) }
     ensures part { tree_of result.now ≡ rest_of (tree_of d.now) }
-    ensures known { (h : Held _) → Known h d.now → Known h result.now }
+    ensures known { KnownWith d.now result.now }
 {
     match d.label() {
         DiagramLabel::Truth(_) => d,
@@ -93,12 +99,12 @@ pub(crate) fn branch_count(d: &Diagram) -> usize
 }
 
 /// The branch at a place.
-pub(crate) fn branch_at(d: &Diagram, index: usize) -> Branch<'_>
+pub(crate) fn branch_at(d: &Diagram, index: usize) -> Branch<'_, Diagram>
     requires reduced { IsReduced (tree_of d.now) }
     requires within { index < branch_count (branches_of (tree_of d.now)) }
-    ensures found { branches_from index (branches_of (tree_of d.now)) ≡ branch (key_view result.key) (tree_of result.part.now) (branches_from (suc index) (branches_of (tree_of d.now))) }
+    ensures found { IsBranchAt (branches_of (tree_of d.now)) index (key_view result.key) (tree_of result.part.now) }
     ensures kind { is_key_of (tree_of d.now) result.key ≡ true }
-    ensures known { (h : Held _) → Known h d.now → Known h result.part.now }
+    ensures known { KnownWith d.now result.part.now }
 {
     match d.label() {
         DiagramLabel::Truth(_) => unreachable!(),
@@ -127,72 +133,31 @@ pub(crate) fn branch_at(d: &Diagram, index: usize) -> Branch<'_>
 /// Diagrams, as nodes of decision trees.
 pub(crate) struct Diagrams;
 
-impl ul_tree::nodes::Nodes for Diagrams {
-    ghost use Rattle.ul_interner.specs.Known.{Held, Known};
+impl Nodes for Diagrams {
+    ghost use Rattle.ul_algebra.specs.Made.{KnownWith};
     ghost use Rattle.ul_algebra.specs.Spelled.{tree_of};
 
     type Node = Diagram;
 
     ghost tree = { tree_of };
 
-    ghost below = { λ d p. (h : Held _) → Known h d → Known h p };
+    ghost below = { KnownWith };
 
     ghost below_itself = { λ d h k. k };
 
-    fn level_of(t: &Diagram) -> Option<Level<'_>> {
-        level_of(t)
+    fn level_of(node: &Diagram) -> Option<Level<'_>> {
+        level_of(node)
     }
 
-    fn rest_of(t: &Diagram) -> &Diagram {
-        rest_of(t)
+    fn rest_of(node: &Diagram) -> &Diagram {
+        rest_of(node)
     }
 
-    fn branch_count(t: &Diagram) -> usize {
-        branch_count(t)
+    fn branch_count(node: &Diagram) -> usize {
+        branch_count(node)
     }
 
-    fn branch_at(t: &Diagram, index: usize) -> ul_tree::nodes::Branch<'_, Diagram> {
-        let branch = branch_at(t, index);
-        ul_tree::nodes::Branch {
-            key: branch.key,
-            part: branch.part,
-        }
+    fn branch_at(node: &Diagram, index: usize) -> Branch<'_, Diagram> {
+        branch_at(node, index)
     }
-}
-
-/// The part without a key at a level; a diagram of other levels is its own part.
-pub(crate) fn rest_at<'a>(d: &'a Diagram, level: Level<'_>) -> &'a Diagram
-    requires { IsReduced (tree_of d.now) }
-    ensures part { tree_of result.now ≡ rest_at (level_view level.entry) (tree_of d.now) }
-    ensures known { (h : Held _) → Known h d.now → Known h result.now }
-{
-    ul_tree::nodes::rest_at::<Diagrams>(d, level)
-}
-
-/// The keys of a diagram at a level, in order; none where its top level is another.
-pub(crate) fn keys_at<'a>(
-    alloc: Global,
-    d: &'a Diagram,
-    level: Level<'_>,
-) -> Result<Vec<Key<'a>>, AllocError>
-    requires { IsReduced (tree_of d.now) }
-    ensures keys { IfOk result (λ ks. keys_view ks.items ≡ keys (branches_at (level_view level.entry) (tree_of d.now))) }
-    ensures kinds { IfOk result (λ ks. All (λ k. has_kind (level_view level.entry) k ≡ true) ks.items) }
-{
-    if is_at::<Diagrams>(d, level) {
-        return all_keys::<Diagrams>(alloc, d);
-    }
-    Ok(Vec::new(alloc))
-}
-
-/// The part that a value of a level takes; a diagram of other levels is its own part.
-pub(crate) fn part_at<'a>(d: &'a Diagram, level: Level<'_>, value: Key<'_>) -> &'a Diagram
-    requires { IsReduced (tree_of d.now) }
-    ensures part { tree_of result.now ≡ part_at (level_view level.entry) (key_view value.entry) (tree_of d.now) }
-    ensures known { (h : Held _) → Known h d.now → Known h result.now }
-{
-    if is_at::<Diagrams>(d, level) {
-        return part_of::<Diagrams>(d, level.is_carried(), value);
-    }
-    d
 }

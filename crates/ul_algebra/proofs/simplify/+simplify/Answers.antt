@@ -11,10 +11,10 @@ use Rattle.ul_tree.proofs.ForCallers.{no_key}
 use Rattle.ul_tree.proofs.ForCallers.{tree_part, tree_rest, region_part, region_rest, part_smaller, rest_smaller, piece_outside, piece_inside, truth_done, all_done, level_done, result_reduced, results_reduced, simpler_reduced}
 use Rattle.ul_tree.specs.declared.level.Key.{Key}
 use Rattle.ul_algebra.specs.Spelled.{tree_of}
-use Rattle.ul_algebra.specs.Made.{results_view, OwnKnown}
-use Rattle.ul_algebra.proofs.Made.{all_more, all_push}
-use Rattle.ul_algebra.proofs.PiecesInCode.{results_step, results_end, kind_step}
-use Rattle.ul_algebra.proofs.Kept.{still, part_diagram, own_more}
+use Rattle.ul_algebra.specs.Made.{result_diagrams, OwnKnown}
+use Rattle.ul_algebra.proofs.Rows.{all_more, all_push}
+use Rattle.ul_tree.proofs.ForCallers.{results_step, results_end, kind_step}
+use Rattle.ul_algebra.proofs.Kept.{diagram_stays, part_diagram, own_more}
 use Rattle.ul_algebra.proofs.simplify.+simplify.Goals as goal
 use Rattle.ul_algebra.proofs.simplify.+simplify.Goals.{simplified_at-In_ok-rest}
 
@@ -41,8 +41,8 @@ results-piece-requires g t c =
       (
         o,
         (
-          part_diagram h c.loop-key.algebra c.args.f.now c.part_at.result.now (part_at l v f) c.loop-key.invariant.knows c.requires.f c.part_at.ensures.known c.part_at.ensures.part (tree_part l v f c.requires.top c.requires.f.reduced),
-          part_diagram h c.loop-key.algebra c.args.region.now c.part_at-in-loop-key.result.now (part_at l v r) c.loop-key.invariant.knows c.requires.region c.part_at-in-loop-key.ensures.known c.part_at-in-loop-key.ensures.part (region_part l v r c.requires.not_above c.requires.region.reduced),
+          part_diagram h c.loop-key.algebra c.args.f.now c.part_at.result.now (part_at l v f) c.loop-key.invariant.knows c.requires.f c.part_at.ensures.below c.part_at.ensures.part (tree_part l v f c.requires.top c.requires.f.reduced),
+          part_diagram h c.loop-key.algebra c.args.region.now c.part_at-in-loop-key.result.now (part_at l v r) c.loop-key.invariant.knows c.requires.region c.part_at-in-loop-key.ensures.below c.part_at-in-loop-key.ensures.part (region_part l v r c.requires.not_above c.requires.region.reduced),
         ),
       ),
     )
@@ -59,14 +59,14 @@ results-loop-key-preserved g t c = record {
   known = all_push (λ r. OwnKnown c.piece.new.algebra r.1) c.loop-key.made.items c.push.new.self.items (get_or c.args.keys.now c.loop-key.key-index no_key, c.in_ok-result.result) c.in_ok-push.ensures.items
       (all_more (λ r. OwnKnown c.loop-key.algebra r.1) (λ r. OwnKnown c.piece.new.algebra r.1) c.loop-key.made.items (λ r k. own_more c.loop-key.algebra c.piece.new.algebra c.in_ok-result.ensures.knows r.1 k) c.loop-key.invariant.known)
       c.in_ok-result.ensures.known;
-  pieces = results_step (level_view c.args.level) (tree_of c.args.f.now) (tree_of c.args.region.now) c.args.keys.now c.loop-key.key-index _ c.in_ok-result.result c.loop-key.made.items c.push.new.self.items
+  pieces = results_step tree_of (level_view c.args.level) (tree_of c.args.f.now) (tree_of c.args.region.now) c.args.keys.now c.loop-key.key-index _ c.in_ok-result.result c.loop-key.made.items c.push.new.self.items
       (tree_of c.part_at.result.now) (tree_of c.part_at-in-loop-key.result.now) c.loop-key-test.true c.in_ok-push.ensures.items c.part_at.ensures.part c.part_at-in-loop-key.ensures.part c.in_ok-result.ensures.piece c.loop-key.invariant.pieces;
   kinds = kind_step (level_view c.args.level) c.args.keys.now c.loop-key.key-index _ c.in_ok-result.result c.loop-key.made.items c.push.new.self.items c.loop-key-test.true c.in_ok-push.ensures.items c.requires.kinds c.loop-key.invariant.kinds;
 }
 
 pub results-returns-clause-pieces : goal.results-returns-clause-pieces
 results-returns-clause-pieces g t c =
-    results_end (level_view c.args.level) (tree_of c.args.f.now) (tree_of c.args.region.now) c.args.keys.now c.loop-key.key-index c.loop-key.made.items (omega arith) c.loop-key.invariant.pieces
+    results_end tree_of (level_view c.args.level) (tree_of c.args.f.now) (tree_of c.args.region.now) c.args.keys.now c.loop-key.key-index c.loop-key.made.items (omega arith) c.loop-key.invariant.pieces
 
 -- ---- simplified
 
@@ -89,7 +89,7 @@ simplified_anew-simplified_at-requires g t c =
       (
         o,
         (
-          still h c.lowered.new.algebra c.args.f.now more c.requires.f,
+          diagram_stays h c.lowered.new.algebra c.args.f.now more c.requires.f,
           (
             record {
               known = c.region.ensures.known c.lowered.new.algebra c.in_ok-made-in-Some.ensures.known (known_stays h c.lowered.new.algebra more c.args.c.now c.requires.c.known);
@@ -128,38 +128,38 @@ simplified_at-piece-requires g t c =
     let r = tree_of c.args.region.now in
     let h = c.args.algebra.now in
     let more = c.in_ok-results.ensures.knows in
-    let m = rest_smaller l f (tree_of c.rest_at.result.now) c.requires.top c.rest_at.ensures.part in
+    let m = rest_smaller l f (tree_of c.rest_at-other.result.now) c.requires.top c.rest_at-other.ensures.part in
     let d = c.decreases in λ κs o. (
       omega (arith, m, d),
       (
         o,
         (
-          part_diagram h c.results.new.algebra c.args.f.now c.rest_at.result.now (rest_at l f) more c.requires.f c.rest_at.ensures.known c.rest_at.ensures.part (tree_rest l f c.requires.top c.requires.f.reduced),
-          part_diagram h c.results.new.algebra c.args.region.now c.rest_at-2.result.now (rest_at l r) more c.requires.region c.rest_at-2.ensures.known c.rest_at-2.ensures.part (region_rest l r c.requires.not_above c.requires.region.reduced),
+          part_diagram h c.results.new.algebra c.args.f.now c.rest_at-other.result.now (rest_at l f) more c.requires.f c.rest_at-other.ensures.below c.rest_at-other.ensures.part (tree_rest l f c.requires.top c.requires.f.reduced),
+          part_diagram h c.results.new.algebra c.args.region.now c.rest_at.result.now (rest_at l r) more c.requires.region c.rest_at.ensures.below c.rest_at.ensures.part (region_rest l r c.requires.not_above c.requires.region.reduced),
         ),
       ),
     )
 
 -- the level put together from the results
 settles : (g : _) (t : ℕ) (c : simplified_at-In_ok-rest g t) → Simplifies (tree_of c.args.f.now) (tree_of c.args.region.now)
-    (settled (level_view c.args.level) (results_view c.in_ok-results.results.items) (option_map tree_of c.in_ok-rest.rest) (rest_at (level_view c.args.level) (tree_of c.args.f.now)))
+    (settled (level_view c.args.level) (result_diagrams c.in_ok-results.results.items) (option_map tree_of c.in_ok-rest.rest) (rest_at (level_view c.args.level) (tree_of c.args.f.now)))
 settles g t c =
     let l = level_view c.args.level in
     let f = tree_of c.args.f.now in
     let r = tree_of c.args.region.now in
-    let rs = results_view c.in_ok-results.results.items in
+    let rs = result_diagrams c.in_ok-results.results.items in
     let o = option_map tree_of c.in_ok-rest.rest in
     level_done f r (settled l rs o (rest_at l f)) l (keys_view c.in_ok-keys.keys.items) rs o c.requires.top c.requires.not_above c.requires.not_false
     (sym c.known.ensures ∙ c.if-known.false) c.in_ok-keys.ensures.keys
     (subst (λ (z : List Key). Pieces l f r (keys_view z) rs) c.deref.ensures.value c.in_ok-results.ensures.pieces)
-    (subst (λ (z : Plain). Piece z (rest_at l r) o) c.rest_at.ensures.part (subst (λ (z : Plain). Piece (tree_of c.rest_at.result.now) z o) c.rest_at-2.ensures.part c.in_ok-rest.ensures.piece))
+    (subst (λ (z : Plain). Piece z (rest_at l r) o) c.rest_at-other.ensures.part (subst (λ (z : Plain). Piece (tree_of c.rest_at-other.result.now) z o) c.rest_at.ensures.part c.in_ok-rest.ensures.piece))
     refl
 
 pub simplified_at-returns-clause-rule : goal.simplified_at-returns-clause-rule
 simplified_at-returns-clause-rule g t c =
     let l = level_view c.args.level in
     subst (λ (z : Plain). Simplifies (tree_of c.args.f.now) (tree_of c.args.region.now) z)
-    (sym (c.in_ok-d-2.ensures.tree ∙ ap (settled l (results_view c.in_ok-results.results.items) (option_map tree_of c.in_ok-rest.rest)) c.rest_at-3.ensures.part))
+    (sym (c.in_ok-d-2.ensures.tree ∙ ap (settled l (result_diagrams c.in_ok-results.results.items) (option_map tree_of c.in_ok-rest.rest)) c.rest_at-other.ensures.part))
     (settles g t (goal.at.simplified_at-returns-clause-rule g t c).In_ok-rest)
 
 pub simplified_at-settled-requires-clause-results_reduced : goal.simplified_at-settled-requires-clause-results_reduced
@@ -174,20 +174,20 @@ simplified_at-settled-requires-clause-rest_reduced g t c =
     let l = level_view c.args.level in
     let f = tree_of c.args.f.now in
     let r = tree_of c.args.region.now in
-    result_reduced (tree_of c.rest_at.result.now) (tree_of c.rest_at-2.result.now) (option_map tree_of c.in_ok-rest.rest) c.in_ok-rest.ensures.piece
-    (subst (λ (z : Plain). IsReduced z) (sym c.rest_at.ensures.part) (tree_rest l f c.requires.top c.requires.f.reduced))
-    (subst (λ (z : Plain). IsReduced z) (sym c.rest_at-2.ensures.part) (region_rest l r c.requires.not_above c.requires.region.reduced))
+    result_reduced (tree_of c.rest_at-other.result.now) (tree_of c.rest_at.result.now) (option_map tree_of c.in_ok-rest.rest) c.in_ok-rest.ensures.piece
+    (subst (λ (z : Plain). IsReduced z) (sym c.rest_at-other.ensures.part) (tree_rest l f c.requires.top c.requires.f.reduced))
+    (subst (λ (z : Plain). IsReduced z) (sym c.rest_at.ensures.part) (region_rest l r c.requires.not_above c.requires.region.reduced))
 
 pub simplified_at-settled-requires-clause-otherwise_reduced : goal.simplified_at-settled-requires-clause-otherwise_reduced
 simplified_at-settled-requires-clause-otherwise_reduced g t c =
-    subst (λ (z : Plain). IsReduced z) (sym c.rest_at-3.ensures.part) (tree_rest (level_view c.args.level) (tree_of c.args.f.now) c.requires.top c.requires.f.reduced)
+    subst (λ (z : Plain). IsReduced z) (sym c.rest_at-other.ensures.part) (tree_rest (level_view c.args.level) (tree_of c.args.f.now) c.requires.top c.requires.f.reduced)
 
 pub simplified_at-settled-requires-clause-reduced : goal.simplified_at-settled-requires-clause-reduced
 simplified_at-settled-requires-clause-reduced g t c =
     let l = level_view c.args.level in
-    let rs = results_view c.in_ok-results.results.items in
+    let rs = result_diagrams c.in_ok-results.results.items in
     let o = option_map tree_of c.in_ok-rest.rest in
-    subst (λ (z : Plain). IsReduced (settled l rs o z)) (sym c.rest_at-3.ensures.part)
+    subst (λ (z : Plain). IsReduced (settled l rs o z)) (sym c.rest_at-other.ensures.part)
     (simpler_reduced (tree_of c.args.f.now) (tree_of c.args.region.now) (settled l rs o (rest_at l (tree_of c.args.f.now)))
     (settles g t (goal.at.simplified_at-settled-requires-clause-reduced g t c).In_ok-rest) c.requires.f.reduced c.requires.region.reduced)
 
@@ -197,7 +197,7 @@ simplified_at-settled-requires-clause-results_known g t c =
 
 pub simplified_at-settled-requires-clause-otherwise_known : goal.simplified_at-settled-requires-clause-otherwise_known
 simplified_at-settled-requires-clause-otherwise_known g t c =
-    c.rest_at-3.ensures.known c.piece.new.algebra (known_stays c.args.algebra.now c.piece.new.algebra (knows_then _ _ _ c.in_ok-results.ensures.knows c.in_ok-rest.ensures.knows) c.args.f.now c.requires.f.known)
+    c.rest_at-other.ensures.below c.piece.new.algebra (known_stays c.args.algebra.now c.piece.new.algebra (knows_then _ _ _ c.in_ok-results.ensures.knows c.in_ok-rest.ensures.knows) c.args.f.now c.requires.f.known)
 
 pub simplified_at-returns-in_err-rest-clause-knows : goal.simplified_at-returns-in_err-rest-clause-knows
 simplified_at-returns-in_err-rest-clause-knows g t c = knows_then _ _ _ c.in_ok-results.ensures.knows c.in_err-rest.ensures.knows

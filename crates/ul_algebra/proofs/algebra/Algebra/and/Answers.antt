@@ -7,7 +7,7 @@ use Rattle.ul_algebra.proofs.algebra.Algebra.and.Goals as goal
 
 pub returns-clause-truth : goal.returns-clause-truth
 returns-clause-truth g c =
-    let a = tree_of c.args.a.now in
-    let b = tree_of c.args.b.now in
+    let a = tree_of c.args.first.now in
+    let b = tree_of c.args.second.now in
     let e = c.in_ok-d.ensures.joined (suc (size a + size b)) (omega arith) in
     λ w x. ap (λ t. tree_holds t w x) e ∙ operations.join_truth both a b c.requires.a.reduced c.requires.b.reduced w x

@@ -11,11 +11,11 @@ pub returns-clause-diagram : goal.returns-clause-diagram
 returns-clause-diagram c =
     let e = ap tree_of c.in_ok-d.ensures ∙ c.part_at.ensures.part in
     record {
-      known = subst (λ z. Known c.args.self.now z) (sym c.in_ok-d.ensures) (c.part_at.ensures.known c.args.self.now c.requires.a.known);
-      reduced = subst (λ (z : Plain). IsReduced z) (sym e) (operations.extra_reduced (tree_of c.args.a.now) c.args.extra.now c.requires.a.reduced);
+      known = subst (λ z. Known c.args.self.now z) (sym c.in_ok-d.ensures) (c.part_at.ensures.below c.args.self.now c.requires.a.known);
+      reduced = subst (λ (z : Plain). IsReduced z) (sym e) (operations.extra_reduced (tree_of c.args.diagram.now) c.args.extra.now c.requires.a.reduced);
     }
 
 pub returns-clause-truth : goal.returns-clause-truth
 returns-clause-truth c =
     let e = ap tree_of c.in_ok-d.ensures ∙ c.part_at.ensures.part in
-    λ w y. ap (λ t. tree_holds t w y) e ∙ operations.extra_truth (tree_of c.args.a.now) c.args.extra.now c.requires.a.reduced w y
+    λ w y. ap (λ t. tree_holds t w y) e ∙ operations.extra_truth (tree_of c.args.diagram.now) c.args.extra.now c.requires.a.reduced w y

@@ -6,8 +6,8 @@ use Rattle.ul_algebra.proofs.algebra.Algebra.simplify.Goals as goal
 pub returns-clause-diagram : goal.returns-clause-diagram
 returns-clause-diagram g c = record {
   known = c.in_ok-d.ensures.known;
-  reduced = simplify_laws.reduced (tree_of c.args.f.now) (tree_of c.args.c.now) (tree_of c.in_ok-d.d) c.requires.f.reduced c.requires.c.reduced c.in_ok-d.ensures.rule;
+  reduced = simplify_laws.reduced (tree_of c.args.diagram.now) (tree_of c.args.region.now) (tree_of c.in_ok-d.d) c.requires.f.reduced c.requires.c.reduced c.in_ok-d.ensures.rule;
 }
 
 pub returns-clause-agrees : goal.returns-clause-agrees
-returns-clause-agrees g c = λ w x h. simplify_laws.agrees (tree_of c.args.f.now) (tree_of c.args.c.now) (tree_of c.in_ok-d.d) c.requires.f.reduced c.requires.c.reduced c.in_ok-d.ensures.rule (value_of w x) h
+returns-clause-agrees g c = λ w x h. simplify_laws.agrees (tree_of c.args.diagram.now) (tree_of c.args.region.now) (tree_of c.in_ok-d.d) c.requires.f.reduced c.requires.c.reduced c.in_ok-d.ensures.rule (value_of w x) h
