@@ -1,5 +1,5 @@
 -- Pieces of a line: what is cut is what stood there, and what stands there is cut.
-use Rattle.std.proofs.Common.{◌≡◌, ℕ, ◌-◌, ◌<◌, take, drop, drop-cons, length, List, [], ◌∷◌, ◌++◌, Bool, true, false, cond, eqb, refl, sym, ap, subst, ◌∙◌, append_assoc, arith, Option, Some, None}
+use Rattle.std.proofs.Common.{◌≡◌, ℕ, ◌-◌, ◌<◌, take, drop, drop-cons, length, List, [], ◌∷◌, ◌++◌, Bool, true, false, cond, ◌||◌, eqb, refl, sym, ap, subst, ◌∙◌, append_assoc, arith, Option, Some, None}
 use Rattle.std.specs.Prelude.{option_and_then, option_map, bytes_eq, nat_lt}
 use Rattle.std.specs.Cmp.{first_so, second_so}
 use Rattle.std.specs.List.{list_all}
@@ -56,7 +56,7 @@ pub strip_again : (p r : List ℕ) → strip p (p ++ r) ≡ Some r
 strip_again [] r = refl
 strip_again (x ∷ p) r = rw (eqb_self x) (strip_again p r)
 
-has_by : (b y : Bool) → cond b true y ≡ false → (b ≡ false) × (y ≡ false)
+has_by : (b y : Bool) → (b || y) ≡ false → (b ≡ false) × (y ≡ false)
 has_by true y e = absurd cc
 has_by false y e = (refl, e)
 
@@ -114,7 +114,7 @@ pub has_none : (p : ℕ → Bool) (c : ℕ) (t : List ℕ) → p c ≡ false →
 has_none p c [] k h = refl
 has_none p c (x ∷ t) k h = by_test (eqb x c) refl (has_none p c t k (second_so _ _ h))
   where
-    by_test : (b : Bool) → eqb x c ≡ b → has c t ≡ false → cond b true (has c t) ≡ false
+    by_test : (b : Bool) → eqb x c ≡ b → has c t ≡ false → (b || has c t) ≡ false
     by_test true q more = let e : x ≡ c = eqb-true x c q in let f : p c ≡ true = ap p (sym e) ∙ first_so _ _ h in absurd cc
     by_test false q more = more
 

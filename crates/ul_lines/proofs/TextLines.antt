@@ -1,5 +1,5 @@
 -- Texts and their lines.
-use Rattle.std.proofs.Common.{◌≡◌, ℕ, ◌+◌, ◌<◌, ◌≤◌, take, drop, length, List, [], ◌∷◌, ◌++◌, map, Bool, true, false, cond, eqb, refl, sym, ap, subst, ◌∙◌, append_assoc, arith, Option, Some, None}
+use Rattle.std.proofs.Common.{◌≡◌, ℕ, ◌+◌, ◌<◌, ◌≤◌, take, drop, length, List, [], ◌∷◌, ◌++◌, map, Bool, true, false, cond, ◌||◌, eqb, refl, sym, ap, subst, ◌∙◌, append_assoc, arith, Option, Some, None}
 use Rattle.std.specs.Prelude.{flat_map, option_map, ◌==◌}
 use Rattle.std.proofs.lemmas.Bool.{eqb-true}
 use Rattle.std.proofs.lemmas.Grind.{common_steps}
@@ -11,7 +11,7 @@ use Rattle.ul_lines.proofs.LinePieces.{until_is}
 
 -- ---- one line in front
 
-skip_by : (x : ℕ) (t r : List ℕ) (b : Bool) → cond b true (has 10 t) ≡ false → (has 10 t ≡ false → ends_line (t ++ r) ≡ ends_line r) → cond b (length (t ++ r) == 0) (ends_line (t ++ r)) ≡ ends_line r
+skip_by : (x : ℕ) (t r : List ℕ) (b : Bool) → (b || has 10 t) ≡ false → (has 10 t ≡ false → ends_line (t ++ r) ≡ ends_line r) → cond b (length (t ++ r) == 0) (ends_line (t ++ r)) ≡ ends_line r
 skip_by x t r true h again = absurd cc
 skip_by x t r false h again = again h
 

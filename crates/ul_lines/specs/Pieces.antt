@@ -1,10 +1,10 @@
 -- Pieces of a line.
 use Rattle.std.specs.Prelude.{ℕ, ◌-◌, List, [], ◌∷◌, take, drop, length, Bool, true, false, Option, Some, None, option_and_then, option_map, bytes_eq, nat_lt, ◌==◌, if◌then◌else◌}
+use Rattle.std.specs.List.{list_any}
 
 -- the byte stands in the text
 abbrev pub has : ℕ → List ℕ → Bool
-has c [] = false
-has c (x ∷ xs) = if x == c then true else has c xs
+has c text = list_any (λ b. b == c) text
 
 -- the text behind a front
 abbrev pub strip : List ℕ → List ℕ → Option (List ℕ)
