@@ -1,25 +1,17 @@
 -- A turn of conflict analysis.
-use Rattle.std.proofs.Common.{◌≡◌, ℕ, zero, suc, ◌+◌, ◌-◌, List, [], ◌∷◌, ◌++◌, Bool, true, false, cond, Option, Some, None, refl, ap, ◌∙◌, sym, subst, ◌<◌, ◌≤◌, ◌⊎◌, inl, inr, arith, nat_eq, nat_le, max, eq-eqb, slice_get, get_or, length, take, append_assoc, add-one, length-append}
-use Rattle.std.proofs.lemmas.Bool.{cases_eq, true≢false, eqb-true, le-leb, lt-leb, cases_lt}
-use Rattle.std.proofs.lemmas.List.{append-nil}
-use Rattle.std.proofs.lemmas.Option.{none-some, same_Some, slice_get_within}
-use Rattle.ul_problem.specs.Plain.{Plain}
-use Rattle.ul_problem.specs.Serving.{Forbids}
-use Rattle.ul_problem.specs.Terms.{node_of, set_of, allows, term_on, IsOrdered, IsOrderedFrom, negation}
-use Rattle.ul_problem.specs.Steps.{AreTermsOf, IsTermOf, IsIncompat, IsResolvent, says, step_of, IsRight, AreRightAfter, HasTermOn}
+use Rattle.std.proofs.Common.{◌≡◌, ℕ, zero, suc, List, [], ◌∷◌, Bool, true, false, cond, Some, None, refl, ap, ◌∙◌, sym, subst, ◌<◌, ◌≤◌, inl, inr, arith, nat_eq, eq-eqb, slice_get, length, take, add-one}
+use Rattle.std.proofs.lemmas.Bool.{true≢false, eqb-true, le-leb, cases_lt}
+use Rattle.std.proofs.lemmas.Option.{none-some, same_Some}
+use Rattle.ul_problem.specs.Terms.{node_of, term_on, IsOrdered, IsOrderedFrom}
 use Rattle.ul_problem.specs.declared.term.Term.{Term}
-use Rattle.ul_problem.specs.declared.step.Step.{Step}
-use Rattle.ul_problem.specs.declared.step.Step.TheVariants.{Cut}
-use Rattle.ul_problem.specs.Problems.{IsWellFormed}
-use Rattle.ul_problem.proofs.ForCallers.{ordered_more, term_on-before, term_one, resolvent_whole, says_whole, says_fits, all_within, cut_sound}
-use Rattle.ul_trail.specs.Track.{Track}
+use Rattle.ul_problem.proofs.ForCallers.{ordered_more, term_on-before, term_one}
 use Rattle.ul_trail.specs.declared.fact.Fact.{Fact}
-use Rattle.ul_trail.specs.Facts.{is_open, IsHeld, IsFailed, AreHeld, AreHeldBut, level_of, up_to}
-use Rattle.ul_trail.specs.Propagation.{IsDerived, AreDerivedAfter, AreLevels, AreForbidden, IsTrailOf, IsAlive, said_by}
-use Rattle.ul_trail.proofs.ForCallers.{take_next, take_whole, take_front, get_more, get_last, last_cases, none_up_to, append_within, cut_held, but_on, negation_node, said_of}
-use Rattle.ul_conflict.specs.Satisfiers.{IsHeldApart, TakesPart, IsSatisfier}
-use Rattle.ul_conflict.specs.Resolved.{IsResolved, IsLevelBefore}
-use Rattle.ul_conflict.proofs.Satisfying.{take_held, take_held_one, take_more, more_held, held_down}
+use Rattle.ul_trail.specs.Facts.{IsHeld, AreHeld, AreHeldBut, level_of, up_to}
+use Rattle.ul_trail.specs.Propagation.{AreLevels}
+use Rattle.ul_trail.proofs.ForCallers.{none_up_to}
+use Rattle.ul_conflict.specs.Satisfiers.{IsHeldApart, IsSatisfier}
+use Rattle.ul_conflict.specs.Resolved.{IsLevelBefore}
+use Rattle.ul_conflict.proofs.Satisfying.{take_held, take_held_one, held_down}
 
 -- the present terms, node by node
 pub held_on : (facts : List Fact) (ts : List Term) (k : ℕ) (t : Term) → AreHeld facts ts → term_on k ts ≡ Some t → IsHeld facts t

@@ -1,30 +1,30 @@
 -- A turn of conflict analysis.
-use Rattle.std.proofs.Common.{◌≡◌, ℕ, zero, suc, ◌+◌, ◌-◌, List, [], ◌∷◌, ◌++◌, Bool, true, false, cond, Option, Some, None, refl, ap, ◌∙◌, sym, subst, ◌<◌, ◌≤◌, ◌⊎◌, inl, inr, arith, slice_get, get_or, length, take, append_assoc, add-one, length-append}
+use Rattle.std.proofs.Common.{◌≡◌, ℕ, zero, suc, ◌+◌, ◌-◌, List, [], ◌∷◌, ◌++◌, true, Option, Some, None, refl, ap, ◌∙◌, sym, subst, ◌<◌, ◌≤◌, ◌⊎◌, inl, inr, arith, slice_get, get_or, length, take, append_assoc, add-one, length-append}
 use Rattle.std.proofs.lemmas.Bool.{true≢false}
 use Rattle.std.proofs.lemmas.List.{append-nil}
 use Rattle.std.proofs.lemmas.Option.{none-some, same_Some, slice_get_within, slice_get_read}
 use Rattle.ul_problem.specs.Plain.{Plain}
 use Rattle.ul_problem.specs.Serving.{Forbids}
 use Rattle.ul_problem.specs.Problems.{IsWellFormed}
-use Rattle.ul_problem.specs.Terms.{node_of, allows, term_on, IsOrdered, negation}
-use Rattle.ul_problem.specs.Steps.{AreTermsOf, IsIncompat, IsResolvent, IsStepWithin, says, step_of, IsRight, AreRightAfter, HasTermOn, AreRootTerms, ClosesWith, Accepts}
+use Rattle.ul_problem.specs.Terms.{node_of, allows, term_on, negation}
+use Rattle.ul_problem.specs.Steps.{AreTermsOf, IsIncompat, IsResolvent, IsStepWithin, says, step_of, IsRight, AreRightAfter, AreRootTerms, ClosesWith}
 use Rattle.ul_problem.specs.declared.term.Term.{Term}
 use Rattle.ul_problem.specs.declared.step.Step.{Step}
 use Rattle.ul_problem.specs.declared.step.Step.TheVariants.{Need as NeedStep, Python, Base, Cut}
-use Rattle.ul_problem.proofs.ForCallers.{term_one, resolvent_whole, says_whole, says_fits, all_within, cut_sound}
+use Rattle.ul_problem.proofs.ForCallers.{term_one, resolvent_whole, says_whole, says_fits, all_within, cut_sound, said_place, said_of, said_length}
 use Rattle.ul_trail.specs.Track.{Track}
 use Rattle.ul_trail.specs.declared.fact.Fact.{Fact}
-use Rattle.ul_trail.specs.Facts.{is_open, IsHeld, IsFailed, AreHeld, AreHeldBut, level_of, up_to}
-use Rattle.ul_trail.specs.Propagation.{IsDerived, AreDerivedAfter, AreForbidden, IsTrailOf, IsAlive, IsConflict, said_by}
-use Rattle.ul_trail.proofs.ForCallers.{take_next, take_whole, get_more, get_last, last_cases, append_within, right_join, cut_held, but_on, negation_node, said_at, said_of}
-use Rattle.ul_conflict.specs.Satisfiers.{IsHeldApart, TakesPart, IsSatisfier}
+use Rattle.ul_trail.specs.Facts.{is_open, AreHeld, AreHeldBut, up_to}
+use Rattle.ul_trail.specs.Propagation.{IsDerived, AreDerivedAfter, IsTrailOf, IsConflict}
+use Rattle.ul_trail.proofs.ForCallers.{take_next, take_whole, get_more, get_last, last_cases, append_within, right_join, cut_held, but_on, negation_node}
+use Rattle.ul_conflict.specs.Satisfiers.{IsHeldApart, IsSatisfier}
 use Rattle.ul_conflict.specs.Needed.{ClosesAt}
-use Rattle.ul_conflict.specs.Headline.{LastDerives, IsBackjump}
-use Rattle.ul_conflict.specs.Resolved.{IsResolved, IsResolvedBy, IsLevelBefore, IsCut, IsSaid, IsAdded, IsNumbered, LeadsBack}
+use Rattle.ul_conflict.specs.Headline.{IsBackjump}
+use Rattle.ul_conflict.specs.Resolved.{IsResolved, IsLevelBefore, IsCut, IsSaid, IsNumbered, LeadsBack}
 use Rattle.ul_conflict.specs.declared.analysis.Resolvent.{Resolvent}
-use Rattle.ul_conflict.proofs.Satisfying.{take_held, take_held_one, take_more, fact_at}
+use Rattle.ul_conflict.proofs.Satisfying.{take_held, fact_at}
 use Rattle.ul_conflict.proofs.Unrooted.{unrooted}
-use Rattle.ul_conflict.proofs.Deriving.{held_apart, apart_held, apart_but, apart_before, held_on, but_higher, level_at, up_within, up_beyond, up_is_take, up_held, held_up}
+use Rattle.ul_conflict.proofs.Deriving.{held_apart, apart_held, apart_but, apart_before, held_on, but_higher, level_at, up_within, up_is_take, up_held, held_up}
 
 -- a fact is derived from those before it
 pub derived_at : (p : Plain) (steps : List Step) (earlier facts : List Fact) (i : ℕ) (f : Fact) → AreDerivedAfter p steps earlier facts → slice_get facts i ≡ Some f → IsDerived p steps (earlier ++ take i facts) f.term f.cause
@@ -202,13 +202,8 @@ jump_here p t terms number learned place at before level n f items items' deref 
     }
 
 -- the step of a held incompatibility
-said_back : (p : Plain) (steps : List Step) (k : ℕ) (ts : List Term) → slice_get (said_by p steps) k ≡ Some ts → (s : Step) × (slice_get steps k ≡ Some s) × (says p s ≡ ts)
-said_back p [] k ts e = absurd (none-some ts e)
-said_back p (s ∷ ss) zero ts e = (s, refl, same_Some (says p s) ts e)
-said_back p (s ∷ ss) (suc k) ts e = said_back p ss k ts e
-
 said_step : (p : Plain) (t : Track) (k : ℕ) (ts : List Term) → IsTrailOf p t → slice_get t.terms k ≡ Some ts → (s : Step) × (slice_get t.steps k ≡ Some s) × (says p s ≡ ts)
-said_step p t k ts w e = said_back p t.steps k ts (subst (λ (x : List (List Term)). slice_get x k ≡ Some ts) w.said e)
+said_step p t k ts w e = said_place p t.steps k ts (subst (λ (x : List (List Term)). slice_get x k ≡ Some ts) w.said e)
 
 -- a cut as the code has it
 cut_said : (p : Plain) (t : Track) (terms ts right : List Term) (number number' : ℕ) (learned : List Step) (place at i c : ℕ) (f : Fact) → IsWellFormed p → IsTrailOf p t → IsResolved p t terms number learned place → IsSatisfier t.facts terms None place at
@@ -259,10 +254,6 @@ cut_here p t old now place at before level n c f wf w j e en k =
     )
 
 -- the beginning
-pub said_length : (p : Plain) (steps : List Step) → length (said_by p steps) ≡ length steps
-said_length p [] = refl
-said_length p (s ∷ ss) = ap suc (said_length p ss)
-
 pub started : (p : Plain) (t : Track) (conflict number : ℕ) (terms read : List Term) → IsWellFormed p → IsTrailOf p t → IsConflict p t conflict → number ≡ suc conflict → slice_get t.terms conflict ≡ Some read → terms ≡ read
     → IsResolved p t terms number [] (length t.facts)
 started p t conflict number terms read wf w (s, e, h) n g q =

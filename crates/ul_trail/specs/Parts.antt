@@ -7,7 +7,8 @@ use Rattle.ul_trail.specs.Facts.{IsMirror}
 use Rattle.ul_problem.specs.Plain.{Plain, needs_of}
 use Rattle.ul_problem.specs.Best.{targets}
 use Rattle.ul_problem.specs.declared.step.Step.{Step}
-use Rattle.ul_trail.specs.Propagation.{root_fact, said_by}
+use Rattle.ul_problem.specs.Steps.{said_by}
+use Rattle.ul_trail.specs.Propagation.{root_fact}
 use Rattle.ul_trail.specs.Standing.{IsStanding, IsSettled, HasForced}
 use Rattle.ul_trail.specs.Findings.{IsSettlement, IsWalked}
 use Rattle.ul_trail.specs.Watched.{IsWatched, has_term}
