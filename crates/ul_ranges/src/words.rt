@@ -56,7 +56,8 @@ fn lanes_by(operation: Operation, x: u64x4, y: u64x4) -> u64x4
 fn put_lanes(operation: Operation, mine: &mut [u64], theirs: &[u64], place: usize)
     requires mine { place + 4 ≤ length mine.old }
     requires theirs { place + 4 ≤ length theirs.now }
-    ensures { mine.new ≡ put_chunk place mine.old (zip2 (word_by operation) (chunk place 4 mine.old) (chunk place 4 theirs.now)) }
+    ensures { mine.new
+        ≡ put_chunk place mine.old (zip2 (word_by operation) (chunk place 4 mine.old) (chunk place 4 theirs.now)) }
 {
     let x = u64x4::from_slice(&mine[place..]);
     let y = u64x4::from_slice(&theirs[place..]);

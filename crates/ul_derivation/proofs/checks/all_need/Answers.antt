@@ -1,4 +1,4 @@
-use Rattle.std.proofs.Common.{arith, List, [], ◌<◌, length, get_or, subst, sym}
+use Rattle.std.proofs.Common.{arith, List, ◌<◌, length, subst, sym}
 use Rattle.ul_problem.proofs.ForCallers.{has_within}
 use Rattle.ul_problem.specs.Steps.{HasNeed}
 use Rattle.ul_problem.specs.declared.problem.Need.{Need}
