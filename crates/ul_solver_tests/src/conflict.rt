@@ -99,8 +99,8 @@ fn a_conflict_is_learned_from_or_closes(rt: HostRuntime) -> Result<(), Fail> {
     let distant = clash(alloc, distant(alloc, 40), None)?;
     assert_eq!(rt;
         distant,
-        (42, Some(1), 7, 7, 41),
-        "back to the decision on a"
+        (42, Some(1), 1, 1, 0),
+        "back to a: x is 3 or 4, which b clashes with at once"
     );
     let opposed = clash(alloc, opposed(alloc), None)?;
     assert_eq!(rt; opposed, (0, None, 3, 1, 0), "two needs and their cut");
