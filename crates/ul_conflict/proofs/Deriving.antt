@@ -1,25 +1,17 @@
 -- A turn of conflict analysis.
-use Rattle.std.proofs.Common.{◌≡◌, ℕ, zero, suc, ◌+◌, ◌-◌, List, [], ◌∷◌, ◌++◌, Bool, true, false, cond, Option, Some, None, refl, ap, ◌∙◌, sym, subst, ◌<◌, ◌≤◌, ◌⊎◌, inl, inr, arith, nat_eq, nat_le, max, eq-eqb, slice_get, get_or, length, take, append_assoc, add-one, length-append}
-use Rattle.std.proofs.lemmas.Bool.{cases_eq, true≢false, eqb-true, le-leb, lt-leb, cases_lt}
-use Rattle.std.proofs.lemmas.List.{append-nil}
-use Rattle.std.proofs.lemmas.Option.{none-some, same_Some, slice_get_within}
-use Rattle.ul_problem.specs.Plain.{Plain}
-use Rattle.ul_problem.specs.Serving.{Forbids}
-use Rattle.ul_problem.specs.Terms.{node_of, set_of, allows, term_on, IsOrdered, IsOrderedFrom, negation}
-use Rattle.ul_problem.specs.Steps.{AreTermsOf, IsTermOf, IsIncompat, IsResolvent, says, step_of, IsRight, AreRightAfter, HasTermOn, said_by}
+use Rattle.std.proofs.Common.{◌≡◌, ℕ, zero, suc, List, [], ◌∷◌, Bool, true, false, cond, Some, None, refl, ap, ◌∙◌, sym, subst, ◌<◌, ◌≤◌, inl, inr, arith, nat_eq, eq-eqb, slice_get, length, take, add-one}
+use Rattle.std.proofs.lemmas.Bool.{true≢false, eqb-true, le-leb, cases_lt}
+use Rattle.std.proofs.lemmas.Option.{none-some, same_Some}
+use Rattle.ul_problem.specs.Terms.{node_of, term_on, IsOrdered, IsOrderedFrom}
 use Rattle.ul_problem.specs.declared.term.Term.{Term}
-use Rattle.ul_problem.specs.declared.step.Step.{Step}
-use Rattle.ul_problem.specs.declared.step.Step.TheVariants.{Cut}
-use Rattle.ul_problem.specs.Problems.{IsWellFormed}
-use Rattle.ul_problem.proofs.ForCallers.{ordered_more, term_on-before, term_one, resolvent_whole, says_whole, says_fits, all_within, cut_sound, said_of}
-use Rattle.ul_trail.specs.Track.{Track}
+use Rattle.ul_problem.proofs.ForCallers.{ordered_more, term_on-before, term_one}
 use Rattle.ul_trail.specs.declared.fact.Fact.{Fact}
-use Rattle.ul_trail.specs.Facts.{is_open, IsHeld, IsFailed, AreHeld, AreHeldBut, level_of, up_to}
-use Rattle.ul_trail.specs.Propagation.{IsDerived, AreDerivedAfter, AreLevels, AreForbidden, IsTrailOf, IsAlive}
-use Rattle.ul_trail.proofs.ForCallers.{take_next, take_whole, take_front, get_more, get_last, last_cases, none_up_to, append_within, cut_held, but_on, negation_node}
-use Rattle.ul_conflict.specs.Satisfiers.{IsHeldApart, TakesPart, IsSatisfier}
-use Rattle.ul_conflict.specs.Resolved.{IsResolved, IsLevelBefore}
-use Rattle.ul_conflict.proofs.Satisfying.{take_held, take_held_one, take_more, more_held, held_down}
+use Rattle.ul_trail.specs.Facts.{IsHeld, AreHeld, AreHeldBut, level_of, up_to}
+use Rattle.ul_trail.specs.Propagation.{AreLevels}
+use Rattle.ul_trail.proofs.ForCallers.{none_up_to}
+use Rattle.ul_conflict.specs.Satisfiers.{IsHeldApart, IsSatisfier}
+use Rattle.ul_conflict.specs.Resolved.{IsLevelBefore}
+use Rattle.ul_conflict.proofs.Satisfying.{take_held, take_held_one, held_down}
 
 -- the present terms, node by node
 pub held_on : (facts : List Fact) (ts : List Term) (k : ℕ) (t : Term) → AreHeld facts ts → term_on k ts ≡ Some t → IsHeld facts t
@@ -119,3 +111,23 @@ up_held l facts i f ts h e y a = take_held facts (length (up_to l facts)) i ts (
 
 pub held_up : (l : ℕ) (facts : List Fact) (i : ℕ) (t : Term) → AreLevels 0 facts → i ≤ length (up_to l facts) → IsHeld (take i facts) t → IsHeld (up_to l facts) t
 held_up l facts i t h y a = subst (λ (w : List Fact). IsHeld w t) (sym (up_is_take l 0 facts h)) (take_held_one facts i (length (up_to l facts)) t y a)
+
+-- all but one held: so is the term of each other node
+pub but_other : (facts : List Fact) (ts : List Term) (t u : Term) (k : ℕ) → AreHeldBut facts t ts → term_on k ts ≡ Some u → (k ≡ node_of t → ⊥) → IsHeld facts u
+but_other facts [] t u k h e n = absurd h
+but_other facts (x ∷ xs) t u k h e n = which (nat_eq (node_of x) k) refl (but_other facts xs t u k) h e
+  where
+    which : (b : Bool) → nat_eq (node_of x) k ≡ b → (AreHeldBut facts t xs → term_on k xs ≡ Some u → (k ≡ node_of t → ⊥) → IsHeld facts u) → AreHeldBut facts t (x ∷ xs) → cond b (Some x) (term_on k xs) ≡ Some u → IsHeld facts u
+    which true g more (inl (q, a)) f = absurd (n (sym (eqb-true (node_of x) k g) ∙ ap node_of q))
+    which true g more (inr (a, r)) f = subst (IsHeld facts) (same_Some x u f) a
+    which false g more (inl (q, a)) f = held_on facts xs k u a f
+    which false g more (inr (a, r)) f = more r f n
+
+-- below the level of the last fact that holds the other terms, one of them isn't held
+pub but_higher : (t : List Fact) (terms : List Term) (term : Term) (m from before level l : ℕ) → AreLevels 0 t → node_of term ≡ m → IsSatisfier t terms (Some m) from before → IsLevelBefore t before level → l < level → AreHeldBut (up_to l t) term terms → ⊥
+but_higher t terms term m from zero level l w n s h lt b = let e = h.none refl in omega arith
+but_higher t terms term m from (suc i) level l w n s h lt b =
+    let part = s.part i refl in
+    let e = h.some i part.fact refl part.is in
+    let held : IsHeld (up_to l t) part.term = but_other (up_to l t) terms term part.term (node_of part.fact.term) b part.on (λ q. part.apart (ap Some (sym (q ∙ n)))) in
+    part.free (up_held l t i part.fact (part.term ∷ []) w part.is (omega arith) (held, tt)).0

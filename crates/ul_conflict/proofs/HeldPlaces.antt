@@ -1,5 +1,5 @@
 -- Places of the incompatibilities on a node.
-use Rattle.std.proofs.Common.{◌≡◌, ℕ, List, Some, refl, ap, ◌∙◌, sym, subst, ◌<◌, ◌+◌, arith, slice_get, get_or, length}
+use Rattle.std.proofs.Common.{◌≡◌, ℕ, List, Some, refl, ap, ◌∙◌, sym, subst, ◌<◌, arith, slice_get, get_or, length}
 use Rattle.std.proofs.lemmas.Option.{slice_get_read}
 use Rattle.ul_problem.specs.Plain.{Plain}
 use Rattle.ul_problem.specs.Terms.{node_of}

@@ -1,5 +1,5 @@
 -- Marks of the steps that a derivation rests on, and their new numbers.
-use Rattle.std.proofs.Common.{◌≡◌, ℕ, zero, suc, ◌+◌, ◌-◌, List, [], ◌∷◌, ◌++◌, Bool, true, false, Option, Some, None, refl, ap, ◌∙◌, sym, subst, ◌<◌, ◌≤◌, ◌⊎◌, inl, inr, arith, slice_get, slice_set, get_or, length, take, append_assoc, add-one, length-append, replicate}
+use Rattle.std.proofs.Common.{◌≡◌, ℕ, zero, suc, ◌+◌, ◌-◌, List, [], ◌∷◌, ◌++◌, Bool, true, false, Some, refl, ap, ◌∙◌, sym, subst, ◌<◌, ◌≤◌, inl, inr, arith, slice_get, slice_set, get_or, length, take, append_assoc, length-append, replicate}
 use Rattle.std.proofs.lemmas.Bool.{cases_eq, cases_lt, true≢false}
 use Rattle.std.proofs.lemmas.List.{append-nil, get_or-set_other, length-set}
 use Rattle.std.proofs.lemmas.Grind.{get_or-set_at}
@@ -9,7 +9,7 @@ use Rattle.ul_problem.specs.Steps.{says, step_of, HasTermOn, IsRight, IsResolven
 use Rattle.ul_problem.specs.declared.term.Term.{Term}
 use Rattle.ul_problem.specs.declared.step.Step.{Step}
 use Rattle.ul_problem.specs.declared.step.Step.TheVariants.{Need as NeedStep, Python, Base, Cut}
-use Rattle.ul_trail.proofs.ForCallers.{get_more, get_last, last_cases, take_whole}
+use Rattle.ul_trail.proofs.ForCallers.{get_more, get_last, take_whole}
 use Rattle.ul_conflict.specs.Needed.{IsMarked, HaveGrown, IsMarkedFor, AreMarkedFor, ArePartsMarked, AreNeeded, ClosesAt, new_number, renumbered_step}
 use Rattle.ul_conflict.specs.Pruned.{IsKeptAs, IsPruned, IsPrunedTo, IsKept}
 use Rattle.ul_conflict.specs.declared.pruning.Pruned.{Pruned}

@@ -1,13 +1,13 @@
 -- Where the resolvent forbids the roots.
-use Rattle.std.proofs.Common.{◌≡◌, ℕ, zero, suc, ◌+◌, ◌-◌, List, [], ◌∷◌, ◌++◌, Bool, true, false, cond, not, Option, Some, None, refl, ap, ◌∙◌, sym, subst, ◌<◌, ◌≤◌, ◌⊎◌, inl, inr, arith, nat_eq, eq-eqb, slice_get, length, take}
-use Rattle.std.proofs.lemmas.Bool.{cases_eq, cases_lt, ne_eqb, eqb-true, true≢false}
+use Rattle.std.proofs.Common.{◌≡◌, ℕ, zero, suc, List, [], ◌∷◌, Bool, true, false, cond, not, Option, Some, None, refl, ap, ◌∙◌, sym, subst, ◌<◌, ◌≤◌, ◌⊎◌, inl, inr, arith, nat_eq, slice_get, length, take}
+use Rattle.std.proofs.lemmas.Bool.{cases_eq, ne_eqb, eqb-true, true≢false}
 use Rattle.std.proofs.lemmas.Option.{none-some, same_Some, slice_get_within}
 use Rattle.ul_ranges.specs.Flags.{has, is_blank}
 use Rattle.ul_ranges.proofs.ForCallers.{none_blank, blank_none}
 use Rattle.ul_problem.specs.Plain.{Plain, size_of}
 use Rattle.std.specs.List.{Contains}
 use Rattle.ul_problem.specs.Problems.{IsWellFormed}
-use Rattle.ul_problem.specs.Terms.{node_of, allows, is_among}
+use Rattle.ul_problem.specs.Terms.{allows}
 use Rattle.ul_problem.specs.Steps.{AreTermsOf, IsTermOf, AreWritten, written, IsRootTerm, AreRootTerms}
 use Rattle.ul_problem.specs.declared.term.Term.{Term}
 use Rattle.ul_problem.specs.declared.term.Term.TheVariants.{In, NotIn}
@@ -16,7 +16,7 @@ use Rattle.ul_problem.proofs.ForCallers.{root_single, at_head, in_rest, head_or_
 use Rattle.ul_trail.specs.Track.{Track}
 use Rattle.ul_trail.specs.declared.fact.Fact.{Fact}
 use Rattle.ul_trail.specs.Facts.{is_open, IsHeld, AreHeld, one_of, level_of}
-use Rattle.ul_trail.specs.Propagation.{IsTrailOf, root_fact, root_facts, AreLater, IsBegun}
+use Rattle.ul_trail.specs.Propagation.{IsTrailOf, root_fact, root_facts, AreLater}
 use Rattle.ul_trail.proofs.ForCallers.{one_has, take_front, get_cases}
 use Rattle.ul_conflict.specs.Satisfiers.{IsSatisfier}
 use Rattle.ul_conflict.specs.Resolved.{IsResolved}

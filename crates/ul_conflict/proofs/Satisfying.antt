@@ -1,21 +1,20 @@
 -- Which facts hold terms.
-use Rattle.std.proofs.Common.{◌≡◌, ℕ, zero, suc, ◌+◌, ◌-◌, List, [], ◌∷◌, ◌++◌, Bool, true, false, cond, Option, Some, None, refl, ap, ◌∙◌, sym, subst, ◌<◌, ◌≤◌, ◌⊎◌, inl, inr, arith, nat_eq, eq-eqb, slice_get, get_or, length, take, append_assoc, add-one}
-use Rattle.std.specs.Option.{option_eq, option_map}
-use Rattle.std.proofs.lemmas.Bool.{cases_eq, true≢false, eqb-true}
-use Rattle.std.proofs.lemmas.List.{append-nil}
-use Rattle.std.proofs.lemmas.Option.{none-some, same_Some, slice_get_read, slice_get_within}
+use Rattle.std.proofs.Common.{◌≡◌, ℕ, zero, suc, ◌+◌, ◌-◌, List, [], ◌∷◌, ◌++◌, true, false, Option, Some, None, refl, ap, ◌∙◌, sym, subst, ◌<◌, ◌≤◌, inl, inr, arith, nat_eq, eq-eqb, slice_get, get_or, length, take}
+use Rattle.std.specs.Option.{option_eq}
+use Rattle.std.proofs.lemmas.Bool.{cases_eq, true≢false}
+use Rattle.std.proofs.lemmas.Option.{none-some, same_Some, slice_get_read}
 use Rattle.ul_problem.specs.Plain.{Plain, size_of}
-use Rattle.ul_problem.specs.Terms.{node_of, set_of, allows, term_on, relation_of, IsTold, IsOrdered}
+use Rattle.ul_problem.specs.Terms.{node_of, set_of, term_on, relation_of, IsTold}
 use Rattle.ul_problem.specs.Steps.{AreTermsOf, IsTermOf}
 use Rattle.ul_problem.specs.declared.term.Term.{Term}
 use Rattle.ul_problem.specs.declared.term.Relation.{Relation}
 use Rattle.ul_problem.specs.declared.term.Relation.TheVariants.{Holds, Fails, Unknown}
 use Rattle.ul_problem.proofs.ForCallers.{relation_exact, term_one, fits_at}
 use Rattle.ul_trail.specs.declared.fact.Fact.{Fact}
-use Rattle.ul_trail.specs.Facts.{is_open, IsHeld, AreHeld, AreHeldBut, IsMirror}
+use Rattle.ul_trail.specs.Facts.{is_open, IsHeld, AreHeld, IsMirror}
 use Rattle.ul_trail.specs.Counts.{sizes_of}
-use Rattle.ul_trail.proofs.ForCallers.{take_next, take_whole, take_front, open_past, append_within, IsWithin, sizes_at}
-use Rattle.ul_conflict.specs.Satisfiers.{IsHeldApart, TakesPart, LeavesOut, IsPart, IsSatisfier}
+use Rattle.ul_trail.proofs.ForCallers.{take_next, open_past, append_within, sizes_at}
+use Rattle.ul_conflict.specs.Satisfiers.{IsHeldApart, TakesPart, LeavesOut}
 
 pub skip_apart : (skip : Option ℕ) (n : ℕ) → false ≡ option_eq nat_eq skip (Some n) → skip ≡ Some n → ⊥
 skip_apart skip n h e = true≢false (sym (eq-eqb n n refl) ∙ (sym (ap (λ (o : Option ℕ). option_eq nat_eq o (Some n)) e) ∙ sym h))

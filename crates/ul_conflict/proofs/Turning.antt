@@ -1,30 +1,30 @@
 -- A turn of conflict analysis.
-use Rattle.std.proofs.Common.{◌≡◌, ℕ, zero, suc, ◌+◌, ◌-◌, List, [], ◌∷◌, ◌++◌, Bool, true, false, cond, Option, Some, None, refl, ap, ◌∙◌, sym, subst, ◌<◌, ◌≤◌, ◌⊎◌, inl, inr, arith, slice_get, get_or, length, take, append_assoc, add-one, length-append}
+use Rattle.std.proofs.Common.{◌≡◌, ℕ, zero, suc, ◌+◌, ◌-◌, List, [], ◌∷◌, ◌++◌, true, Option, Some, None, refl, ap, ◌∙◌, sym, subst, ◌<◌, ◌≤◌, ◌⊎◌, inl, inr, arith, slice_get, get_or, length, take, append_assoc, add-one, length-append}
 use Rattle.std.proofs.lemmas.Bool.{true≢false}
 use Rattle.std.proofs.lemmas.List.{append-nil}
 use Rattle.std.proofs.lemmas.Option.{none-some, same_Some, slice_get_within, slice_get_read}
 use Rattle.ul_problem.specs.Plain.{Plain}
 use Rattle.ul_problem.specs.Serving.{Forbids}
 use Rattle.ul_problem.specs.Problems.{IsWellFormed}
-use Rattle.ul_problem.specs.Terms.{node_of, allows, term_on, IsOrdered, negation}
-use Rattle.ul_problem.specs.Steps.{AreTermsOf, IsIncompat, IsResolvent, IsStepWithin, says, step_of, IsRight, AreRightAfter, HasTermOn, AreRootTerms, ClosesWith, Accepts, said_by}
+use Rattle.ul_problem.specs.Terms.{node_of, allows, term_on, negation}
+use Rattle.ul_problem.specs.Steps.{AreTermsOf, IsIncompat, IsResolvent, IsStepWithin, says, step_of, IsRight, AreRightAfter, AreRootTerms, ClosesWith}
 use Rattle.ul_problem.specs.declared.term.Term.{Term}
 use Rattle.ul_problem.specs.declared.step.Step.{Step}
 use Rattle.ul_problem.specs.declared.step.Step.TheVariants.{Need as NeedStep, Python, Base, Cut}
-use Rattle.ul_problem.proofs.ForCallers.{resolvent_whole, says_whole, says_fits, all_within, cut_sound, said_place, said_of, said_length}
+use Rattle.ul_problem.proofs.ForCallers.{term_one, resolvent_whole, says_whole, says_fits, all_within, cut_sound, said_place, said_of, said_length}
 use Rattle.ul_trail.specs.Track.{Track}
 use Rattle.ul_trail.specs.declared.fact.Fact.{Fact}
-use Rattle.ul_trail.specs.Facts.{is_open, IsHeld, IsFailed, AreHeld, AreHeldBut, level_of, up_to}
-use Rattle.ul_trail.specs.Propagation.{IsDerived, AreDerivedAfter, AreForbidden, IsTrailOf, IsAlive, IsConflict}
+use Rattle.ul_trail.specs.Facts.{is_open, AreHeld, AreHeldBut, up_to}
+use Rattle.ul_trail.specs.Propagation.{IsDerived, AreDerivedAfter, IsTrailOf, IsConflict}
 use Rattle.ul_trail.proofs.ForCallers.{take_next, take_whole, get_more, get_last, last_cases, append_within, right_join, cut_held, but_on, negation_node}
-use Rattle.ul_conflict.specs.Satisfiers.{IsHeldApart, TakesPart, IsSatisfier}
+use Rattle.ul_conflict.specs.Satisfiers.{IsHeldApart, IsSatisfier}
 use Rattle.ul_conflict.specs.Needed.{ClosesAt}
-use Rattle.ul_conflict.specs.Headline.{LastDerives, IsBackjump}
-use Rattle.ul_conflict.specs.Resolved.{IsResolved, IsResolvedBy, IsLevelBefore, IsCut, IsSaid, IsAdded, IsNumbered, LeadsBack}
+use Rattle.ul_conflict.specs.Headline.{IsBackjump}
+use Rattle.ul_conflict.specs.Resolved.{IsResolved, IsLevelBefore, IsCut, IsSaid, IsNumbered, LeadsBack}
 use Rattle.ul_conflict.specs.declared.analysis.Resolvent.{Resolvent}
-use Rattle.ul_conflict.proofs.Satisfying.{take_held, take_held_one, take_more, fact_at}
+use Rattle.ul_conflict.proofs.Satisfying.{take_held, fact_at}
 use Rattle.ul_conflict.proofs.Unrooted.{unrooted}
-use Rattle.ul_conflict.proofs.Deriving.{held_apart, apart_held, apart_but, apart_before, held_on, level_at, up_within, up_beyond, up_is_take, up_held, held_up}
+use Rattle.ul_conflict.proofs.Deriving.{held_apart, apart_held, apart_but, apart_before, held_on, but_higher, level_at, up_within, up_is_take, up_held, held_up}
 
 -- a fact is derived from those before it
 pub derived_at : (p : Plain) (steps : List Step) (earlier facts : List Fact) (i : ℕ) (f : Fact) → AreDerivedAfter p steps earlier facts → slice_get facts i ≡ Some f → IsDerived p steps (earlier ++ take i facts) f.term f.cause
@@ -183,6 +183,7 @@ jumped p t terms number learned place at before i level f wf w j lt =
           let y : is_open (up_to level t.facts) (node_of part.term) al.0 ≡ true = subst (λ (l : List Fact). is_open l (node_of part.term) al.0 ≡ true) (sym (up_is_take level 0 t.facts w.follow.levels)) (in_front (length (up_to level t.facts))) in
           true≢false (sym x ∙ fail al.0 y));
       free = λ a. free (subst (AreHeld (take i t.facts)) s.said (up_held level t.facts i f (says p s.step) w.follow.levels j.fact lt a));
+      least = λ l below b. but_higher t.facts terms part.term m i before level l w.follow.levels (term_one m terms part.term onm).1 j.next j.at_level below (subst (AreHeldBut (up_to l t.facts) part.term) s.said b);
       unrooted = λ h. unrooted p t i f terms wf w j.fact (omega arith) free (subst (AreRootTerms p) s.said h);
     }
 
@@ -351,7 +352,7 @@ jump_new p t level number learned h late =
       right = h.right;
       forbidden = h.forbidden;
       calm = h.calm;
-      derives = record { front = r.0; step = h.step; last = r.1; term = h.term; but = h.but; possible = h.possible; unrooted = h.unrooted };
+      derives = record { front = r.0; step = h.step; last = r.1; term = h.term; but = h.but; possible = h.possible; least = h.least; unrooted = h.unrooted };
     }
   where
     which : IsNumbered t number learned → number ≡ length t.steps + length learned
@@ -396,7 +397,7 @@ jump_again p t level number learned learned' items again read w h l ei er ea el 
         | inl y ↦ h.calm j x y.1 a
         | inr y ↦ h.free (subst (λ (z : Step). AreHeld (up_to level t.facts) (says p z)) y.1 a)
       ];
-      derives = record { front = learned; step = h.step; last = is; term = h.term; but = h.but; possible = h.possible; unrooted = h.unrooted };
+      derives = record { front = learned; step = h.step; last = is; term = h.term; but = h.but; possible = h.possible; least = h.least; unrooted = h.unrooted };
     }
 
 pub again_place : (p : Plain) (t : Track) (level number : ℕ) (learned : List Step) → LeadsBack p t level number learned → number ≤ length t.steps → (0 < number) × ((number - 1) < length t.steps)

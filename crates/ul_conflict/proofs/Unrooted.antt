@@ -1,24 +1,22 @@
 -- A resolvent that derives something at a lower level doesn't forbid the roots.
-use Rattle.std.proofs.Common.{◌≡◌, ℕ, zero, suc, ◌+◌, List, [], ◌∷◌, ◌++◌, Bool, true, false, cond, Option, Some, None, refl, ap, ◌∙◌, sym, subst, ◌<◌, ◌≤◌, ◌⊎◌, inl, inr, arith, nat_eq, eq-eqb, slice_get, length, take}
-use Rattle.std.proofs.lemmas.Bool.{cases_eq, cases_lt, true≢false, eqb-true, ne_eqb}
-use Rattle.std.proofs.lemmas.Option.{none-some, same_Some, slice_get_within}
+use Rattle.std.proofs.Common.{◌≡◌, ℕ, zero, suc, List, [], ◌∷◌, ◌++◌, Bool, true, false, cond, Option, Some, None, refl, ap, ◌∙◌, sym, subst, ◌<◌, inl, inr, arith, nat_eq, eq-eqb, slice_get, length, take}
+use Rattle.std.proofs.lemmas.Bool.{cases_eq, cases_lt, true≢false, eqb-true}
+use Rattle.std.proofs.lemmas.Option.{none-some, same_Some}
 use Rattle.ul_ranges.specs.Flags.{has, is_blank}
 use Rattle.ul_problem.specs.Plain.{Plain, size_of}
 use Rattle.std.specs.List.{Contains}
 use Rattle.ul_problem.specs.Problems.{IsWellFormed}
-use Rattle.ul_problem.specs.Terms.{node_of, allows, is_among}
-use Rattle.ul_problem.specs.Steps.{IsTermOf, IsRootTerm, AreRootTerms}
+use Rattle.ul_problem.specs.Terms.{is_among}
+use Rattle.ul_problem.specs.Steps.{IsRootTerm, AreRootTerms}
 use Rattle.ul_problem.specs.declared.term.Term.{Term}
 use Rattle.ul_problem.specs.declared.term.Term.TheVariants.{In, NotIn}
-use Rattle.ul_problem.specs.declared.step.Step.{Step}
 use Rattle.ul_problem.proofs.ForCallers.{root_single, head_or_rest, in_none}
 use Rattle.ul_trail.specs.Track.{Track}
 use Rattle.ul_trail.specs.declared.fact.Fact.{Fact}
 use Rattle.ul_trail.specs.Facts.{is_open, IsHeld, AreHeld, one_of}
 use Rattle.ul_trail.specs.Propagation.{IsTrailOf, root_fact, root_facts}
-use Rattle.ul_trail.proofs.ForCallers.{take_front, take_whole, one_other, append_within}
+use Rattle.ul_trail.proofs.ForCallers.{take_front, take_whole, one_other}
 use Rattle.ul_conflict.proofs.Satisfying.{take_more, all_more_held}
-use Rattle.ul_conflict.proofs.Deriving.{held_on}
 
 root_level : (p : Plain) (ns : List ℕ) (i : ℕ) (f : Fact) → slice_get (root_facts p ns) i ≡ Some f → f.level ≡ 0
 root_level p [] i f e = absurd (none-some f e)

@@ -10,7 +10,8 @@ use Rattle.ul_trail.specs.Propagation.{AreForbidden}
 use Rattle.ul_conflict.specs.declared.analysis.Outcome.{Outcome}
 use Rattle.ul_conflict.specs.declared.analysis.Outcome.TheVariants.{Backjump, Closed}
 
--- the last of the learned steps says the resolvent: at a level it derives something new, and it doesn't forbid the roots
+-- The last of the learned steps says the resolvent. At a level, and at no lower one, it derives something new; and it doesn't forbid the
+-- roots.
 pub record LastDerives (p : Plain) (t : Track) (level : ℕ) (learned : List Step) : Type 0 where
   pub front : List Step
   pub step : Step
@@ -19,6 +20,8 @@ pub record LastDerives (p : Plain) (t : Track) (level : ℕ) (learned : List Ste
   pub term : Term
   pub but : AreHeldBut (up_to level t.facts) term (says p step)
   pub possible : IsFailed (up_to level t.facts) term → ⊥
+  -- at a lower level another isn't held
+  pub least : (l : ℕ) → l < level → AreHeldBut (up_to l t.facts) term (says p step) → ⊥
   pub unrooted : AreRootTerms p (says p step) → ⊥
 
 -- To go back to a level and to hold the learned steps is right, and leads on.

@@ -1,5 +1,5 @@
 -- Which steps a derivation rests on, and their new numbers.
-use Rattle.std.specs.Prelude.{◌≡◌, ℕ, zero, suc, List, [], Bool, true, false, Some, ◌<◌, ◌≤◌, slice_get, get_or, length}
+use Rattle.std.specs.Prelude.{◌≡◌, ℕ, zero, suc, List, Bool, true, Some, ◌<◌, ◌≤◌, slice_get, get_or, length}
 use Rattle.ul_problem.specs.Plain.{Plain}
 use Rattle.ul_problem.specs.Steps.{says, step_of, AreRootTerms}
 use Rattle.ul_problem.specs.declared.step.Step.{Step}

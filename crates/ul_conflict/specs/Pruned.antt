@@ -20,6 +20,7 @@ pub record IsPruned (p : Plain) (steps : List Step) (marks : List Bool) (kept : 
   pub same : (k : ℕ) → k < length numbers → IsMarked marks k → IsKeptAs p steps kept (get_or numbers k 0) k
   pub end : (k : ℕ) → length numbers ≡ suc k → IsMarked marks k → get_or numbers k 0 ≡ length kept
 
+-- what was pruned so far, as the code has it
 abbrev pub IsPrunedTo : Plain → List Step → List Bool → Pruned → Type 0
 IsPrunedTo p steps marks r = IsPruned p steps marks r.kept.items r.numbers.items
 

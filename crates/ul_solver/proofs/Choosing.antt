@@ -1,11 +1,10 @@
 -- The first version that no fact excludes.
-use Rattle.std.proofs.Common.{◌≡◌, ℕ, zero, suc, ◌+◌, List, [], ◌∷◌, ◌++◌, Bool, true, false, Option, Some, None, refl, ap, ◌∙◌, sym, subst, ◌<◌, ◌≤◌, arith, slice_get, get_or, length}
-use Rattle.std.proofs.lemmas.Option.{none-some, slice_get_within, get_or_from_slice_get}
+use Rattle.std.proofs.Common.{◌≡◌, ℕ, zero, suc, List, [], ◌∷◌, ◌++◌, Bool, true, false, Some, refl, ap, ◌∙◌, sym, subst, ◌<◌, arith, slice_get, length}
+use Rattle.std.proofs.lemmas.Option.{slice_get_within, get_or_from_slice_get}
 use Rattle.ul_ranges.specs.Flags.{has, first_in}
 use Rattle.ul_ranges.proofs.ForCallers.{first_some}
-use Rattle.ul_problem.specs.Plain.{Plain, node_at, size_of, size_in, order_of, order_in}
+use Rattle.ul_problem.specs.Plain.{Plain, size_of, size_in, order_of, order_in}
 use Rattle.ul_problem.specs.Problems.{IsWellFormed}
-use Rattle.ul_problem.specs.declared.problem.NodeFacts.{NodeFacts}
 use Rattle.ul_problem.proofs.ForCallers.{at_node, node_whole, has_within}
 use Rattle.ul_trail.specs.declared.fact.Fact.{Fact}
 use Rattle.ul_trail.specs.Facts.{is_open, IsAllowed}

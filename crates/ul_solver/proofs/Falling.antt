@@ -1,8 +1,8 @@
 -- The measure falls.
-use Rattle.std.proofs.Common.{◌≡◌, ℕ, zero, suc, ◌+◌, List, [], ◌∷◌, ◌++◌, Bool, true, false, cond, refl, ap, ◌∙◌, sym, subst, ◌<◌, ◌≤◌, ◌⊎◌, inl, inr, arith, nat_le, length}
-use Rattle.std.proofs.lemmas.Bool.{le-leb, lt-leb, cases_order}
+use Rattle.std.proofs.Common.{◌≡◌, ℕ, zero, suc, ◌+◌, List, [], Bool, true, false, cond, refl, ap, ◌∙◌, sym, subst, ◌<◌, ◌≤◌, inl, inr, arith, nat_le, length}
+use Rattle.std.proofs.lemmas.Bool.{le-leb, cases_order}
 use Rattle.ul_trail.specs.declared.fact.Fact.{Fact}
-use Rattle.ul_trail.specs.Counts.{open_in, level_number, level_numbers, levels_of}
+use Rattle.ul_trail.specs.Counts.{open_in, level_number, level_numbers}
 use Rattle.ul_trail.specs.Facts.{up_to, level_of}
 use Rattle.ul_trail.proofs.ForCallers.{open_le}
 use Rattle.ul_solver.specs.Measure.{AreBelow, IsLower, number_of}

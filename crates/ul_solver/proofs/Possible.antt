@@ -1,15 +1,14 @@
 -- The next node has a version that no fact excludes.
-use Rattle.std.proofs.Common.{◌≡◌, ℕ, zero, suc, List, [], ◌∷◌, ◌++◌, Bool, true, false, cond, not, Option, Some, None, refl, ap, ◌∙◌, sym, subst, ◌<◌, ◌≤◌, ◌⊎◌, inl, inr, arith, nat_lt, slice_get, get_or, length}
+use Rattle.std.proofs.Common.{◌≡◌, ℕ, List, [], ◌∷◌, ◌++◌, Bool, true, false, cond, not, Option, Some, None, refl, ap, ◌∙◌, sym, subst, ◌<◌, ◌⊎◌, inl, inr, arith, nat_lt, length}
 use Rattle.std.specs.Prelude.{Contains}
-use Rattle.std.proofs.lemmas.Bool.{cases_eq, cases_Bool, true≢false, ltb-false}
-use Rattle.std.proofs.lemmas.Option.{same_Some}
+use Rattle.std.proofs.lemmas.Bool.{cases_Bool, true≢false, ltb-false}
 use Rattle.ul_ranges.specs.Flags.{has, is_blank, first_in}
 use Rattle.ul_ranges.proofs.ForCallers.{blank_none, first_none}
-use Rattle.ul_problem.specs.Terms.{node_of, allows, is_among, meet_of}
-use Rattle.ul_problem.specs.Plain.{Plain, node_at, size_of, size_in, needs_of, order_of, order_in}
+use Rattle.ul_problem.specs.Terms.{node_of, allows, meet_of}
+use Rattle.ul_problem.specs.Plain.{Plain, size_of, size_in, needs_of, order_of, order_in}
 use Rattle.ul_problem.specs.Problems.{IsWellFormed}
-use Rattle.ul_problem.specs.Steps.{says, pair_of, written, with_term}
-use Rattle.ul_problem.specs.Best.{Picks, next_of, wanted, targets, is_decided}
+use Rattle.ul_problem.specs.Steps.{pair_of, written, with_term}
+use Rattle.ul_problem.specs.Best.{Picks, next_of, wanted, targets}
 use Rattle.ul_problem.specs.declared.term.Term.{Term}
 use Rattle.ul_problem.specs.declared.term.Term.TheVariants.{In, NotIn}
 use Rattle.ul_problem.specs.declared.problem.Need.{Need}
@@ -18,9 +17,8 @@ use Rattle.ul_problem.specs.declared.step.Step.TheVariants.{Need as NeedStep}
 use Rattle.ul_problem.proofs.ForCallers.{one_place, need_fits, at_node, node_whole, root_single, has_within, open_one, not_decided, one_cases, at_head, in_rest, head_or_rest, in_none}
 use Rattle.ul_trail.specs.Track.{Track}
 use Rattle.ul_trail.specs.declared.fact.Fact.{Fact}
-use Rattle.ul_trail.specs.Facts.{is_open, IsHeld, IsFailed, AreHeld, AreHeldBut, one_of, picks_of, IsAllowed}
-use Rattle.ul_trail.specs.Propagation.{IsTrailOf, IsQuiet, IsQuietAt, root_fact, root_facts}
-use Rattle.ul_trail.specs.Moves.{HasSteps}
+use Rattle.ul_trail.specs.Facts.{is_open, IsHeld, AreHeldBut, one_of, picks_of, IsAllowed}
+use Rattle.ul_trail.specs.Propagation.{IsQuiet, IsQuietAt, root_fact, root_facts}
 use Rattle.ul_trail.proofs.ForCallers.{one_has, place_decided, HasFact, pick_fact, held_in, pair_held, open_one_version}
 use Rattle.ul_solver.specs.State.{IsState}
 use Rattle.ul_solver.proofs.Starting.{next_within}

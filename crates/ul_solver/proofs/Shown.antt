@@ -1,17 +1,15 @@
 -- What a finished trail shows is the best.
-use Rattle.std.proofs.Common.{◌≡◌, ℕ, List, [], ◌∷◌, ◌++◌, Bool, true, false, Option, Some, None, refl, ap, ◌∙◌, sym, subst, append_assoc}
+use Rattle.std.proofs.Common.{◌≡◌, ℕ, List, [], ◌∷◌, ◌++◌, Option, Some, None, refl, ap, ◌∙◌, sym, subst, append_assoc}
 use Rattle.std.proofs.lemmas.List.{append-nil}
 use Rattle.ul_problem.specs.Terms.{node_of, set_of}
-use Rattle.ul_problem.specs.Plain.{Plain, order_of}
-use Rattle.ul_problem.specs.Serving.{Serves}
+use Rattle.ul_problem.specs.Plain.{Plain}
 use Rattle.ul_problem.specs.Problems.{IsWellFormed}
-use Rattle.ul_problem.specs.Best.{Picks, next_of, Agrees, Extends, ArePassed, IsTrailed, IsChain, IsBest, version_in, is_decided, first_open}
+use Rattle.ul_problem.specs.Best.{Picks, next_of, Agrees, IsTrailed, IsChain, IsBest, version_in}
 use Rattle.ul_problem.specs.declared.term.Term.{Term}
 use Rattle.ul_trail.specs.Track.{Track}
 use Rattle.ul_trail.specs.declared.fact.Fact.{Fact}
-use Rattle.ul_trail.specs.Facts.{picks_of, pick_with, first_of, is_open}
+use Rattle.ul_trail.specs.Facts.{picks_of, pick_with, first_of}
 use Rattle.ul_trail.specs.Propagation.{IsTrailOf, NoConflict}
-use Rattle.ul_trail.specs.Moves.{HasSteps}
 use Rattle.ul_trail.proofs.ForCallers.{excluded_passed, finished_serves}
 use Rattle.ul_solver.specs.State.{IsSteered, IsChosen, IsState}
 use Rattle.ul_problem.proofs.ForCallers.{trailed_best, agrees_more, best_serves, not_decided}

@@ -1,24 +1,20 @@
 -- The beginning of the solver's trail.
-use Rattle.std.proofs.Common.{◌≡◌, ℕ, zero, suc, ◌+◌, List, [], ◌∷◌, ◌++◌, Bool, true, false, Option, Some, None, refl, ap, ◌∙◌, sym, subst, ◌<◌, ◌≤◌, ◌⊎◌, inl, inr, arith, slice_get, get_or, length, take, append_assoc}
-use Rattle.std.proofs.lemmas.List.{append-nil}
-use Rattle.std.proofs.lemmas.Option.{none-some, same_Some, slice_get_within, slice_get-get_or}
-use Rattle.ul_problem.specs.Terms.{node_of, set_of}
-use Rattle.ul_problem.specs.Plain.{Plain, node_at, size_of, size_in, needs_of, order_of, order_in}
+use Rattle.std.proofs.Common.{◌≡◌, ℕ, zero, suc, List, [], ◌∷◌, ◌++◌, false, Some, refl, ap, ◌∙◌, sym, subst, ◌<◌, inl, inr, arith, slice_get, get_or, length, take, append_assoc}
+use Rattle.std.proofs.lemmas.Option.{none-some, same_Some, slice_get-get_or}
+use Rattle.ul_problem.specs.Plain.{Plain, size_of, size_in, needs_of, order_of, order_in}
 use Rattle.std.specs.List.{Contains}
 use Rattle.ul_problem.specs.Problems.{IsWellFormed}
 use Rattle.ul_problem.specs.Best.{Picks, next_of, first_open, is_decided, wanted, targets}
 use Rattle.ul_problem.specs.declared.problem.Need.{Need}
-use Rattle.ul_problem.specs.declared.step.Step.{Step}
 use Rattle.ul_problem.proofs.ForCallers.{need_fits, root_single, at_node, node_whole, place_one, one_place, open_one, at_head, in_rest, head_or_rest, in_none, one_left, one_cases}
 use Rattle.ul_trail.specs.Track.{Track}
 use Rattle.ul_trail.specs.declared.fact.Fact.{Fact}
-use Rattle.ul_trail.specs.Facts.{one_of, first_of, picks_of, level_of, up_to, AreAt}
-use Rattle.ul_trail.specs.Counts.{AreReached}
-use Rattle.ul_trail.specs.Propagation.{IsTrailOf, HasGrown, AreNewAfter, root_fact, root_facts}
+use Rattle.ul_trail.specs.Facts.{one_of, first_of, picks_of, level_of, up_to}
+use Rattle.ul_trail.specs.Propagation.{IsTrailOf, HasGrown, AreNewAfter, root_facts}
 use Rattle.ul_trail.specs.Moves.{HasSteps}
 use Rattle.ul_trail.specs.Roots.{root_picks}
 use Rattle.ul_trail.proofs.ForCallers.{take_front, take_whole, level_of-append, level_of-at, up_to-all, one_first, first_is, place_decided, root_undecided, root_there, roots_picks, facts_snoc, rooted_level}
-use Rattle.ul_solver.specs.State.{IsState, IsSteered, IsFirstOpen, cut_at}
+use Rattle.ul_solver.specs.State.{IsState, IsSteered, IsFirstOpen}
 use Rattle.ul_solver.proofs.States.{steered_join, steered_new, new_at}
 
 -- the next node is one of the problem's

@@ -1,25 +1,25 @@
 -- What the solver keeps, over a decision and over a backjump.
-use Rattle.std.proofs.Common.{◌≡◌, ℕ, zero, suc, ◌+◌, List, [], ◌∷◌, ◌++◌, Bool, true, false, cond, Option, Some, None, refl, ap, ◌∙◌, sym, subst, ◌<◌, ◌≤◌, ◌⊎◌, inl, inr, arith, nat_le, length, slice_get, max, append_assoc}
+use Rattle.std.proofs.Common.{◌≡◌, ℕ, suc, ◌+◌, List, [], ◌∷◌, ◌++◌, true, false, Option, Some, None, refl, ap, ◌∙◌, sym, subst, ◌<◌, ◌≤◌, inl, inr, arith, nat_le, length, slice_get, max, append_assoc}
 use Rattle.std.proofs.lemmas.List.{append-nil, length-append}
 use Rattle.ul_solver.proofs.Shown.{picks_append}
-use Rattle.std.proofs.lemmas.Bool.{le-leb, lt-leb, cases_order, cases_lt}
-use Rattle.ul_problem.specs.Terms.{node_of, set_of, allows}
-use Rattle.ul_problem.specs.Plain.{Plain, size_of, base_of, barred_of, needs_of, order_of}
+use Rattle.std.proofs.lemmas.Bool.{le-leb, lt-leb, cases_lt}
+use Rattle.ul_problem.specs.Terms.{node_of}
+use Rattle.ul_problem.specs.Plain.{Plain, size_of}
 use Rattle.ul_problem.specs.Steps.{says}
 use Rattle.ul_problem.specs.Best.{next_of}
 use Rattle.ul_problem.specs.declared.term.Term.{Term}
-use Rattle.ul_problem.specs.declared.term.Term.TheVariants.{In, NotIn}
+use Rattle.ul_problem.specs.declared.term.Term.TheVariants.{In}
 use Rattle.ul_problem.specs.declared.step.Step.{Step}
 use Rattle.ul_trail.specs.Track.{Track}
 use Rattle.ul_trail.specs.declared.fact.Fact.{Fact}
-use Rattle.ul_trail.specs.Facts.{is_open, IsHeld, AreHeld, AreHeldBut, IsFailed, one_of, first_of, picks_of, up_to, level_of, AreAt}
+use Rattle.ul_trail.specs.Facts.{is_open, AreHeld, AreHeldBut, IsFailed, one_of, first_of, picks_of, up_to, level_of, AreAt}
 use Rattle.ul_trail.specs.Counts.{open_in, level_number, sizes_of, AreReached}
-use Rattle.ul_trail.specs.Propagation.{IsTrailOf, AreLevels, HasGrown, AreNewAfter, IsQuiet, IsConflict, NoConflict, IsProgress, IsNew, IsOption, IsQuietAt}
+use Rattle.ul_trail.specs.Propagation.{IsTrailOf, AreLevels, HasGrown, AreNewAfter, IsQuiet, NoConflict, IsProgress, IsNew, IsOption, IsQuietAt}
 use Rattle.ul_trail.specs.declared.fact.Progress.{Progress}
 use Rattle.ul_trail.specs.declared.fact.Progress.TheVariants.{Quiet, Conflict}
 use Rattle.ul_trail.specs.Moves.{HasSteps, decision_at}
-use Rattle.ul_trail.proofs.ForCallers.{one_first, get_last, IsWithin, append_within, new_lowers, open_le, up_to-append, up_to-later, up_to-now, up_to-all, up_to-up_to, level_of-append, level_of-at, none_up_to, front_of, get_cases, sizes_length, sizes_at}
-use Rattle.ul_solver.specs.State.{IsFirstOpen, IsChosen, IsSteered, cut_at, IsState, measure_of}
+use Rattle.ul_trail.proofs.ForCallers.{one_first, get_last, IsWithin, append_within, new_lowers, open_le, up_to-append, up_to-later, up_to-all, up_to-up_to, level_of-append, level_of-at, none_up_to, front_of, get_cases, sizes_length, sizes_at}
+use Rattle.ul_solver.specs.State.{IsFirstOpen, IsChosen, IsSteered, IsState, measure_of}
 use Rattle.ul_conflict.specs.Headline.{IsBackjump}
 use Rattle.ul_trail.specs.Standing.{IsFresh}
 use Rattle.ul_solver.proofs.Falling.{measure_falls}

@@ -1,17 +1,14 @@
 -- What the solver keeps of its trail, and its measure.
-use Rattle.std.specs.Prelude.{◌≡◌, ℕ, suc, ◌+◌, List, [], ◌∷◌, ◌++◌, Bool, true, false, Option, Some, None, ◌<◌, ◌≤◌, slice_get, length, ◌⊎◌}
+use Rattle.std.specs.Prelude.{◌≡◌, ℕ, ◌+◌, List, [], ◌∷◌, ◌++◌, false, Option, Some, None, ◌<◌, ◌≤◌, slice_get, length}
 use Rattle.ul_problem.specs.Terms.{node_of, set_of}
-use Rattle.ul_problem.specs.Plain.{Plain, size_of, order_of}
-use Rattle.ul_problem.specs.Serving.{Forbids, HasNone}
-use Rattle.ul_problem.specs.Steps.{says, AreRightAfter, Accepts}
-use Rattle.ul_problem.specs.Best.{Picks, next_of, IsBest}
+use Rattle.ul_problem.specs.Plain.{Plain, order_of}
+use Rattle.ul_problem.specs.Best.{next_of}
 use Rattle.ul_problem.specs.declared.term.Term.{Term}
-use Rattle.ul_problem.specs.declared.step.Step.{Step}
 use Rattle.ul_trail.specs.Track.{Track}
 use Rattle.ul_trail.specs.declared.fact.Fact.{Fact}
-use Rattle.ul_trail.specs.Facts.{is_open, picks_of, level_of, up_to, AreHeld, AreHeldBut, IsFailed, first_of}
+use Rattle.ul_trail.specs.Facts.{is_open, picks_of, level_of, up_to, first_of}
 use Rattle.ul_trail.specs.Counts.{open_in, levels_of, AreReached}
-use Rattle.ul_trail.specs.Propagation.{IsTrailOf, NoConflict, IsProgress, AreForbidden}
+use Rattle.ul_trail.specs.Propagation.{IsTrailOf, NoConflict}
 use Rattle.ul_trail.specs.Moves.{HasSteps}
 use Rattle.ul_solver.specs.Measure.{number_of}
 

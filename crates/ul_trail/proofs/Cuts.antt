@@ -1,9 +1,8 @@
 -- A cut takes a fact away.
-use Rattle.std.proofs.Common.{◌≡◌, ℕ, List, [], ◌∷◌, ◌++◌, Bool, true, false, cond, not, Option, Some, None, refl, ap, ◌∙◌, sym, subst, ◌<◌, ◌≤◌, ◌⊎◌, inl, inr, arith, nat_eq, eq-eqb}
+use Rattle.std.proofs.Common.{◌≡◌, ℕ, List, [], ◌∷◌, ◌++◌, Bool, true, false, cond, not, Option, Some, None, refl, ap, ◌∙◌, sym, subst, ◌<◌, inl, inr, arith, nat_eq, eq-eqb}
 use Rattle.std.proofs.lemmas.Bool.{eqb-true, ne_eqb, cases_eq, true≢false}
-use Rattle.std.proofs.lemmas.Option.{same_Some}
 use Rattle.ul_problem.specs.Terms.{node_of, allows, is_among, term_on, may_hold, IsOrdered, IsOrderedFrom, meet_of, join_of, negation}
-use Rattle.ul_problem.specs.Steps.{IsResolvent, resolved, met_terms, joined_terms, written}
+use Rattle.ul_problem.specs.Steps.{IsResolvent, met_terms, joined_terms}
 use Rattle.ul_problem.specs.declared.term.Term.{Term}
 use Rattle.ul_problem.specs.declared.term.Term.TheVariants.{In, NotIn}
 use Rattle.ul_problem.proofs.ForCallers.{allows-meet, allows-join, may_hold-written, term_on-before, ordered_more, and_both}

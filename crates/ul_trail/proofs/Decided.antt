@@ -1,8 +1,7 @@
 -- Which nodes are asked for and decided.
-use Rattle.std.proofs.Common.{◌≡◌, ℕ, zero, suc, ◌+◌, List, [], ◌∷◌, ◌++◌, Bool, true, false, cond, Option, Some, None, refl, ap, ◌∙◌, sym, subst, ◌<◌, ◌≤◌, ◌⊎◌, inl, inr, arith, nat_eq, eq-eqb, slice_get, get_or, length, take, append_assoc, add-one}
-use Rattle.std.proofs.lemmas.Bool.{cases_eq, cases_lt, ne_eqb, eqb-true, true≢false}
-use Rattle.std.proofs.lemmas.List.{append-nil}
-use Rattle.std.proofs.lemmas.Option.{none-some, same_Some, slice_get_read, slice_get_within, slice_get-get_or, slice_get_past, get_or_from_slice_get}
+use Rattle.std.proofs.Common.{◌≡◌, ℕ, zero, suc, ◌+◌, List, [], ◌∷◌, ◌++◌, Bool, true, false, cond, Some, None, refl, ap, ◌∙◌, sym, subst, ◌<◌, ◌≤◌, inl, inr, arith, nat_eq, eq-eqb, slice_get, get_or, length, take, append_assoc}
+use Rattle.std.proofs.lemmas.Bool.{cases_eq, ne_eqb, eqb-true}
+use Rattle.std.proofs.lemmas.Option.{none-some, same_Some, slice_get_within, slice_get-get_or, slice_get_past, get_or_from_slice_get}
 use Rattle.ul_problem.specs.Best.{Picks, is_decided, first_open, targets}
 use Rattle.ul_problem.specs.declared.problem.Need.{Need}
 use Rattle.ul_trail.specs.Kept.{IsIndexed, HasPassed}

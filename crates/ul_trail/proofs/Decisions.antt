@@ -1,9 +1,9 @@
 -- A trail with one more decision.
-use Rattle.std.proofs.Common.{◌≡◌, ℕ, zero, suc, ◌+◌, List, [], ◌∷◌, ◌++◌, Bool, true, false, cond, Option, Some, None, refl, ap, ◌∙◌, sym, subst, ◌<◌, ◌≤◌, ◌⊎◌, inl, inr, arith, nat_eq, eq-eqb, max, slice_get, get_or, length, take, slice_set, append_assoc, length-append}
+use Rattle.std.proofs.Common.{◌≡◌, ℕ, zero, suc, List, [], ◌∷◌, ◌++◌, Bool, true, false, cond, Option, Some, None, refl, ap, ◌∙◌, sym, subst, ◌<◌, ◌≤◌, ◌⊎◌, inl, inr, arith, nat_eq, slice_get, get_or, length, take, slice_set, append_assoc, length-append}
 use Rattle.std.proofs.lemmas.Bool.{cases_eq, true≢false}
 use Rattle.std.proofs.lemmas.List.{append-nil, length-set, get_or-set_other}
 use Rattle.std.proofs.lemmas.Grind.{get_or-set_at}
-use Rattle.std.proofs.lemmas.Option.{none-some, same_Some, slice_get_within}
+use Rattle.std.proofs.lemmas.Option.{slice_get_within}
 use Rattle.ul_problem.specs.Terms.{node_of, set_of, allows}
 use Rattle.ul_problem.specs.Plain.{Plain, size_of, needs_of}
 use Rattle.ul_problem.specs.Best.{Picks, is_decided, wanted, targets}
@@ -14,13 +14,13 @@ use Rattle.ul_trail.specs.declared.fact.Fact.{Fact}
 use Rattle.ul_trail.specs.declared.mark.Mark.{Mark}
 use Rattle.ul_trail.specs.Facts.{is_open, one_of, first_of, picks_of, pick_with, level_of, up_to}
 use Rattle.ul_trail.specs.Counts.{sizes_of}
-use Rattle.ul_trail.specs.Propagation.{IsTrailOf, Follow, IsDerived, AreRaised, IsAlive, AreLater, IsBegun, root_facts}
+use Rattle.ul_trail.specs.Propagation.{IsTrailOf, AreRaised, IsAlive, root_facts}
 use Rattle.ul_trail.specs.Standing.{IsSettled, IsSized}
 use Rattle.ul_problem.proofs.ForCallers.{node_of_size}
 use Rattle.ul_trail.proofs.Singles.{one_length}
 use Rattle.ul_trail.specs.Moves.{decision_at}
 use Rattle.ul_trail.specs.Kept.{IsIndexed, HasPassed, IsMark, AreMarks, turns_of}
-use Rattle.ul_trail.proofs.Places.{take_front, take_whole, last_cases, get_more}
+use Rattle.ul_trail.proofs.Places.{take_front, take_whole, last_cases}
 use Rattle.ul_trail.proofs.Levels.{up_to-append, up_to-later, up_to-all, level_of-append}
 use Rattle.ul_trail.proofs.Following.{one_first, one_has}
 use Rattle.ul_trail.proofs.Cuts.{open_push}

@@ -1,22 +1,19 @@
 -- A finished trail's roots and decisions serve.
-use Rattle.std.proofs.Common.{◌≡◌, ℕ, zero, suc, List, [], ◌∷◌, ◌++◌, Bool, true, false, cond, not, Option, Some, None, refl, ap, ◌∙◌, sym, subst, ◌<◌, ◌≤◌, ◌⊎◌, inl, inr, arith, nat_eq, nat_lt, slice_get, eq-eqb}
-use Rattle.std.proofs.lemmas.Bool.{eqb-true, ltb-false, true≢false}
-use Rattle.std.proofs.lemmas.Option.{same_Some}
+use Rattle.std.proofs.Common.{◌≡◌, ℕ, zero, suc, List, [], ◌∷◌, ◌++◌, Bool, true, false, cond, not, Option, Some, None, refl, ap, ◌∙◌, sym, subst, ◌<◌, ◌≤◌, inl, inr, arith, nat_eq, nat_lt, eq-eqb}
+use Rattle.std.proofs.lemmas.Bool.{ltb-false, true≢false}
 use Rattle.std.specs.List.{Contains}
 use Rattle.ul_ranges.specs.Flags.{has, is_blank}
-use Rattle.ul_problem.specs.Terms.{Selection, node_of, set_of, allows, is_among, meet_of, may_hold}
-use Rattle.ul_problem.specs.Plain.{Plain, size_of, base_of, barred_of, needs_of}
+use Rattle.ul_problem.specs.Terms.{node_of, set_of, allows, is_among, meet_of}
+use Rattle.ul_problem.specs.Plain.{Plain, size_of, barred_of}
 use Rattle.ul_problem.specs.Serving.{Serves}
 use Rattle.ul_problem.specs.Problems.{IsWellFormed}
 use Rattle.ul_problem.specs.Steps.{says, pair_of, written, with_term, base_or}
 use Rattle.ul_problem.specs.Best.{Picks, next_of, version_in, IsChain, wanted}
 use Rattle.ul_problem.specs.declared.term.Term.{Term}
 use Rattle.ul_problem.specs.declared.term.Term.TheVariants.{In, NotIn}
-use Rattle.ul_problem.specs.declared.problem.Need.{Need}
 use Rattle.ul_problem.specs.declared.step.Step.{Step}
 use Rattle.ul_problem.specs.declared.step.Step.TheVariants.{Need as NeedStep, Python, Base}
 use Rattle.ul_problem.proofs.ForCallers.{allows-meet, and_both, and_left', and_right', IsAsked, asked_base, asked_all, one_left, one_right, wanted_one, pick_of, none_open, decided_version, at_head, in_rest, head_or_rest, in_none, one_place}
-use Rattle.ul_ranges.proofs.ForCallers.{blank_none}
 use Rattle.ul_trail.specs.Track.{Track}
 use Rattle.ul_trail.specs.declared.fact.Fact.{Fact}
 use Rattle.ul_trail.specs.Facts.{is_open, IsHeld, AreHeld, one_of, first_of, pick_with, picks_of}

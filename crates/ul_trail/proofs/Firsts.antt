@@ -1,26 +1,24 @@
 -- The steps that a problem gives are right, and are all that a trail begins with.
-use Rattle.std.proofs.Common.{◌≡◌, ℕ, zero, suc, ◌+◌, List, [], ◌∷◌, ◌++◌, Bool, true, false, cond, Option, Some, None, refl, ap, ◌∙◌, sym, subst, ◌<◌, ◌≤◌, ◌⊎◌, inl, inr, arith, slice_get, get_or, length, take, append_assoc, add-one}
-use Rattle.std.proofs.lemmas.Bool.{cases_eq, cases_lt, true≢false, eqb-true, eqb-false}
-use Rattle.std.proofs.lemmas.List.{append-nil}
-use Rattle.std.proofs.lemmas.Option.{none-some, same_Some, slice_get_within, slice_get_read, slice_get-get_or}
+use Rattle.std.proofs.Common.{◌≡◌, ℕ, zero, suc, ◌+◌, List, [], ◌∷◌, ◌++◌, Bool, true, false, cond, Option, Some, None, refl, ap, ◌∙◌, sym, subst, ◌<◌, inl, inr, arith, slice_get, get_or, length, take, append_assoc}
+use Rattle.std.proofs.lemmas.Bool.{cases_eq, true≢false}
+use Rattle.std.proofs.lemmas.Option.{none-some, same_Some, slice_get_within}
 use Rattle.std.specs.List.{Contains}
 use Rattle.ul_ranges.specs.Flags.{has, is_blank}
 use Rattle.ul_ranges.proofs.ForCallers.{blank_none}
 use Rattle.ul_problem.specs.Plain.{Plain, node_at, size_of, base_of, barred_of, needs_of, size_in, base_in, barred_in, needs_in}
 use Rattle.ul_problem.specs.Serving.{Forbids}
 use Rattle.ul_problem.specs.Problems.{IsWellFormed}
-use Rattle.ul_problem.specs.Steps.{says, IsRight, HasNeed, AreRightAfter}
+use Rattle.ul_problem.specs.Steps.{says, IsRight, AreRightAfter}
 use Rattle.ul_problem.specs.declared.problem.Need.{Need}
 use Rattle.ul_problem.specs.declared.problem.NodeFacts.{NodeFacts}
 use Rattle.ul_problem.specs.declared.step.Step.{Step}
-use Rattle.ul_problem.specs.declared.step.Step.TheVariants.{Need as NeedStep, Python, Base, Cut}
-use Rattle.ul_problem.proofs.ForCallers.{node_whole, node_of_size, node_of_base, need_fits, one_place, barred_size, one_left, one_right, step_sound, has_within, at_head, in_rest, head_or_rest, in_none}
+use Rattle.ul_problem.specs.declared.step.Step.TheVariants.{Need as NeedStep, Python, Base}
+use Rattle.ul_problem.proofs.ForCallers.{node_of_size, need_fits, barred_size, one_left, one_right, step_sound, has_within, at_head, in_rest, head_or_rest, in_none}
 use Rattle.ul_trail.specs.Facts.{one_of}
 use Rattle.ul_trail.specs.Propagation.{AreForbidden}
 use Rattle.ul_trail.specs.Moves.{HasSteps}
 use Rattle.ul_trail.specs.First.{need_steps, base_steps, python_steps, version_steps, versions_steps, node_steps, steps_at, first_steps}
 use Rattle.ul_trail.proofs.Places.{take_next}
-use Rattle.ul_trail.proofs.Following.{one_has}
 use Rattle.ul_trail.proofs.Singles.{one_length, one_other}
 
 needs_append : (n : ℕ) (s : List Bool) (xs : List Need) (x : Need) → need_steps n s (xs ++ x ∷ []) ≡ need_steps n s xs ++ NeedStep n s x.node x.permitted ∷ []

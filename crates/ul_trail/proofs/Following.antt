@@ -1,17 +1,17 @@
 -- The facts of a trail follow.
-use Rattle.std.proofs.Common.{◌≡◌, ℕ, zero, suc, List, [], ◌∷◌, ◌++◌, Bool, true, false, cond, not, Option, Some, None, refl, ap, ◌∙◌, sym, subst, ◌<◌, ◌≤◌, ◌⊎◌, inl, inr, arith, nat_eq, append_assoc}
+use Rattle.std.proofs.Common.{◌≡◌, ℕ, zero, suc, List, [], ◌∷◌, ◌++◌, Bool, true, false, cond, not, Option, Some, None, refl, ap, ◌∙◌, sym, subst, ◌<◌, inl, inr, arith, nat_eq, append_assoc}
 use Rattle.std.proofs.lemmas.Bool.{eqb-true, true≢false}
 use Rattle.std.proofs.lemmas.List.{append-nil}
 use Rattle.ul_ranges.specs.Flags.{has}
 use Rattle.ul_problem.specs.Terms.{Selection, node_of, set_of, allows, holds, all_hold, is_among, negation}
 use Rattle.ul_problem.specs.Plain.{Plain, size_of}
-use Rattle.ul_problem.specs.Serving.{Serves, Forbids}
+use Rattle.ul_problem.specs.Serving.{Serves}
 use Rattle.ul_problem.specs.Steps.{says}
 use Rattle.ul_problem.specs.Best.{Agrees, Extends}
 use Rattle.ul_problem.specs.declared.term.Term.{Term}
 use Rattle.ul_problem.specs.declared.term.Term.TheVariants.{In, NotIn}
 use Rattle.ul_problem.specs.declared.step.Step.{Step}
-use Rattle.ul_problem.proofs.ForCallers.{and_both, and_left', and_right'}
+use Rattle.ul_problem.proofs.ForCallers.{and_both}
 use Rattle.ul_trail.specs.Track.{Track}
 use Rattle.ul_trail.specs.declared.fact.Fact.{Fact}
 use Rattle.ul_trail.specs.Facts.{is_open, IsHeld, AreHeld, AreHeldBut, one_of, first_of, pick_with, picks_of}

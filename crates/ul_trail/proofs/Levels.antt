@@ -1,12 +1,11 @@
 -- What the facts of each level leave open.
-use Rattle.std.proofs.Common.{◌≡◌, ℕ, zero, suc, ◌+◌, List, [], ◌∷◌, ◌++◌, Bool, true, false, cond, Option, Some, None, refl, ap, ◌∙◌, sym, subst, ◌<◌, ◌≤◌, ◌⊎◌, inl, inr, arith, nat_eq, nat_le, append_assoc, length, max, eq-eqb, get_or}
-use Rattle.std.proofs.lemmas.Bool.{eqb-true, leb-true, leb-false, le-leb, lt-leb, true≢false, cases_order, cases_lt}
+use Rattle.std.proofs.Common.{◌≡◌, ℕ, zero, suc, ◌+◌, List, [], ◌∷◌, ◌++◌, Bool, true, false, cond, Option, Some, None, refl, ap, sym, subst, ◌<◌, ◌≤◌, inl, inr, arith, nat_eq, nat_le, length, max, eq-eqb, get_or}
+use Rattle.std.proofs.lemmas.Bool.{le-leb, lt-leb, true≢false, cases_order, cases_lt}
 use Rattle.ul_problem.specs.Terms.{node_of, allows}
-use Rattle.ul_problem.specs.declared.term.Term.{Term}
 use Rattle.ul_problem.proofs.ForCallers.{and_left', and_right'}
 use Rattle.ul_trail.specs.declared.fact.Fact.{Fact}
 use Rattle.ul_trail.specs.Facts.{is_open, up_to, level_of, AreAt}
-use Rattle.ul_trail.specs.Counts.{one_if, versions_open, open_below, open_in, level_number, level_numbers, levels_of, AreReached}
+use Rattle.ul_trail.specs.Counts.{one_if, versions_open, open_below, open_in}
 use Rattle.ul_trail.specs.Propagation.{IsOption}
 use Rattle.ul_trail.specs.Standing.{IsFresh}
 

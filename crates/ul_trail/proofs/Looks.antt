@@ -1,5 +1,5 @@
 -- What a look at a list of terms finds.
-use Rattle.std.proofs.Common.{◌≡◌, ℕ, zero, suc, ◌+◌, List, [], ◌∷◌, ◌++◌, Bool, true, false, Option, Some, None, refl, ap, ◌∙◌, sym, subst, ◌<◌, ◌≤◌, ◌⊎◌, inl, inr, arith, slice_get, get_or, length, take}
+use Rattle.std.proofs.Common.{◌≡◌, ℕ, zero, suc, ◌+◌, List, [], ◌∷◌, ◌++◌, true, false, Option, Some, None, refl, ap, ◌∙◌, sym, subst, ◌<◌, ◌⊎◌, inl, inr, slice_get, get_or, length, take}
 use Rattle.std.proofs.lemmas.Option.{none-some, same_Some, slice_get_read}
 use Rattle.std.specs.Option.{is_some}
 use Rattle.ul_problem.specs.declared.term.Term.{Term}
@@ -7,7 +7,7 @@ use Rattle.ul_problem.specs.declared.term.Relation.{Relation}
 use Rattle.ul_problem.specs.declared.term.Relation.TheVariants.{Holds, Fails, Unknown}
 use Rattle.ul_trail.specs.declared.fact.Fact.{Fact}
 use Rattle.ul_trail.specs.Facts.{IsHeld, IsFailed, AreHeld, AreHeldBut}
-use Rattle.ul_trail.specs.Standing.{IsCalm, IsPossible, IsToldBy}
+use Rattle.ul_trail.specs.Standing.{IsCalm, IsToldBy}
 use Rattle.ul_trail.specs.Findings.{IsLoose, IsSeen}
 use Rattle.ul_trail.proofs.Places.{take_next, take_whole}
 

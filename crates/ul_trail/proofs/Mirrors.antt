@@ -1,9 +1,9 @@
 -- What is known of each node.
-use Rattle.std.proofs.Common.{◌≡◌, ℕ, zero, suc, ◌+◌, List, [], ◌∷◌, ◌++◌, Bool, true, false, cond, not, Option, Some, None, refl, ap, ◌∙◌, sym, subst, ◌<◌, ◌≤◌, ◌⊎◌, inl, inr, arith, nat_eq, slice_get, get_or, length, take, slice_set, replicate, eq-eqb, length-append}
+use Rattle.std.proofs.Common.{◌≡◌, ℕ, zero, suc, ◌+◌, List, [], ◌∷◌, ◌++◌, Bool, true, false, cond, not, Option, Some, None, refl, ap, ◌∙◌, sym, subst, ◌<◌, inl, inr, arith, nat_eq, slice_get, get_or, length, take, slice_set, replicate, eq-eqb, length-append}
 use Rattle.std.proofs.lemmas.Bool.{ne_eqb}
 use Rattle.std.proofs.lemmas.List.{length-set}
 use Rattle.std.proofs.lemmas.Option.{slice_get_read, slice_get_within, same_Some}
-use Rattle.ul_ranges.specs.Flags.{has, both, either, less, is_blank}
+use Rattle.ul_ranges.specs.Flags.{has, both, less, is_blank}
 use Rattle.ul_ranges.proofs.ForCallers.{has-both, has-less, length-both, length-either, length-less, blank_some}
 use Rattle.ul_problem.specs.Terms.{node_of, set_of, allows, meet_of, relation_of, relation_from_of, IsTold}
 use Rattle.ul_problem.specs.declared.term.Term.{Term}
@@ -12,9 +12,9 @@ use Rattle.ul_problem.specs.declared.term.Relation.{Relation}
 use Rattle.ul_problem.specs.declared.term.Relation.TheVariants.{Holds, Fails, Unknown}
 use Rattle.ul_problem.proofs.ForCallers.{allows-meet, and_left', and_right', meet_node, relation_exact, has_within}
 use Rattle.ul_trail.specs.declared.fact.Fact.{Fact}
-use Rattle.ul_trail.specs.Facts.{is_open, IsHeld, IsFailed, IsMirror, IsAllowed}
+use Rattle.ul_trail.specs.Facts.{is_open, IsMirror, IsAllowed}
 use Rattle.ul_trail.specs.Propagation.{IsOption}
-use Rattle.ul_trail.specs.Standing.{IsSized, IsStanding, IsToldBy, IsPossible, versions_in}
+use Rattle.ul_trail.specs.Standing.{IsSized, IsStanding, IsToldBy, versions_in}
 use Rattle.ul_trail.proofs.Places.{set_cases, last_cases, take_front, take_whole, get_last, get_more}
 
 -- one more fact

@@ -1,7 +1,7 @@
 -- A trail whose facts have grown by forced ones.
-use Rattle.std.proofs.Common.{◌≡◌, ℕ, zero, suc, ◌+◌, List, [], ◌∷◌, ◌++◌, Bool, true, false, cond, Option, Some, None, refl, ap, ◌∙◌, sym, subst, ◌<◌, ◌≤◌, ◌⊎◌, inl, inr, arith, slice_get, get_or, length, take, max, append_assoc, length-append}
+use Rattle.std.proofs.Common.{◌≡◌, ℕ, zero, suc, ◌+◌, List, [], ◌∷◌, ◌++◌, true, Option, Some, None, refl, ap, ◌∙◌, sym, subst, ◌<◌, ◌≤◌, inl, inr, arith, slice_get, get_or, length, take, append_assoc, length-append}
 use Rattle.std.proofs.lemmas.List.{append-nil}
-use Rattle.std.proofs.lemmas.Option.{none-some, same_Some, slice_get_within}
+use Rattle.std.proofs.lemmas.Option.{none-some, slice_get_within}
 use Rattle.ul_problem.proofs.ForCallers.{said_place, said_of}
 use Rattle.ul_problem.specs.Terms.{node_of, allows, negation}
 use Rattle.ul_problem.specs.Plain.{Plain, size_of, size_in}
@@ -17,10 +17,10 @@ use Rattle.ul_trail.specs.declared.fact.Progress.TheVariants.{Quiet, Conflict}
 use Rattle.ul_trail.specs.declared.mark.Mark.{Mark}
 use Rattle.ul_trail.specs.Facts.{is_open, AreHeld, AreHeldBut, picks_of, pick_with, level_of, up_to, AreAt}
 use Rattle.ul_trail.specs.Counts.{sizes_of, size_list}
-use Rattle.ul_trail.specs.Propagation.{IsDerived, Follow, IsTrailOf, IsOption, IsNew, AreNewAfter, HasGrown, IsQuietAt, IsConflict, IsProgress, AreRaised, IsAlive, AreLater, IsBegun, root_facts}
-use Rattle.ul_trail.specs.Standing.{IsForced, AreForced, HasForced, IsCalm, HasConflict, IsFresh, IsSettled}
+use Rattle.ul_trail.specs.Propagation.{IsDerived, Follow, IsTrailOf, IsOption, AreNewAfter, HasGrown, IsProgress, AreRaised, IsAlive, AreLater, root_facts}
+use Rattle.ul_trail.specs.Standing.{IsForced, AreForced, HasForced, IsSettled}
 use Rattle.ul_trail.specs.Findings.{IsSpread}
-use Rattle.ul_trail.specs.Kept.{IsMark, AreMarks, HasPassed}
+use Rattle.ul_trail.specs.Kept.{IsMark, AreMarks}
 use Rattle.std.proofs.lemmas.Bool.{cases_eq}
 use Rattle.ul_trail.proofs.Places.{take_front, last_cases}
 use Rattle.ul_trail.proofs.Cuts.{open_push, negation_allows}

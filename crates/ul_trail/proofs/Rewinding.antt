@@ -1,10 +1,9 @@
 -- A trail that goes back, and one that holds more.
-use Rattle.std.proofs.Common.{◌≡◌, ℕ, zero, suc, ◌+◌, List, [], ◌∷◌, ◌++◌, Bool, true, false, cond, Option, Some, None, refl, ap, ◌∙◌, sym, subst, ◌<◌, ◌≤◌, ◌⊎◌, inl, inr, arith, slice_get, get_or, length, take, max, nat_le, append_assoc, length-append}
-use Rattle.std.proofs.lemmas.Bool.{cases_lt, le-leb, lt-leb}
+use Rattle.std.proofs.Common.{◌≡◌, ℕ, zero, suc, ◌+◌, List, [], ◌∷◌, ◌++◌, Bool, true, false, cond, Option, Some, refl, ap, ◌∙◌, sym, subst, ◌<◌, ◌≤◌, arith, slice_get, length, take, nat_le, append_assoc, length-append}
 use Rattle.std.proofs.lemmas.List.{append-nil}
-use Rattle.std.proofs.lemmas.Option.{none-some, same_Some, slice_get_within, slice_get_read}
-use Rattle.ul_problem.specs.Terms.{node_of, set_of, IsOrdered}
-use Rattle.ul_problem.specs.Plain.{Plain, size_of}
+use Rattle.std.proofs.lemmas.Option.{none-some, same_Some, slice_get_within}
+use Rattle.ul_problem.specs.Terms.{node_of, IsOrdered}
+use Rattle.ul_problem.specs.Plain.{Plain}
 use Rattle.ul_problem.specs.Problems.{IsWellFormed}
 use Rattle.ul_problem.specs.Best.{Picks, wanted}
 use Rattle.ul_problem.specs.Steps.{says, AreRightAfter, IsStepWithin, AreTermsOf, said_by}
@@ -16,10 +15,10 @@ use Rattle.ul_trail.specs.declared.fact.Fact.{Fact}
 use Rattle.ul_trail.specs.declared.mark.Mark.{Mark}
 use Rattle.ul_trail.specs.Facts.{is_open, picks_of, level_of, up_to, AreAt}
 use Rattle.ul_trail.specs.Counts.{sizes_of}
-use Rattle.ul_trail.specs.Propagation.{IsTrailOf, Follow, AreForbidden, AreRaised, IsAlive, AreLater, IsBegun, root_facts}
-use Rattle.ul_trail.specs.Standing.{IsSettled, IsSized, AreSized, AllSized}
+use Rattle.ul_trail.specs.Propagation.{IsTrailOf, Follow, AreForbidden, AreRaised, AreLater, root_facts}
+use Rattle.ul_trail.specs.Standing.{IsSettled, AreSized, AllSized}
 use Rattle.ul_trail.specs.Kept.{IsIndexed, HasPassed, IsMark, AreMarks, turns_of}
-use Rattle.ul_trail.proofs.Places.{take_front, take_whole, get_more, last_cases, take_next}
+use Rattle.ul_trail.proofs.Places.{take_next}
 use Rattle.ul_trail.proofs.Levels.{append_within, up_to-append, up_to-now, up_to-all, up_to-up_to}
 use Rattle.ul_trail.proofs.Keeping.{follow_back, right_join}
 use Rattle.ul_trail.proofs.Propagating.{sizes_length, sizes_at}

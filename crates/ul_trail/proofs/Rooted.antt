@@ -1,29 +1,27 @@
 -- A trail at its beginning.
-use Rattle.std.proofs.Common.{◌≡◌, ℕ, zero, suc, ◌+◌, List, [], ◌∷◌, ◌++◌, Bool, true, false, cond, not, Option, Some, None, refl, ap, ◌∙◌, sym, subst, ◌<◌, ◌≤◌, ◌⊎◌, inl, inr, arith, nat_eq, slice_get, get_or, length, take, replicate, max, append_assoc, length-append}
-use Rattle.std.proofs.lemmas.Bool.{cases_eq, cases_lt, ne_eqb, eqb-true, true≢false}
+use Rattle.std.proofs.Common.{◌≡◌, ℕ, zero, suc, ◌+◌, List, [], ◌∷◌, ◌++◌, Bool, true, false, cond, not, Option, Some, None, refl, ap, ◌∙◌, sym, subst, ◌<◌, ◌⊎◌, inl, inr, arith, nat_eq, slice_get, get_or, length, take, replicate, append_assoc, length-append}
+use Rattle.std.proofs.lemmas.Bool.{cases_eq, ne_eqb, eqb-true}
 use Rattle.std.proofs.lemmas.List.{append-nil}
-use Rattle.std.proofs.lemmas.Option.{none-some, same_Some, slice_get_within, slice_get-get_or}
+use Rattle.std.proofs.lemmas.Option.{none-some, same_Some, slice_get_within}
 use Rattle.ul_ranges.specs.Flags.{has}
-use Rattle.ul_problem.specs.Terms.{node_of, set_of, allows}
-use Rattle.ul_problem.specs.Plain.{Plain, node_at, size_of, needs_of}
+use Rattle.ul_problem.specs.Terms.{allows}
+use Rattle.ul_problem.specs.Plain.{Plain, size_of, needs_of}
 use Rattle.std.specs.List.{Contains}
 use Rattle.ul_problem.specs.Problems.{IsWellFormed, Increases, IncreasesFrom, PlaceBefore}
 use Rattle.ul_problem.specs.Best.{Picks, is_decided, wanted, targets}
 use Rattle.ul_problem.specs.declared.term.Term.{Term}
 use Rattle.ul_problem.specs.declared.term.Term.TheVariants.{In, NotIn}
-use Rattle.ul_problem.specs.declared.step.Step.{Step}
 use Rattle.ul_problem.specs.declared.problem.NodeFacts.{NodeFacts}
 use Rattle.ul_problem.proofs.ForCallers.{root_single, node_of_size, node_whole, place_one, at_head, in_rest, head_or_rest, in_none}
 use Rattle.ul_trail.specs.declared.fact.Fact.{Fact}
-use Rattle.ul_trail.specs.declared.mark.Mark.{Mark}
-use Rattle.ul_trail.specs.Facts.{is_open, one_of, first_of, picks_of, level_of, IsMirror}
+use Rattle.ul_trail.specs.Facts.{is_open, one_of, picks_of, level_of, IsMirror}
 use Rattle.ul_trail.specs.Counts.{size_list, sizes_of}
-use Rattle.ul_trail.specs.Propagation.{IsTrailOf, IsDerived, AreDerivedAfter, AreLevels, root_fact, root_facts}
-use Rattle.ul_trail.specs.Standing.{IsStanding, IsSettled, AllSized}
+use Rattle.ul_trail.specs.Propagation.{IsTrailOf, AreDerivedAfter, AreLevels, root_fact, root_facts}
+use Rattle.ul_trail.specs.Standing.{IsStanding}
 use Rattle.ul_trail.specs.Watched.{IsWatched}
-use Rattle.ul_trail.specs.Kept.{AreMarks, HasPassed}
+use Rattle.ul_trail.specs.Kept.{AreMarks}
 use Rattle.ul_trail.specs.Roots.{root_picks}
-use Rattle.ul_trail.proofs.Places.{last_cases, take_next, take_whole}
+use Rattle.ul_trail.proofs.Places.{last_cases, take_next}
 use Rattle.ul_trail.proofs.Following.{one_has, one_first}
 
 -- sizes

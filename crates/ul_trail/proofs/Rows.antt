@@ -1,12 +1,12 @@
 -- The rows of the nodes, with one more list.
-use Rattle.std.proofs.Common.{◌≡◌, ℕ, zero, suc, ◌+◌, List, [], ◌∷◌, ◌++◌, Bool, true, false, cond, Option, Some, None, refl, ap, ◌∙◌, sym, subst, ◌<◌, ◌≤◌, ◌⊎◌, inl, inr, arith, nat_eq, eq-eqb, slice_get, get_or, length, take, slice_set, append_assoc}
+use Rattle.std.proofs.Common.{◌≡◌, ℕ, zero, suc, ◌+◌, List, [], ◌∷◌, ◌++◌, Bool, true, false, cond, Some, refl, ap, ◌∙◌, sym, subst, ◌<◌, inl, inr, arith, nat_eq, eq-eqb, slice_get, get_or, length, take, slice_set}
 use Rattle.std.proofs.lemmas.Bool.{ne_eqb, cases_eq}
-use Rattle.std.proofs.lemmas.List.{append-nil, get_or-set_other, length-set}
+use Rattle.std.proofs.lemmas.List.{append-nil, get_or-set_other}
 use Rattle.std.proofs.lemmas.Grind.{get_or-set_at}
 use Rattle.std.proofs.lemmas.Option.{none-some, same_Some, slice_get_read, get_or_from_slice_get}
 use Rattle.ul_problem.specs.Terms.{node_of, IsOrdered, IsOrderedFrom}
 use Rattle.ul_problem.specs.declared.term.Term.{Term}
-use Rattle.ul_trail.specs.Watched.{IsWatched, has_term, places_from, places_on}
+use Rattle.ul_trail.specs.Watched.{IsWatched, has_term, places_from}
 use Rattle.ul_trail.proofs.Places.{take_next, take_whole}
 
 has_append : (n : ℕ) (xs : List Term) (t : Term) → has_term n (xs ++ t ∷ []) ≡ cond (has_term n xs) true (nat_eq (node_of t) n)

@@ -1,18 +1,17 @@
 -- What a look at one held list does, and what is still to be looked at.
-use Rattle.std.proofs.Common.{◌≡◌, ℕ, zero, suc, ◌+◌, List, [], ◌∷◌, ◌++◌, Bool, true, false, cond, Option, Some, None, refl, ap, ◌∙◌, sym, subst, ◌<◌, ◌≤◌, ◌⊎◌, inl, inr, arith, nat_eq, eq-eqb, slice_get, get_or, length, take, drop, append_assoc}
-use Rattle.std.proofs.lemmas.Bool.{ne_eqb, eqb-false, cases_eq}
-use Rattle.std.proofs.lemmas.List.{append-nil}
+use Rattle.std.proofs.Common.{◌≡◌, ℕ, zero, suc, ◌+◌, List, [], ◌∷◌, ◌++◌, Bool, true, false, cond, Some, refl, ap, ◌∙◌, sym, subst, ◌<◌, ◌≤◌, ◌⊎◌, inl, inr, arith, nat_eq, eq-eqb, slice_get, get_or, length}
+use Rattle.std.proofs.lemmas.Bool.{eqb-false, cases_eq}
 use Rattle.std.proofs.lemmas.Option.{none-some, same_Some, slice_get_read, slice_get_within}
 use Rattle.std.specs.List.{Contains}
 use Rattle.ul_problem.proofs.ForCallers.{at_head, in_rest, head_or_rest, in_none}
-use Rattle.ul_problem.specs.Terms.{node_of, set_of, allows, negation}
+use Rattle.ul_problem.specs.Terms.{node_of, set_of, negation}
 use Rattle.ul_problem.specs.declared.term.Term.{Term}
 use Rattle.ul_problem.specs.declared.term.Term.TheVariants.{In, NotIn}
 use Rattle.ul_trail.specs.declared.fact.Fact.{Fact}
-use Rattle.ul_trail.specs.Facts.{is_open, IsHeld, IsFailed, AreHeld, AreHeldBut}
-use Rattle.ul_trail.specs.Standing.{IsSized, AreSized, AllSized, IsCalm, IsPending, IsSettled, IsForced, AreForced, HasForced, HasConflict}
-use Rattle.ul_trail.specs.Watched.{has_term, places_from, places_on}
-use Rattle.ul_trail.specs.Findings.{IsLoose, IsCalmAt, HasForcedOne, IsSettlement}
+use Rattle.ul_trail.specs.Facts.{AreHeld, AreHeldBut}
+use Rattle.ul_trail.specs.Standing.{IsSized, AreSized, AllSized, IsCalm, IsPending, IsSettled, IsForced, HasConflict}
+use Rattle.ul_trail.specs.Watched.{has_term, places_from}
+use Rattle.ul_trail.specs.Findings.{IsLoose, IsCalmAt, HasForcedOne}
 use Rattle.ul_trail.proofs.Places.{get_more, get_last}
 use Rattle.ul_trail.proofs.Mirrors.{open_past}
 use Rattle.ul_trail.proofs.Levels.{append_within}

@@ -1,6 +1,6 @@
 -- A set of one version.
-use Rattle.std.proofs.Common.{◌≡◌, ℕ, zero, suc, List, [], ◌∷◌, Bool, true, false, cond, refl, ap, ◌∙◌, sym, subst, ◌<◌, ◌≤◌, ◌⊎◌, inl, inr, arith, length, eqb, eq-eqb, ◌||◌}
-use Rattle.std.proofs.lemmas.Bool.{cases_eq, cases_lt, true≢false, ne_eqb}
+use Rattle.std.proofs.Common.{◌≡◌, ℕ, zero, suc, List, [], ◌∷◌, Bool, true, false, refl, ap, ◌∙◌, sym, subst, ◌<◌, ◌≤◌, inl, inr, arith, length, eqb, eq-eqb, ◌||◌}
+use Rattle.std.proofs.lemmas.Bool.{cases_eq, cases_lt, ne_eqb}
 use Rattle.ul_ranges.specs.Flags.{has, set_of}
 use Rattle.ul_ranges.proofs.ForCallers.{same_sets, has-set_of, length-set_of}
 use Rattle.ul_problem.proofs.ForCallers.{has_within}

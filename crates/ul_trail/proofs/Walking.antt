@@ -1,5 +1,5 @@
 -- A walk over the row of a fact's node.
-use Rattle.std.proofs.Common.{◌≡◌, ℕ, zero, suc, ◌+◌, ◌-◌, ◌*◌, List, [], ◌∷◌, ◌++◌, Bool, true, false, cond, not, Option, Some, None, refl, ap, ◌∙◌, sym, subst, ◌<◌, ◌≤◌, ◌⊎◌, inl, inr, arith, slice_get, get_or, length, take, drop, append_assoc, length-append}
+use Rattle.std.proofs.Common.{◌≡◌, ℕ, suc, ◌+◌, ◌-◌, ◌*◌, List, [], ◌∷◌, ◌++◌, Bool, true, false, not, Option, Some, refl, ap, ◌∙◌, sym, subst, ◌<◌, ◌≤◌, ◌⊎◌, inl, inr, arith, slice_get, get_or, length, drop, append_assoc, length-append}
 use Rattle.std.proofs.lemmas.Bool.{cases_eq}
 use Rattle.std.proofs.lemmas.List.{append-nil}
 use Rattle.std.proofs.lemmas.Option.{same_Some, slice_get_read, slice_get-get_or, get_or_from_slice_get, slice_get_within}
@@ -12,7 +12,7 @@ use Rattle.ul_trail.specs.declared.fact.Fact.{Fact}
 use Rattle.ul_trail.specs.Counts.{open_in}
 use Rattle.ul_trail.specs.Facts.{is_open}
 use Rattle.ul_trail.specs.Propagation.{IsOption}
-use Rattle.ul_trail.specs.Standing.{IsCalm, IsPending, IsSettled, IsForced, AreForced, HasForced, HasConflict, IsFresh, IsPossible, AllSized, IsStanding}
+use Rattle.ul_trail.specs.Standing.{IsCalm, IsPending, IsSettled, IsForced, AreForced, HasForced, IsFresh, IsStanding}
 use Rattle.ul_trail.specs.Watched.{IsWatched, has_term, places_on}
 use Rattle.ul_trail.specs.Findings.{IsCalmAt, HasForcedOne, IsSettlement}
 use Rattle.ul_trail.proofs.Places.{drop_get}

@@ -3,7 +3,6 @@ use Rattle.std.specs.Prelude.{◌≡◌, ℕ, zero, suc, List, [], ◌∷◌, Bo
 use Rattle.ul_ranges.specs.Flags.{has}
 use Rattle.ul_problem.specs.Terms.{node_of, set_of, allows}
 use Rattle.ul_problem.specs.declared.term.Term.{Term}
-use Rattle.ul_problem.specs.declared.term.Term.TheVariants.{In, NotIn}
 use Rattle.ul_trail.specs.declared.fact.Fact.{Fact}
 
 -- no fact excludes the option of the node: a version, or being absent

@@ -1,7 +1,6 @@
 -- The steps that a problem gives.
 use Rattle.std.specs.Prelude.{ℕ, zero, suc, List, [], ◌∷◌, ◌++◌, Bool, cond, Option, Some, None, slice_get, get_or, length}
 use Rattle.ul_ranges.specs.Flags.{is_blank}
-use Rattle.ul_problem.specs.Plain.{Plain}
 use Rattle.ul_problem.specs.declared.problem.Need.{Need}
 use Rattle.ul_problem.specs.declared.problem.NodeFacts.{NodeFacts}
 use Rattle.ul_problem.specs.declared.step.Step.{Step}

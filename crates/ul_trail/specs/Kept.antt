@@ -1,5 +1,5 @@
 -- What a trail keeps.
-use Rattle.std.specs.Prelude.{◌≡◌, ℕ, List, [], ◌∷◌, Bool, true, false, Option, Some, None, ◌<◌, ◌≤◌, slice_get, get_or, length, take}
+use Rattle.std.specs.Prelude.{◌≡◌, ℕ, List, [], ◌∷◌, true, Some, ◌<◌, ◌≤◌, slice_get, get_or, length, take}
 use Rattle.ul_problem.specs.Best.{Picks, is_decided}
 use Rattle.ul_problem.specs.declared.term.Term.{Term}
 use Rattle.ul_trail.specs.declared.fact.Fact.{Fact}

@@ -1,6 +1,6 @@
 -- The laws of the trail.
 use Rattle.std.specs.Prelude.{◌≡◌, ℕ, List, [], ◌∷◌, ◌++◌, false, Some, None, ◌≤◌}
-use Rattle.ul_problem.specs.Terms.{Selection, holds, node_of, term_on, IsOrdered, negation}
+use Rattle.ul_problem.specs.Terms.{Selection, node_of, term_on, IsOrdered, negation}
 use Rattle.ul_problem.specs.Plain.{Plain}
 use Rattle.ul_problem.specs.Serving.{Serves}
 use Rattle.ul_problem.specs.Best.{Agrees, Extends, IsChain, next_of, version_in}

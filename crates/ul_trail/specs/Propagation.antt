@@ -1,17 +1,17 @@
 -- When a trail is one of a problem's, and what propagation makes of it.
-use Rattle.std.specs.Prelude.{◌≡◌, ℕ, suc, ◌+◌, List, [], ◌∷◌, ◌++◌, Bool, true, false, Option, Some, None, ◌<◌, ◌≤◌, slice_get, length, take, ◌⊎◌}
-use Rattle.ul_problem.specs.Terms.{Selection, node_of, allows, holds, all_hold, negation}
+use Rattle.std.specs.Prelude.{◌≡◌, ℕ, List, [], ◌∷◌, ◌++◌, true, false, Option, Some, None, ◌<◌, ◌≤◌, slice_get, length, take}
+use Rattle.ul_problem.specs.Terms.{Selection, node_of, allows, holds, negation}
 use Rattle.ul_problem.specs.Plain.{Plain, size_of}
 use Rattle.ul_problem.specs.Serving.{Serves, Forbids}
-use Rattle.ul_problem.specs.Steps.{says, IsRight, AreRightAfter, said_by}
+use Rattle.ul_problem.specs.Steps.{says, AreRightAfter, said_by}
 use Rattle.ul_problem.specs.declared.term.Term.{Term}
-use Rattle.ul_problem.specs.declared.term.Term.TheVariants.{In, NotIn}
+use Rattle.ul_problem.specs.declared.term.Term.TheVariants.{In}
 use Rattle.ul_problem.specs.declared.step.Step.{Step}
 use Rattle.ul_trail.specs.Track.{Track}
 use Rattle.ul_trail.specs.declared.fact.Progress.{Progress}
 use Rattle.ul_trail.specs.declared.fact.Progress.TheVariants.{Quiet, Conflict}
 use Rattle.ul_trail.specs.declared.fact.Fact.{Fact}
-use Rattle.ul_trail.specs.Facts.{is_open, IsHeld, IsFailed, AreHeld, AreHeldBut, one_of, picks_of, level_of, up_to}
+use Rattle.ul_trail.specs.Facts.{is_open, IsFailed, AreHeld, AreHeldBut, one_of, picks_of, level_of, up_to}
 use Rattle.ul_trail.specs.Counts.{sizes_of}
 use Rattle.ul_problem.specs.Best.{wanted, Agrees}
 

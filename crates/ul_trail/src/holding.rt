@@ -2,8 +2,7 @@
 ghost use Rattle.std.specs.Prelude.{◌≡◌, ◌≤◌, ◌<◌, ◌++◌, ℕ, Some, length, slice_get, take, IfOk};
 ghost use Rattle.ul_problem.specs.Steps.{IsStepWithin};
 ghost use Rattle.ul_problem.specs.declared.step.Step.{Step};
-ghost use Rattle.ul_problem.specs.Steps.{said_by};
-ghost use Rattle.ul_trail.specs.Parts.{Stands, Watches};
+ghost use Rattle.ul_trail.specs.Parts.{HoldsMore, Stands, Watches};
 
 use crate::standing::Standing;
 use crate::watching::Watching;
@@ -22,7 +21,7 @@ pub fn hold(
     requires within { (k : ℕ) (s : Step) → slice_get steps.now k ≡ Some s → IsStepWithin problem.now s }
     ensures watched { IfOk result (λ _. Watches watching.new) }
     ensures width { IfOk result (λ _. length watching.new.rows.items ≡ length watching.old.rows.items) }
-    ensures terms { IfOk result (λ _. watching.new.terms.items ≡ watching.old.terms.items ++ said_by problem.now steps.now) }
+    ensures terms { IfOk result (λ _. HoldsMore problem.now steps.now watching.old watching.new) }
 {
     for step in steps {
         let incompat = step.says(alloc, problem)?;

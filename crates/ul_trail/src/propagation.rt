@@ -6,7 +6,7 @@ ghost use Rattle.ul_trail.specs.Counts.{open_in};
 ghost use Rattle.ul_trail.specs.declared.fact.Fact.{Fact};
 ghost use Rattle.ul_trail.specs.Standing.{AreSized, AllSized, IsSettled};
 ghost use Rattle.ul_trail.specs.Findings.{IsFinding, IsWalked, IsSpread};
-ghost use Rattle.ul_trail.specs.Parts.{Stands, Watches, Grows, Settles};
+ghost use Rattle.ul_trail.specs.Parts.{Grows, IsSettledBy, IsWalkedBy, Settles, Stands, Watches};
 
 use crate::fact::{Fact, Progress};
 use crate::standing::Standing;
@@ -105,11 +105,11 @@ fn walk(
     requires sized { AllSized standing.old.sizes.items watching.now.terms.items }
     requires seen { cursor.seen < length standing.old.facts.items }
     requires checked { cursor.checked ≤ length watching.now.terms.items }
-    requires settled { IsSettled standing.old.facts.items watching.now.terms.items cursor.seen cursor.checked }
+    requires settled { IsSettledBy watching.now standing.old cursor }
     ensures standing { IfOk result (λ _. Stands standing.new) }
     ensures sizes { IfOk result (λ _. standing.new.sizes.items ≡ standing.old.sizes.items) }
     ensures grown { IfOk result (λ _. Grows watching.now level standing.old standing.new) }
-    ensures walked { IfOk result (λ r. IsWalked watching.now.terms.items cursor.seen cursor.checked standing.new.facts.items r) }
+    ensures walked { IfOk result (λ r. IsWalkedBy watching.now standing.new cursor r) }
 {
     let node = standing.facts[cursor.seen].term.node() as usize;
     let row = watching.rows[node].as_vec().as_slice();
@@ -142,13 +142,13 @@ pub fn spread(
     requires sized { AllSized standing.old.sizes.items watching.now.terms.items }
     requires seen { cursor.old.seen ≤ length standing.old.facts.items }
     requires checked { cursor.old.checked ≤ length watching.now.terms.items }
-    requires settled { IsSettled standing.old.facts.items watching.now.terms.items cursor.old.seen cursor.old.checked }
+    requires settled { IsSettledBy watching.now standing.old cursor.old }
     ensures standing { IfOk result (λ _. Stands standing.new) }
     ensures sizes { IfOk result (λ _. standing.new.sizes.items ≡ standing.old.sizes.items) }
     ensures grown { IfOk result (λ _. Grows watching.now level standing.old standing.new) }
     ensures seen { IfOk result (λ _. cursor.new.seen ≤ length standing.new.facts.items) }
     ensures checked { IfOk result (λ _. cursor.new.checked ≤ length watching.now.terms.items) }
-    ensures settled { IfOk result (λ _. IsSettled standing.new.facts.items watching.now.terms.items cursor.new.seen cursor.new.checked) }
+    ensures settled { IfOk result (λ _. IsSettledBy watching.now standing.new cursor.new) }
     ensures progress { IfOk result (λ r. IsSpread watching.now.terms.items standing.new.facts.items r) }
 {
     let mut now = *cursor;

@@ -6,7 +6,7 @@ ghost use Rattle.ul_trail.specs.Counts.{sizes_of};
 ghost use Rattle.ul_trail.specs.Propagation.{root_fact, root_facts};
 ghost use Rattle.ul_trail.specs.Standing.{IsStanding};
 ghost use Rattle.ul_trail.specs.Watched.{IsWatched};
-ghost use Rattle.ul_trail.specs.Parts.{Stands};
+ghost use Rattle.ul_trail.specs.Parts.{AppendsRoot, AsksNeeds, Stands};
 ghost use Rattle.ul_trail.specs.Kept.{IsIndexed};
 ghost use Rattle.ul_trail.specs.Roots.{root_picks};
 
@@ -81,11 +81,11 @@ fn plant_one(
     requires undecided { is_decided root asked.old.picks.items ≡ false }
     ensures standing { IfOk result (λ _. Stands standing.new) }
     ensures sizes { IfOk result (λ _. standing.new.sizes.items ≡ standing.old.sizes.items) }
-    ensures facts { IfOk result (λ _. standing.new.facts.items ≡ standing.old.facts.items ++ root_fact problem.now root ∷ []) }
+    ensures facts { IfOk result (λ _. AppendsRoot problem.now root standing.old standing.new) }
     ensures picks { IfOk result (λ _. asked.new.picks.items ≡ asked.old.picks.items ++ (root, 0) ∷ []) }
     ensures indexed { IfOk result (λ _. IsIndexed asked.new.picks.items asked.new.positions.items) }
     ensures positions { IfOk result (λ _. length asked.new.positions.items ≡ length asked.old.positions.items) }
-    ensures queue { IfOk result (λ _. asked.new.queue.items ≡ asked.old.queue.items ++ targets (needs_of problem.now root 0)) }
+    ensures queue { IfOk result (λ _. AsksNeeds problem.now root asked.old asked.new) }
 {
     let term = decision(problem.size_at(root), root, 0);
     let needs = problem.needs_at(root, 0);

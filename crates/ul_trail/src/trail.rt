@@ -10,7 +10,7 @@ ghost use Rattle.ul_trail.specs.Headline.{IsPropagated};
 ghost use Rattle.ul_trail.specs.Propagation.{IsTrailOf, AreForbidden, root_facts};
 ghost use Rattle.ul_trail.specs.First.{first_steps};
 ghost use Rattle.ul_trail.specs.Parts.{IsOpenBefore};
-ghost use Rattle.ul_trail.specs.Moves.{HasSteps, decision_at};
+ghost use Rattle.ul_trail.specs.Moves.{AppendsDecision, HasSteps};
 
 use crate::asking::{ask, first_undecided};
 use crate::beginning::steps_of;
@@ -186,7 +186,7 @@ impl Trail {
         requires open { is_open self.old.facts node (Some version) ≡ true }
         ensures kept { IfOk result (λ _. IsTrailOf problem.now self.new) }
         ensures steps { IfOk result (λ _. self.new.steps ≡ self.old.steps) }
-        ensures facts { IfOk result (λ _. self.new.facts ≡ self.old.facts ++ decision_at problem.now self.old.facts node version ∷ []) }
+        ensures facts { IfOk result (λ _. AppendsDecision problem.now node version self.old.facts self.new.facts) }
     {
         let needs = problem.needs_at(node, version);
         let term = decision(problem.size_at(node), node, version);

@@ -1,4 +1,4 @@
-use Rattle.std.proofs.Common.{◌≡◌, ℕ, ◌-◌, arith, refl}
+use Rattle.std.proofs.Common.{◌-◌}
 use Rattle.ul_conflict.proofs.Turning.{jump_here, jumped, cause_of, cause_fits, cause_terms, cut_here, IsJump}
 use Rattle.ul_conflict.proofs.Rooting.{closed_none, closed_root}
 use Rattle.ul_conflict.proofs.analysis.advance.Goals as goal

@@ -1,7 +1,5 @@
-use Rattle.std.proofs.Common.{◌≡◌, ◌∙◌, ◌++◌, ◌≤◌, ◌+◌, ℕ, ap, subst, sym, List, length, length-append, arith, []}
-use Rattle.ul_problem.specs.Steps.{AreRightAfter}
+use Rattle.std.proofs.Common.{◌∙◌, ◌++◌, subst, sym, List, length-append, arith}
 use Rattle.ul_problem.specs.declared.step.Step.{Step}
-use Rattle.ul_conflict.specs.Needed.{ClosesAt}
 use Rattle.ul_conflict.proofs.Turning.{ended, IsEnd}
 use Rattle.ul_conflict.proofs.analysis.closed.Goals as goal
 

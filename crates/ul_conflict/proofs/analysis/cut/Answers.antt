@@ -1,7 +1,7 @@
 use Rattle.ul_conflict.specs.declared.analysis.Resolvent.{Resolvent}
-use Rattle.std.proofs.Common.{add-one, refl, inl, inr, List, length, length-append, ◌++◌, ◌∷◌, [], ◌+◌, ◌≡◌, ap, subst, sym, ◌∙◌, arith}
+use Rattle.std.proofs.Common.{add-one, inl, inr, List, length, length-append, ◌++◌, ◌∷◌, [], ◌+◌, ◌≡◌, ap, subst, sym, ◌∙◌, arith}
 use Rattle.std.proofs.lemmas.Option.{same_Some}
-use Rattle.ul_problem.specs.Steps.{IsResolvent, AreTermsOf}
+use Rattle.ul_problem.specs.Steps.{IsResolvent}
 use Rattle.ul_problem.specs.declared.term.Term.{Term}
 use Rattle.ul_problem.specs.declared.step.Step.{Step}
 use Rattle.ul_problem.specs.declared.step.Step.TheVariants.{Cut}

@@ -1,4 +1,4 @@
-use Rattle.std.proofs.Common.{◌≡◌, ◌∙◌, ◌≤◌, ◌<◌, ap, arith, length, List}
+use Rattle.std.proofs.Common.{◌≡◌, ◌∙◌, ap, arith, length, List}
 use Rattle.ul_problem.specs.declared.step.Step.{Step}
 use Rattle.ul_conflict.proofs.Turning.{jump_new, jump_again}
 use Rattle.ul_conflict.proofs.analysis.jump.Goals as goal

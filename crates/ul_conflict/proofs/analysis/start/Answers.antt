@@ -1,4 +1,4 @@
-use Rattle.std.proofs.Common.{◌≡◌, suc, ◌<◌, arith, ap, sym, subst, length, List, []}
+use Rattle.std.proofs.Common.{◌≡◌, suc, ◌<◌, arith, ap, sym, subst, length, List}
 use Rattle.ul_problem.specs.declared.step.Step.{Step}
 use Rattle.ul_conflict.specs.Resolved.{IsResolved}
 use Rattle.ul_conflict.proofs.Turning.{started}

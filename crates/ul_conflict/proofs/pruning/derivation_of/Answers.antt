@@ -1,4 +1,4 @@
-use Rattle.std.proofs.Common.{◌≡◌, ◌∙◌, ◌++◌, ◌<◌, ap, subst, sym, List, [], Bool, ℕ, length, arith}
+use Rattle.std.proofs.Common.{◌++◌, ap, subst, sym, List, [], ℕ, length, arith}
 use Rattle.ul_problem.specs.Steps.{Accepts}
 use Rattle.ul_problem.specs.declared.step.Step.{Step}
 use Rattle.ul_conflict.specs.Pruned.{IsPruned}

@@ -1,5 +1,4 @@
-use Rattle.std.proofs.Common.{◌≡◌, ◌∙◌, ◌++◌, ap, subst, sym, refl, List, ℕ, Bool, length, slice_get, Some, true, arith, ◌<◌}
-use Rattle.ul_problem.specs.declared.step.Step.{Step}
+use Rattle.std.proofs.Common.{◌≡◌, ◌++◌, subst, sym, ℕ, length, slice_get, Some, arith, ◌<◌}
 use Rattle.ul_conflict.specs.Needed.{IsMarked}
 use Rattle.ul_conflict.proofs.PrunedSteps.{pruned_keep, marked_read}
 use Rattle.ul_conflict.proofs.pruning.turn.Goals as goal

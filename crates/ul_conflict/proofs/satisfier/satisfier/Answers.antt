@@ -1,5 +1,4 @@
-use Rattle.std.proofs.Common.{subst, arith, ◌-◌, ℕ, ◌<◌}
-use Rattle.ul_conflict.specs.Satisfiers.{IsPart}
+use Rattle.std.proofs.Common.{arith}
 use Rattle.ul_conflict.proofs.Satisfying.{down_step, part_here}
 use Rattle.ul_conflict.proofs.satisfier.satisfier.Goals as goal
 

@@ -1,4 +1,4 @@
-use Rattle.std.proofs.Common.{◌≤◌, ℕ, take}
+use Rattle.std.proofs.Common.{◌≤◌, take}
 use Rattle.ul_conflict.specs.Satisfiers.{IsHeldApart}
 use Rattle.ul_conflict.proofs.satisfier.satisfier.Given as goal
 

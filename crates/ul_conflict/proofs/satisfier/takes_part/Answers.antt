@@ -1,4 +1,3 @@
-use Rattle.std.proofs.Common.{◌≡◌, ℕ, Some, subst, sym, ◌∙◌, refl}
 use Rattle.ul_conflict.proofs.Satisfying.{skip_apart, fact_at, term_size, part_yes, part_held, part_none}
 use Rattle.ul_conflict.proofs.satisfier.takes_part.Goals as goal
 

@@ -1,4 +1,3 @@
-use Rattle.std.proofs.Common.{◌≡◌}
 use Rattle.ul_trail.specs.Counts.{sizes_of}
 use Rattle.ul_trail.specs.Propagation.{IsProgress}
 use Rattle.ul_solver.specs.State.{IsState, measure_of}

@@ -1,6 +1,6 @@
 use Rattle.std.proofs.Common.{refl, length, ◌∙◌}
 use Rattle.std.proofs.lemmas.Option.{slice_get_read}
-use Rattle.ul_trail.proofs.Rewinding.{held_nodes, held_ordered, held_next}
+use Rattle.ul_trail.proofs.Rewinding.{held_nodes, held_next}
 use Rattle.ul_trail.proofs.holding.hold.Goals as goal
 
 pub push-requires-clause-nodes : goal.push-requires-clause-nodes

@@ -1,4 +1,4 @@
-use Rattle.std.proofs.Common.{arith, subst, take, sym, Option, Some, None, ◌<◌, ◌≡◌, length, ℕ}
+use Rattle.std.proofs.Common.{arith, subst}
 use Rattle.ul_trail.specs.Findings.{IsSeen}
 use Rattle.ul_trail.proofs.Looks.{failed_here, two_here, held_here, loose_here, seen_all}
 use Rattle.ul_trail.proofs.propagation.examine.Goals as goal

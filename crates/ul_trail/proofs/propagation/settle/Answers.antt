@@ -1,6 +1,6 @@
-use Rattle.std.proofs.Common.{arith, subst, sym, inl, inr, ◌<◌, ◌≡◌, length, ℕ, refl}
+use Rattle.std.proofs.Common.{subst, inl, inr, refl}
 use Rattle.ul_trail.specs.Findings.{IsFinding}
-use Rattle.ul_trail.proofs.Settling.{list_sized, settled_held, settled_calm, loose_sized, settled_forced}
+use Rattle.ul_trail.proofs.Settling.{settled_held, settled_calm, loose_sized, settled_forced}
 use Rattle.ul_trail.proofs.propagation.settle.Goals as goal
 
 pub push-requires-clause-sized : goal.push-requires-clause-sized

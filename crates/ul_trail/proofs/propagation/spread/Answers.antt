@@ -1,9 +1,8 @@
-use Rattle.std.proofs.Common.{◌≡◌, ℕ, suc, ◌<◌, ◌≤◌, ◌+◌, Option, List, Bool, false, length, arith, subst, sym, ◌∙◌, add-one}
-use Rattle.ul_trail.specs.declared.fact.Fact.{Fact}
+use Rattle.std.proofs.Common.{ℕ, ◌≤◌, List, Bool, false, length, arith, subst, sym, ◌∙◌, add-one}
 use Rattle.ul_problem.specs.declared.term.Term.{Term}
 use Rattle.ul_trail.specs.Standing.{HasForced, IsSettled}
 use Rattle.ul_trail.specs.Findings.{IsWalked, IsSettlement}
-use Rattle.ul_trail.proofs.Walking.{forced_join, grown_room, walk_less, settle_less, settlement_forced, settlement_settled, all_calm, HasRoom}
+use Rattle.ul_trail.proofs.Walking.{forced_join, grown_room, walk_less, settle_less, settlement_forced, settlement_settled, all_calm}
 use Rattle.ul_trail.proofs.propagation.spread.Goals as goal
 
 walked-grown : (c : goal.After-struct_known-then-now-len-1) → HasForced c.args.standing.now.sizes.items c.args.watching.now.terms.items c.args.level c.loop-now.standing.facts.items c.walk.new.standing.facts.items

@@ -1,4 +1,4 @@
-use Rattle.std.proofs.Common.{refl, ◌∙◌, sym, subst, get_or, List}
+use Rattle.std.proofs.Common.{refl, ◌∙◌, subst, get_or, List}
 use Rattle.ul_problem.specs.declared.term.Term.{Term}
 use Rattle.ul_trail.specs.Findings.{IsSettlement}
 use Rattle.ul_trail.proofs.Walking.{row_is, walks_start, walks_next_as, row_place}

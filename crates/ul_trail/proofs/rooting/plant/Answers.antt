@@ -1,4 +1,4 @@
-use Rattle.std.proofs.Common.{◌≡◌, ℕ, List, refl, length, take, slice_get, Some, false, get_or, subst, sym, ◌∙◌}
+use Rattle.std.proofs.Common.{◌≡◌, ℕ, List, take, slice_get, Some, false, get_or, subst, sym, ◌∙◌}
 use Rattle.std.proofs.lemmas.Option.{slice_get-get_or}
 use Rattle.ul_problem.specs.Best.{Picks, is_decided}
 use Rattle.ul_trail.specs.Roots.{root_picks}

@@ -1,4 +1,4 @@
-use Rattle.std.proofs.Common.{◌≡◌, ℕ, List, ◌++◌, ◌∷◌, [], slice_set, length, arith, subst, sym, ◌∙◌}
+use Rattle.std.proofs.Common.{◌≡◌, ℕ, ◌++◌, ◌∷◌, [], slice_set, length, arith, subst, sym}
 use Rattle.ul_problem.specs.Best.{Picks}
 use Rattle.ul_trail.specs.Kept.{IsIndexed}
 use Rattle.ul_trail.proofs.Decisions.{decision_sized, indexed_push}

@@ -1,8 +1,8 @@
-use Rattle.std.proofs.Common.{◌≡◌, ℕ, List, [], ◌++◌, true, length, arith, ap, subst, sym, ◌∙◌, refl}
+use Rattle.std.proofs.Common.{◌≡◌, ℕ, List, [], ◌++◌, true, length, arith, ap, subst, sym, ◌∙◌}
 use Rattle.std.proofs.lemmas.Option.{none-some}
 use Rattle.ul_problem.specs.declared.term.Term.{Term}
 use Rattle.ul_problem.specs.declared.step.Step.{Step}
-use Rattle.ul_problem.specs.Best.{Picks, wanted}
+use Rattle.ul_problem.specs.Best.{wanted}
 use Rattle.ul_problem.proofs.ForCallers.{root_single}
 use Rattle.ul_trail.specs.Track.{Track}
 use Rattle.ul_trail.specs.Facts.{level_of, picks_of}
@@ -11,7 +11,7 @@ use Rattle.ul_trail.specs.Propagation.{IsTrailOf, root_facts}
 use Rattle.ul_trail.specs.Roots.{root_picks}
 use Rattle.ul_trail.specs.Standing.{AllSized}
 use Rattle.ul_trail.specs.Watched.{IsWatched}
-use Rattle.ul_trail.specs.Kept.{IsKept, AreMarks, turns_of}
+use Rattle.ul_trail.specs.Kept.{AreMarks, turns_of}
 use Rattle.ul_trail.specs.declared.fact.Fact.{Fact}
 use Rattle.ul_trail.specs.declared.mark.Mark.{Mark}
 use Rattle.ul_trail.proofs.Propagating.{sizes_length}

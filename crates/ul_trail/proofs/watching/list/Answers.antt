@@ -1,4 +1,4 @@
-use Rattle.std.proofs.Common.{arith, refl, sym, ◌∙◌, ℕ, ◌<◌, length, ◌≡◌}
+use Rattle.std.proofs.Common.{arith, refl, ◌∙◌, length}
 use Rattle.std.proofs.lemmas.List.{length-set}
 use Rattle.std.proofs.lemmas.Option.{slice_get_read}
 use Rattle.ul_trail.proofs.Rows.{listed_next, listed_all}

@@ -1,9 +1,5 @@
-use Rattle.std.proofs.Common.{◌≡◌, ℕ, subst, sym, ◌∙◌, get_or, arith}
-use Rattle.ul_problem.specs.Terms.{relation_of, node_of}
-use Rattle.ul_problem.proofs.ForCallers.{relation_exact}
-use Rattle.ul_problem.specs.declared.term.Relation.{Relation}
-use Rattle.std.specs.Prelude.{Result, Ok, Err, IfOk}
-use Rattle.ul_trail.specs.Standing.{IsToldBy}
+use Rattle.std.proofs.Common.{◌≡◌, ℕ, subst, sym, ◌∙◌, get_or}
+use Rattle.ul_problem.specs.Terms.{node_of}
 use Rattle.ul_trail.proofs.Mirrors.{known_at, told}
 use Rattle.ul_trail.proofs.standing.Standing.told.Goals as goal
 

@@ -1,4 +1,4 @@
-use Rattle.std.proofs.Common.{◌≡◌, ℕ, List, true, length, get_or, arith, ap, subst, sym, ◌∙◌}
+use Rattle.std.proofs.Common.{◌≡◌, ℕ, List, length, get_or, arith, ap, subst, ◌∙◌}
 use Rattle.ul_problem.specs.Plain.{size_of}
 use Rattle.ul_problem.proofs.ForCallers.{ok_then}
 use Rattle.ul_trail.specs.Track.{Track}

@@ -1,4 +1,4 @@
-use Rattle.std.proofs.Common.{◌≡◌, ℕ, List, true, arith, ap, subst, sym, ◌∙◌, take, get_or, slice_get, Some, ◌<◌, length}
+use Rattle.std.proofs.Common.{◌≡◌, ap, subst, sym, ◌∙◌, take, get_or, slice_get, Some, ◌<◌, length}
 use Rattle.ul_problem.specs.Terms.{node_of}
 use Rattle.ul_trail.specs.Track.{Track}
 use Rattle.ul_trail.specs.Facts.{IsMirror}

@@ -1,9 +1,8 @@
-use Rattle.std.proofs.Common.{◌≡◌, List, [], ◌++◌, length, subst, sym, ◌∙◌, ap}
+use Rattle.std.proofs.Common.{List, [], ◌++◌, subst, sym, ◌∙◌, ap}
 use Rattle.ul_problem.specs.Steps.{AreRightAfter}
 use Rattle.ul_problem.specs.declared.step.Step.{Step}
 use Rattle.ul_trail.specs.Propagation.{AreForbidden}
 use Rattle.ul_trail.specs.Moves.{HasSteps}
-use Rattle.ul_trail.specs.First.{first_steps}
 use Rattle.ul_trail.proofs.Firsts.{first_has, first_are_right, first_are_forbidden}
 use Rattle.ul_trail.proofs.trail.Trail.begin.Goals as goal
 

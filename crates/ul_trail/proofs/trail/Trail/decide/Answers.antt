@@ -1,4 +1,4 @@
-use Rattle.std.proofs.Common.{◌≡◌, ℕ, List, [], ◌∷◌, ◌++◌, ◌+◌, ◌<◌, ◌≤◌, suc, true, false, length, length-append, arith, ap, subst, sym, ◌∙◌, refl, None, Some, Option, slice_set}
+use Rattle.std.proofs.Common.{◌≡◌, ℕ, List, [], ◌∷◌, ◌++◌, ◌+◌, ◌<◌, ◌≤◌, suc, true, false, length, length-append, arith, ap, subst, sym, ◌∙◌, refl, None, Some, slice_set}
 use Rattle.ul_problem.specs.Terms.{node_of}
 use Rattle.ul_problem.specs.declared.term.Term.{Term}
 use Rattle.ul_problem.specs.declared.term.Term.TheVariants.{In}

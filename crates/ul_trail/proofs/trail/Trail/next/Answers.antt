@@ -1,4 +1,4 @@
-use Rattle.std.proofs.Common.{◌≡◌, ℕ, List, ◌++◌, true, ap, sym, ◌∙◌, arith}
+use Rattle.std.proofs.Common.{◌≡◌, ℕ, List, ◌++◌, ap, ◌∙◌}
 use Rattle.ul_problem.specs.Best.{Picks, first_open, wanted}
 use Rattle.ul_trail.specs.Track.{Track}
 use Rattle.ul_trail.specs.Facts.{picks_of}

@@ -1,8 +1,6 @@
-use Rattle.std.proofs.Common.{◌≡◌, ℕ, List, true, length, arith, ap, subst, sym, ◌∙◌, refl}
-use Rattle.ul_problem.specs.declared.term.Term.{Term}
+use Rattle.std.proofs.Common.{◌≡◌, ℕ, List, true, length, arith, ap, subst, sym, ◌∙◌}
 use Rattle.ul_trail.specs.Track.{Track}
 use Rattle.ul_trail.specs.Facts.{level_of}
-use Rattle.ul_trail.specs.Counts.{sizes_of}
 use Rattle.ul_trail.specs.Propagation.{IsTrailOf, HasGrown}
 use Rattle.ul_trail.specs.Standing.{HasForced, AllSized}
 use Rattle.ul_trail.specs.Kept.{IsKept, turns_of}

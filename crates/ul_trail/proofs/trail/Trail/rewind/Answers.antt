@@ -1,6 +1,5 @@
-use Rattle.std.proofs.Common.{◌≡◌, ℕ, List, Bool, [], ◌∷◌, ◌++◌, ◌+◌, ◌<◌, ◌≤◌, suc, true, length, take, slice_get, Some, arith, ap, subst, sym, ◌∙◌, refl}
+use Rattle.std.proofs.Common.{◌≡◌, ℕ, List, Bool, true, length, take, slice_get, Some, arith, ap, subst, sym, ◌∙◌, refl}
 use Rattle.std.proofs.lemmas.Option.{slice_get_read}
-use Rattle.ul_problem.specs.declared.term.Term.{Term}
 use Rattle.ul_problem.specs.Best.{Picks}
 use Rattle.ul_trail.specs.Track.{Track}
 use Rattle.ul_trail.specs.Facts.{level_of, picks_of, up_to}
@@ -10,7 +9,7 @@ use Rattle.ul_trail.specs.Kept.{IsKept, AreMarks, HasPassed, IsIndexed, IsMark, 
 use Rattle.ul_trail.specs.declared.fact.Fact.{Fact}
 use Rattle.ul_trail.specs.declared.mark.Mark.{Mark}
 use Rattle.ul_trail.proofs.Levels.{up_to-all}
-use Rattle.ul_trail.proofs.Rewinding.{take_length, turns_take, turns_at, turns_length, turns_rise_of, indexed_take, marks_take, trail_back_to}
+use Rattle.ul_trail.proofs.Rewinding.{take_length, turns_take, turns_at, turns_rise_of, indexed_take, marks_take, trail_back_to}
 use Rattle.ul_trail.proofs.trail.Trail.rewind.Goals as goal
 
 pub unwind-requires-clause-count : goal.unwind-requires-clause-count

@@ -1,4 +1,4 @@
-use Rattle.std.proofs.Common.{◌≡◌, ℕ, List, [], true, length, get_or, arith, ap, subst, sym, refl, ◌∙◌, ◌<◌}
+use Rattle.std.proofs.Common.{[], length, ap, subst, sym, refl, ◌∙◌, ◌<◌}
 use Rattle.std.proofs.lemmas.Option.{slice_get_read, get_or_from_slice_get}
 use Rattle.ul_trail.specs.Track.{Track}
 use Rattle.ul_trail.specs.Watched.{places_on}
