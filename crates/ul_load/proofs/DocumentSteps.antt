@@ -1,0 +1,31 @@
+-- One document, and what its definition says of it.
+use Rattle.std.proofs.Common.{◌≡◌, ℕ, List, Option, Some, None, IfSome, Result, Ok, Err, ap, ◌∙◌}
+use Rattle.ul_requirement.specs.Fields.{PackageFields}
+use Rattle.ul_index.specs.Documents.{DocumentFault}
+use Rattle.ul_load.specs.Faults.{Gives, fault_of}
+use Rattle.ul_load.specs.Loading.{Fault, Found, ◌>>=◌, document_answer}
+use Rattle.ul_load.specs.declared.fault.LoadFault.{LoadFault}
+
+-- a fact on an option, from another
+pub some_fault : {X : Type 0} (o : Option X) (P Q : X → Type 0) → ((p : X) → P p → Q p) → IfSome o P → IfSome o Q
+some_fault None P Q w h = tt
+some_fault (Some p) P Q w h = w p h
+
+-- a step that found a fault ends the definition
+pub step_refuses : {A B : Type 0} (o : Option Fault) (d : Found A) (f : A → Found B) → IfSome o (λ x. d ≡ Err x) → IfSome o (λ x. (d >>= f) ≡ Err x)
+step_refuses o d f h = some_fault o _ _ (λ x same. ap (λ r. r >>= f) same) h
+
+-- after a step that went well, the next decides
+pub step_went : {A B : Type 0} (d : Found A) (f : A → Found B) (a : A) → d ≡ Ok a → (d >>= f) ≡ f a
+step_went d f a e = ap (λ r. r >>= f) e
+
+-- a last step, returned as it is
+pub step_gives : {T A B : Type 0} (view : T → B) (r : Result T LoadFault) (d : Found A) (f : A → Found B) (a : A)
+    → d ≡ Ok a → Gives view r (f a) → Gives view r (d >>= f)
+step_gives view (Ok x) d f a went h = step_went d f a went ∙ h
+step_gives view (Err e) d f a went h = some_fault (fault_of e) _ _ (λ x same. step_went d f a went ∙ same) h
+
+-- a document that is read
+pub document_read : (path : List ℕ) (r : Result PackageFields DocumentFault) (p : PackageFields) → document_answer path r ≡ Ok p → r ≡ Ok p
+document_read path (Ok q) p h = let same : q ≡ p = cc in ap Ok same
+document_read path (Err f) p h = cc

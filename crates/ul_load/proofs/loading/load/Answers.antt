@@ -1,0 +1,9 @@
+use Rattle.ul_load.proofs.loading.load.Goals as goal
+
+pub returns : goal.returns
+returns g c = record {
+  answer = c.load_all.ensures.told;
+  same = c.load_all.ensures.same;
+  cause = c.load_all.ensures.cause;
+  catalog = c.load_all.ensures.catalog;
+}

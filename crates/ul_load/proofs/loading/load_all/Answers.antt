@@ -1,0 +1,47 @@
+use Rattle.std.proofs.Common.{◌∙◌, map, refl, rules}
+use Rattle.std.proofs.lemmas.Result.{err_from_is_err_and}
+use Rattle.ul_marker.specs.Views.{marker_view}
+use Rattle.ul_load.specs.Loading.{beginning_of}
+use Rattle.ul_load.specs.Views.{progress_view}
+use Rattle.ul_load.proofs.Loads.{begin_refuses, follow_refuses, loaded_whole}
+use Rattle.ul_load.proofs.Turns.{loads_first, loads_on}
+use Rattle.ul_load.proofs.loading.load_all.Goals as goal
+
+pub returns-in_err-progress-clause-told : goal.returns-in_err-progress-clause-told
+returns-in_err-progress-clause-told g c m e =
+    let b = beginning_of c.args.project.now (map marker_view c.args.environments.now) c.args.constraints.now c.args.overrides.now in
+    let p = err_from_is_err_and c.from_residual.result c.from_residual.ensures.1 in
+    rw (p.1, p.2) (begin_refuses m c.args.folder.now b c.in_err-progress.field-0.0 c.in_err-progress.ensures.told c.in_err-progress.ensures.bytes)
+
+pub loop-turn-init : goal.loop-turn-init
+loop-turn-init g c = record {
+  files = refl;
+  faults = refl;
+  kept = c.in_ok-progress.ensures.kept;
+  value = λ m e.
+      loads_first m c.args.folder.now (beginning_of c.args.project.now (map marker_view c.args.environments.now) c.args.constraints.now c.args.overrides.now)
+      (progress_view c.in_ok-progress.progress) c.in_ok-progress.ensures.told;
+}
+
+pub returns-then-not-has_next-clause-told : goal.returns-then-not-has_next-clause-told
+returns-then-not-has_next-clause-told g c m e =
+    let b = beginning_of c.args.project.now (map marker_view c.args.environments.now) c.args.constraints.now c.args.overrides.now in
+    rw c.in_ok-catalog.ensures
+    (loaded_whole m c.args.folder.now b (progress_view c.loop-turn.progress) c.has_next.result c.has_next.ensures (search rules) (c.loop-turn.invariant.value m e))
+
+pub returns-in_err-follow-clause-told : goal.returns-in_err-follow-clause-told
+returns-in_err-follow-clause-told g c m e =
+    let b = beginning_of c.args.project.now (map marker_view c.args.environments.now) c.args.constraints.now c.args.overrides.now in
+    let p = err_from_is_err_and c.from_residual-in_err-follow.result c.from_residual-in_err-follow.ensures.1 in
+    rw (p.1, p.2) (follow_refuses m c.args.folder.now b (progress_view c.loop-turn.progress) c.in_err-follow.field-0.0 c.loop-turn.invariant.kept (search rules)
+    (c.in_err-follow.ensures.told m (c.loop-turn.invariant.files ∙ e)) c.in_err-follow.ensures.failed (c.loop-turn.invariant.value m e))
+
+pub loop-turn-preserved : goal.loop-turn-preserved
+loop-turn-preserved g c = record {
+  files = c.in_ok-follow.ensures.same ∙ c.loop-turn.invariant.files;
+  faults = c.in_ok-follow.ensures.cause ∙ c.loop-turn.invariant.faults;
+  kept = c.in_ok-follow.ensures.kept;
+  value = λ m e.
+      loads_on m c.args.folder.now (beginning_of c.args.project.now (map marker_view c.args.environments.now) c.args.constraints.now c.args.overrides.now)
+      (progress_view c.loop-turn.progress) _ (search rules) (c.in_ok-follow.ensures.told m (c.loop-turn.invariant.files ∙ e)) (c.loop-turn.invariant.value m e);
+}

@@ -1,0 +1,17 @@
+use Rattle.std.proofs.Common.{◌≡◌, Some, map}
+use Rattle.ul_base.specs.Files.{FileMap}
+use Rattle.ul_marker.specs.Views.{marker_view}
+use Rattle.ul_load.specs.Loading.{beginning_of}
+use Rattle.ul_load.specs.Progressing.{IsLoading, IsProgress}
+use Rattle.ul_load.specs.Views.{progress_view}
+use Rattle.ul_load.proofs.loading.load_all.Given as goal
+
+-- the files stay as they are, and what is loaded from here on is what is loaded from the project on
+abbrev pub invariant-loop-turn : goal.invariant-loop-turn
+invariant-loop-turn g l = record {
+  files : g.F.Files.map l.files ≡ g.F.Files.map l.fn.files;
+  faults : g.F.Files.faults l.files ≡ g.F.Files.faults l.fn.files;
+  kept : IsProgress (progress_view l.progress);
+  value : (m : FileMap) → g.F.Files.map l.fn.files ≡ Some m
+      → IsLoading m l.folder (beginning_of l.project (map marker_view l.environments) l.constraints l.overrides) (progress_view l.progress);
+}

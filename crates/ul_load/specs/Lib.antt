@@ -1,0 +1,6 @@
+pub mod Headline
+pub mod Loading
+pub mod Progressing
+pub mod Faults
+pub mod Laws
+pub mod Views

@@ -1,0 +1,102 @@
+//! Loading.
+
+ghost use Rattle.std.specs.Prelude.{◌≡◌, IfOk, OnOk, length, map};
+ghost use Rattle.ul_base.specs.Files.{Told};
+ghost use Rattle.ul_index.specs.Catalogs.{IsCatalog};
+ghost use Rattle.ul_marker.specs.Views.{marker_view};
+ghost use Rattle.ul_load.specs.Faults.{Cause, FailedAt, Gives, LoadGives};
+ghost use Rattle.ul_load.specs.Headline.{LoadPromises};
+ghost use Rattle.ul_load.specs.Loading.{beginning_of, document_path, next_name, next_progress};
+ghost use Rattle.ul_load.specs.Progressing.{HasNext, IsProgress};
+ghost use Rattle.ul_load.specs.Views.{progress_view};
+
+use crate::LoadFault;
+use crate::documents::package_at;
+use crate::progress::Progress;
+use std::alloc::Global;
+use ul_base::Files;
+use ul_index::Catalog;
+use ul_marker::Marker;
+use ul_requirement::{Package, Requirement};
+
+// Reads the document of the next name.
+fn follow<F: Files>(
+    alloc: Global,
+    files: &mut F,
+    folder: &str,
+    progress: &mut Progress,
+) -> Result<(), LoadFault>
+    requires kept { IsProgress (progress_view progress.old) }
+    requires next { HasNext (progress_view progress.old) }
+    ensures told { Told (F.map files.old) (λ m. Gives (λ _. progress_view progress.new) result
+        (next_progress m folder.now (progress_view progress.old))) }
+    ensures same { F.map files.new ≡ F.map files.old }
+    ensures cause { Cause (F.faults files.old) (F.faults files.new) (F.last_failed files.new) result }
+    ensures failed { FailedAt (λ p. p ≡ document_path folder.now (next_name (progress_view progress.old))) result }
+    ensures kept { OnOk result (IsProgress (progress_view progress.new)) }
+{
+    let name = progress.next_name(alloc)?;
+    let found = package_at(alloc, files, folder, &name, progress.bytes)?;
+    progress.add(alloc, found.0, found.1)
+}
+
+// The catalog of a project, or the first fault.
+fn load_all<F: Files>(
+    alloc: Global,
+    files: &mut F,
+    folder: &str,
+    project: &Package,
+    environments: &[Marker],
+    constraints: &[Requirement],
+    overrides: &[Requirement],
+) -> Result<Catalog, LoadFault>
+    requires { length project.now.releases ≡ 1 }
+    ensures told { Told (F.map files.old) (λ m. LoadGives m folder.now
+        (beginning_of project.now (map marker_view environments.now) constraints.now overrides.now) result) }
+    ensures same { F.map files.new ≡ F.map files.old }
+    ensures cause { Cause (F.faults files.old) (F.faults files.new) (F.last_failed files.new) result }
+    ensures catalog { IfOk result IsCatalog }
+{
+    let mut progress = Progress::begin(alloc, project, environments, constraints, overrides)?;
+    for _turn in 0..usize::MAX {
+        if !progress.has_next() {
+            let catalog = progress.catalog(alloc)?;
+            return Ok(catalog);
+        }
+        follow(alloc, files, folder, &mut progress)?;
+    }
+    Err(LoadFault::NoMemory)
+}
+
+/// The catalog of a project, from the index documents in a folder, or the first fault.
+///
+/// `project` is the project's package, with its one release; the comparisons of `environments`, `constraints` and `overrides`
+/// count as the project's own. The catalog has the project first, and then each name that a requirement asks for, in
+/// the order in which the names are met; the document of each is read once, at `FOLDER/NAME.json`, and a name without
+/// a document is a package without releases. At each document the faults are looked at in this order: `Read`,
+/// `TooLong`, `TooManyBytes`, `Document`, `TooManyReleases`, `TooManyPackages`, `TooManyAtoms`; the last two also
+/// before the first document.
+pub fn load<F: Files>(
+    alloc: Global,
+    files: &mut F,
+    folder: &str,
+    project: &Package,
+    environments: &[Marker],
+    constraints: &[Requirement],
+    overrides: &[Requirement],
+) -> Result<Catalog, LoadFault>
+    requires { length project.now.releases ≡ 1 }
+    ensures { LoadPromises (F.map files.old) (F.map files.new) (F.faults files.old) (F.faults files.new)
+        (F.last_failed files.new) folder.now
+        (beginning_of project.now (map marker_view environments.now) constraints.now overrides.now) result }
+{
+    load_all(
+        alloc,
+        files,
+        folder,
+        project,
+        environments,
+        constraints,
+        overrides,
+    )
+}
