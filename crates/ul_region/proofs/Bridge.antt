@@ -7,7 +7,7 @@ use Rattle.ul_ranges.specs.Flags.{has}
 use Rattle.ul_specifier.specs.Meaning.{meets_list}
 use Rattle.ul_problem.specs.Terms.{Selection as Places, is_among}
 use Rattle.ul_problem.specs.Plain.{Plain, node_at, size_in, size_of, barred_in, barred_of, base_in, base_of as base_place, needs_in, needs_of as place_needs}
-use Rattle.ul_problem.specs.Serving.{Serves as PlacesServe, IsOneOf}
+use Rattle.ul_problem.specs.Serving.{Serves as PlacesServe}
 use Rattle.ul_problem.specs.declared.problem.Need.{Need as PlaceNeed}
 use Rattle.ul_problem.specs.declared.problem.NodeFacts.{NodeFacts}
 use Rattle.ul_requirement.specs.Fields.{RequirementFields, WishFields}
@@ -138,15 +138,15 @@ module _ (c : Packages) (starts : List Node) (wish : WishFields) (R : Region) (p
     met_said : (need : PlaceNeed) (n : Node) (x : Fields) (ts : List Need) → AreNeeds (requirements c n.name x) R n ts → chosen s n ≡ Some x → ((t : Need) × Contains ts t × IsNeedAt p need t) → is_among (σ need.node) need.permitted ≡ true
     met_said need n x ts are e t = let y = need_met n x ts are e t.0 t.1 in met_from need t.0 t.2 y.0 y.2 y.1
 
-    met_row : (need : PlaceNeed) (f : NodeFacts) (x : Fields) (ks : List PlaceNeed) → HasNeedsAt c R p f.node x ks → chosen s f.node ≡ Some x → IsOneOf need ks → is_among (σ need.node) need.permitted ≡ true
+    met_row : (need : PlaceNeed) (f : NodeFacts) (x : Fields) (ks : List PlaceNeed) → HasNeedsAt c R p f.node x ks → chosen s f.node ≡ Some x → Contains ks need → is_among (σ need.node) need.permitted ≡ true
     met_row need f x ks here e i = met_said need f.node x here.needs here.are e (need_said p ks here.needs need here.at i)
 
-    met_at : (k v : ℕ) (f : NodeFacts) → node_at p k ≡ Some f → σ k ≡ Some v → (need : PlaceNeed) → IsOneOf need (get_or f.needs v []) → Picked f (σ k) (chosen s f.node) → is_among (σ need.node) need.permitted ≡ true
+    met_at : (k v : ℕ) (f : NodeFacts) → node_at p k ≡ Some f → σ k ≡ Some v → (need : PlaceNeed) → Contains (get_or f.needs v []) need → Picked f (σ k) (chosen s f.node) → is_among (σ need.node) need.permitted ≡ true
     met_at k v f at e need i t = met_row need f t.x (get_or f.needs t.v []) ((is.facts k f at).needs t.v t.x t.stands) t.named
-        (subst (λ (u : ℕ). IsOneOf need (get_or f.needs u [])) (sym (same_place f k v (chosen s f.node) e t)) i)
+        (subst (λ (u : ℕ). Contains (get_or f.needs u []) need) (sym (same_place f k v (chosen s f.node) e t)) i)
 
-    row_at : (k v : ℕ) (f : NodeFacts) (need : PlaceNeed) → node_at p k ≡ Some f → IsOneOf need (place_needs p k v) → IsOneOf need (get_or f.needs v [])
-    row_at k v f need at i = subst (λ (o : Option NodeFacts). IsOneOf need (needs_in o v)) at i
+    row_at : (k v : ℕ) (f : NodeFacts) (need : PlaceNeed) → node_at p k ≡ Some f → Contains (place_needs p k v) need → Contains (get_or f.needs v []) need
+    row_at k v f need at i = subst (λ (o : Option NodeFacts). Contains (needs_in o v) need) at i
 
     pub places_serve : PlacesServe p σ
     places_serve = record {
@@ -161,7 +161,7 @@ module _ (c : Packages) (starts : List Node) (wish : WishFields) (R : Region) (p
     starts_from : (n : Node) (k v : ℕ) (f : NodeFacts) → node_at p k ≡ Some f → f.node ≡ n → σ k ≡ Some v → (x : Fields) × (chosen s n ≡ Some x)
     starts_from n k v f at same e = let t = picked_at k v f at e in (t.x, ap (chosen s) (sym same) ∙ t.named)
 
-    starts_by : (n : Node) → ((k : ℕ) × IsOneOf k p.roots × IsAt p k n) → (x : Fields) × (chosen s n ≡ Some x)
+    starts_by : (n : Node) → ((k : ℕ) × Contains p.roots k × IsAt p k n) → (x : Fields) × (chosen s n ≡ Some x)
     starts_by n r = let v = h.rooted r.0 r.1 in starts_from n r.0 v.0 r.2.0 r.2.1 r.2.2 v.1
 
     stands_at : (f : NodeFacts) (k : ℕ) (x : Fields) → chosen s f.node ≡ Some x → (t : Picked f (σ k) (chosen s f.node)) → slice_get f.versions t.v ≡ Some x
@@ -193,8 +193,8 @@ module _ (c : Packages) (starts : List Node) (wish : WishFields) (R : Region) (p
     base_by k f x at e None y = ap (chosen s) (own_base f.node y) ∙ e
     base_by k f x at e (Some z) y = base_with k f x at e (has_base p f z f.node.extra f.base (node_whole p k f is.well_formed at).based y)
 
-    row_of : (k v : ℕ) (f : NodeFacts) (need : PlaceNeed) → node_at p k ≡ Some f → IsOneOf need (get_or f.needs v []) → IsOneOf need (place_needs p k v)
-    row_of k v f need at i = subst (λ (o : Option NodeFacts). IsOneOf need (needs_in o v)) (sym at) i
+    row_of : (k v : ℕ) (f : NodeFacts) (need : PlaceNeed) → node_at p k ≡ Some f → Contains (get_or f.needs v []) need → Contains (place_needs p k v) need
+    row_of k v f need at i = subst (λ (o : Option NodeFacts). Contains (needs_in o v) need) (sym at) i
 
     is_met : (q : RequirementFields) (a : Node) (need : PlaceNeed) (g : IsNeedAt p need (need_at q a)) (u : ℕ) → has u need.permitted ≡ true → σ need.node ≡ Some u → Picked g.facts (σ need.node) (chosen s g.facts.node) → IsMet s q a
     unfolding need_at
@@ -207,7 +207,7 @@ module _ (c : Packages) (starts : List Node) (wish : WishFields) (R : Region) (p
     met_need : (q : RequirementFields) (a : Node) (need : PlaceNeed) (g : IsNeedAt p need (need_at q a)) → ((u : ℕ) × (σ need.node ≡ Some u) × (has u need.permitted ≡ true)) → IsMet s q a
     met_need q a need g u = is_met q a need g u.0 u.2 u.1 (picked_at need.node u.0 g.facts g.at u.1)
 
-    met_in : (k v : ℕ) (f : NodeFacts) (q : RequirementFields) (a : Node) → node_at p k ≡ Some f → σ k ≡ Some v → ((need : PlaceNeed) × IsOneOf need (get_or f.needs v []) × IsNeedAt p need (need_at q a)) → IsMet s q a
+    met_in : (k v : ℕ) (f : NodeFacts) (q : RequirementFields) (a : Node) → node_at p k ≡ Some f → σ k ≡ Some v → ((need : PlaceNeed) × Contains (get_or f.needs v []) need × IsNeedAt p need (need_at q a)) → IsMet s q a
     met_in k v f q a at e need = met_need q a need.0 need.2 (among_some (σ need.0.node) need.0.permitted (h.met k v e need.0 (row_of k v f need.0 at need.1)))
 
     has_need : (n : Node) (x : Fields) (ts : List Need) → AreNeeds (requirements c n.name x) R n ts → (q : RequirementFields) → IsFirm (requirements c n.name x) R n q → (a : Node) → Contains (targets q) a → Contains ts (need_at q a)

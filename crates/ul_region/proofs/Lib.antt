@@ -6,3 +6,9 @@ pub mod Bests
 pub mod Choices
 pub mod BestLists
 pub mod BestServing
+pub mod Existing
+pub mod TruthFacts
+pub mod Firsts
+pub mod RowFacts
+pub mod AskedFacts
+pub mod ForCallers

@@ -2,3 +2,8 @@ pub mod Best
 pub mod Problem
 pub mod Naming
 pub mod Laws
+pub mod Truths
+pub mod Rows
+pub mod Numbers
+pub mod Asked
+pub mod Groups

@@ -1,4 +1,15 @@
-//! A region.
+//! A region's problem, what it asks of a release, and its best selection.
 #![tactic(auto)]
 
+mod asking;
+mod at_node;
+mod in_region;
 pub mod laws;
+mod rows;
+mod truths;
+
+pub use asking::row_of;
+pub use at_node::AtNode;
+pub use in_region::InRegion;
+pub use rows::{Asked, Row, Truths};
+pub use truths::{fit_truth, truth_at};

@@ -1,0 +1,163 @@
+-- Rows, as more is known and more truths are put.
+use Rattle.std.specs.Prelude.{All, Contains, slice_get, if◌then◌else◌}
+use Rattle.std.proofs.Common.{◌≡◌, ◌↔◌, ◌⊎◌, ◌<◌, ◌≤◌, ◌+◌, ℕ, zero, suc, List, [], ◌∷◌, ◌++◌, length, get_or, map, take, Bool, true, false, Option, Some, None, refl, sym, ap, subst, ◌∙◌, inl, inr, ⊎_elim, bytes_eq, arith}
+use Rattle.std.proofs.lemmas.Option.{none-some, same_Some, slice_get_within, slice_get-get_or, get_or_from_slice_get}
+use Rattle.std.proofs.lemmas.Slice.Eq.{bytes_eq-Decides}
+use Rattle.std.proofs.lemmas.List.Elements.{All-head, All-tail, All-push, All-weaker, All-contains, All-more}
+use Rattle.std.proofs.lemmas.List.{take_more, take_all}
+use Rattle.ul_base.specs.declared.node.Node.{Node}
+use Rattle.ul_base.proofs.ForCallers.{none_in, contains_cases, contains_map}
+use Rattle.ul_interner.specs.Known.{Knows}
+use Rattle.ul_interner.proofs.ForCallers.{knows_itself, knows_then}
+use Rattle.ul_marker.specs.Worlds.{WorldFields}
+use Rattle.ul_tree.specs.Plain.{Plain}
+use Rattle.ul_tree.specs.Regions.{HasTruth}
+use Rattle.ul_algebra.specs.Answers.{IsDiagram}
+use Rattle.ul_algebra.specs.Spelled.{tree_of}
+use Rattle.ul_requirement.specs.Fields.{RequirementFields}
+use Rattle.ul_requirement.specs.Truth.{applies_at}
+use Rattle.ul_region.specs.Truths.{PassView, DiagramMark, IsTruth, IsTruthAt, HasTree, Grows, IsGrown}
+use Rattle.ul_index.specs.Catalogs.{is_release_fit}
+use Rattle.ul_region.specs.Rows.{IsAsked, IsRow, AreNumbered, requirement_of}
+use Rattle.ul_region.specs.Numbers.{first_on, AreNumbersIn}
+use Rattle.ul_region.specs.declared.rows.Asked.{Asked}
+use Rattle.ul_region.specs.declared.rows.Row.{Row}
+use Rattle.ul_region.proofs.TruthFacts.{still, all_still}
+
+-- ---- lists of truths that grow
+
+pub grows_itself : (ms : List DiagramMark) → Grows ms ms
+grows_itself ms k m e = e
+
+push_keeps : {A : Type 0} (ms : List A) (d : A) (k : ℕ) (m : A) → slice_get ms k ≡ Some m → slice_get (ms ++ d ∷ []) k ≡ Some m
+push_keeps [] d k m e = absurd (none-some m e)
+push_keeps (x ∷ xs) d zero m e = e
+push_keeps (x ∷ xs) d (suc k) m e = push_keeps xs d k m e
+
+pub grows_push : (ms ns : List DiagramMark) (d : DiagramMark) → ns ≡ ms ++ d ∷ [] → Grows ms ns
+grows_push ms ns d e k m at = subst (λ (zs : List DiagramMark). slice_get zs k ≡ Some m) (sym e) (push_keeps ms d k m at)
+
+push_there : {A : Type 0} (ms : List A) (d : A) → slice_get (ms ++ d ∷ []) (length ms) ≡ Some d
+push_there [] d = refl
+push_there (x ∷ xs) d = push_there xs d
+
+pub put_there : (ms ns : List DiagramMark) (d e : DiagramMark) (k : ℕ) → ns ≡ ms ++ d ∷ [] → k ≡ length ms → d ≡ e → HasTree ns k (tree_of e)
+put_there ms ns d e k grown size same = (d, subst (λ (zs : List DiagramMark). slice_get zs k ≡ Some d) (sym grown) (subst (λ (j : ℕ). slice_get (ms ++ d ∷ []) j ≡ Some d) (sym size) (push_there ms d)), ap tree_of same)
+
+pub put_known : (h : PassView) (ms ns : List DiagramMark) (d e : DiagramMark) → ns ≡ ms ++ d ∷ [] → d ≡ e → All (IsDiagram h) ms → IsDiagram h e → All (IsDiagram h) ns
+put_known h ms ns d e grown same a k = subst (All (IsDiagram h)) (sym grown) (All-push (IsDiagram h) ms d a (subst (IsDiagram h) (sym same) k))
+
+pub grown_itself : (h : PassView) (ms : List DiagramMark) → All (IsDiagram h) ms → IsGrown h ms h ms
+grown_itself h ms a = record { knows = knows_itself h; grows = grows_itself ms; known = a }
+
+pub grown_knows : (g h : PassView) (ms : List DiagramMark) → Knows g h → All (IsDiagram g) ms → IsGrown g ms h ms
+grown_knows g h ms more a = record { knows = more; grows = grows_itself ms; known = all_still g h ms more a }
+
+pub put_grown : (g h : PassView) (ms ns : List DiagramMark) → Knows g h → Grows ms ns → All (IsDiagram h) ns → IsGrown g ms h ns
+put_grown g h ms ns more e a = record { knows = more; grows = e; known = a }
+
+pub grown_then : (f g h : PassView) (ks ms ns : List DiagramMark) → IsGrown f ks g ms → IsGrown g ms h ns → IsGrown f ks h ns
+grown_then f g h ks ms ns a b = record { knows = knows_then f g h a.knows b.knows; grows = λ k m e. b.grows k m (a.grows k m e); known = b.known }
+
+-- ---- truths at places
+
+pub truth_there : (h : PassView) (ms : List DiagramMark) (k : ℕ) (d : DiagramMark) (p : WorldFields → Bool) → HasTree ms k (tree_of d) → All (IsDiagram h) ms → HasTruth (tree_of d) p → IsTruthAt h ms k p
+truth_there h ms k d p t a h' = record {
+  mark = t.0;
+  at = t.1;
+  is = record {
+    diagram = All-contains (IsDiagram h) ms t.0 a (k, slice_get_within ms k t.0 t.1, get_or_from_slice_get ms k t.0 t.0 t.1);
+    truth = subst (λ (u : Plain). HasTruth u p) (sym t.2) h';
+  };
+}
+
+pub truth_grown : (g h : PassView) (ms ns : List DiagramMark) (k : ℕ) (p : WorldFields → Bool) → IsGrown g ms h ns → IsTruthAt g ms k p → IsTruthAt h ns k p
+truth_grown g h ms ns k p more t = record { mark = t.mark; at = more.grows k t.mark t.at; is = record { diagram = still g h t.mark more.knows t.is.diagram; truth = t.is.truth } }
+
+pub asked_grown : (g h : PassView) (n : Node) (ms ns : List DiagramMark) (xs : List Asked) → IsGrown g ms h ns → All (IsAsked g n ms) xs → All (IsAsked h n ns) xs
+asked_grown g h n ms ns xs more a = All-weaker (IsAsked g n ms) (IsAsked h n ns) (λ x t. truth_grown g h ms ns x.truth (applies_at x.requirement.now n) more t) xs a
+
+pub row_grown : (g h : PassView) (n : Node) (ms ns : List DiagramMark) (row : Row) → IsGrown g ms h ns → IsRow g n ms row → IsRow h n ns row
+row_grown g h n ms ns row more r = record {
+  fit = truth_grown g h ms ns row.fit (is_release_fit row.release.now) more r.fit;
+  asked = asked_grown g h n ms ns row.asked.items more r.asked;
+  same = r.same;
+  numbered = r.numbered;
+}
+
+-- ---- one more requirement
+
+map_more : {A B : Type 0} (f : A → B) (xs : List A) (a : A) → map f (xs ++ a ∷ []) ≡ map f xs ++ f a ∷ []
+map_more f [] a = refl
+map_more f (x ∷ xs) a = ap (λ r. f x ∷ r) (map_more f xs a)
+
+pub all_more : (P : Asked → Type 0) (xs ys : List Asked) (a : Asked) → ys ≡ xs ++ a ∷ [] → All P xs → P a → All P ys
+all_more P xs ys a e h k = subst (All P) (sym e) (All-push P xs a h k)
+
+pub requirements_more : (xs ys : List Asked) (a : Asked) (qs : List RequirementFields) (i : ℕ) (q : RequirementFields) → ys ≡ xs ++ a ∷ [] → map requirement_of xs ≡ take i qs → a.requirement.now ≡ q → i < length qs → q ≡ get_or qs i q
+    → map requirement_of ys ≡ take (i + 1) qs
+requirements_more xs ys a qs i q e h k l at = ap (map requirement_of) e ∙ (map_more requirement_of xs a ∙ (ap (λ (z : List RequirementFields). z ++ a.requirement.now ∷ []) h ∙ (ap (λ (z : RequirementFields). take i qs ++ z ∷ []) (k ∙ at) ∙ sym (take_more qs i q l))))
+
+pub number_so : (a : Asked) (qs : List RequirementFields) (q : RequirementFields) → a.name ≡ first_on q.name qs → a.requirement.now ≡ q → a.name ≡ first_on a.requirement.now.name qs
+number_so a qs q e s = e ∙ ap (λ (z : RequirementFields). first_on z.name qs) (sym s)
+
+-- ---- numbers of names
+
+clash : (b : Bool) → b ≡ true → b ≡ false → ⊥
+clash true e f = cc
+clash false e f = cc
+
+-- the first one on a name is on it
+own_first : (n : List ℕ) (qs : List RequirementFields) (q : RequirementFields) → Contains qs q → q.name ≡ n → (x : RequirementFields) × (slice_get qs (first_on n qs) ≡ Some x) × (x.name ≡ n)
+own_first n [] q c e = absurd (none_in q c)
+own_first n (z ∷ zs) q c e = by_test (own_first n zs) (bytes_eq z.name n) refl
+  where
+    later : bytes_eq z.name n ≡ false → Contains zs q
+    later t = ⊎_elim (λ s. absurd (clash (bytes_eq z.name n) ((bytes_eq-Decides z.name n).1 (ap (λ (y : RequirementFields). y.name) (sym s) ∙ e)) t)) (λ r. r) (contains_cases z zs q c)
+
+    by_test : ((q : RequirementFields) → Contains zs q → q.name ≡ n → (x : RequirementFields) × (slice_get zs (first_on n zs) ≡ Some x) × (x.name ≡ n)) → (b : Bool) → bytes_eq z.name n ≡ b → (x : RequirementFields) × (slice_get (z ∷ zs) (if b then 0 else suc (first_on n zs)) ≡ Some x) × (x.name ≡ n)
+    by_test more true t = (z, refl, (bytes_eq-Decides z.name n).0 t)
+    by_test more false t = more q (later t) e
+
+one_first : (qs : List RequirementFields) (p q : RequirementFields) → Contains qs p → Contains qs q → first_on p.name qs ≡ first_on q.name qs → p.name ≡ q.name
+one_first qs p q a b e =
+    let x = own_first p.name qs p a refl in
+    let y = own_first q.name qs q b refl in
+    sym x.2 ∙ (ap (λ (z : RequirementFields). z.name) (same_Some x.0 y.0 (sym x.1 ∙ (ap (slice_get qs) e ∙ y.1))) ∙ y.2)
+
+-- numbers are equal exactly where names are
+pub numbered : (qs : List RequirementFields) (asked : List Asked) → map requirement_of asked ≡ qs → AreNumbersIn qs asked → AreNumbered asked
+numbered qs asked same h a b i j = (
+  (λ e. one_first qs a.requirement.now b.requirement.now (listed a i) (listed b j) (sym (number a i) ∙ (e ∙ number b j))),
+  (λ e. number a i ∙ (ap (λ (n : List ℕ). first_on n qs) e ∙ sym (number b j))),
+)
+  where
+    number : (x : Asked) → Contains asked x → x.name ≡ first_on x.requirement.now.name qs
+    number x k = All-contains (λ (y : Asked). y.name ≡ first_on y.requirement.now.name qs) asked x h k
+
+    listed : (x : Asked) → Contains asked x → Contains qs x.requirement.now
+    listed x k = subst (λ (zs : List RequirementFields). Contains zs x.requirement.now) same (contains_map requirement_of asked x k)
+
+-- a loop that looks for the first one on a name
+pub first_here : (n : List ℕ) (qs : List RequirementFields) (i : ℕ) (q : RequirementFields) → i < length qs → q ≡ get_or qs i q → All (λ (x : RequirementFields). bytes_eq x.name n ≡ false) (take i qs) → bytes_eq q.name n ≡ true → i ≡ first_on n qs
+first_here n [] i q l e h t = absurd (omega (arith, l))
+first_here n (z ∷ zs) zero q l e h t = sym (ap (λ (b : Bool). if b then 0 else suc (first_on n zs)) (ap (λ (x : RequirementFields). bytes_eq x.name n) (sym e) ∙ t))
+first_here n (z ∷ zs) (suc i) q l e h t =
+    ap suc (first_here n zs i q (omega (arith, l)) e (All-tail (λ (x : RequirementFields). bytes_eq x.name n ≡ false) z (take i zs) h) t)
+    ∙ sym (ap (λ (b : Bool). if b then 0 else suc (first_on n zs)) (All-head (λ (x : RequirementFields). bytes_eq x.name n ≡ false) z (take i zs) h))
+
+pub first_nowhere : (n : List ℕ) (qs : List RequirementFields) → All (λ (x : RequirementFields). bytes_eq x.name n ≡ false) qs → length qs ≡ first_on n qs
+first_nowhere n [] h = refl
+first_nowhere n (z ∷ zs) h =
+    ap suc (first_nowhere n zs (All-tail (λ (x : RequirementFields). bytes_eq x.name n ≡ false) z zs h))
+    ∙ sym (ap (λ (b : Bool). if b then 0 else suc (first_on n zs)) (All-head (λ (x : RequirementFields). bytes_eq x.name n ≡ false) z zs h))
+
+pub not_yet : (n : List ℕ) (qs : List RequirementFields) (i : ℕ) (q : RequirementFields) → i < length qs → q ≡ get_or qs i q → All (λ (x : RequirementFields). bytes_eq x.name n ≡ false) (take i qs) → bytes_eq q.name n ≡ false
+    → All (λ (x : RequirementFields). bytes_eq x.name n ≡ false) (take (i + 1) qs)
+not_yet n qs i q l e h t = All-more (λ (x : RequirementFields). bytes_eq x.name n ≡ false) qs i q l h (subst (λ (x : RequirementFields). bytes_eq x.name n ≡ false) e t)
+
+pub nowhere_at_end : (n : List ℕ) (qs : List RequirementFields) (i : ℕ) → length qs ≤ i → All (λ (x : RequirementFields). bytes_eq x.name n ≡ false) (take i qs) → length qs ≡ first_on n qs
+nowhere_at_end n qs i l h = first_nowhere n qs (subst (All (λ (x : RequirementFields). bytes_eq x.name n ≡ false)) (take_all i qs l) h)
+
+pub tree_found : (ms : List DiagramMark) (k : ℕ) (m d : DiagramMark) → k < length ms → m ≡ get_or ms k m → tree_of m ≡ tree_of d → HasTree ms k (tree_of d)
+tree_found ms k m d l e s = (m, slice_get-get_or ms k m l ∙ ap Some (sym e), s)

@@ -1,0 +1,121 @@
+//! The requirements of a release at a node, as every region finds them.
+ghost use Rattle.std.specs.Prelude.{◌≡◌, [], IfOk, All, MatchOption};
+ghost use Rattle.std.specs.Str.{bytes_eq};
+ghost use Rattle.ul_algebra.specs.Answers.{IsDiagram};
+ghost use Rattle.ul_algebra.specs.Spelled.{tree_of};
+ghost use Rattle.ul_region.specs.Truths.{Grows, HasTree};
+ghost use Rattle.ul_region.specs.Numbers;
+
+use std::alloc::{AllocError, Global};
+use std::collections::HashMap;
+use ul_algebra::{Algebra, Diagram};
+use ul_base::Name;
+use ul_requirement::{Release, Requirement};
+
+/// A requirement at a node: the place of its truth, and a number of its name.
+#[derive(Drop)]
+pub struct Asked<'a> {
+    pub requirement: &'a Requirement,
+    /// The place of its truth at the node, among truths.
+    pub truth: usize,
+    /// Requirements of one release with equal numbers are those on one name.
+    pub name: usize,
+}
+
+/// The requirements of a release at a node.
+#[derive(Drop)]
+pub struct Row<'a> {
+    pub release: &'a Release,
+    /// The place of where the release is fit, among truths.
+    pub fit: usize,
+    /// The requirements, in order.
+    pub asked: Vec<Asked<'a>>,
+}
+
+/// Truths as diagrams, mostly each once.
+#[derive(Drop)]
+pub struct Truths {
+    pub marks: Vec<Diagram>,
+    places: HashMap<u64, usize>,
+}
+
+impl Truths {
+    /// No truths.
+    pub fn new(alloc: Global) -> Truths
+        ensures { result.marks.items ≡ [] }
+    {
+        Truths {
+            marks: Vec::new(alloc),
+            places: HashMap::new(alloc),
+        }
+    }
+
+    /// The truths, by their places.
+    pub fn marks(&self) -> &[Diagram]
+        ensures { result.now ≡ self.now.marks.items }
+    {
+        self.marks.as_slice()
+    }
+
+    // The place of a truth, if it is found where its identity was put last.
+    fn found(&self, algebra: &Algebra<'_>, truth: &Diagram, key: u64) -> Option<usize>
+        requires truth { IsDiagram algebra.now truth.now }
+        requires marks { All (IsDiagram algebra.now) self.now.marks.items }
+        ensures { MatchOption result (Unit {0}) (λ k. HasTree self.now.marks.items k (tree_of truth.now)) }
+    {
+        let place = *self.places.get(&key)?;
+        let marks: &[Diagram] = self.marks.as_slice();
+        if place >= marks.len() {
+            return None;
+        }
+        let mark: &Diagram = &marks[place];
+        if !algebra.same(mark, truth) {
+            return None;
+        }
+        Some(place)
+    }
+
+    /// The place of a truth, which is put at the end where it isn't there yet.
+    ///
+    /// # Errors
+    ///
+    /// Only for want of memory.
+    pub fn put(&mut self, algebra: &Algebra<'_>, truth: &Diagram) -> Result<usize, AllocError>
+        requires truth { IsDiagram algebra.now truth.now }
+        requires marks { All (IsDiagram algebra.now) self.old.marks.items }
+        ensures grows { Grows self.old.marks.items self.new.marks.items }
+        ensures marks { All (IsDiagram algebra.now) self.new.marks.items }
+        ensures there { IfOk result (λ k. HasTree self.new.marks.items k (tree_of truth.now)) }
+    {
+        let (shard, place) = truth.id();
+        let key = place.wrapping_mul(256).wrapping_add(u64::from(shard));
+        if let Some(place) = self.found(algebra, truth, key) {
+            return Ok(place);
+        }
+        let place = self.marks.len();
+        let mark = truth.share()?;
+        self.marks.push(mark)?;
+        self.places.insert(key, place)?;
+        Ok(place)
+    }
+}
+
+// Whether a requirement is on a name.
+fn is_on(requirement: &Requirement, name: &Name) -> bool
+    ensures { result ≡ bytes_eq requirement.now.name name.now }
+{
+    let own: &Name = &requirement.name;
+    own.text() == name.text()
+}
+
+// The place of the first requirement on a name, or how many there are.
+pub(crate) fn first_on(requirements: &[Requirement], name: &Name) -> usize
+    ensures { result ≡ Numbers.first_on name.now requirements.now }
+{
+    for (place, requirement) in requirements.iter().enumerate() {
+        if is_on(requirement, name) {
+            return place;
+        }
+    }
+    requirements.len()
+}

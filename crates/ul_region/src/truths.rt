@@ -1,0 +1,139 @@
+//! Truths of requirements and of releases as diagrams.
+ghost use Rattle.std.specs.Prelude.{◌≡◌, [], IfOk, option_map};
+ghost use Rattle.ul_interner.specs.Known.{Knows};
+ghost use Rattle.ul_marker.specs.Views.{marker_view};
+ghost use Rattle.ul_tree.specs.Laws.{and_of, at_extra_of, not_of};
+ghost use Rattle.ul_tree.specs.TreeFacts.{HoldsAtWorlds, IsTree};
+ghost use Rattle.ul_algebra.specs.Answers.{IsDiagram};
+ghost use Rattle.ul_algebra.specs.Spelled.{tree_of};
+ghost use Rattle.ul_requirement.specs.Fields.{MayBeFormula};
+ghost use Rattle.ul_requirement.specs.Truth.{applies_at, may_hold};
+ghost use Rattle.ul_index.specs.Catalogs.{is_release_fit};
+ghost use Rattle.ul_region.specs.Truths.{HoldsAs, IsTruth};
+
+use std::alloc::{AllocError, Global};
+use std::sync::Wait;
+use ul_algebra::{Algebra, Diagram};
+use ul_base::Node;
+use ul_marker::Marker;
+use ul_requirement::{Release, Requirement};
+use ul_specifier::Specifiers;
+use ul_tree::{Tree, of_marker, of_python};
+
+// The tree of a marker. Without a marker it is true.
+fn marker_tree(alloc: Global, marker: &Option<Marker>) -> Result<Tree, AllocError>
+    requires { MayBeFormula (option_map marker_view marker.now) }
+    ensures reduced { IfOk result IsTree }
+    ensures truth { IfOk result (λ t. HoldsAtWorlds t (may_hold (option_map marker_view marker.now))) }
+{
+    match marker {
+        None => Ok(Tree::Truth(true)),
+        Some(marker) => {
+            let tree = of_marker(alloc, marker)?;
+            Ok(tree)
+        }
+    }
+}
+
+// The diagram of a requirement's marker.
+fn marker_diagram<R: Wait>(
+    rt: &R,
+    alloc: Global,
+    algebra: &mut Algebra<'_>,
+    requirement: &Requirement,
+) -> Result<Diagram, AllocError>
+    ensures knows { Knows algebra.old algebra.new }
+    ensures diagram { IfOk result (λ d. IsDiagram algebra.new d) }
+    ensures truth { IfOk result (λ d. HoldsAs d (may_hold requirement.now.marker)) }
+{
+    let tree = marker_tree(alloc, &requirement.marker)?;
+    let d = algebra.of_tree(rt, alloc, &tree)?;
+    Ok(d)
+}
+
+// The diagram that is true where the first is and the second isn't.
+fn first_alone<R: Wait>(
+    rt: &R,
+    alloc: Global,
+    algebra: &mut Algebra<'_>,
+    first: &Diagram,
+    second: &Diagram,
+) -> Result<Diagram, AllocError>
+    requires first { IsDiagram algebra.old first.now }
+    requires second { IsDiagram algebra.old second.now }
+    ensures knows { Knows algebra.old algebra.new }
+    ensures diagram { IfOk result (λ d. IsDiagram algebra.new d) }
+    ensures tree { IfOk result (λ d. tree_of d ≡ and_of (tree_of first.now) (not_of (tree_of second.now))) }
+{
+    let fails = algebra.not(rt, alloc, second)?;
+    let d = algebra.and(rt, alloc, first, &fails)?;
+    Ok(d)
+}
+
+// The diagram of an extra, where the whole marker's is given: it holds with the extra, and not with the empty one.
+fn extra_diagram<R: Wait>(
+    rt: &R,
+    alloc: Global,
+    algebra: &mut Algebra<'_>,
+    whole: &Diagram,
+    extra: &str,
+) -> Result<Diagram, AllocError>
+    requires { IsDiagram algebra.old whole.now }
+    ensures knows { Knows algebra.old algebra.new }
+    ensures diagram { IfOk result (λ d. IsDiagram algebra.new d) }
+    ensures tree { IfOk result (λ d. tree_of d ≡ and_of (at_extra_of (tree_of whole.now) extra.now) (not_of (at_extra_of (tree_of whole.now) []))) }
+{
+    let with = algebra.at_extra(whole, extra)?;
+    let without = algebra.at_extra(whole, "")?;
+    let d = first_alone(rt, alloc, algebra, &with, &without)?;
+    Ok(d)
+}
+
+/// The diagram of a requirement's truth at a node.
+///
+/// # Errors
+///
+/// Only for want of memory.
+pub fn truth_at<R: Wait>(
+    rt: &R,
+    alloc: Global,
+    algebra: &mut Algebra<'_>,
+    node: &Node,
+    requirement: &Requirement,
+) -> Result<Diagram, AllocError>
+    ensures knows { Knows algebra.old algebra.new }
+    ensures truth { IfOk result (λ d. IsTruth algebra.new d (applies_at requirement.now node.now)) }
+{
+    let whole = marker_diagram(rt, alloc, algebra, requirement)?;
+    match &node.extra {
+        None => {
+            let d = algebra.at_extra(&whole, "")?;
+            Ok(d)
+        }
+        Some(extra) => {
+            let d = extra_diagram(rt, alloc, algebra, &whole, extra.text())?;
+            Ok(d)
+        }
+    }
+}
+
+/// The diagram of where a release is fit: the interpreters that meet the lower part of its Python bound.
+///
+/// # Errors
+///
+/// Only for want of memory.
+pub fn fit_truth<R: Wait>(
+    rt: &R,
+    alloc: Global,
+    algebra: &mut Algebra<'_>,
+    release: &Release,
+) -> Result<Diagram, AllocError>
+    ensures knows { Knows algebra.old algebra.new }
+    ensures truth { IfOk result (λ d. IsTruth algebra.new d (is_release_fit release.now)) }
+{
+    let python: &Specifiers = &release.python;
+    let lower = python.lower_part(alloc)?;
+    let tree = of_python(alloc, &lower)?;
+    let d = algebra.of_tree(rt, alloc, &tree)?;
+    Ok(d)
+}
