@@ -6,17 +6,17 @@ use Rattle.std.proofs.lemmas.Option.{none-some, same_Some, slice_get_within}
 use Rattle.ul_problem.specs.Plain.{Plain}
 use Rattle.ul_problem.specs.Serving.{Forbids}
 use Rattle.ul_problem.specs.Terms.{node_of, set_of, allows, term_on, IsOrdered, IsOrderedFrom, negation}
-use Rattle.ul_problem.specs.Steps.{AreTermsOf, IsTermOf, IsIncompat, IsResolvent, says, step_of, IsRight, AreRightAfter, HasTermOn}
+use Rattle.ul_problem.specs.Steps.{AreTermsOf, IsTermOf, IsIncompat, IsResolvent, says, step_of, IsRight, AreRightAfter, HasTermOn, said_by}
 use Rattle.ul_problem.specs.declared.term.Term.{Term}
 use Rattle.ul_problem.specs.declared.step.Step.{Step}
 use Rattle.ul_problem.specs.declared.step.Step.TheVariants.{Cut}
 use Rattle.ul_problem.specs.Problems.{IsWellFormed}
-use Rattle.ul_problem.proofs.ForCallers.{ordered_more, term_on-before, term_one, resolvent_whole, says_whole, says_fits, all_within, cut_sound}
+use Rattle.ul_problem.proofs.ForCallers.{ordered_more, term_on-before, term_one, resolvent_whole, says_whole, says_fits, all_within, cut_sound, said_of}
 use Rattle.ul_trail.specs.Track.{Track}
 use Rattle.ul_trail.specs.declared.fact.Fact.{Fact}
 use Rattle.ul_trail.specs.Facts.{is_open, IsHeld, IsFailed, AreHeld, AreHeldBut, level_of, up_to}
-use Rattle.ul_trail.specs.Propagation.{IsDerived, AreDerivedAfter, AreLevels, AreForbidden, IsTrailOf, IsAlive, said_by}
-use Rattle.ul_trail.proofs.ForCallers.{take_next, take_whole, take_front, get_more, get_last, last_cases, none_up_to, append_within, cut_held, but_on, negation_node, said_of}
+use Rattle.ul_trail.specs.Propagation.{IsDerived, AreDerivedAfter, AreLevels, AreForbidden, IsTrailOf, IsAlive}
+use Rattle.ul_trail.proofs.ForCallers.{take_next, take_whole, take_front, get_more, get_last, last_cases, none_up_to, append_within, cut_held, but_on, negation_node}
 use Rattle.ul_conflict.specs.Satisfiers.{IsHeldApart, TakesPart, IsSatisfier}
 use Rattle.ul_conflict.specs.Resolved.{IsResolved, IsLevelBefore}
 use Rattle.ul_conflict.proofs.Satisfying.{take_held, take_held_one, take_more, more_held, held_down}

@@ -3,15 +3,14 @@ use Rattle.std.proofs.Common.{◌≡◌, ℕ, List, Some, refl, ap, ◌∙◌, s
 use Rattle.std.proofs.lemmas.Option.{slice_get_read}
 use Rattle.ul_problem.specs.Plain.{Plain}
 use Rattle.ul_problem.specs.Terms.{node_of}
-use Rattle.ul_problem.specs.Serving.{IsOneOf}
+use Rattle.std.specs.List.{Contains}
 use Rattle.ul_problem.specs.Steps.{AreTermsOf}
 use Rattle.ul_problem.specs.declared.term.Term.{Term}
-use Rattle.ul_problem.proofs.ForCallers.{fits_at, place_one}
+use Rattle.ul_problem.proofs.ForCallers.{fits_at, place_one, said_length}
 use Rattle.ul_trail.specs.Track.{Track}
 use Rattle.ul_trail.specs.Propagation.{IsTrailOf}
 use Rattle.ul_trail.specs.Watched.{places_on}
 use Rattle.ul_trail.proofs.ForCallers.{places_within}
-use Rattle.ul_conflict.proofs.Turning.{said_length}
 use Rattle.ul_conflict.specs.Held.{AreHeldPlaces}
 
 -- a term of the list is on a node that is watched
@@ -26,6 +25,6 @@ term_node p t ts i n u w f l e q =
 pub places_held : (p : Plain) (t : Track) (n : ℕ) (places : List ℕ) → IsTrailOf p t → places ≡ places_on n t.terms → AreHeldPlaces t places
 places_held p t n places w e i k h =
     let one = place_one places i k h in
-    let r = places_within n 0 k t.terms (subst (λ (l : List ℕ). IsOneOf k l) e one) in
+    let r = places_within n 0 k t.terms (subst (λ (l : List ℕ). Contains l k) e one) in
     let l = ap (λ (x : List (List Term)). length x) w.said ∙ said_length p t.steps in
     (omega arith, omega arith)

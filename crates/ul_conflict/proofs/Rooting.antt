@@ -5,14 +5,14 @@ use Rattle.std.proofs.lemmas.Option.{none-some, same_Some, slice_get_within}
 use Rattle.ul_ranges.specs.Flags.{has, is_blank}
 use Rattle.ul_ranges.proofs.ForCallers.{none_blank, blank_none}
 use Rattle.ul_problem.specs.Plain.{Plain, size_of}
-use Rattle.ul_problem.specs.Serving.{IsOneOf}
+use Rattle.std.specs.List.{Contains}
 use Rattle.ul_problem.specs.Problems.{IsWellFormed}
 use Rattle.ul_problem.specs.Terms.{node_of, allows, is_among}
 use Rattle.ul_problem.specs.Steps.{AreTermsOf, IsTermOf, AreWritten, written, IsRootTerm, AreRootTerms}
 use Rattle.ul_problem.specs.declared.term.Term.{Term}
 use Rattle.ul_problem.specs.declared.term.Term.TheVariants.{In, NotIn}
 use Rattle.ul_problem.specs.declared.step.Step.{Step}
-use Rattle.ul_problem.proofs.ForCallers.{root_single}
+use Rattle.ul_problem.proofs.ForCallers.{root_single, at_head, in_rest, head_or_rest, in_none}
 use Rattle.ul_trail.specs.Track.{Track}
 use Rattle.ul_trail.specs.declared.fact.Fact.{Fact}
 use Rattle.ul_trail.specs.Facts.{is_open, IsHeld, AreHeld, one_of, level_of}
@@ -23,22 +23,21 @@ use Rattle.ul_conflict.specs.Resolved.{IsResolved}
 use Rattle.ul_conflict.proofs.Deriving.{level_at}
 use Rattle.ul_conflict.proofs.Turning.{IsJump, held_at_satisfier}
 
-has_one : (k : ℕ) (ns : List ℕ) → IsOneOf k ns ⊎ (IsOneOf k ns → ⊥)
-has_one k [] = inr (λ h. h)
+has_one : (k : ℕ) (ns : List ℕ) → Contains ns k ⊎ (Contains ns k → ⊥)
+has_one k [] = inr (λ h. in_none k h)
 has_one k (n ∷ ns) = elim (cases_eq n k) [
-  | inl e ↦ inl (inl e)
-  | inr d ↦ elim (has_one k ns) [ inl h ↦ inl (inr h) | inr h ↦ inr (λ x. neither d h x) ]
+  | inl e ↦ inl (at_head n ns k e)
+  | inr d ↦ elim (has_one k ns) [ inl h ↦ inl (in_rest n ns k h) | inr h ↦ inr (λ x. neither d h x) ]
 ]
   where
-    neither : (n ≡ k → ⊥) → (IsOneOf k ns → ⊥) → IsOneOf k (n ∷ ns) → ⊥
-    neither d h (inl e) = d e
-    neither d h (inr e) = h e
+    neither : (n ≡ k → ⊥) → (Contains ns k → ⊥) → Contains (n ∷ ns) k → ⊥
+    neither d h x = elim (head_or_rest n ns k x) [ inl e ↦ d e | inr e ↦ h e ]
 
-roots_open : (p : Plain) (ns : List ℕ) (k : ℕ) (o : Option ℕ) → (IsOneOf k ns → ⊥) → is_open (root_facts p ns) k o ≡ true
+roots_open : (p : Plain) (ns : List ℕ) (k : ℕ) (o : Option ℕ) → (Contains ns k → ⊥) → is_open (root_facts p ns) k o ≡ true
 roots_open p [] k o h = refl
 roots_open p (n ∷ ns) k o h =
-    ap (λ (b : Bool). cond b (cond (allows (In n (one_of (size_of p n) 0)) o) (is_open (root_facts p ns) k o) false) (is_open (root_facts p ns) k o)) (ne_eqb n k (λ e. h (inl e)))
-    ∙ roots_open p ns k o (λ x. h (inr x))
+    ap (λ (b : Bool). cond b (cond (allows (In n (one_of (size_of p n) 0)) o) (is_open (root_facts p ns) k o) false) (is_open (root_facts p ns) k o)) (ne_eqb n k (λ e. h (at_head n ns k e)))
+    ∙ roots_open p ns k o (λ x. h (in_rest n ns k x))
 
 roots_first : (p : Plain) (ns : List ℕ) (k : ℕ) → 0 < size_of p k → is_open (root_facts p ns) k (Some 0) ≡ true
 roots_first p [] k h = refl
@@ -53,11 +52,13 @@ root_take p zero ns = refl
 root_take p (suc j) [] = refl
 root_take p (suc j) (n ∷ ns) = ap (λ (l : List Fact). root_fact p n ∷ l) (root_take p j ns)
 
-take_one : (k j : ℕ) (ns : List ℕ) → IsOneOf k (take j ns) → IsOneOf k ns
-take_one k zero ns h = absurd h
-take_one k (suc j) [] h = absurd h
-take_one k (suc j) (n ∷ ns) (inl e) = inl e
-take_one k (suc j) (n ∷ ns) (inr h) = inr (take_one k j ns h)
+take_one : (k j : ℕ) (ns : List ℕ) → Contains (take j ns) k → Contains ns k
+take_one k zero ns h = absurd (in_none k h)
+take_one k (suc j) [] h = absurd (in_none k h)
+take_one k (suc j) (n ∷ ns) h = elim (head_or_rest n (take j ns) k h) [
+  | inl e ↦ at_head n ns k e
+  | inr i ↦ in_rest n ns k (take_one k j ns i)
+]
 
 filled : (s : List Bool) → has 0 s ≡ true → is_blank s ≡ false
 filled s h = which (is_blank s) refl

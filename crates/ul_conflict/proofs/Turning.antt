@@ -7,16 +7,16 @@ use Rattle.ul_problem.specs.Plain.{Plain}
 use Rattle.ul_problem.specs.Serving.{Forbids}
 use Rattle.ul_problem.specs.Problems.{IsWellFormed}
 use Rattle.ul_problem.specs.Terms.{node_of, allows, term_on, IsOrdered, negation}
-use Rattle.ul_problem.specs.Steps.{AreTermsOf, IsIncompat, IsResolvent, IsStepWithin, says, step_of, IsRight, AreRightAfter, HasTermOn, AreRootTerms, ClosesWith, Accepts}
+use Rattle.ul_problem.specs.Steps.{AreTermsOf, IsIncompat, IsResolvent, IsStepWithin, says, step_of, IsRight, AreRightAfter, HasTermOn, AreRootTerms, ClosesWith, Accepts, said_by}
 use Rattle.ul_problem.specs.declared.term.Term.{Term}
 use Rattle.ul_problem.specs.declared.step.Step.{Step}
 use Rattle.ul_problem.specs.declared.step.Step.TheVariants.{Need as NeedStep, Python, Base, Cut}
-use Rattle.ul_problem.proofs.ForCallers.{resolvent_whole, says_whole, says_fits, all_within, cut_sound}
+use Rattle.ul_problem.proofs.ForCallers.{resolvent_whole, says_whole, says_fits, all_within, cut_sound, said_place, said_of, said_length}
 use Rattle.ul_trail.specs.Track.{Track}
 use Rattle.ul_trail.specs.declared.fact.Fact.{Fact}
 use Rattle.ul_trail.specs.Facts.{is_open, IsHeld, IsFailed, AreHeld, AreHeldBut, level_of, up_to}
-use Rattle.ul_trail.specs.Propagation.{IsDerived, AreDerivedAfter, AreForbidden, IsTrailOf, IsAlive, IsConflict, said_by}
-use Rattle.ul_trail.proofs.ForCallers.{take_next, take_whole, get_more, get_last, last_cases, append_within, right_join, cut_held, but_on, negation_node, said_at, said_of}
+use Rattle.ul_trail.specs.Propagation.{IsDerived, AreDerivedAfter, AreForbidden, IsTrailOf, IsAlive, IsConflict}
+use Rattle.ul_trail.proofs.ForCallers.{take_next, take_whole, get_more, get_last, last_cases, append_within, right_join, cut_held, but_on, negation_node}
 use Rattle.ul_conflict.specs.Satisfiers.{IsHeldApart, TakesPart, IsSatisfier}
 use Rattle.ul_conflict.specs.Needed.{ClosesAt}
 use Rattle.ul_conflict.specs.Headline.{LastDerives, IsBackjump}
@@ -201,13 +201,8 @@ jump_here p t terms number learned place at before level n f items items' deref 
     }
 
 -- the step of a held incompatibility
-said_back : (p : Plain) (steps : List Step) (k : ℕ) (ts : List Term) → slice_get (said_by p steps) k ≡ Some ts → (s : Step) × (slice_get steps k ≡ Some s) × (says p s ≡ ts)
-said_back p [] k ts e = absurd (none-some ts e)
-said_back p (s ∷ ss) zero ts e = (s, refl, same_Some (says p s) ts e)
-said_back p (s ∷ ss) (suc k) ts e = said_back p ss k ts e
-
 said_step : (p : Plain) (t : Track) (k : ℕ) (ts : List Term) → IsTrailOf p t → slice_get t.terms k ≡ Some ts → (s : Step) × (slice_get t.steps k ≡ Some s) × (says p s ≡ ts)
-said_step p t k ts w e = said_back p t.steps k ts (subst (λ (x : List (List Term)). slice_get x k ≡ Some ts) w.said e)
+said_step p t k ts w e = said_place p t.steps k ts (subst (λ (x : List (List Term)). slice_get x k ≡ Some ts) w.said e)
 
 -- a cut as the code has it
 cut_said : (p : Plain) (t : Track) (terms ts right : List Term) (number number' : ℕ) (learned : List Step) (place at i c : ℕ) (f : Fact) → IsWellFormed p → IsTrailOf p t → IsResolved p t terms number learned place → IsSatisfier t.facts terms None place at
@@ -258,10 +253,6 @@ cut_here p t old now place at before level n c f wf w j e en k =
     )
 
 -- the beginning
-pub said_length : (p : Plain) (steps : List Step) → length (said_by p steps) ≡ length steps
-said_length p [] = refl
-said_length p (s ∷ ss) = ap suc (said_length p ss)
-
 pub started : (p : Plain) (t : Track) (conflict number : ℕ) (terms read : List Term) → IsWellFormed p → IsTrailOf p t → IsConflict p t conflict → number ≡ suc conflict → slice_get t.terms conflict ≡ Some read → terms ≡ read
     → IsResolved p t terms number [] (length t.facts)
 started p t conflict number terms read wf w (s, e, h) n g q =

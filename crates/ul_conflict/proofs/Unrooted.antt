@@ -4,14 +4,14 @@ use Rattle.std.proofs.lemmas.Bool.{cases_eq, cases_lt, true≢false, eqb-true, n
 use Rattle.std.proofs.lemmas.Option.{none-some, same_Some, slice_get_within}
 use Rattle.ul_ranges.specs.Flags.{has, is_blank}
 use Rattle.ul_problem.specs.Plain.{Plain, size_of}
-use Rattle.ul_problem.specs.Serving.{IsOneOf}
+use Rattle.std.specs.List.{Contains}
 use Rattle.ul_problem.specs.Problems.{IsWellFormed}
 use Rattle.ul_problem.specs.Terms.{node_of, allows, is_among}
 use Rattle.ul_problem.specs.Steps.{IsTermOf, IsRootTerm, AreRootTerms}
 use Rattle.ul_problem.specs.declared.term.Term.{Term}
 use Rattle.ul_problem.specs.declared.term.Term.TheVariants.{In, NotIn}
 use Rattle.ul_problem.specs.declared.step.Step.{Step}
-use Rattle.ul_problem.proofs.ForCallers.{root_single}
+use Rattle.ul_problem.proofs.ForCallers.{root_single, head_or_rest, in_none}
 use Rattle.ul_trail.specs.Track.{Track}
 use Rattle.ul_trail.specs.declared.fact.Fact.{Fact}
 use Rattle.ul_trail.specs.Facts.{is_open, IsHeld, AreHeld, one_of}
@@ -35,14 +35,13 @@ both_left true r h = (refl, h)
 both_left false r h = cc
 
 -- what a root's fact leaves open
-root_allows : (p : Plain) (ns : List ℕ) (n : ℕ) (o : Option ℕ) → IsOneOf n ns → is_open (root_facts p ns) n o ≡ true → is_among o (one_of (size_of p n) 0) ≡ true
-root_allows p [] n o h e = absurd h
+root_allows : (p : Plain) (ns : List ℕ) (n : ℕ) (o : Option ℕ) → Contains ns n → is_open (root_facts p ns) n o ≡ true → is_among o (one_of (size_of p n) 0) ≡ true
+root_allows p [] n o h e = absurd (in_none n h)
 root_allows p (x ∷ xs) n o h e = which (nat_eq x n) refl (root_allows p xs n o) h e
   where
-    which : (b : Bool) → nat_eq x n ≡ b → (IsOneOf n xs → is_open (root_facts p xs) n o ≡ true → is_among o (one_of (size_of p n) 0) ≡ true) → IsOneOf n (x ∷ xs) → cond b (cond (is_among o (one_of (size_of p x) 0)) (is_open (root_facts p xs) n o) false) (is_open (root_facts p xs) n o) ≡ true → is_among o (one_of (size_of p n) 0) ≡ true
+    which : (b : Bool) → nat_eq x n ≡ b → (Contains xs n → is_open (root_facts p xs) n o ≡ true → is_among o (one_of (size_of p n) 0) ≡ true) → Contains (x ∷ xs) n → cond b (cond (is_among o (one_of (size_of p x) 0)) (is_open (root_facts p xs) n o) false) (is_open (root_facts p xs) n o) ≡ true → is_among o (one_of (size_of p n) 0) ≡ true
     which true g r i k = subst (λ (j : ℕ). is_among o (one_of (size_of p j) 0) ≡ true) (eqb-true x n g) (both_left (is_among o (one_of (size_of p x) 0)) (is_open (root_facts p xs) n o) k).0
-    which false g r (inl i) k = absurd (true≢false (sym (eq-eqb x n i) ∙ g))
-    which false g r (inr i) k = r i k
+    which false g r c k = elim (head_or_rest x xs n c) [ inl i ↦ absurd (true≢false (sym (eq-eqb x n i) ∙ g)) | inr i ↦ r i k ]
 
 filled_one : (s : List Bool) → length s ≡ 1 → is_blank s ≡ false → has 0 s ≡ true
 filled_one [] l h = absurd (omega arith)

@@ -7,7 +7,7 @@ use Rattle.ul_ranges.specs.Flags.{has, is_within}
 use Rattle.ul_ranges.proofs.ForCallers.{within}
 use Rattle.ul_problem.specs.Plain.{Plain, node_at, size_in, size_of, base_in, barred_in, barred_of, needs_in, needs_of}
 use Rattle.ul_problem.specs.Problems.{IsWellFormed}
-use Rattle.ul_problem.specs.Serving.{IsOneOf}
+use Rattle.std.specs.List.{Contains}
 use Rattle.ul_problem.specs.Steps.{AreTermsOf, AreOfOne, HasNeed, HasTermOn, IsResolvent, IsCutOf, IsRightNeed, IsRightPython, IsRightBase, IsRight, IsStepWithin, AreRightAfter, AreRootTerms, ClosesWith, says, step_of}
 use Rattle.ul_problem.specs.declared.problem.Need.{Need}
 use Rattle.ul_problem.specs.declared.problem.NodeFacts.{NodeFacts}
@@ -59,9 +59,9 @@ rows_fit p n s x rows wf e q h = ap length q ∙ ((node_whole p n x wf e).rows �
 row_is : (p : Plain) (n v : ℕ) (x : NodeFacts) (rows : List (List Need)) → node_at p n ≡ Some x → rows ≡ x.needs → needs_of p n v ≡ get_or rows v []
 row_is p n v x rows e q = ap (λ (o : Option NodeFacts). needs_in o v) e ∙ ap (λ (l : List (List Need)). get_or l v []) (sym q)
 
-pub needs_fit : (p : Plain) (n m v : ℕ) (w : List Bool) (x : NodeFacts) (rows : List (List Need)) (need : Need) → IsWellFormed p → node_at p n ≡ Some x → rows ≡ x.needs → IsSetOf p m w → IsOneOf need (get_or rows v []) → need.node ≡ m → length need.permitted ≡ length w
+pub needs_fit : (p : Plain) (n m v : ℕ) (w : List Bool) (x : NodeFacts) (rows : List (List Need)) (need : Need) → IsWellFormed p → node_at p n ≡ Some x → rows ≡ x.needs → IsSetOf p m w → Contains (get_or rows v []) need → need.node ≡ m → length need.permitted ≡ length w
 needs_fit p n m v w x rows need wf e q h i f =
-    let j : IsOneOf need (needs_of p n v) = subst (λ (l : List Need). IsOneOf need l) (sym (row_is p n v x rows e q)) i in
+    let j : Contains (needs_of p n v) need = subst (λ (l : List Need). Contains l need) (sym (row_is p n v x rows e q)) i in
     (need_fits p n v need wf j).1 ∙ (ap (λ (k : ℕ). size_of p k) f ∙ sym h.1)
 
 pub need_tested : (p : Plain) (n m : ℕ) (s w : List Bool) (x : NodeFacts) (rows : List (List Need)) (b : Bool) → node_at p n ≡ Some x → rows ≡ x.needs → (IsTrue b ↔ ((v : ℕ) → has v s ≡ true → HasNeed (get_or rows v []) m w)) → IsSetOf p n s → IsSetOf p m w → IsTrue b ↔ IsRightNeed p n s m w

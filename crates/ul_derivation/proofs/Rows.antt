@@ -3,7 +3,8 @@ use Rattle.std.proofs.Common.{◌≡◌, ℕ, zero, suc, [], ◌∷◌, true, fa
 use Rattle.std.proofs.lemmas.Bool.{ne_eqb}
 use Rattle.std.proofs.Common.{nat_eq, subst, sym}
 use Rattle.std.proofs.lemmas.Option.{same_Some, none-some}
-use Rattle.ul_problem.specs.Serving.{IsOneOf}
+use Rattle.std.specs.List.{Contains}
+use Rattle.ul_problem.proofs.ForCallers.{at_head, head_or_rest, in_none}
 use Rattle.ul_problem.specs.Steps.{says}
 use Rattle.ul_problem.specs.declared.step.Step.{Step}
 use Rattle.ul_ranges.specs.Flags.{has}
@@ -15,11 +16,11 @@ use Rattle.ul_problem.specs.declared.step.Step.TheVariants.{Cut}
 use Rattle.ul_derivation.specs.Rows.{clash, first_step, second_step, ClashAccepted, ClashShort, ClashUncut}
 
 first_need : (v : ℕ) → has v (true ∷ []) ≡ true → HasNeed (needs_of clash 0 v) 1 (true ∷ false ∷ [])
-first_need zero h = (record { node = 1; permitted = true ∷ false ∷ [] }, inl refl, refl, λ u e. e)
+first_need zero h = (record { node = 1; permitted = true ∷ false ∷ [] }, at_head (record { node = 1; permitted = true ∷ false ∷ [] }) [] (record { node = 1; permitted = true ∷ false ∷ [] }) refl, refl, λ u e. e)
 first_need (suc v) h = cc
 
 second_need : (v : ℕ) → has v (true ∷ false ∷ []) ≡ true → HasNeed (needs_of clash 1 v) 2 []
-second_need zero h = (record { node = 2; permitted = [] }, inl refl, refl, λ u e. e)
+second_need zero h = (record { node = 2; permitted = [] }, at_head (record { node = 2; permitted = [] }) [] (record { node = 2; permitted = [] }) refl, refl, λ u e. e)
 second_need (suc zero) h = cc
 second_need (suc (suc v)) h = cc
 
@@ -43,7 +44,7 @@ cut_each : IsResolvent 1 (In 0 (true ∷ []) ∷ NotIn 1 (true ∷ false ∷ [])
 cut_each = record { ordered = tt; each = elim [ zero ↦ refl | suc k ↦ elim k as (λ j. EachAt (suc j)) [ zero ↦ refl | suc j ↦ beyond (suc (suc j)) (omega arith) ] ] }
 
 pub accepted : ClashAccepted
-accepted = ((first_right, (second_right, ((((omega arith, refl), tt), (first_step, second_step, refl, refl, (NotIn 1 (true ∷ false ∷ []), refl), (In 1 (true ∷ false ∷ []), refl), cut_each)), tt))), ((inl refl, (omega arith, refl), refl), tt))
+accepted = ((first_right, (second_right, ((((omega arith, refl), tt), (first_step, second_step, refl, refl, (NotIn 1 (true ∷ false ∷ []), refl), (In 1 (true ∷ false ∷ []), refl), cut_each)), tt))), ((at_head 0 [] 0 refl, (omega arith, refl), refl), tt))
 
 pub short : ClashShort
 short = record { counted = omega arith; before = (first_right, (second_right, tt)); bad = inl (Cut 1 2 1 [], refl, bad_cut) }
@@ -59,6 +60,5 @@ short = record { counted = omega arith; before = (first_right, (second_right, tt
 pub uncut : ClashUncut
 uncut = record { counted = omega arith; before = (first_right, (second_right, tt)); bad = inr (refl, λ h. not_root h.0.0) }
   where
-    not_root : IsOneOf {A = ℕ} 1 (0 ∷ []) → ⊥
-    not_root (inl e) = absurd (omega arith)
-    not_root (inr i) = i
+    not_root : Contains {X = ℕ} (0 ∷ []) 1 → ⊥
+    not_root i = elim (head_or_rest 0 [] 1 i) [ inl e ↦ absurd (omega arith) | inr j ↦ in_none 1 j ]

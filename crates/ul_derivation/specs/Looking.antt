@@ -1,7 +1,7 @@
 -- What looking for a need in rows takes and tells, and what a cut is told of.
 use Rattle.std.specs.Prelude.{◌≡◌, ℕ, List, [], Bool, true, Option, Some, None, length, get_or}
 use Rattle.ul_ranges.specs.Flags.{has}
-use Rattle.ul_problem.specs.Serving.{IsOneOf}
+use Rattle.std.specs.List.{Contains}
 use Rattle.ul_problem.specs.Plain.{Plain}
 use Rattle.ul_problem.specs.Terms.{IsOrdered}
 use Rattle.ul_problem.specs.Steps.{AreTermsOf, HasNeed, HasTermOn, IsResolvent, says}
@@ -12,7 +12,7 @@ use Rattle.ul_problem.specs.declared.problem.Need.{Need}
 
 -- the permitted versions of each need of a target are a set of this size
 abbrev pub AreNeedsOfSize : List Need → ℕ → ℕ → Type 0
-AreNeedsOfSize needs target size = (need : Need) → IsOneOf need needs → need.node ≡ target → length need.permitted ≡ size
+AreNeedsOfSize needs target size = (need : Need) → Contains needs need → need.node ≡ target → length need.permitted ≡ size
 
 -- each of the versions has the need
 abbrev pub HaveNeed : List (List Need) → List Bool → ℕ → List Bool → Type 0

@@ -1,6 +1,7 @@
 //! Whether the last step forbids what the roots are.
 ghost use Rattle.std.specs.Prelude.{◌≡◌, ◌↔◌, [], IfOk, IsTrue};
-ghost use Rattle.ul_problem.specs.Serving.{HasNone, IsOneOf};
+ghost use Rattle.std.specs.List.{Contains};
+ghost use Rattle.ul_problem.specs.Serving.{HasNone};
 ghost use Rattle.ul_problem.specs.Steps.{AreRightAfter, AreRootTerms, ClosesWith, IsRootTerm};
 
 use crate::checks::is_set_of;
@@ -9,7 +10,7 @@ use ul_problem::{Problem, Step, Term};
 
 // Whether the node is one of the roots. It is looked up by halves, and where it isn't found the roots are read.
 fn is_root(roots: &[u64], node: u64) -> bool
-    ensures { IsTrue result ↔ IsOneOf node roots.now }
+    ensures { IsTrue result ↔ Contains roots.now node }
 {
     let place = roots.partition_point(|root| *root < node);
     if place < roots.len() && roots[place] == node {

@@ -14,10 +14,10 @@ use Rattle.std.proofs.lemmas.List.Sums.{sum_by-cons}
 use Rattle.std.proofs.lemmas.Option.{same_Some}
 use Rattle.std.proofs.lemmas.Slice.Eq.{bytes_eq-Decides}
 use Rattle.ul_version.specs.Texts.{version_text}
-use Rattle.ul_lock.specs.WellFormed.{package_cmp, edge_cmp, IsIncreasing, IsTarget, AreEdges, IsWellFormed}
-use Rattle.ul_lock.specs.declared.parts.Edge.{Edge}
-use Rattle.ul_lock.specs.declared.parts.Locked.{Locked}
-use Rattle.ul_lock.specs.declared.parts.Lock.{Lock}
+use Rattle.ul_pin_lock.specs.WellFormed.{package_cmp, edge_cmp, IsIncreasing, IsTarget, AreEdges, IsWellFormed}
+use Rattle.ul_pin_lock.specs.declared.parts.Edge.{Edge}
+use Rattle.ul_pin_lock.specs.declared.parts.Locked.{Locked}
+use Rattle.ul_pin_lock.specs.declared.parts.Lock.{Lock}
 use Rattle.ul_version.specs.Fields.{Fields}
 use Rattle.ul_version.specs.Order.{version_cmp}
 use Rattle.ul_pins.specs.Serving.{IsOneOf, IsProject, root_of}

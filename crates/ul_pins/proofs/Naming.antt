@@ -15,7 +15,7 @@ use Rattle.std.proofs.lemmas.Map.Keys.{sorted_tail}
 use Rattle.std.proofs.lemmas.Map.Views.{All-after_first}
 use Rattle.std.proofs.lemmas.Bool.{true≢false}
 use Rattle.std.proofs.lemmas.Option.{same_Some}
-use Rattle.ul_lock.specs.WellFormed.{ComesBefore, IsIncreasing}
+use Rattle.ul_pin_lock.specs.WellFormed.{ComesBefore, IsIncreasing}
 use Rattle.ul_pins.specs.Serving.{IsOneOf}
 use Rattle.ul_pins.specs.ByNames.{Entry, decisions_by, AreNamed, name_cmp, IsInserted, HasNoneNamed, IsNamed}
 use Rattle.ul_pins.specs.declared.walk.Decision.{Decision}

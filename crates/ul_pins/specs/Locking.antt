@@ -1,9 +1,9 @@
 -- The lock of decisions.
 use Rattle.std.specs.Prelude.{◌≡◌, ℕ, List, Some, None}
-use Rattle.ul_lock.specs.WellFormed.{IsIncreasing, package_cmp, edge_cmp}
-use Rattle.ul_lock.specs.declared.parts.Edge.{Edge}
-use Rattle.ul_lock.specs.declared.parts.Locked.{Locked}
-use Rattle.ul_lock.specs.declared.parts.Lock.{Lock}
+use Rattle.ul_pin_lock.specs.WellFormed.{IsIncreasing, package_cmp, edge_cmp}
+use Rattle.ul_pin_lock.specs.declared.parts.Edge.{Edge}
+use Rattle.ul_pin_lock.specs.declared.parts.Locked.{Locked}
+use Rattle.ul_pin_lock.specs.declared.parts.Lock.{Lock}
 use Rattle.ul_version.specs.Fields.{Fields}
 use Rattle.ul_pins.specs.Serving.{IsOneOf, root_of}
 use Rattle.ul_pins.specs.Best.{pins_at, version_in}

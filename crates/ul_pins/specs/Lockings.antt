@@ -1,8 +1,8 @@
 -- What the parts of a lock are made of: decisions in the order of their names.
 use Rattle.std.specs.Prelude.{◌≡◌, List, map}
-use Rattle.ul_lock.specs.WellFormed.{IsIncreasing}
-use Rattle.ul_lock.specs.declared.parts.Edge.{Edge}
-use Rattle.ul_lock.specs.declared.parts.Locked.{Locked}
+use Rattle.ul_pin_lock.specs.WellFormed.{IsIncreasing}
+use Rattle.ul_pin_lock.specs.declared.parts.Edge.{Edge}
+use Rattle.ul_pin_lock.specs.declared.parts.Locked.{Locked}
 use Rattle.ul_pins.specs.Serving.{IsOneOf}
 use Rattle.ul_pins.specs.Best.{pins_at}
 use Rattle.ul_pins.specs.ByNames.{name_cmp}

@@ -3,7 +3,7 @@ ghost use Rattle.std.specs.Prelude.{◌≡◌, [], map, IfOk, OnOk, MatchOption}
 ghost use Rattle.std.specs.BTreeMap.{IsOrdered, values};
 ghost use Rattle.std.specs.Cmp.Lexicographic.{slice_cmp};
 ghost use Rattle.std.specs.Ordering.{nat_cmp};
-ghost use Rattle.ul_lock.specs.WellFormed.{IsIncreasing};
+ghost use Rattle.ul_pin_lock.specs.WellFormed.{IsIncreasing};
 ghost use Rattle.ul_pins.specs.ByNames.{HasNoneNamed, IsInserted, IsNamed, name_cmp};
 
 use crate::walk::Decision;

@@ -1,6 +1,6 @@
 //! The lock of a best selection.
 ghost use Rattle.std.specs.Prelude.{◌≡◌, List, [], ◌∷◌, ◌++◌, IfOk, OnOk};
-ghost use Rattle.ul_lock.specs.WellFormed.{IsWellFormed};
+ghost use Rattle.ul_pin_lock.specs.WellFormed.{IsWellFormed};
 ghost use Rattle.ul_pins.specs.Serving.{IsCatalog};
 ghost use Rattle.ul_pins.specs.Best.{IsBest, pins_at};
 ghost use Rattle.ul_pins.specs.Locking.{IsLockOf};
@@ -13,7 +13,7 @@ use crate::index::{Index, meeting};
 use crate::walk::{Decision, Decisions};
 use std::alloc::{AllocError, Global};
 use ul_base::Node;
-use ul_lock::{Edge, Edges, Lock, Locked, Packages};
+use ul_pin_lock::{Edge, Edges, Lock, Locked, Packages};
 
 /// The lock of the best selection: its decisions in the order of their names, each with an edge to what each of its
 /// pins is decided at.

@@ -2,7 +2,7 @@
 use std::alloc::Global;
 use std::test::Fail;
 use ul_base::{Name, Node};
-use ul_lock::{Edge, Edges, Lock, Locked, Packages, write};
+use ul_pin_lock::{Edge, Edges, Lock, Locked, Packages, write};
 use ul_version::Version;
 
 fn edge(alloc: Global, name: &str, version: &str) -> Result<Edge, Fail> {

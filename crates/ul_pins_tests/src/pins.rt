@@ -10,7 +10,7 @@ use std::alloc::Global;
 use std::cmp::Ordering;
 use std::test::Fail;
 use ul_base::Name;
-use ul_lock::Lock;
+use ul_pin_lock::Lock;
 use ul_pins::catalog::{Catalog, Package, Pin, Pins, Release, Releases};
 use ul_pins::locked::lock_of;
 use ul_pins::walk::{Decisions, best};

@@ -2,11 +2,13 @@ use Rattle.std.proofs.Common.{◌≡◌, ℕ, List, [], ◌∷◌, ◌++◌, Boo
 use Rattle.std.proofs.lemmas.Bool.{eqb-true, true≢false}
 use Rattle.std.proofs.lemmas.Option.{same_Some}
 use Rattle.std.proofs.lemmas.List.{append-nil}
+use Rattle.std.specs.List.{Contains}
 use Rattle.ul_problem.specs.Terms.{Selection, is_among}
 use Rattle.ul_problem.specs.Plain.{Plain, needs_of, base_of, order_of}
-use Rattle.ul_problem.specs.Serving.{Serves, IsOneOf}
+use Rattle.ul_problem.specs.Serving.{Serves}
 use Rattle.ul_problem.specs.Problems.{IsWellFormed}
 use Rattle.ul_problem.proofs.Decided.{best_list_once, first_taken_once, agreed_version, version_of_decided}
+use Rattle.ul_problem.proofs.Members.{at_head, in_rest, head_or_rest, in_none, one_left, one_right, one_cases}
 use Rattle.ul_problem.proofs.Rules.{some_root, root_base, need_base}
 use Rattle.ul_problem.specs.declared.problem.Need.{Need}
 use Rattle.ul_problem.specs.Best.{Picks, is_decided, first_open, targets, wanted, next_of, Agrees, Extends, IsFirst, IsBestFrom, IsBest, version_in, IsTrailed, IsChain}
@@ -34,14 +36,14 @@ pub decided_version : (d : Picks) (n : ℕ) → is_decided n d ≡ true → (v :
 decided_version d n h = version_of_decided nat_eq d n h
 
 -- a node that has a version by the list is one of the list's
-pick_here : (e : ℕ × ℕ) (d : Picks) (o : Option ℕ) (n v : ℕ) (b : Bool) → nat_eq e.0 n ≡ b → (o ≡ Some v → IsOneOf (n, v) d) → cond b (Some e.1) o ≡ Some v → IsOneOf (n, v) (e ∷ d)
+pick_here : (e : ℕ × ℕ) (d : Picks) (o : Option ℕ) (n v : ℕ) (b : Bool) → nat_eq e.0 n ≡ b → (o ≡ Some v → Contains d (n, v)) → cond b (Some e.1) o ≡ Some v → Contains (e ∷ d) (n, v)
 pick_here (m, w) d o n v true f h k =
     let en : m ≡ n = eqb-true m n f in
     let ev : w ≡ v = same_Some w v k in
-    inl (λ i. (en i, ev i))
-pick_here e d o n v false f h k = inr (h k)
+    at_head (m, w) d (n, v) (λ i. (en i, ev i))
+pick_here e d o n v false f h k = in_rest e d (n, v) (h k)
 
-pub pick_of : (d : Picks) (n v : ℕ) → version_in d n ≡ Some v → IsOneOf (n, v) d
+pub pick_of : (d : Picks) (n v : ℕ) → version_in d n ≡ Some v → Contains d (n, v)
 pick_of [] n v h = cc
 pick_of (e ∷ d) n v h = pick_here e d (version_in d n) n v (nat_eq e.0 n) refl (pick_of d n v) h
 
@@ -50,53 +52,47 @@ open_here : (d : Picks) (m : ℕ) (r : Option ℕ) (b : Bool) → is_decided m d
 open_here d m r true e h = (e, h)
 open_here d m r false e h = cc
 
-pub none_open : (d : Picks) (ns : List ℕ) (n : ℕ) → first_open d ns ≡ None → IsOneOf n ns → is_decided n d ≡ true
-none_open d [] n h i = absurd i
-none_open d (m ∷ ns) n h (inl e) = subst (λ (k : ℕ). is_decided k d ≡ true) e ((open_here d m (first_open d ns) (is_decided m d) refl h).0)
-none_open d (m ∷ ns) n h (inr i) = none_open d ns n ((open_here d m (first_open d ns) (is_decided m d) refl h).1) i
-
-pub one_left : {A : Type 0} (x : A) (xs ys : List A) → IsOneOf x xs → IsOneOf x (xs ++ ys)
-one_left x [] ys h = absurd h
-one_left x (z ∷ xs) ys (inl e) = inl e
-one_left x (z ∷ xs) ys (inr h) = inr (one_left x xs ys h)
-
-pub one_right : {A : Type 0} (x : A) (xs ys : List A) → IsOneOf x ys → IsOneOf x (xs ++ ys)
-one_right x [] ys h = h
-one_right x (z ∷ xs) ys h = inr (one_right x xs ys h)
-
-one_cases : {A : Type 0} (x : A) (xs ys : List A) → IsOneOf x (xs ++ ys) → IsOneOf x xs ⊎ IsOneOf x ys
-one_cases x [] ys h = inr h
-one_cases x (z ∷ xs) ys (inl e) = inl (inl e)
-one_cases x (z ∷ xs) ys (inr h) = elim (one_cases x xs ys h) [ inl i ↦ inl (inr i) | inr i ↦ inr i ]
+pub none_open : (d : Picks) (ns : List ℕ) (n : ℕ) → first_open d ns ≡ None → Contains ns n → is_decided n d ≡ true
+none_open d [] n h i = absurd (in_none n i)
+none_open d (m ∷ ns) n h i = elim (head_or_rest m ns n i) [
+  | inl e ↦ subst (λ (k : ℕ). is_decided k d ≡ true) e ((open_here d m (first_open d ns) (is_decided m d) refl h).0)
+  | inr r ↦ none_open d ns n ((open_here d m (first_open d ns) (is_decided m d) refl h).1) r
+]
 
 -- the joined needs
-target_of : (needs : List Need) (need : Need) → IsOneOf need needs → IsOneOf need.node (targets needs)
-target_of [] need h = absurd h
-target_of (x ∷ needs) need (inl e) = inl (ap (λ (y : Need). y.node) e)
-target_of (x ∷ needs) need (inr h) = inr (target_of needs need h)
+target_of : (needs : List Need) (need : Need) → Contains needs need → Contains (targets needs) need.node
+target_of [] need h = absurd (in_none need h)
+target_of (x ∷ needs) need h = elim (head_or_rest x needs need h) [
+  | inl e ↦ at_head x.node (targets needs) need.node (ap (λ (y : Need). y.node) e)
+  | inr i ↦ in_rest x.node (targets needs) need.node (target_of needs need i)
+]
 
-need_of : (needs : List Need) (m : ℕ) → IsOneOf m (targets needs) → (need : Need) × IsOneOf need needs × (need.node ≡ m)
-need_of [] m h = absurd h
-need_of (x ∷ needs) m (inl e) = (x, inl refl, e)
-need_of (x ∷ needs) m (inr h) = let r = need_of needs m h in (r.0, inr r.1, r.2)
+need_of : (needs : List Need) (m : ℕ) → Contains (targets needs) m → (need : Need) × Contains needs need × (need.node ≡ m)
+need_of [] m h = absurd (in_none m h)
+need_of (x ∷ needs) m h = elim (head_or_rest x.node (targets needs) m h) [
+  | inl e ↦ (x, at_head x needs x refl, e)
+  | inr i ↦ (let r = need_of needs m i in (r.0, in_rest x needs r.0 r.1, r.2))
+]
 
-pub wanted_one : (p : Plain) (d : Picks) (n v : ℕ) (need : Need) → IsOneOf (n, v) d → IsOneOf need (needs_of p n v) → IsOneOf need.node (wanted p d)
-wanted_one p [] n v need h i = absurd h
-wanted_one p (e ∷ d) n v need (inl f) i =
-    let j : IsOneOf need (needs_of p e.0 e.1) = subst (λ (x : ℕ × ℕ). IsOneOf need (needs_of p x.0 x.1)) (sym f) i in
-    one_left need.node (targets (needs_of p e.0 e.1)) (wanted p d) (target_of (needs_of p e.0 e.1) need j)
-wanted_one p (e ∷ d) n v need (inr h) i = one_right need.node (targets (needs_of p e.0 e.1)) (wanted p d) (wanted_one p d n v need h i)
+pub wanted_one : (p : Plain) (d : Picks) (n v : ℕ) (need : Need) → Contains d (n, v) → Contains (needs_of p n v) need → Contains (wanted p d) need.node
+wanted_one p [] n v need h i = absurd (in_none (n, v) h)
+wanted_one p (e ∷ d) n v need h i = elim (head_or_rest e d (n, v) h) [
+  | inl f ↦ (
+      let j : Contains (needs_of p e.0 e.1) need = subst (λ (x : ℕ × ℕ). Contains (needs_of p x.0 x.1) need) (sym f) i in
+      one_left need.node (targets (needs_of p e.0 e.1)) (wanted p d) (target_of (needs_of p e.0 e.1) need j))
+  | inr r ↦ one_right need.node (targets (needs_of p e.0 e.1)) (wanted p d) (wanted_one p d n v need r i)
+]
 
-wanted_from : (p : Plain) (d : Picks) (m : ℕ) → IsOneOf m (wanted p d) → (e : ℕ × ℕ) × IsOneOf e d × IsOneOf m (targets (needs_of p e.0 e.1))
-wanted_from p [] m h = absurd h
+wanted_from : (p : Plain) (d : Picks) (m : ℕ) → Contains (wanted p d) m → (e : ℕ × ℕ) × Contains d e × Contains (targets (needs_of p e.0 e.1)) m
+wanted_from p [] m h = absurd (in_none m h)
 wanted_from p (e ∷ d) m h = elim (one_cases m (targets (needs_of p e.0 e.1)) (wanted p d) h) [
-  | inl i ↦ (e, inl refl, i)
-  | inr i ↦ (let r = wanted_from p d m i in (r.0, inr r.1, r.2))
+  | inl i ↦ (e, at_head e d e refl, i)
+  | inr i ↦ (let r = wanted_from p d m i in (r.0, in_rest e d r.0 r.1, r.2))
 ]
 
 -- the base of a node that is asked for is asked for
 abbrev pub IsAsked : Plain → Picks → ℕ → Type 0
-IsAsked p d n = IsOneOf n (p.roots ++ wanted p d)
+IsAsked p d n = Contains (p.roots ++ wanted p d) n
 
 pub asked_base : (p : Plain) (d : Picks) (n b : ℕ) → IsWellFormed p → IsAsked p d n → base_of p n ≡ Some b → IsAsked p d b
 asked_base p d n b wf h e = elim (one_cases n p.roots (wanted p d) h) [
@@ -105,7 +101,7 @@ asked_base p d n b wf h e = elim (one_cases n p.roots (wanted p d) h) [
       let r = need_of (needs_of p w.0.0 w.0.1) n w.2 in
       let eb : base_of p r.0.node ≡ Some b = ap (λ (k : ℕ). base_of p k) r.2 ∙ e in
       let o = need_base p w.0.0 w.0.1 b r.0 wf r.1 eb in
-      one_right b p.roots (wanted p d) (subst (λ (k : ℕ). IsOneOf k (wanted p d)) o.2 (wanted_one p d w.0.0 w.0.1 o.0 w.1 o.1)))
+      one_right b p.roots (wanted p d) (subst (λ (k : ℕ). Contains (wanted p d) k) o.2 (wanted_one p d w.0.0 w.0.1 o.0 w.1 o.1)))
 ]
 
 wanted_append : (p : Plain) (xs ys : Picks) → wanted p (xs ++ ys) ≡ wanted p xs ++ wanted p ys
@@ -115,26 +111,28 @@ wanted_append p (e ∷ xs) ys = ap (λ (l : List ℕ). targets (needs_of p e.0 e
 asked_more : (p : Plain) (xs ys : Picks) (n : ℕ) → IsAsked p xs n → IsAsked p (xs ++ ys) n
 asked_more p xs ys n h = elim (one_cases n p.roots (wanted p xs) h) [
   | inl i ↦ one_left n p.roots (wanted p (xs ++ ys)) i
-  | inr i ↦ one_right n p.roots (wanted p (xs ++ ys)) (subst (λ (l : List ℕ). IsOneOf n l) (sym (wanted_append p xs ys)) (one_left n (wanted p xs) (wanted p ys) i))
+  | inr i ↦ one_right n p.roots (wanted p (xs ++ ys)) (subst (λ (l : List ℕ). Contains l n) (sym (wanted_append p xs ys)) (one_left n (wanted p xs) (wanted p ys) i))
 ]
 
-open_which : (d : Picks) (ns : List ℕ) (m n : ℕ) (b : Bool) → (first_open d ns ≡ Some n → IsOneOf n ns) → cond b (first_open d ns) (Some m) ≡ Some n → IsOneOf n (m ∷ ns)
-open_which d ns m n true k h = inr (k h)
-open_which d ns m n false k h = inl (same_Some m n h)
+open_which : (d : Picks) (ns : List ℕ) (m n : ℕ) (b : Bool) → (first_open d ns ≡ Some n → Contains ns n) → cond b (first_open d ns) (Some m) ≡ Some n → Contains (m ∷ ns) n
+open_which d ns m n true k h = in_rest m ns n (k h)
+open_which d ns m n false k h = at_head m ns n (same_Some m n h)
 
-pub open_one : (d : Picks) (ns : List ℕ) (n : ℕ) → first_open d ns ≡ Some n → IsOneOf n ns
+pub open_one : (d : Picks) (ns : List ℕ) (n : ℕ) → first_open d ns ≡ Some n → Contains ns n
 open_one d [] n h = cc
 open_one d (m ∷ ns) n h = open_which d ns m n (is_decided m d) (open_one d ns n) h
 
 -- each node of a chain is asked for
-pub asked_all : (p : Plain) (d rest : Picks) (n v : ℕ) → IsChain p d rest → IsOneOf (n, v) rest → IsAsked p (d ++ rest) n
-asked_all p d [] n v b h = absurd h
-asked_all p d (e ∷ rest) n v b (inl f) =
-    let o : next_of p d ≡ Some n = subst (λ (x : ℕ × ℕ). next_of p d ≡ Some x.0) f b.0 in
-    asked_more p d (e ∷ rest) n (open_one d (p.roots ++ wanted p d) n o)
-asked_all p d (e ∷ rest) n v b (inr h) =
-    let r = asked_all p (d ++ e ∷ []) rest n v b.1 h in
-    subst (λ (l : Picks). IsAsked p l n) (append_assoc d (e ∷ []) rest) r
+pub asked_all : (p : Plain) (d rest : Picks) (n v : ℕ) → IsChain p d rest → Contains rest (n, v) → IsAsked p (d ++ rest) n
+asked_all p d [] n v b h = absurd (in_none (n, v) h)
+asked_all p d (e ∷ rest) n v b h = elim (head_or_rest e rest (n, v) h) [
+  | inl f ↦ (
+      let o : next_of p d ≡ Some n = subst (λ (x : ℕ × ℕ). next_of p d ≡ Some x.0) f b.0 in
+      asked_more p d (e ∷ rest) n (open_one d (p.roots ++ wanted p d) n o))
+  | inr i ↦ (
+      let r = asked_all p (d ++ e ∷ []) rest n v b.1 i in
+      subst (λ (l : Picks). IsAsked p l n) (append_assoc d (e ∷ []) rest) r)
+]
 
 chain_best : (p : Plain) (d rest : Picks) → IsBestFrom p d rest → IsChain p d rest
 chain_best p d [] b = tt

@@ -1,10 +1,12 @@
 pub mod ForCallers
+pub mod Members
 pub mod Rules
 pub mod Loops
 pub mod Halving
 pub mod Marking
 pub mod TermLaws
 pub mod Relations
+pub mod Said
 pub mod Soundness
 pub mod Decided
 pub mod BestLaws

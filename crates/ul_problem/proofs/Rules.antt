@@ -1,22 +1,12 @@
 -- What the rules of a problem give.
 use Rattle.std.proofs.Common.{◌≡◌, ℕ, zero, suc, List, [], ◌∷◌, ◌++◌, Option, Some, None, ◌<◌, inl, inr, length, arith, refl, sym, ap, subst, ◌∙◌, slice_get, get_or, append_assoc}
 use Rattle.std.proofs.lemmas.Option.{none-some, same_Some, slice_get_within}
+use Rattle.ul_problem.proofs.Members.{at_head, in_rest, head_or_rest, in_none, one_place, one_left}
 use Rattle.ul_problem.specs.Plain.{Plain, node_at, size_in, size_of, base_in, base_of, barred_in, barred_of, needs_in, needs_of}
-use Rattle.ul_problem.specs.Serving.{IsOneOf}
+use Rattle.std.specs.List.{Contains}
 use Rattle.ul_problem.specs.Problems.{AllAre, HasBase, IsBaseIn, IsBaseOf, HasTarget, IsAfterBase, IsNeedAfter, AreNeedsAfter, AreNeeds, IsNodeOf, IsSingle, IsExtraOf, AreOneBase, IsWellFormed}
 use Rattle.ul_problem.specs.declared.problem.Need.{Need}
 use Rattle.ul_problem.specs.declared.problem.NodeFacts.{NodeFacts}
-
--- one of a list stands at some place
-pub one_place : {A : Type 0} (xs : List A) (x : A) → IsOneOf x xs → (k : ℕ) × (slice_get xs k ≡ Some x)
-one_place [] x h = absurd h
-one_place (y ∷ ys) x (inl e) = (0, ap Some e)
-one_place (y ∷ ys) x (inr h) = let r = one_place ys x h in (suc r.0, r.1)
-
-pub place_one : {A : Type 0} (xs : List A) (k : ℕ) (x : A) → slice_get xs k ≡ Some x → IsOneOf x xs
-place_one [] k x e = absurd (none-some x e)
-place_one (y ∷ ys) zero x e = inl (same_Some y x e)
-place_one (y ∷ ys) (suc k) x e = inr (place_one ys k x e)
 
 -- each of a list is such
 pub all_at : {A : Type 0} (P : A → Type 0) (xs : List A) (k : ℕ) (x : A) → AllAre P xs → slice_get xs k ≡ Some x → P x
@@ -24,26 +14,28 @@ all_at P [] k x h e = absurd (none-some x e)
 all_at P (y ∷ ys) zero x h e = subst P (same_Some y x e) h.0
 all_at P (y ∷ ys) (suc k) x h e = all_at P ys k x h.1 e
 
-pub all_one : {A : Type 0} (P : A → Type 0) (xs : List A) (x : A) → AllAre P xs → IsOneOf x xs → P x
+pub all_one : {A : Type 0} (P : A → Type 0) (xs : List A) (x : A) → AllAre P xs → Contains xs x → P x
 all_one P xs x h i = let k = one_place xs x i in all_at P xs k.0 x h k.1
 
 -- the roots
-root_of : (nodes : List NodeFacts) (rs : List ℕ) → AreOneBase nodes rs → (n : ℕ) × IsOneOf n rs
+root_of : (nodes : List NodeFacts) (rs : List ℕ) → AreOneBase nodes rs → (n : ℕ) × Contains rs n
 root_of nodes [] h = absurd h
-root_of nodes (r ∷ rs) h = (r, inl refl)
+root_of nodes (r ∷ rs) h = (r, at_head r rs r refl)
 
-pub some_root : (p : Plain) → IsWellFormed p → (n : ℕ) × IsOneOf n p.roots
+pub some_root : (p : Plain) → IsWellFormed p → (n : ℕ) × Contains p.roots n
 some_root p wf = root_of p.nodes p.roots wf.roots
 
-pub root_single : (p : Plain) (n : ℕ) → IsWellFormed p → IsOneOf n p.roots → size_of p n ≡ 1
+pub root_single : (p : Plain) (n : ℕ) → IsWellFormed p → Contains p.roots n → size_of p n ≡ 1
 root_single p n wf i = all_one (IsSingle p.nodes) p.roots n wf.single i
 
-base_root : (p : Plain) (rs : List ℕ) (n b : ℕ) → AreOneBase p.nodes rs → IsOneOf n rs → base_of p n ≡ Some b → IsOneOf b rs
+base_root : (p : Plain) (rs : List ℕ) (n b : ℕ) → AreOneBase p.nodes rs → Contains rs n → base_of p n ≡ Some b → Contains rs b
 base_root p [] n b h i e = absurd h
-base_root p (r ∷ rs) n b h (inl f) e = absurd (none-some b (sym (ap (λ (k : ℕ). base_of p k) (sym f) ∙ h.0) ∙ e))
-base_root p (r ∷ rs) n b h (inr i) e = inl (same_Some r b (sym (all_one (IsExtraOf p.nodes r) rs n h.1 i) ∙ e))
+base_root p (r ∷ rs) n b h i e = elim (head_or_rest r rs n i) [
+  | inl f ↦ absurd (none-some b (sym (ap (λ (k : ℕ). base_of p k) (sym f) ∙ h.0) ∙ e))
+  | inr j ↦ at_head r rs b (same_Some r b (sym (all_one (IsExtraOf p.nodes r) rs n h.1 j) ∙ e))
+]
 
-pub root_base : (p : Plain) (n b : ℕ) → IsWellFormed p → IsOneOf n p.roots → base_of p n ≡ Some b → IsOneOf b p.roots
+pub root_base : (p : Plain) (n b : ℕ) → IsWellFormed p → Contains p.roots n → base_of p n ≡ Some b → Contains p.roots b
 root_base p n b wf = base_root p p.roots n b wf.roots
 
 pub node_whole : (p : Plain) (n : ℕ) (f : NodeFacts) → IsWellFormed p → node_at p n ≡ Some f → IsNodeOf p.nodes f
@@ -92,37 +84,34 @@ needs_whole p n v wf = which (node_at p n) (λ f e. node_whole p n f wf e)
     which None h = tt
     which (Some f) h = row_whole p.nodes f.needs v (h f refl).needs
 
-target_one : (b : ℕ) (needs : List Need) → HasTarget b needs → (other : Need) × IsOneOf other needs × (other.node ≡ b)
+target_one : (b : ℕ) (needs : List Need) → HasTarget b needs → (other : Need) × Contains needs other × (other.node ≡ b)
 target_one b [] h = absurd h
-target_one b (x ∷ xs) (inl e) = (x, inl refl, e)
-target_one b (x ∷ xs) (inr h) = let r = target_one b xs h in (r.0, inr r.1, r.2)
-
-one_left : (x : Need) (xs ys : List Need) → IsOneOf x xs → IsOneOf x (xs ++ ys)
-one_left x [] ys h = absurd h
-one_left x (z ∷ xs) ys (inl e) = inl e
-one_left x (z ∷ xs) ys (inr h) = inr (one_left x xs ys h)
+target_one b (x ∷ xs) (inl e) = (x, at_head x xs x refl, e)
+target_one b (x ∷ xs) (inr h) = let r = target_one b xs h in (r.0, in_rest x xs r.0 r.1, r.2)
 
 -- what is true of a need among others, and of what stands before it
-need_in : (nodes : List NodeFacts) (earlier needs : List Need) (need : Need) → AreNeedsAfter nodes earlier needs → IsOneOf need needs
-    → (before : List Need) × IsNeedAfter nodes before need × ((x : Need) → IsOneOf x before → IsOneOf x (earlier ++ needs))
-need_in nodes earlier [] need h i = absurd i
-need_in nodes earlier (x ∷ xs) need h (inl e) = (earlier, subst (IsNeedAfter nodes earlier) e h.0, λ y j. one_left y earlier (x ∷ xs) j)
-need_in nodes earlier (x ∷ xs) need h (inr i) =
-    let r = need_in nodes (earlier ++ x ∷ []) xs need h.1 i in
-    (r.0, r.1, λ y j. subst (λ (l : List Need). IsOneOf y l) (append_assoc earlier (x ∷ []) xs) (r.2 y j))
+need_in : (nodes : List NodeFacts) (earlier needs : List Need) (need : Need) → AreNeedsAfter nodes earlier needs → Contains needs need
+    → (before : List Need) × IsNeedAfter nodes before need × ((x : Need) → Contains before x → Contains (earlier ++ needs) x)
+need_in nodes earlier [] need h i = absurd (in_none need i)
+need_in nodes earlier (x ∷ xs) need h i = elim (head_or_rest x xs need i) [
+  | inl e ↦ (earlier, subst (IsNeedAfter nodes earlier) e h.0, λ y j. one_left y earlier (x ∷ xs) j)
+  | inr g ↦ (
+      let r = need_in nodes (earlier ++ x ∷ []) xs need h.1 g in
+      (r.0, r.1, λ y j. subst (λ (l : List Need). Contains l y) (append_assoc earlier (x ∷ []) xs) (r.2 y j)))
+]
 
-pub need_base : (p : Plain) (n v b : ℕ) (need : Need) → IsWellFormed p → IsOneOf need (needs_of p n v) → base_of p need.node ≡ Some b → (other : Need) × IsOneOf other (needs_of p n v) × (other.node ≡ b)
+pub need_base : (p : Plain) (n v b : ℕ) (need : Need) → IsWellFormed p → Contains (needs_of p n v) need → base_of p need.node ≡ Some b → (other : Need) × Contains (needs_of p n v) other × (other.node ≡ b)
 need_base p n v b need wf h e =
     let r = need_in p.nodes [] (needs_of p n v) need (needs_whole p n v wf) h in
     let c = after r.0 (base_of p need.node) r.1.2 e in
     (c.0, r.2 c.0 c.1, c.2)
   where
-    after : (earlier : List Need) (o : Option ℕ) → IsAfterBase earlier o → o ≡ Some b → (other : Need) × IsOneOf other earlier × (other.node ≡ b)
+    after : (earlier : List Need) (o : Option ℕ) → IsAfterBase earlier o → o ≡ Some b → (other : Need) × Contains earlier other × (other.node ≡ b)
     after earlier None g f = absurd (none-some b f)
     after earlier (Some c) g f = let t = target_one c earlier g in (t.0, t.1, t.2 ∙ same_Some c b f)
 
 -- a need's target and its set
-pub need_fits : (p : Plain) (n v : ℕ) (need : Need) → IsWellFormed p → IsOneOf need (needs_of p n v) → (need.node < length p.nodes) × (length need.permitted ≡ size_of p need.node)
+pub need_fits : (p : Plain) (n v : ℕ) (need : Need) → IsWellFormed p → Contains (needs_of p n v) need → (need.node < length p.nodes) × (length need.permitted ≡ size_of p need.node)
 need_fits p n v need wf h = let r = need_in p.nodes [] (needs_of p n v) need (needs_whole p n v wf) h in (r.1.0, r.1.1)
 
 -- a base is a node of the problem, with as many versions

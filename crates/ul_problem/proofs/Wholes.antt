@@ -4,10 +4,11 @@ use Rattle.std.proofs.lemmas.Bool.{eqb-true, ltb-false}
 use Rattle.std.proofs.lemmas.Option.{none-some, same_Some}
 use Rattle.ul_ranges.specs.Flags.{is_blank}
 use Rattle.ul_ranges.proofs.ForCallers.{length-both, length-either, length-less}
+use Rattle.ul_problem.proofs.Members.{at_head, in_rest, head_or_rest, in_none}
 use Rattle.ul_problem.specs.Terms.{node_of, set_of, meet_of, join_of, term_on, IsOrdered, IsOrderedFrom}
 use Rattle.ul_problem.specs.Plain.{Plain, size_of, base_of}
 use Rattle.ul_problem.specs.Problems.{IsWellFormed}
-use Rattle.ul_problem.specs.Serving.{IsOneOf}
+use Rattle.std.specs.List.{Contains}
 use Rattle.ul_problem.specs.Steps.{IsTermOf, AreTermsOf, AreOfOne, written, AreWritten, IsIncompat, with_term, pair_of, base_or, says, step_of, met_terms, joined_terms, IsResolvent, IsStepWithin, IsRight, AreRightAfter}
 use Rattle.ul_problem.specs.Turns.{AreLevel}
 use Rattle.ul_problem.specs.declared.term.Term.{Term}
@@ -118,47 +119,55 @@ says_fits p (Base n s) wf h = pair_fits p (In n s) (NotIn (base_or (base_of p n)
 says_fits p (Cut i j m ts) wf h = h.0
 
 -- each term of a list
-pub term_one : (k : ℕ) (ts : List Term) (t : Term) → term_on k ts ≡ Some t → IsOneOf t ts × (node_of t ≡ k)
+pub term_one : (k : ℕ) (ts : List Term) (t : Term) → term_on k ts ≡ Some t → Contains ts t × (node_of t ≡ k)
 term_one k [] t e = absurd (none-some t e)
 term_one k (u ∷ us) t e = which (nat_eq (node_of u) k) (term_one k us t) refl e
   where
-    which : (b : Bool) → (term_on k us ≡ Some t → IsOneOf t us × (node_of t ≡ k)) → nat_eq (node_of u) k ≡ b → cond b (Some u) (term_on k us) ≡ Some t → IsOneOf t (u ∷ us) × (node_of t ≡ k)
-    which true more f g = let same : u ≡ t = same_Some u t g in (inl same, ap node_of (sym same) ∙ eqb-true (node_of u) k f)
-    which false more f g = let r = more g in (inr r.0, r.1)
+    which : (b : Bool) → (term_on k us ≡ Some t → Contains us t × (node_of t ≡ k)) → nat_eq (node_of u) k ≡ b → cond b (Some u) (term_on k us) ≡ Some t → Contains (u ∷ us) t × (node_of t ≡ k)
+    which true more f g = let same : u ≡ t = same_Some u t g in (at_head u us t same, ap node_of (sym same) ∙ eqb-true (node_of u) k f)
+    which false more f g = let r = more g in (in_rest u us t r.0, r.1)
 
-from_low : (low : ℕ) (ts : List Term) (t : Term) → IsOrderedFrom low ts → IsOneOf t ts → low < node_of t
-from_low low [] t h i = absurd i
-from_low low (u ∷ us) t h (inl e) = subst (λ (x : Term). low < node_of x) e h.0
-from_low low (u ∷ us) t h (inr i) = let a = from_low (node_of u) us t h.1 i in omega (arith, a, h.0)
+from_low : (low : ℕ) (ts : List Term) (t : Term) → IsOrderedFrom low ts → Contains ts t → low < node_of t
+from_low low [] t h i = absurd (in_none t i)
+from_low low (u ∷ us) t h i = elim (head_or_rest u us t i) [
+  | inl e ↦ subst (λ (x : Term). low < node_of x) e h.0
+  | inr r ↦ (let a = from_low (node_of u) us t h.1 r in omega (arith, a, h.0))
+]
 
-one_term : (ts : List Term) (t : Term) → IsOrdered ts → IsOneOf t ts → term_on (node_of t) ts ≡ Some t
-one_term [] t h i = absurd i
-one_term (u ∷ us) t h (inl e) = on_here u (node_of t) us (ap node_of e) ∙ ap Some e
-one_term (u ∷ us) t h (inr i) =
-    let low = from_low (node_of u) us t h i in
-    on_past u (node_of t) us (λ e. omega (arith, low, e)) ∙ one_term us t (more us h) i
+one_term : (ts : List Term) (t : Term) → IsOrdered ts → Contains ts t → term_on (node_of t) ts ≡ Some t
+one_term [] t h i = absurd (in_none t i)
+one_term (u ∷ us) t h i = elim (head_or_rest u us t i) [
+  | inl e ↦ on_here u (node_of t) us (ap node_of e) ∙ ap Some e
+  | inr r ↦ (
+      let low = from_low (node_of u) us t h r in
+      on_past u (node_of t) us (λ e. omega (arith, low, e)) ∙ one_term us t (more us h) r)
+]
   where
     more : (vs : List Term) → IsOrderedFrom (node_of u) vs → IsOrdered vs
     more [] g = tt
     more (v ∷ vs) g = g.1
 
-written_at : (ts : List Term) (t : Term) → AreWritten ts → IsOneOf t ts → written t ≡ Some t
-written_at [] t h i = absurd i
-written_at (u ∷ us) t h (inl e) = subst (λ (x : Term). written x ≡ Some x) e h.0
-written_at (u ∷ us) t h (inr i) = written_at us t h.1 i
+written_at : (ts : List Term) (t : Term) → AreWritten ts → Contains ts t → written t ≡ Some t
+written_at [] t h i = absurd (in_none t i)
+written_at (u ∷ us) t h i = elim (head_or_rest u us t i) [
+  | inl e ↦ subst (λ (x : Term). written x ≡ Some x) e h.0
+  | inr r ↦ written_at us t h.1 r
+]
 
-pub fits_at : (p : Plain) (ts : List Term) (t : Term) → AreTermsOf p ts → IsOneOf t ts → IsTermOf p t
-fits_at p [] t h i = absurd i
-fits_at p (u ∷ us) t h (inl e) = subst (λ (x : Term). IsTermOf p x) e h.0
-fits_at p (u ∷ us) t h (inr i) = fits_at p us t h.1 i
+pub fits_at : (p : Plain) (ts : List Term) (t : Term) → AreTermsOf p ts → Contains ts t → IsTermOf p t
+fits_at p [] t h i = absurd (in_none t i)
+fits_at p (u ∷ us) t h i = elim (head_or_rest u us t i) [
+  | inl e ↦ subst (λ (x : Term). IsTermOf p x) e h.0
+  | inr r ↦ fits_at p us t h.1 r
+]
 
-all_written : (ts : List Term) → ((t : Term) → IsOneOf t ts → written t ≡ Some t) → AreWritten ts
+all_written : (ts : List Term) → ((t : Term) → Contains ts t → written t ≡ Some t) → AreWritten ts
 all_written [] h = tt
-all_written (t ∷ ts) h = (h t (inl refl), all_written ts (λ u i. h u (inr i)))
+all_written (t ∷ ts) h = (h t (at_head t ts t refl), all_written ts (λ u i. h u (in_rest t ts u i)))
 
-all_fit : (p : Plain) (ts : List Term) → ((t : Term) → IsOneOf t ts → IsTermOf p t) → AreTermsOf p ts
+all_fit : (p : Plain) (ts : List Term) → ((t : Term) → Contains ts t → IsTermOf p t) → AreTermsOf p ts
 all_fit p [] h = tt
-all_fit p (t ∷ ts) h = (h t (inl refl), all_fit p ts (λ u i. h u (inr i)))
+all_fit p (t ∷ ts) h = (h t (at_head t ts t refl), all_fit p ts (λ u i. h u (in_rest t ts u i)))
 
 -- where a resolvent's term comes from
 abbrev IsFrom : Option Term → Option Term → Term → Type 0
@@ -172,7 +181,7 @@ comes None b t false e = inr (inl e)
 comes (Some x) None t false e = inl e
 comes (Some x) (Some y) t false e = inr (inr (x, y, refl, refl, inl e))
 
-source : (m : ℕ) (left right ts : List Term) (t : Term) → IsResolvent m left right ts → IsOneOf t ts → IsFrom (term_on (node_of t) left) (term_on (node_of t) right) t
+source : (m : ℕ) (left right ts : List Term) (t : Term) → IsResolvent m left right ts → Contains ts t → IsFrom (term_on (node_of t) left) (term_on (node_of t) right) t
 source m left right ts t r i = comes (term_on (node_of t) left) (term_on (node_of t) right) t (nat_eq (node_of t) m) (sym (r.each (node_of t)) ∙ one_term ts t r.ordered i)
 
 pub resolvent_whole : (m : ℕ) (left right ts : List Term) → IsIncompat left → IsIncompat right → IsResolvent m left right ts → IsIncompat ts
@@ -201,11 +210,11 @@ resolvent_fits p m left right ts a b r = all_fit p ts (λ t i. from t (source m 
         ]
 
 -- the heads of two lists of one problem
-head_drop : (ts : List Term) (i : ℕ) (t : Term) → slice_get (drop i ts) 0 ≡ Some t → IsOneOf t ts
+head_drop : (ts : List Term) (i : ℕ) (t : Term) → slice_get (drop i ts) 0 ≡ Some t → Contains ts t
 head_drop [] zero t e = absurd (none-some t e)
 head_drop [] (suc i) t e = absurd (none-some t e)
-head_drop (u ∷ us) zero t e = inl (same_Some u t e)
-head_drop (u ∷ us) (suc i) t e = inr (head_drop us i t e)
+head_drop (u ∷ us) zero t e = at_head u us t (same_Some u t e)
+head_drop (u ∷ us) (suc i) t e = in_rest u us t (head_drop us i t e)
 
 pub heads_level : (left right : List Term) (i j : ℕ) (a b : Option Term) → AreOfOne left right → a ≡ slice_get (drop i left) 0 → b ≡ slice_get (drop j right) 0 → AreLevel a b
 heads_level left right i j None b o e f = tt

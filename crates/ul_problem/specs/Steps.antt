@@ -4,7 +4,7 @@ use Rattle.std.specs.Prelude.{◌≡◌, ℕ, zero, suc, List, [], ◌∷◌, �
 use Rattle.ul_ranges.specs.Flags.{has, is_blank}
 use Rattle.ul_problem.specs.Terms.{node_of, set_of, meet_of, join_of, term_on, IsOrdered}
 use Rattle.ul_problem.specs.Plain.{Plain, size_of, base_of, barred_of, needs_of}
-use Rattle.ul_problem.specs.Serving.{IsOneOf}
+use Rattle.std.specs.List.{Contains}
 use Rattle.ul_problem.specs.declared.term.Term.{Term}
 use Rattle.ul_problem.specs.declared.term.Term.TheVariants.{In, NotIn}
 use Rattle.ul_problem.specs.declared.problem.Need.{Need}
@@ -60,6 +60,11 @@ says p (Python n s) = In n s ∷ []
 says p (Base n s) = pair_of (In n s) (NotIn (base_or (base_of p n) n) s)
 says p (Cut i j m ts) = ts
 
+-- what each of some steps says
+abbrev pub said_by : Plain → List Step → List (List Term)
+said_by p [] = []
+said_by p (s ∷ ss) = says p s ∷ said_by p ss
+
 -- a step's places and sets are the problem's, the node of a base step has an extra, and a cut's terms are an incompatibility
 abbrev pub IsStepWithin : Plain → Step → Type 0
 IsStepWithin p (NeedStep n s m w) = (n < length p.nodes) × (m < length p.nodes) × (length s ≡ size_of p n) × (length w ≡ size_of p m)
@@ -90,7 +95,7 @@ pub record IsResolvent (m : ℕ) (left right ts : List Term) : Type 0 where
 
 -- among the needs of a version is one of this target, whose permitted versions are all in the set
 abbrev pub HasNeed : List Need → ℕ → List Bool → Type 0
-HasNeed needs m w = (need : Need) × IsOneOf need needs × (need.node ≡ m) × ((u : ℕ) → has u need.permitted ≡ true → has u w ≡ true)
+HasNeed needs m w = (need : Need) × Contains needs need × (need.node ≡ m) × ((u : ℕ) → has u need.permitted ≡ true → has u w ≡ true)
 
 -- the step of a number, from 1, among the earlier ones
 abbrev pub step_of : List Step → ℕ → Option Step
@@ -140,7 +145,7 @@ AreRightAfter p earlier (s ∷ ss) = IsRight p earlier s × AreRightAfter p (ear
 
 -- a positive term on a root, with a set that isn't empty
 abbrev pub IsRootTerm : Plain → Term → Type 0
-IsRootTerm p (In n s) = IsOneOf n p.roots × IsTermOf p (In n s) × (is_blank s ≡ false)
+IsRootTerm p (In n s) = Contains p.roots n × IsTermOf p (In n s) × (is_blank s ≡ false)
 IsRootTerm p (NotIn n s) = ⊥
 
 -- each term is a positive one on a root

@@ -13,6 +13,9 @@ use Rattle.std.proofs.lemmas.List.{ext_get_or, get_or_past, get_or-replicate, le
 use Rattle.std.proofs.lemmas.List.FromFn.{length-map-range_with_len, get_or-map-range_with_len}
 use Rattle.std.proofs.lemmas.Nat.{and_le_l, or_lt, pow_below}
 use Rattle.std.proofs.lemmas.Nat.Bits.{bit_at_and, bit_at_or, bit_at_not, bit_at-lt, bit_at-zero, bit_at_set_same, bit_at_set_other, bit_at_ones, bit_at_ones_above, shr_and_one, same_from_bits_below}
+use Rattle.ul_ranges.specs.Operations.{word_by, flag_by}
+use Rattle.ul_ranges.specs.declared.words.Operation.{Operation}
+use Rattle.ul_ranges.specs.declared.words.Operation.TheVariants.{Meet, Join, Less}
 use Rattle.ul_ranges.specs.Flags.{has, both, either, less, is_blank, is_within, set_of}
 use Rattle.ul_ranges.specs.Blocks.{flag, flag_at, flags_of, block_count, IsExact, AreBlocksOf}
 use Rattle.ul_ranges.specs.Marks.{HasMarked, IsFull}
@@ -144,6 +147,11 @@ or_flagwise = record { nothing = refl; no_flag = refl; fits = λ x y g h. or_lt 
 
 pub less_flagwise : IsFlagwise (λ x y. bit_and x (bit_not w64 y)) (λ x y. cond y false x)
 less_flagwise = record { nothing = refl; no_flag = refl; fits = λ x y h _. let e = and_le_l x (bit_not w64 y) in omega arith; each = λ x y i h l. flag-and_not x y i h l }
+
+pub by_flagwise : (o : Operation) → IsFlagwise (word_by o) (flag_by o)
+by_flagwise Meet = and_flagwise
+by_flagwise Join = or_flagwise
+by_flagwise Less = less_flagwise
 
 module _ (m n : ℕ) (a b : List ℕ) (s t : List Bool) (p : Paired m n a b s t) where
   size_of_left : length s ≡ m

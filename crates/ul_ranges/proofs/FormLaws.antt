@@ -8,7 +8,8 @@ use Rattle.std.proofs.lemmas.List.FromFn.{length-map-range_with_len, get_or-map-
 use Rattle.std.proofs.lemmas.Nat.{and_le_l, or_lt}
 use Rattle.ul_ranges.specs.Flags.{has, both, either, less, is_apart, is_blank, is_within, set_of, IsNext}
 use Rattle.ul_ranges.specs.Blocks.{flag, flag_at, block_count, AreBlocksOf}
-use Rattle.ul_ranges.specs.Forms.{bit_in, is_one, flag_in, flags_in, IsWord, IsBelow, IsFew, IsMany, IsForm, IsSealed, HasBlocks, in_both, in_either, in_first, IsMade, only_in, only_out, AreForms, AreSame, AreWithin, AreApart, HasMembers, HasAll}
+use Rattle.ul_ranges.specs.Operations.{in_both, in_either, in_first}
+use Rattle.ul_ranges.specs.Forms.{bit_in, is_one, flag_in, flags_in, IsWord, IsBelow, IsFew, IsMany, IsForm, IsSealed, HasBlocks, IsMade, only_in, only_out, AreForms, AreSame, AreWithin, AreApart, HasMembers, HasAll}
 use Rattle.ul_ranges.specs.declared.forms.Form.{Form}
 use Rattle.ul_ranges.specs.declared.forms.Form.TheVariants.{Word, Few, Many}
 use Rattle.ul_ranges.proofs.FlagLaws.{has-both, has-either, has-less, length-both, length-either, length-less, blank_none, none_blank, same_sets, cond_same, length-set_of, has-set_of}

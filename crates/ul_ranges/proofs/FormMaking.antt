@@ -25,6 +25,9 @@ ok_then (Err e) P Q h k = tt
 pub has_blocks : (size : ℕ) (f : Form) (bs : List ℕ) → f ≡ Many bs → IsForm size f → HasBlocks size f bs
 has_blocks size f bs e h = subst (λ (g : Form). HasBlocks size g bs) (sym e) (many_blocks size bs (subst (λ (g : Form). IsForm size g) e h))
 
+pub same_count : (size : ℕ) (f g : Form) (xs ys x y : List ℕ) → HasBlocks size f xs → HasBlocks size g ys → x ≡ xs → y ≡ ys → length x ≡ length y
+same_count size f g xs ys x y a b e q = ap length e ∙ a.exact.count ∙ sym (ap length q ∙ b.exact.count)
+
 -- what is known of two blocks that are zipped
 pub record AreZipped (size : ℕ) (op : ℕ → ℕ → ℕ) (mine theirs : Form) (r : List ℕ) : Type 0 where
   pub left : List ℕ

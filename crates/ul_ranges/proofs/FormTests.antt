@@ -10,7 +10,8 @@ use Rattle.std.proofs.lemmas.Bool.Decides.{Decides-eqb}
 use Rattle.std.proofs.lemmas.Bool.{cases_lt, eqb-true, eq-eqb, true≢false, false≢true}
 use Rattle.std.proofs.lemmas.List.{ext_get_or}
 use Rattle.ul_ranges.specs.Blocks.{flag, flag_at, IsExact}
-use Rattle.ul_ranges.specs.Forms.{bit_in, is_one, flag_in, HasTwo, IsWord, IsMany, in_both, in_first, AreForms, AreSame, AreWithin, AreApart}
+use Rattle.ul_ranges.specs.Operations.{in_both, in_first}
+use Rattle.ul_ranges.specs.Forms.{bit_in, is_one, flag_in, HasTwo, IsWord, IsMany, AreForms, AreSame, AreWithin, AreApart}
 use Rattle.ul_ranges.specs.declared.forms.Form.{Form}
 use Rattle.ul_ranges.specs.declared.forms.Form.TheVariants.{Word, Few, Many}
 use Rattle.ul_ranges.proofs.BlockLaws.{flag-zero, same_word, flag_at-place, flag-and, flag-and_not, all_of_map, all_clear, clear_all, and_flagwise, less_flagwise, zip_exact, zip_flag}

@@ -1,11 +1,13 @@
 -- Laws of the loops over blocks of bits.
-use Rattle.std.proofs.Common.{◌≡◌, ℕ, List, Bool, true, false, cond, refl, ap, ◌∙◌, sym, subst, get_or, ◌+◌, ◌-◌, ◌*◌, ◌/◌, ◌%◌, ◌^◌, ◌<◌, ◌≤◌, length, arith, eqb, inl, inr, w64, Some, None, set}
+use Rattle.std.proofs.Common.{◌≡◌, ℕ, List, [], ◌∷◌, Bool, true, false, cond, refl, ap, ◌∙◌, sym, subst, get_or, ◌+◌, ◌-◌, ◌*◌, ◌/◌, ◌%◌, ◌^◌, ◌<◌, ◌≤◌, length, arith, eqb, inl, inr, w64, Some, None, set}
 use Rattle.std.specs.Prelude.{bit_and, map, zip}
 use Rattle.std.specs.Int.{bit_at, bit_not, trailing_zeros}
 use Rattle.std.proofs.lemmas.Bool.{cases_lt, cases_eq, true≢false}
 use Rattle.std.proofs.lemmas.List.{ext_get_or, get_or_past, get_or-set_same, get_or-set_other, get_or_default, length-set}
 use Rattle.std.proofs.lemmas.Nat.{and_le_l}
 use Rattle.std.proofs.lemmas.Nat.Bits.{bit_at_above, bit_at-trailing_zeros}
+use Rattle.std.specs.Simd.Lanes.{chunk, put_chunk, zip2}
+use Rattle.std.proofs.lemmas.Simd.{length-chunk, length-zip2, length-put_chunk, get_or-chunk, get_or-zip2, get_or-put_chunk_below, get_or-put_chunk_at, get_or-put_chunk_above}
 use Rattle.ul_ranges.specs.Flags.{IsNext}
 use Rattle.ul_ranges.specs.Blocks.{flag, flag_at}
 use Rattle.ul_ranges.proofs.BlockLaws.{flag-zero, flag-true, flag-and_not, flag_at-place, ones_below, ones_above, low_mask, word_at, word_count}
@@ -33,6 +35,36 @@ put_next op xs ys now j x h inside ex =
       ];
       rest = λ k l. get_or-set_other now j k (op x y) 0 (λ e. absurd (omega (arith, e, l))) ∙ h.rest k (omega arith);
     }
+
+-- four words at a time
+pub put_four : (op : ℕ → ℕ → ℕ) (xs ys now : List ℕ) (j : ℕ) → IsPut op xs ys now j → j + 4 ≤ length ys → length xs ≡ length ys
+    → IsPut op xs ys (put_chunk j now (zip2 op (chunk j 4 now) (chunk j 4 ys))) (j + 4)
+put_four op xs ys now j h inside e =
+    let within : j + 4 ≤ length now = let c = h.count in omega arith in
+    let lx : length (chunk j 4 now) ≡ 4 = length-chunk j 4 now within in
+    let ly : length (chunk j 4 ys) ≡ 4 = length-chunk j 4 ys inside in
+    let zs : List ℕ = zip2 op (chunk j 4 now) (chunk j 4 ys) in
+    let lz : length zs ≡ 4 = length-zip2 op (chunk j 4 now) (chunk j 4 ys) (lx ∙ sym ly) ∙ lx in
+    let each : (i : ℕ) → i < 4 → get_or (put_chunk j now zs) (j + i) 0 ≡ op (get_or xs (j + i) 0) (get_or ys (j + i) 0) =
+    (λ i l. get_or-put_chunk_at j now zs i 0 (omega (arith, l, lz)) (omega (arith, lz, within))
+    ∙ get_or-zip2 op (chunk j 4 now) (chunk j 4 ys) i 0 0 0 (omega (arith, l, lx)) (omega (arith, l, ly))
+    ∙ ap (λ (v : ℕ). op v (get_or (chunk j 4 ys) i 0)) (get_or-chunk j 4 now i 0 l ∙ h.rest (j + i) (omega arith))
+    ∙ ap (λ (v : ℕ). op (get_or xs (j + i) 0) v) (get_or-chunk j 4 ys i 0 l)) in
+    record {
+      count = length-put_chunk j now zs ∙ h.count;
+      done = λ k l. elim (cases_lt k j) [
+        | inl b ↦ get_or-put_chunk_below j now zs k 0 b ∙ h.done k b
+        | inr a ↦ (let back : j + (k - j) ≡ k = omega (arith, a) in
+            subst (λ (m : ℕ). get_or (put_chunk j now zs) m 0 ≡ op (get_or xs m 0) (get_or ys m 0)) back (each (k - j) (omega (arith, a, l))))
+      ];
+      rest = λ k l. get_or-put_chunk_above j now zs k 0 (omega (arith, l, lz)) ∙ h.rest k (omega (arith, l));
+    }
+
+-- clearing bits, lane by lane
+pub less_lanes : (xs ys : List ℕ) → zip2 bit_and xs (map (bit_not w64) ys) ≡ zip2 (λ x y. bit_and x (bit_not w64 y)) xs ys
+less_lanes [] ys = refl
+less_lanes (x ∷ xs) [] = refl
+less_lanes (x ∷ xs) (y ∷ ys) = ap (λ (l : List ℕ). bit_and x (bit_not w64 y) ∷ l) (less_lanes xs ys)
 
 pub put_end : (op : ℕ → ℕ → ℕ) (xs ys now : List ℕ) (j : ℕ) → op 0 0 ≡ 0 → IsPut op xs ys now j → length ys ≤ j → length xs ≡ length ys
     → now ≡ map (λ (p : ℕ × ℕ). op p.0 p.1) (zip xs ys)

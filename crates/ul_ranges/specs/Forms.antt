@@ -76,18 +76,6 @@ pub record HasBlocks (size : ℕ) (form : Form) (blocks : List ℕ) : Type 0 whe
   pub exact : IsExact size blocks
   pub each : (k : ℕ) → flag_at blocks k ≡ flag_in form k
 
--- what an operation makes of two flags: whether both are set
-abbrev pub in_both : Bool → Bool → Bool
-in_both x y = cond x y false
-
--- whether one of them is set
-abbrev pub in_either : Bool → Bool → Bool
-in_either x y = cond x true y
-
--- whether the first alone is set
-abbrev pub in_first : Bool → Bool → Bool
-in_first x y = cond y false x
-
 -- an operation made the set of two others, flag by flag
 pub record IsMade (size : ℕ) (op : Bool → Bool → Bool) (mine theirs made : Form) : Type 0 where
   pub kept : IsForm size made

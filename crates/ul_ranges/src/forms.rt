@@ -4,10 +4,11 @@ ghost use Rattle.std.specs.Int.{bit_not, w64};
 ghost use Rattle.ul_ranges.specs.Blocks.{IsExact, flag_at};
 ghost use Rattle.ul_ranges.specs.Flags.{IsNext};
 ghost use Rattle.ul_ranges.specs.Marks.{HasMarked, IsFull, IsMarkedWord};
-ghost use Rattle.ul_ranges.specs.Forms.{AreApart, AreForms, AreLevel, AreSame, AreWithin, HasAll, HasMembers, IsOpen, IsResealed, IsSomeForm, IsZipped, flag_in, bit_in, IsBelow, IsFew, IsFewOf, IsForm, IsMade, IsSealed, HasBlocks, in_both, in_either, in_first, only_in, only_out};
+ghost use Rattle.ul_ranges.specs.Forms.{AreApart, AreForms, AreLevel, AreSame, AreWithin, HasAll, HasMembers, IsOpen, IsResealed, IsSomeForm, IsZipped, flag_in, bit_in, IsBelow, IsFew, IsFewOf, IsForm, IsMade, IsSealed, HasBlocks, only_in, only_out};
+ghost use Rattle.ul_ranges.specs.Operations.{flag_by, in_both, in_either, in_first, word_by};
 
-use crate::shared::Shared;
-use crate::words::{are_apart, are_within, joined, lessened, met, next_bit, next_flag};
+use crate::shared::{SharedList, put_shared};
+use crate::words::{Operation, are_apart, are_within, next_bit, next_flag, words_by};
 use std::alloc::{AllocError, Global};
 
 // How a set is kept: up to 64 numbers by the bits of one word; more by the one member that there may be, or by blocks of bits where
@@ -16,7 +17,7 @@ use std::alloc::{AllocError, Global};
 pub enum Form {
     Word(u64),
     Few(Option<u32>),
-    Many(Shared),
+    Many(SharedList<u64>),
 }
 
 // Whether the number is a member.
@@ -53,7 +54,20 @@ pub fn copy(alloc: Global, form: &Form) -> Result<Form, AllocError>
     match form {
         Form::Word(word) => Ok(Form::Word(*word)),
         Form::Few(one) => Ok(Form::Few(*one)),
-        Form::Many(blocks) => Ok(Form::Many(blocks.copy(alloc)?)),
+        Form::Many(blocks) => Ok(Form::Many(copy_blocks(alloc, blocks)?)),
+    }
+}
+
+// The blocks with one owner more; where the count of owners is at its end, equal blocks.
+fn copy_blocks(alloc: Global, blocks: &SharedList<u64>) -> Result<SharedList<u64>, AllocError>
+    ensures { IfOk result (λ b. b ≡ blocks.now) }
+{
+    match blocks.copy() {
+        Ok(shared) => Ok(shared),
+        Err(_) => {
+            let others = Vec::from_slice(alloc, blocks.as_slice())?;
+            SharedList::of(alloc, others)
+        }
     }
 }
 
@@ -80,7 +94,7 @@ pub fn sealed(alloc: Global, size: u32, blocks: Vec<u64>) -> Result<Form, AllocE
     match few_of(blocks.as_slice(), size) {
         Some(few) => Ok(Form::Few(few)),
         None => {
-            let blocks = Shared::of(alloc, blocks)?;
+            let blocks = SharedList::of(alloc, blocks)?;
             Ok(Form::Many(blocks))
         }
     }
@@ -148,7 +162,7 @@ pub fn meet(alloc: Global, size: u32, mine: &Form, theirs: &Form) -> Result<Form
         (_, Form::Few(one)) => Ok(Form::Few(only_in(*one, mine))),
         (Form::Word(x), Form::Word(y)) => Ok(Form::Word(*x & *y)),
         (Form::Many(xs), Form::Many(ys)) => {
-            let blocks = met(alloc, xs.as_slice(), ys.as_slice())?;
+            let blocks = words_by(alloc, Operation::Meet, xs.as_slice(), ys.as_slice())?;
             sealed(alloc, size, blocks)
         }
         _ => unreachable!(),
@@ -165,12 +179,12 @@ pub fn less(alloc: Global, size: u32, mine: &Form, theirs: &Form) -> Result<Form
         (Form::Few(one), _) => Ok(Form::Few(only_out(*one, theirs))),
         (Form::Word(x), Form::Word(y)) => Ok(Form::Word(*x & !*y)),
         (Form::Many(xs), Form::Many(ys)) => {
-            let blocks = lessened(alloc, xs.as_slice(), ys.as_slice())?;
+            let blocks = words_by(alloc, Operation::Less, xs.as_slice(), ys.as_slice())?;
             sealed(alloc, size, blocks)
         }
         (Form::Many(xs), Form::Few(one)) => {
             let ys = few_blocks(alloc, size, *one)?;
-            let blocks = lessened(alloc, xs.as_slice(), ys.as_slice())?;
+            let blocks = words_by(alloc, Operation::Less, xs.as_slice(), ys.as_slice())?;
             sealed(alloc, size, blocks)
         }
         _ => unreachable!(),
@@ -188,13 +202,13 @@ pub fn join(alloc: Global, size: u32, mine: &Form, theirs: &Form) -> Result<Form
         (_, Form::Few(None)) => copy(alloc, mine),
         (Form::Word(x), Form::Word(y)) => Ok(Form::Word(*x | *y)),
         (Form::Many(xs), Form::Many(ys)) => {
-            let blocks = joined(alloc, xs.as_slice(), ys.as_slice())?;
+            let blocks = words_by(alloc, Operation::Join, xs.as_slice(), ys.as_slice())?;
             sealed(alloc, size, blocks)
         }
         _ => {
             let xs = block_list(alloc, size, mine)?;
             let ys = block_list(alloc, size, theirs)?;
-            let blocks = joined(alloc, xs.as_slice(), ys.as_slice())?;
+            let blocks = words_by(alloc, Operation::Join, xs.as_slice(), ys.as_slice())?;
             sealed(alloc, size, blocks)
         }
     }
@@ -214,95 +228,58 @@ fn reseal(size: u32, form: &mut Form)
     }
 }
 
-// Meets blocks in place where they have one owner, and says so.
-fn meet_in_place(mine: &mut Form, theirs: &Form) -> bool
+// Writes to blocks in place where they have one owner, and says so.
+fn put_in_place(operation: Operation, mine: &mut Form, theirs: &Form) -> bool
     requires { AreLevel mine.old theirs.now }
-    ensures done { IsTrue result → IsZipped (λ x y. bit_and x y) mine.old theirs.now mine.new }
+    ensures done { IsTrue result → IsZipped (word_by operation) mine.old theirs.now mine.new }
     ensures not_done { IsFalse result → mine.new ≡ mine.old }
 {
     match mine {
         Form::Many(xs) => match theirs {
-            Form::Many(ys) => xs.put_met(ys.as_slice()),
+            Form::Many(ys) => put_shared(operation, xs, ys.as_slice()),
             _ => false,
         },
         _ => false,
     }
 }
 
-// Leaves the members of both, in place where the blocks have one owner.
-pub fn put_meet(alloc: Global, size: u32, mine: &mut Form, theirs: &Form) -> Result<(), AllocError>
+// What the operation makes of two sets.
+fn made_by(
+    alloc: Global,
+    size: u32,
+    operation: Operation,
+    mine: &Form,
+    theirs: &Form,
+) -> Result<Form, AllocError>
+    requires mine { IsForm size mine.now }
+    requires theirs { IsForm size theirs.now }
+    ensures { IfOk result (λ f. IsMade size (flag_by operation) mine.now theirs.now f) }
+{
+    match operation {
+        Operation::Meet => meet(alloc, size, mine, theirs),
+        Operation::Join => join(alloc, size, mine, theirs),
+        Operation::Less => less(alloc, size, mine, theirs),
+    }
+}
+
+// Leaves what the operation makes of the set and another, in place where the blocks have one owner.
+pub fn put(
+    alloc: Global,
+    size: u32,
+    operation: Operation,
+    mine: &mut Form,
+    theirs: &Form,
+) -> Result<(), AllocError>
     requires mine { IsForm size mine.old }
     requires theirs { IsForm size theirs.now }
-    ensures ok { IfOk result (λ _. IsMade size in_both mine.old theirs.now mine.new) }
+    ensures ok { IfOk result (λ _. IsMade size (flag_by operation) mine.old theirs.now mine.new) }
     ensures err { IfErr result (λ _. mine.new ≡ mine.old) }
 {
-    if meet_in_place(mine, theirs) {
+    if put_in_place(operation, mine, theirs) {
         reseal(size, mine);
         return Ok(());
     }
-    let made = meet(alloc, size, mine, theirs)?;
-    *mine = made;
-    Ok(())
-}
-
-// Joins blocks in place where they have one owner, and says so.
-fn join_in_place(mine: &mut Form, theirs: &Form) -> bool
-    requires { AreLevel mine.old theirs.now }
-    ensures done { IsTrue result → IsZipped (λ x y. bit_or x y) mine.old theirs.now mine.new }
-    ensures not_done { IsFalse result → mine.new ≡ mine.old }
-{
-    match mine {
-        Form::Many(xs) => match theirs {
-            Form::Many(ys) => xs.put_joined(ys.as_slice()),
-            _ => false,
-        },
-        _ => false,
-    }
-}
-
-// Adds the members of the other, in place where the blocks have one owner.
-pub fn put_join(alloc: Global, size: u32, mine: &mut Form, theirs: &Form) -> Result<(), AllocError>
-    requires mine { IsForm size mine.old }
-    requires theirs { IsForm size theirs.now }
-    ensures ok { IfOk result (λ _. IsMade size in_either mine.old theirs.now mine.new) }
-    ensures err { IfErr result (λ _. mine.new ≡ mine.old) }
-{
-    if join_in_place(mine, theirs) {
-        reseal(size, mine);
-        return Ok(());
-    }
-    let made = join(alloc, size, mine, theirs)?;
-    *mine = made;
-    Ok(())
-}
-
-// Lessens blocks in place where they have one owner, and says so.
-fn less_in_place(mine: &mut Form, theirs: &Form) -> bool
-    requires { AreLevel mine.old theirs.now }
-    ensures done { IsTrue result → IsZipped (λ x y. bit_and x (bit_not w64 y)) mine.old theirs.now mine.new }
-    ensures not_done { IsFalse result → mine.new ≡ mine.old }
-{
-    match mine {
-        Form::Many(xs) => match theirs {
-            Form::Many(ys) => xs.put_lessened(ys.as_slice()),
-            _ => false,
-        },
-        _ => false,
-    }
-}
-
-// Leaves the members that the other lacks, in place where the blocks have one owner.
-pub fn put_less(alloc: Global, size: u32, mine: &mut Form, theirs: &Form) -> Result<(), AllocError>
-    requires mine { IsForm size mine.old }
-    requires theirs { IsForm size theirs.now }
-    ensures ok { IfOk result (λ _. IsMade size in_first mine.old theirs.now mine.new) }
-    ensures err { IfErr result (λ _. mine.new ≡ mine.old) }
-{
-    if less_in_place(mine, theirs) {
-        reseal(size, mine);
-        return Ok(());
-    }
-    let made = less(alloc, size, mine, theirs)?;
+    let made = made_by(alloc, size, operation, mine, theirs)?;
     *mine = made;
     Ok(())
 }

@@ -15,3 +15,4 @@ mod words;
 
 pub use cuts::Cuts;
 pub use ordinals::Ordinals;
+pub use shared::SharedList;

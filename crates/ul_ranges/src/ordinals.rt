@@ -5,6 +5,7 @@ ghost use Rattle.ul_ranges.specs.Blocks.{AreBlocksOf};
 
 use crate::forms;
 use crate::forms::Form;
+use crate::words::Operation;
 use std::alloc::{AllocError, Global};
 use std::marker::Model;
 
@@ -146,7 +147,13 @@ impl Ordinals {
         ensures ok { IfOk result (λ _. self.new ≡ both self.old other.now) }
         ensures err { IfErr result (λ _. self.new ≡ self.old) }
     {
-        forms::put_meet(alloc, self.size, &mut self.form, &other.form)?;
+        forms::put(
+            alloc,
+            self.size,
+            Operation::Meet,
+            &mut self.form,
+            &other.form,
+        )?;
         Ok(())
     }
 
@@ -156,7 +163,13 @@ impl Ordinals {
         ensures ok { IfOk result (λ _. self.new ≡ either self.old other.now) }
         ensures err { IfErr result (λ _. self.new ≡ self.old) }
     {
-        forms::put_join(alloc, self.size, &mut self.form, &other.form)?;
+        forms::put(
+            alloc,
+            self.size,
+            Operation::Join,
+            &mut self.form,
+            &other.form,
+        )?;
         Ok(())
     }
 
@@ -167,7 +180,13 @@ impl Ordinals {
         ensures ok { IfOk result (λ _. self.new ≡ less self.old other.now) }
         ensures err { IfErr result (λ _. self.new ≡ self.old) }
     {
-        forms::put_less(alloc, self.size, &mut self.form, &other.form)?;
+        forms::put(
+            alloc,
+            self.size,
+            Operation::Less,
+            &mut self.form,
+            &other.form,
+        )?;
         Ok(())
     }
 

@@ -1,96 +1,70 @@
-//! Blocks of bits that several sets may share, so that a copy is a count.
-ghost use Rattle.std.specs.Prelude.{◌≡◌, IfOk, IsTrue, IsFalse, length, map, zip, bit_and, bit_or};
-ghost use Rattle.std.specs.Int.{bit_not, w64};
+//! Lists that contracts see as plain lists, and that several owners may share: a copy is a count.
+ghost use Rattle.std.specs.Prelude.{◌≡◌, IfOk, IsTrue, IsFalse, length, map, zip};
+ghost use Rattle.ul_ranges.specs.Operations.{word_by};
 
-use crate::words::{put_joined, put_lessened, put_met};
+use crate::words::{Operation, put};
 use std::alloc::{AllocError, Global};
 use std::marker::Model;
 use std::sync::Arc;
 
-// Blocks of bits, which are written to only while they have one owner.
+/// A list that several owners may share. It is written to only while it has one owner.
 #[derive(Debug, Drop)]
-pub struct Shared {
-    blocks: Arc<Vec<u64>, Global>,
+pub struct SharedList<T> {
+    items: Arc<Vec<T>, Global>,
 }
 
-impl Model for Shared {
-    ghost use Rattle.std.specs.Prelude.{List, ℕ};
+impl<T> Model for SharedList<T> {
+    ghost use Rattle.std.specs.Prelude.{List};
     ghost use Rattle.std.specs.Arc.{arc_value};
 
-    ghost Value = { List ℕ };
+    ghost Value = { List T };
 
-    ghost view = { λ s. (arc_value s.blocks).items };
+    ghost view = { λ s. (arc_value s.items).items };
 }
 
-impl Shared {
-    pub fn of(alloc: Global, blocks: Vec<u64>) -> Result<Shared, AllocError>
-        ensures { IfOk result (λ s. s ≡ blocks.items) }
+impl<T: Drop> SharedList<T> {
+    /// The list, with one owner. An error is want of memory.
+    pub fn of(alloc: Global, items: Vec<T>) -> Result<SharedList<T>, AllocError>
+        ensures { IfOk result (λ s. s ≡ items.items) }
     {
-        let blocks = Arc::new(alloc, blocks)?;
-        Ok(Shared { blocks })
+        let items = Arc::new(alloc, items)?;
+        Ok(SharedList { items })
     }
 
-    pub fn as_slice(&self) -> &[u64]
+    /// The elements.
+    pub fn as_slice(&self) -> &[T]
         ensures { result.now ≡ self.now }
     {
-        self.blocks.as_slice()
+        self.items.as_slice()
     }
 
-    // One more owner of the blocks; where their count is at its end, equal blocks.
-    pub fn copy(&self, alloc: Global) -> Result<Shared, AllocError>
+    /// The elements, as a `Vec`.
+    pub fn as_vec(&self) -> &Vec<T>
+        ensures { result.now.items ≡ self.now }
+    {
+        &self.items
+    }
+
+    /// The same list, with one owner more. An error is a count of owners at its end.
+    pub fn copy(&self) -> Result<SharedList<T>, AllocError>
         ensures { IfOk result (λ s. s ≡ self.now) }
     {
-        match Arc::try_clone(&self.blocks) {
-            Ok(blocks) => Ok(Shared { blocks }),
-            Err(_) => {
-                let blocks = Vec::from_slice(alloc, self.blocks.as_slice())?;
-                Shared::of(alloc, blocks)
-            }
-        }
+        let items = Arc::try_clone(&self.items)?;
+        Ok(SharedList { items })
     }
+}
 
-    // Leaves the bits that both have, and says so; blocks with a further owner stay as they are.
-    pub fn put_met(&mut self, others: &[u64]) -> bool
-        requires { length self.old ≡ length others.now }
-        ensures done { IsTrue result → self.new ≡ map (λ p. bit_and p.0 p.1) (zip self.old others.now) }
-        ensures not_done { IsFalse result → self.new ≡ self.old }
-    {
-        match Arc::get_mut(&mut self.blocks) {
-            Some(blocks) => {
-                put_met(blocks, others);
-                true
-            }
-            None => false,
+// Writes what the operation makes of each word and the other's, and says so; words with a further owner stay as they are.
+pub fn put_shared(operation: Operation, mine: &mut SharedList<u64>, theirs: &[u64]) -> bool
+    requires { length mine.old ≡ length theirs.now }
+    ensures done { IsTrue result → mine.new ≡ map (λ p. word_by operation p.0 p.1) (zip mine.old theirs.now) }
+    ensures not_done { IsFalse result → mine.new ≡ mine.old }
+{
+    match Arc::get_mut(&mut mine.items) {
+        Some(words) => {
+            put(operation, words, theirs);
+            true
         }
-    }
-
-    // Sets the others' bits too, and says so; blocks with a further owner stay as they are.
-    pub fn put_joined(&mut self, others: &[u64]) -> bool
-        requires { length self.old ≡ length others.now }
-        ensures done { IsTrue result → self.new ≡ map (λ p. bit_or p.0 p.1) (zip self.old others.now) }
-        ensures not_done { IsFalse result → self.new ≡ self.old }
-    {
-        match Arc::get_mut(&mut self.blocks) {
-            Some(blocks) => {
-                put_joined(blocks, others);
-                true
-            }
-            None => false,
-        }
-    }
-
-    // Clears the others' bits, and says so; blocks with a further owner stay as they are.
-    pub fn put_lessened(&mut self, others: &[u64]) -> bool
-        requires { length self.old ≡ length others.now }
-        ensures done { IsTrue result → self.new ≡ map (λ p. bit_and p.0 (bit_not w64 p.1)) (zip self.old others.now) }
-        ensures not_done { IsFalse result → self.new ≡ self.old }
-    {
-        match Arc::get_mut(&mut self.blocks) {
-            Some(blocks) => {
-                put_lessened(blocks, others);
-                true
-            }
-            None => false,
-        }
+        None => false,
     }
 }

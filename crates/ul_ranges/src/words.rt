@@ -1,38 +1,14 @@
 //! Loops over blocks of bits.
-ghost use Rattle.std.specs.Prelude.{◌≡◌, ◌<◌, ◌^◌, IfSome, length, IfOk, map, zip, bit_and, bit_or, ◌==◌};
+ghost use Rattle.std.specs.Prelude.{◌≡◌, ◌+◌, ◌<◌, ◌≤◌, ◌^◌, IfSome, length, IfOk, map, zip, bit_and, ◌==◌};
 ghost use Rattle.std.specs.Int.{bit_not, w64};
 ghost use Rattle.std.specs.List.{list_all};
+ghost use Rattle.std.specs.Simd.Lanes.{chunk, put_chunk, zip2};
 ghost use Rattle.ul_ranges.specs.Blocks.{flag, flag_at};
 ghost use Rattle.ul_ranges.specs.Flags.{IsNext};
+ghost use Rattle.ul_ranges.specs.Operations.{word_by};
 
 use std::alloc::{AllocError, Global};
-
-pub fn met(alloc: Global, mine: &[u64], theirs: &[u64]) -> Result<Vec<u64>, AllocError>
-    ensures { IfOk result (λ v. v.items ≡ map (λ p. bit_and p.0 p.1) (zip mine.now theirs.now)) }
-{
-    mine.iter()
-        .zip(theirs.iter())
-        .map(|(x, y)| *x & *y)
-        .collect(alloc)
-}
-
-pub fn joined(alloc: Global, mine: &[u64], theirs: &[u64]) -> Result<Vec<u64>, AllocError>
-    ensures { IfOk result (λ v. v.items ≡ map (λ p. bit_or p.0 p.1) (zip mine.now theirs.now)) }
-{
-    mine.iter()
-        .zip(theirs.iter())
-        .map(|(x, y)| *x | *y)
-        .collect(alloc)
-}
-
-pub fn lessened(alloc: Global, mine: &[u64], theirs: &[u64]) -> Result<Vec<u64>, AllocError>
-    ensures { IfOk result (λ v. v.items ≡ map (λ p. bit_and p.0 (bit_not w64 p.1)) (zip mine.now theirs.now)) }
-{
-    mine.iter()
-        .zip(theirs.iter())
-        .map(|(x, y)| *x & !*y)
-        .collect(alloc)
-}
+use std::simd::prelude::*;
 
 pub fn are_within(mine: &[u64], theirs: &[u64]) -> bool
     ensures { result ≡ list_all (λ p. bit_and p.0 (bit_not w64 p.1) == 0) (zip mine.now theirs.now) }
@@ -46,31 +22,84 @@ pub fn are_apart(mine: &[u64], theirs: &[u64]) -> bool
     mine.iter().zip(theirs.iter()).all(|(x, y)| *x & *y == 0)
 }
 
-pub fn put_met(mine: &mut Vec<u64>, theirs: &[u64])
-    requires { length mine.old.items ≡ length theirs.now }
-    ensures { mine.new.items ≡ map (λ p. bit_and p.0 p.1) (zip mine.old.items theirs.now) }
+// An operation on two sets: the members of both, of either, or of the first alone.
+#[derive(Clone, Copy)]
+pub enum Operation {
+    Meet,
+    Join,
+    Less,
+}
+
+// What the operation makes of two words.
+fn word_by(operation: Operation, x: u64, y: u64) -> u64
+    ensures { result ≡ word_by operation x y }
 {
-    for j in 0..theirs.len() {
-        mine[j] &= theirs[j];
+    match operation {
+        Operation::Meet => x & y,
+        Operation::Join => x | y,
+        Operation::Less => x & !y,
     }
 }
 
-pub fn put_joined(mine: &mut Vec<u64>, theirs: &[u64])
-    requires { length mine.old.items ≡ length theirs.now }
-    ensures { mine.new.items ≡ map (λ p. bit_or p.0 p.1) (zip mine.old.items theirs.now) }
+// What the operation makes of four words and four others, lane by lane.
+fn lanes_by(operation: Operation, x: u64x4, y: u64x4) -> u64x4
+    ensures { result ≡ zip2 (word_by operation) x y }
 {
-    for j in 0..theirs.len() {
-        mine[j] |= theirs[j];
+    match operation {
+        Operation::Meet => x & y,
+        Operation::Join => x | y,
+        Operation::Less => x & !y,
     }
 }
 
-pub fn put_lessened(mine: &mut Vec<u64>, theirs: &[u64])
-    requires { length mine.old.items ≡ length theirs.now }
-    ensures { mine.new.items ≡ map (λ p. bit_and p.0 (bit_not w64 p.1)) (zip mine.old.items theirs.now) }
+// Writes what the operation makes of four words from a place on and the others'.
+fn put_lanes(operation: Operation, mine: &mut [u64], theirs: &[u64], place: usize)
+    requires mine { place + 4 ≤ length mine.old }
+    requires theirs { place + 4 ≤ length theirs.now }
+    ensures { mine.new
+        ≡ put_chunk place mine.old (zip2 (word_by operation) (chunk place 4 mine.old) (chunk place 4 theirs.now)) }
 {
-    for j in 0..theirs.len() {
-        mine[j] &= !theirs[j];
+    let x = u64x4::from_slice(&mine[place..]);
+    let y = u64x4::from_slice(&theirs[place..]);
+    lanes_by(operation, x, y).copy_to_slice(&mut mine[place..]);
+}
+
+// Writes what the operation makes of each word and the other's: four at a time, and the last few one by one.
+fn put_words(operation: Operation, mine: &mut [u64], theirs: &[u64])
+    requires { length mine.old ≡ length theirs.now }
+    ensures { mine.new ≡ map (λ p. word_by operation p.0 p.1) (zip mine.old theirs.now) }
+{
+    let mut done = 0;
+    while theirs.len() - done >= 4 {
+        put_lanes(operation, mine, theirs, done);
+        done += 4;
     }
+    for j in done..theirs.len() {
+        mine[j] = word_by(operation, mine[j], theirs[j]);
+    }
+}
+
+// Writes what the operation makes of each word and the other's.
+pub fn put(operation: Operation, mine: &mut Vec<u64>, theirs: &[u64])
+    requires { length mine.old.items ≡ length theirs.now }
+    ensures { mine.new.items ≡ map (λ p. word_by operation p.0 p.1) (zip mine.old.items theirs.now) }
+{
+    put_words(operation, mine.as_mut_slice(), theirs);
+}
+
+// What the operation makes of each word and the other's.
+pub fn words_by(
+    alloc: Global,
+    operation: Operation,
+    mine: &[u64],
+    theirs: &[u64],
+) -> Result<Vec<u64>, AllocError>
+    requires { length mine.now ≡ length theirs.now }
+    ensures { IfOk result (λ v. v.items ≡ map (λ p. word_by operation p.0 p.1) (zip mine.now theirs.now)) }
+{
+    let mut words = Vec::from_slice(alloc, mine)?;
+    put_words(operation, words.as_mut_slice(), theirs);
+    Ok(words)
 }
 
 // The first bit of a word from a place on.

@@ -8,15 +8,15 @@ use Rattle.std.proofs.lemmas.List.{append-nil}
 use Rattle.ul_ranges.specs.Flags.{has}
 use Rattle.ul_problem.specs.Terms.{Selection, is_among}
 use Rattle.ul_problem.specs.Plain.{Plain, size_of, size_in, base_of, barred_of, needs_of, order_of, order_in}
-use Rattle.ul_problem.specs.Serving.{Serves, IsOneOf}
+use Rattle.ul_problem.specs.Serving.{Serves}
 use Rattle.ul_problem.specs.Problems.{IsWellFormed}
 use Rattle.ul_problem.specs.Best.{Picks, next_of, wanted, Agrees, Extends, IsFirst, IsBestFrom, IsBest, IsChain}
 use Rattle.ul_problem.specs.declared.problem.Need.{Need}
-use Rattle.ul_problem.proofs.ForCallers.{at_node, node_whole, open_one}
+use Rattle.ul_problem.proofs.ForCallers.{at_node, node_whole, open_one, at_head, in_rest, head_or_rest, in_none, one_cases}
 use Rattle.ul_trail.specs.Counts.{sizes_of}
 use Rattle.ul_trail.specs.Propagation.{IsOption}
 use Rattle.ul_trail.proofs.ForCallers.{sizes_at, sizes_length}
-use Rattle.ul_solver.proofs.Starting.{one_split, next_within}
+use Rattle.ul_solver.proofs.Starting.{next_within}
 use Rattle.ul_solver.proofs.Possible.{asked_by}
 use Rattle.ul_solver.proofs.Room.{chain_room, in_range}
 
@@ -61,14 +61,14 @@ some_below P d (suc n) = step (d n) (some_below P d n)
     step (inr z) (inl h) = inl (h.0, (let l = h.1 in omega arith), h.2)
     step (inr z) (inr x) = inr (λ h. elim (cases_eq h.0 n) [ inl e ↦ z (subst P e h.2) | inr y ↦ x (h.0, (let l = h.1 in omega arith), h.2) ])
 
-all_members : {A : Type 0} (P : A → Type 0) → ((x : A) → Decided (P x)) → (xs : List A) → Decided ((x : A) → IsOneOf x xs → P x)
-all_members P d [] = inl (λ x h. absurd h)
+all_members : {A : Type 0} (P : A → Type 0) → ((x : A) → Decided (P x)) → (xs : List A) → Decided ((x : A) → Contains xs x → P x)
+all_members P d [] = inl (λ x h. absurd (in_none x h))
 all_members {A} P d (y ∷ ys) = step (d y) (all_members P d ys)
   where
-    step : Decided (P y) → Decided ((x : A) → IsOneOf x ys → P x) → Decided ((x : A) → IsOneOf x (y ∷ ys) → P x)
-    step (inr z) r = inr (λ h. z (h y (inl refl)))
-    step (inl a) (inr z) = inr (λ h. z (λ x i. h x (inr i)))
-    step (inl a) (inl all) = inl (λ x h. elim h [ inl e ↦ subst P e a | inr i ↦ all x i ])
+    step : Decided (P y) → Decided ((x : A) → Contains ys x → P x) → Decided ((x : A) → Contains (y ∷ ys) x → P x)
+    step (inr z) r = inr (λ h. z (h y (at_head y ys y refl)))
+    step (inl a) (inr z) = inr (λ h. z (λ x i. h x (in_rest y ys x i)))
+    step (inl a) (inl all) = inl (λ x h. elim (head_or_rest y ys x h) [ inl e ↦ subst P e a | inr i ↦ all x i ])
 
 -- the first number of which it holds, where there is one
 first_below : (P : ℕ → Type 0) → ((k : ℕ) → Decided (P k)) → (n : ℕ) → ((j : ℕ) × P j × ((i : ℕ) → i < j → P i → ⊥)) ⊎ ((i : ℕ) → i < n → P i → ⊥)
@@ -122,7 +122,7 @@ serves_decided p σ N out =
     let b = all_members (λ (n : ℕ). (v : ℕ) × (σ n ≡ Some v)) (λ n. has_pick (σ n)) p.roots in
     let c = picked σ N out (λ n v. has v (barred_of p n) ≡ false) (λ n v. bool_decided (has v (barred_of p n)) false) in
     let d = picked σ N out (λ n v. (b : ℕ) → base_of p n ≡ Some b → σ b ≡ Some v) (based_decided p σ) in
-    let e = picked σ N out (λ n v. (need : Need) → IsOneOf need (needs_of p n v) → is_among (σ need.node) need.permitted ≡ true)
+    let e = picked σ N out (λ n v. (need : Need) → Contains (needs_of p n v) need → is_among (σ need.node) need.permitted ≡ true)
     (λ n v. all_members (λ (need : Need). is_among (σ need.node) need.permitted ≡ true) (λ need. bool_decided (is_among (σ need.node) need.permitted) true) (needs_of p n v)) in
     elim (both_decided a (both_decided b (both_decided c (both_decided d e)))) [
       | inl h ↦ inl (record { within = h.0; rooted = h.1.0; fit = h.1.1.0; based = λ n v b i j. h.1.1.1.0 n v i b j; met = λ n v i need j. h.1.1.1.1 n v i need j })
@@ -231,13 +231,15 @@ among_some : (o : Option ℕ) (s : List Bool) → is_among o s ≡ true → (v :
 among_some None s e = absurd (true≢false (sym e))
 among_some (Some v) s e = (v, refl)
 
-agreed : (σ : Selection) (d : Picks) (e : ℕ × ℕ) → Agrees σ d → IsOneOf e d → σ e.0 ≡ Some e.1
-agreed σ [] e a h = absurd h
-agreed σ (x ∷ d) e a (inl i) = subst (λ (y : ℕ × ℕ). σ y.0 ≡ Some y.1) i a.0
-agreed σ (x ∷ d) e a (inr i) = agreed σ d e a.1 i
+agreed : (σ : Selection) (d : Picks) (e : ℕ × ℕ) → Agrees σ d → Contains d e → σ e.0 ≡ Some e.1
+agreed σ [] e a h = absurd (in_none e h)
+agreed σ (x ∷ d) e a h = elim (head_or_rest x d e h) [
+  | inl i ↦ subst (λ (y : ℕ × ℕ). σ y.0 ≡ Some y.1) i a.0
+  | inr i ↦ agreed σ d e a.1 i
+]
 
 next_picked : (p : Plain) (d : Picks) (n : ℕ) (σ : Selection) → Serves p σ → Agrees σ d → next_of p d ≡ Some n → (v : ℕ) × (σ n ≡ Some v)
-next_picked p d n σ s a e = elim (one_split n p.roots (wanted p d) (open_one d (p.roots ++ wanted p d) n e)) [
+next_picked p d n σ s a e = elim (one_cases n p.roots (wanted p d) (open_one d (p.roots ++ wanted p d) n e)) [
   | inl i ↦ s.rooted n i
   | inr i ↦ (let w = asked_by p d n i in
       let m = s.met w.0.0 w.0.1 (agreed σ d w.0 a w.1) w.2.0 w.2.1 in

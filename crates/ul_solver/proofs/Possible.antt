@@ -7,7 +7,6 @@ use Rattle.ul_ranges.specs.Flags.{has, is_blank, first_in}
 use Rattle.ul_ranges.proofs.ForCallers.{blank_none, first_none}
 use Rattle.ul_problem.specs.Terms.{node_of, allows, is_among, meet_of}
 use Rattle.ul_problem.specs.Plain.{Plain, node_at, size_of, size_in, needs_of, order_of, order_in}
-use Rattle.ul_problem.specs.Serving.{IsOneOf}
 use Rattle.ul_problem.specs.Problems.{IsWellFormed}
 use Rattle.ul_problem.specs.Steps.{says, pair_of, written, with_term}
 use Rattle.ul_problem.specs.Best.{Picks, next_of, wanted, targets, is_decided}
@@ -16,7 +15,7 @@ use Rattle.ul_problem.specs.declared.term.Term.TheVariants.{In, NotIn}
 use Rattle.ul_problem.specs.declared.problem.Need.{Need}
 use Rattle.ul_problem.specs.declared.step.Step.{Step}
 use Rattle.ul_problem.specs.declared.step.Step.TheVariants.{Need as NeedStep}
-use Rattle.ul_problem.proofs.ForCallers.{one_place, need_fits, at_node, node_whole, root_single, has_within, open_one, not_decided}
+use Rattle.ul_problem.proofs.ForCallers.{one_place, need_fits, at_node, node_whole, root_single, has_within, open_one, not_decided, one_cases, at_head, in_rest, head_or_rest, in_none}
 use Rattle.ul_trail.specs.Track.{Track}
 use Rattle.ul_trail.specs.declared.fact.Fact.{Fact}
 use Rattle.ul_trail.specs.Facts.{is_open, IsHeld, IsFailed, AreHeld, AreHeldBut, one_of, picks_of, IsAllowed}
@@ -24,19 +23,21 @@ use Rattle.ul_trail.specs.Propagation.{IsTrailOf, IsQuiet, IsQuietAt, root_fact,
 use Rattle.ul_trail.specs.Moves.{HasSteps}
 use Rattle.ul_trail.proofs.ForCallers.{one_has, place_decided, HasFact, pick_fact, held_in, pair_held, open_one_version}
 use Rattle.ul_solver.specs.State.{IsState}
-use Rattle.ul_solver.proofs.Starting.{one_split, next_within}
+use Rattle.ul_solver.proofs.Starting.{next_within}
 
 -- which pick asks for a node
-target_need : (needs : List Need) (n : ℕ) → IsOneOf n (targets needs) → (need : Need) × IsOneOf need needs × (need.node ≡ n)
-target_need [] n h = absurd h
-target_need (x ∷ xs) n (inl e) = (x, inl refl, e)
-target_need (x ∷ xs) n (inr h) = let r = target_need xs n h in (r.0, inr r.1, r.2)
+target_need : (needs : List Need) (n : ℕ) → Contains (targets needs) n → (need : Need) × Contains needs need × (need.node ≡ n)
+target_need [] n h = absurd (in_none n h)
+target_need (x ∷ xs) n h = elim (head_or_rest x.node (targets xs) n h) [
+  | inl e ↦ (x, at_head x xs x refl, e)
+  | inr i ↦ (let r = target_need xs n i in (r.0, in_rest x xs r.0 r.1, r.2))
+]
 
-pub asked_by : (p : Plain) (d : Picks) (n : ℕ) → IsOneOf n (wanted p d) → (e : ℕ × ℕ) × IsOneOf e d × ((need : Need) × IsOneOf need (needs_of p e.0 e.1) × (need.node ≡ n))
-asked_by p [] n h = absurd h
-asked_by p (e ∷ d) n h = elim (one_split n (targets (needs_of p e.0 e.1)) (wanted p d) h) [
-  | inl i ↦ (e, inl refl, target_need (needs_of p e.0 e.1) n i)
-  | inr i ↦ (let r = asked_by p d n i in (r.0, inr r.1, r.2))
+pub asked_by : (p : Plain) (d : Picks) (n : ℕ) → Contains (wanted p d) n → (e : ℕ × ℕ) × Contains d e × ((need : Need) × Contains (needs_of p e.0 e.1) need × (need.node ≡ n))
+asked_by p [] n h = absurd (in_none n h)
+asked_by p (e ∷ d) n h = elim (one_cases n (targets (needs_of p e.0 e.1)) (wanted p d) h) [
+  | inl i ↦ (e, at_head e d e refl, target_need (needs_of p e.0 e.1) n i)
+  | inr i ↦ (let r = asked_by p d n i in (r.0, in_rest e d r.0 r.1, r.2))
 ]
 
 but_pair : (facts : List Fact) (t u : Term) → (node_of t ≡ node_of u → ⊥) → IsHeld facts t → written t ≡ Some t → written u ≡ Some u → AreHeldBut facts u (pair_of t u)
@@ -62,7 +63,7 @@ pub record HasVersion (p : Plain) (facts : List Fact) (n : ℕ) : Type 0 where
   pub there : version < size_of p n
   pub is : is_open facts n (Some version) ≡ true
 
-asked_version : (p : Plain) (t : Track) (m v n : ℕ) (need : Need) → IsWellFormed p → IsState p t → IsQuiet p t → HasFact p t.facts m v → IsOneOf need (needs_of p m v) → need.node ≡ n → (m ≡ n → ⊥) → HasVersion p t.facts n
+asked_version : (p : Plain) (t : Track) (m v n : ℕ) (need : Need) → IsWellFormed p → IsState p t → IsQuiet p t → HasFact p t.facts m v → Contains (needs_of p m v) need → need.node ≡ n → (m ≡ n → ⊥) → HasVersion p t.facts n
 asked_version p t m v n need wf st quiet fact one e apart =
     let below : v < size_of p m = fact.0 in
     let w : List Bool = need.permitted in
@@ -90,22 +91,24 @@ asked_version p t m v n need wf st quiet fact one e apart =
     blank_allows None j s b = refl
     blank_allows (Some u) j s b = ap not (blank_none s b u)
 
-root_one : (p : Plain) (ns : List ℕ) (n : ℕ) (rest : List Fact) → IsOneOf n ns → IsOneOf (root_fact p n) (root_facts p ns ++ rest)
-root_one p [] n rest h = absurd h
-root_one p (x ∷ xs) n rest (inl e) = inl (ap (root_fact p) e)
-root_one p (x ∷ xs) n rest (inr h) = inr (root_one p xs n rest h)
+root_one : (p : Plain) (ns : List ℕ) (n : ℕ) (rest : List Fact) → Contains ns n → Contains (root_facts p ns ++ rest) (root_fact p n)
+root_one p [] n rest h = absurd (in_none n h)
+root_one p (x ∷ xs) n rest h = elim (head_or_rest x xs n h) [
+  | inl e ↦ at_head (root_fact p x) (root_facts p xs ++ rest) (root_fact p n) (ap (root_fact p) e)
+  | inr i ↦ in_rest (root_fact p x) (root_facts p xs ++ rest) (root_fact p n) (root_one p xs n rest i)
+]
 
-root_version : (p : Plain) (t : Track) (n : ℕ) → IsWellFormed p → IsState p t → IsOneOf n p.roots → HasVersion p t.facts n
+root_version : (p : Plain) (t : Track) (n : ℕ) → IsWellFormed p → IsState p t → Contains p.roots n → HasVersion p t.facts n
 root_version p t n wf st i =
     let s = root_single p n wf i in
     let z : 0 < size_of p n = omega arith in
     let al = st.right.alive.at n in
-    let fact : HasFact p t.facts n 0 = (z, (root_fact p n, subst (IsOneOf (root_fact p n)) (sym st.right.begun.is) (root_one p p.roots n st.right.begun.rest i), refl)) in
+    let fact : HasFact p t.facts n 0 = (z, (root_fact p n, subst (λ (l : List Fact). Contains l (root_fact p n)) (sym st.right.begun.is) (root_one p p.roots n st.right.begun.rest i), refl)) in
     let e : al.0 ≡ Some 0 = open_one_version p t.facts n 0 al.0 fact al.1 in
     record { version = 0; there = z; is = subst (λ (o : Option ℕ). is_open t.facts n o ≡ true) e al.1 }
 
 pub next_version : (p : Plain) (t : Track) (n : ℕ) → IsWellFormed p → IsState p t → IsQuiet p t → next_of p (picks_of t.facts) ≡ Some n → HasVersion p t.facts n
-next_version p t n wf st quiet next = elim (one_split n p.roots (wanted p (picks_of t.facts)) (open_one (picks_of t.facts) (p.roots ++ wanted p (picks_of t.facts)) n next)) [
+next_version p t n wf st quiet next = elim (one_cases n p.roots (wanted p (picks_of t.facts)) (open_one (picks_of t.facts) (p.roots ++ wanted p (picks_of t.facts)) n next)) [
   | inl i ↦ root_version p t n wf st i
   | inr i ↦ (let a = asked_by p (picks_of t.facts) n i in
       let k = one_place (picks_of t.facts) a.0 a.1 in

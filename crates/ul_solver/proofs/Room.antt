@@ -5,7 +5,7 @@ use Rattle.std.proofs.lemmas.Bool.{eqb-true, eqb-false, ne_eqb, or_cases, true�
 use Rattle.std.proofs.lemmas.Option.{slice_get_within}
 use Rattle.std.proofs.lemmas.Map.Steps.{length-le_from_distinct_below}
 use Rattle.ul_problem.specs.Plain.{Plain, size_of, size_in}
-use Rattle.ul_problem.specs.Serving.{IsOneOf}
+use Rattle.std.specs.List.{Contains}
 use Rattle.ul_problem.specs.Best.{Picks, next_of, is_decided, IsChain}
 use Rattle.ul_problem.specs.declared.problem.NodeFacts.{NodeFacts}
 use Rattle.ul_trail.specs.Track.{Track}
@@ -13,7 +13,7 @@ use Rattle.ul_trail.specs.declared.fact.Fact.{Fact}
 use Rattle.ul_trail.specs.Facts.{picks_of, pick_with, level_of, first_of}
 use Rattle.ul_problem.specs.Terms.{node_of, set_of}
 use Rattle.ul_solver.specs.State.{IsState, IsSteered, IsChosen}
-use Rattle.ul_problem.proofs.ForCallers.{not_decided}
+use Rattle.ul_problem.proofs.ForCallers.{not_decided, at_head, in_rest}
 use Rattle.ul_trail.proofs.ForCallers.{pick_fact}
 use Rattle.ul_solver.proofs.Shown.{picks_append}
 use Rattle.ul_solver.proofs.States.{level_counted}
@@ -68,14 +68,14 @@ chain_distinct p d (e ∷ rest) ns m i c =
     (r.0, subst (λ (l : Picks). Matches (nodes_onto (e.0 ∷ ns) rest) l) (append_assoc d (e ∷ []) rest) r.1)
 
 -- a node of the list is a pick's
-onto_from : (q : ℕ) (ns : List ℕ) (d : Picks) → list_any (eqb q) (nodes_onto ns d) ≡ true → (list_any (eqb q) ns ≡ true) ⊎ ((v : ℕ) × IsOneOf (q, v) d)
+onto_from : (q : ℕ) (ns : List ℕ) (d : Picks) → list_any (eqb q) (nodes_onto ns d) ≡ true → (list_any (eqb q) ns ≡ true) ⊎ ((v : ℕ) × Contains d (q, v))
 onto_from q ns [] h = inl h
 onto_from q ns (e ∷ d) h = elim (onto_from q (e.0 ∷ ns) d h) [
   | inl i ↦ (elim (or_cases (eqb q e.0) (list_any (eqb q) ns) i) [
-    | inl j ↦ (let same : q ≡ e.0 = eqb-true q e.0 j in inr (e.1, inl (λ k. (sym same k, e.1))))
+    | inl j ↦ (let same : q ≡ e.0 = eqb-true q e.0 j in inr (e.1, at_head e d (q, e.1) (λ k. (sym same k, e.1))))
     | inr j ↦ inl j
   ])
-  | inr i ↦ inr (i.0, inr i.1)
+  | inr i ↦ inr (i.0, in_rest e d (q, i.0) i.1)
 ]
 
 pub in_range : (p : Plain) (n v : ℕ) → v < size_of p n → n < length p.nodes
@@ -86,7 +86,7 @@ in_range p n v h = which (slice_get p.nodes n) refl h
     which (Some f) e i = slice_get_within p.nodes n f e
 
 -- a chain of nodes of the problem has room for the next node
-pub chain_room : (p : Plain) (d : Picks) (n : ℕ) → IsChain p [] d → ((m v : ℕ) → IsOneOf (m, v) d → m < length p.nodes) → next_of p d ≡ Some n → n < length p.nodes → length d < length p.nodes
+pub chain_room : (p : Plain) (d : Picks) (n : ℕ) → IsChain p [] d → ((m v : ℕ) → Contains d (m, v) → m < length p.nodes) → next_of p d ≡ Some n → n < length p.nodes → length d < length p.nodes
 unfolding IsDistinct
 chain_room p d n chain within next there =
     let c = chain_distinct p [] d [] (λ q h. tt) tt chain in

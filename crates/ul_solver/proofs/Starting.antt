@@ -4,12 +4,12 @@ use Rattle.std.proofs.lemmas.List.{append-nil}
 use Rattle.std.proofs.lemmas.Option.{none-some, same_Some, slice_get_within, slice_get-get_or}
 use Rattle.ul_problem.specs.Terms.{node_of, set_of}
 use Rattle.ul_problem.specs.Plain.{Plain, node_at, size_of, size_in, needs_of, order_of, order_in}
-use Rattle.ul_problem.specs.Serving.{IsOneOf}
+use Rattle.std.specs.List.{Contains}
 use Rattle.ul_problem.specs.Problems.{IsWellFormed}
 use Rattle.ul_problem.specs.Best.{Picks, next_of, first_open, is_decided, wanted, targets}
 use Rattle.ul_problem.specs.declared.problem.Need.{Need}
 use Rattle.ul_problem.specs.declared.step.Step.{Step}
-use Rattle.ul_problem.proofs.ForCallers.{need_fits, root_single, at_node, node_whole, place_one, one_place, open_one}
+use Rattle.ul_problem.proofs.ForCallers.{need_fits, root_single, at_node, node_whole, place_one, one_place, open_one, at_head, in_rest, head_or_rest, in_none, one_left, one_cases}
 use Rattle.ul_trail.specs.Track.{Track}
 use Rattle.ul_trail.specs.declared.fact.Fact.{Fact}
 use Rattle.ul_trail.specs.Facts.{one_of, first_of, picks_of, level_of, up_to, AreAt}
@@ -22,25 +22,22 @@ use Rattle.ul_solver.specs.State.{IsState, IsSteered, IsFirstOpen, cut_at}
 use Rattle.ul_solver.proofs.States.{steered_join, steered_new, new_at}
 
 -- the next node is one of the problem's
-pub one_split : (x : ℕ) (xs ys : List ℕ) → IsOneOf x (xs ++ ys) → IsOneOf x xs ⊎ IsOneOf x ys
-one_split x [] ys h = inr h
-one_split x (z ∷ xs) ys (inl e) = inl (inl e)
-one_split x (z ∷ xs) ys (inr h) = elim (one_split x xs ys h) [ inl i ↦ inl (inr i) | inr i ↦ inr i ]
+targets_within : (p : Plain) (needs : List Need) (n : ℕ) → ((need : Need) → Contains needs need → need.node < length p.nodes) → Contains (targets needs) n → n < length p.nodes
+targets_within p [] n h i = absurd (in_none n i)
+targets_within p (x ∷ xs) n h i = elim (head_or_rest x.node (targets xs) n i) [
+  | inl e ↦ subst (λ (k : ℕ). k < length p.nodes) e (h x (at_head x xs x refl))
+  | inr r ↦ targets_within p xs n (λ need j. h need (in_rest x xs need j)) r
+]
 
-targets_within : (p : Plain) (needs : List Need) (n : ℕ) → ((need : Need) → IsOneOf need needs → need.node < length p.nodes) → IsOneOf n (targets needs) → n < length p.nodes
-targets_within p [] n h i = absurd i
-targets_within p (x ∷ xs) n h (inl e) = subst (λ (k : ℕ). k < length p.nodes) e (h x (inl refl))
-targets_within p (x ∷ xs) n h (inr i) = targets_within p xs n (λ need j. h need (inr j)) i
-
-wanted_within : (p : Plain) (d : Picks) (n : ℕ) → IsWellFormed p → IsOneOf n (wanted p d) → n < length p.nodes
-wanted_within p [] n wf h = absurd h
-wanted_within p (e ∷ d) n wf h = elim (one_split n (targets (needs_of p e.0 e.1)) (wanted p d) h) [
+wanted_within : (p : Plain) (d : Picks) (n : ℕ) → IsWellFormed p → Contains (wanted p d) n → n < length p.nodes
+wanted_within p [] n wf h = absurd (in_none n h)
+wanted_within p (e ∷ d) n wf h = elim (one_cases n (targets (needs_of p e.0 e.1)) (wanted p d) h) [
   | inl i ↦ targets_within p (needs_of p e.0 e.1) n (λ need j. (need_fits p e.0 e.1 need wf j).0) i
   | inr i ↦ wanted_within p d n wf i
 ]
 
 pub next_within : (p : Plain) (d : Picks) (n : ℕ) → IsWellFormed p → next_of p d ≡ Some n → n < length p.nodes
-next_within p d n wf e = elim (one_split n p.roots (wanted p d) (open_one d (p.roots ++ wanted p d) n e)) [
+next_within p d n wf e = elim (one_cases n p.roots (wanted p d) (open_one d (p.roots ++ wanted p d) n e)) [
   | inl i ↦ (let k = one_place p.roots n i in (root_there p k.0 n wf k.1).0)
   | inr i ↦ wanted_within p d n wf i
 ]
@@ -76,15 +73,10 @@ picks_at [] i m e = absurd (none-some m e)
 picks_at (n ∷ ns) zero m e = ap (λ (k : ℕ). Some (k, 0)) (same_Some n m e)
 picks_at (n ∷ ns) (suc i) m e = picks_at ns i m e
 
-one_append : (x : ℕ) (xs ys : List ℕ) → IsOneOf x xs → IsOneOf x (xs ++ ys)
-one_append x [] ys h = absurd h
-one_append x (z ∷ xs) ys (inl e) = inl e
-one_append x (z ∷ xs) ys (inr h) = inr (one_append x xs ys h)
-
 zero_of : (k : ℕ) → k < 1 → k ≡ 0
 zero_of k h = omega arith
 
-first_order : (p : Plain) (n : ℕ) → IsWellFormed p → IsOneOf n p.roots → slice_get (order_of p n) 0 ≡ Some 0
+first_order : (p : Plain) (n : ℕ) → IsWellFormed p → Contains p.roots n → slice_get (order_of p n) 0 ≡ Some 0
 first_order p n wf i =
     let k = one_place p.roots n i in
     let r = root_there p k.0 n wf k.1 in
@@ -101,8 +93,8 @@ pub roots_steered : (p : Plain) (front rest : List ℕ) → IsWellFormed p → p
 roots_steered p front [] wf e = tt
 roots_steered p front (n ∷ rest) wf e =
     let at : slice_get p.roots (length front) ≡ Some n = subst (λ (x : List ℕ). slice_get x (length front) ≡ Some n) (sym e) (get_at front rest n) in
-    let one : IsOneOf n p.roots = place_one p.roots (length front) n at in
-    let single : (m : ℕ) → IsOneOf m front → size_of p m ≡ 1 = (λ m i. root_single p m wf (subst (λ (x : List ℕ). IsOneOf m x) (sym e) (one_append m front (n ∷ rest) i))) in
+    let one : Contains p.roots n = place_one p.roots (length front) n at in
+    let single : (m : ℕ) → Contains front m → size_of p m ≡ 1 = (λ m i. root_single p m wf (subst (λ (x : List ℕ). Contains x m) (sym e) (one_left m front (n ∷ rest) i))) in
     let d : picks_of (root_facts p front) ≡ root_picks front = roots_picks p front single in
     let tf : take (length front) p.roots ≡ front = ap (take (length front)) e ∙ (take_front front (n ∷ rest) (length front) (omega arith) ∙ take_whole front) in
     let not' : is_decided n (root_picks front) ≡ false = subst (λ (x : List ℕ). is_decided n (root_picks x) ≡ false) tf (root_undecided p.roots (length front) n wf.roots_increase at) in

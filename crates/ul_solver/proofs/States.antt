@@ -5,7 +5,6 @@ use Rattle.ul_solver.proofs.Shown.{picks_append}
 use Rattle.std.proofs.lemmas.Bool.{le-leb, lt-leb, cases_order, cases_lt}
 use Rattle.ul_problem.specs.Terms.{node_of, set_of, allows}
 use Rattle.ul_problem.specs.Plain.{Plain, size_of, base_of, barred_of, needs_of, order_of}
-use Rattle.ul_problem.specs.Serving.{IsOneOf}
 use Rattle.ul_problem.specs.Steps.{says}
 use Rattle.ul_problem.specs.Best.{next_of}
 use Rattle.ul_problem.specs.declared.term.Term.{Term}

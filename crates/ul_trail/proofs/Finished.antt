@@ -2,10 +2,11 @@
 use Rattle.std.proofs.Common.{◌≡◌, ℕ, zero, suc, List, [], ◌∷◌, ◌++◌, Bool, true, false, cond, not, Option, Some, None, refl, ap, ◌∙◌, sym, subst, ◌<◌, ◌≤◌, ◌⊎◌, inl, inr, arith, nat_eq, nat_lt, slice_get, eq-eqb}
 use Rattle.std.proofs.lemmas.Bool.{eqb-true, ltb-false, true≢false}
 use Rattle.std.proofs.lemmas.Option.{same_Some}
+use Rattle.std.specs.List.{Contains}
 use Rattle.ul_ranges.specs.Flags.{has, is_blank}
 use Rattle.ul_problem.specs.Terms.{Selection, node_of, set_of, allows, is_among, meet_of, may_hold}
 use Rattle.ul_problem.specs.Plain.{Plain, size_of, base_of, barred_of, needs_of}
-use Rattle.ul_problem.specs.Serving.{Serves, IsOneOf}
+use Rattle.ul_problem.specs.Serving.{Serves}
 use Rattle.ul_problem.specs.Problems.{IsWellFormed}
 use Rattle.ul_problem.specs.Steps.{says, pair_of, written, with_term, base_or}
 use Rattle.ul_problem.specs.Best.{Picks, next_of, version_in, IsChain, wanted}
@@ -14,7 +15,7 @@ use Rattle.ul_problem.specs.declared.term.Term.TheVariants.{In, NotIn}
 use Rattle.ul_problem.specs.declared.problem.Need.{Need}
 use Rattle.ul_problem.specs.declared.step.Step.{Step}
 use Rattle.ul_problem.specs.declared.step.Step.TheVariants.{Need as NeedStep, Python, Base}
-use Rattle.ul_problem.proofs.ForCallers.{allows-meet, and_both, and_left', and_right', IsAsked, asked_base, asked_all, one_left, one_right, wanted_one, pick_of, none_open, decided_version}
+use Rattle.ul_problem.proofs.ForCallers.{allows-meet, and_both, and_left', and_right', IsAsked, asked_base, asked_all, one_left, one_right, wanted_one, pick_of, none_open, decided_version, at_head, in_rest, head_or_rest, in_none, one_place}
 use Rattle.ul_ranges.proofs.ForCallers.{blank_none}
 use Rattle.ul_trail.specs.Track.{Track}
 use Rattle.ul_trail.specs.declared.fact.Fact.{Fact}
@@ -22,11 +23,6 @@ use Rattle.ul_trail.specs.Facts.{is_open, IsHeld, AreHeld, one_of, first_of, pic
 use Rattle.ul_trail.specs.Propagation.{IsDerived, AreDerivedAfter, IsTrailOf, NoConflict}
 use Rattle.ul_trail.specs.Moves.{HasSteps}
 use Rattle.ul_trail.proofs.Following.{one_has, one_first}
-
-one_place : {A : Type 0} (x : A) (xs : List A) → IsOneOf x xs → (k : ℕ) × (slice_get xs k ≡ Some x)
-one_place x [] h = absurd h
-one_place x (y ∷ ys) (inl e) = (0, ap Some e)
-one_place x (y ∷ ys) (inr h) = let r = one_place x ys h in (suc r.0, r.1)
 
 -- only v is in the set of v alone
 beyond : (size v k : ℕ) → size ≤ v → has k (one_of size v) ≡ false
@@ -51,29 +47,33 @@ fact_past : (f : Fact) (r : Bool) (o : Option ℕ) (b : Bool) → cond b (cond (
 fact_past f r o true h = and_right' (allows f.term o) r h
 fact_past f r o false h = h
 
-open_allows : (facts : List Fact) (t : Term) (f : Fact) (o : Option ℕ) → IsOneOf f facts → f.term ≡ t → is_open facts (node_of t) o ≡ true → allows t o ≡ true
-open_allows [] t f o h e i = absurd h
-open_allows (g ∷ fs) t f o (inl k) e i =
-    let same : g.term ≡ t = ap (λ (x : Fact). x.term) k ∙ e in
-    subst (λ (x : Term). allows x o ≡ true) same (fact_here g (is_open fs (node_of t) o) o (nat_eq (node_of g.term) (node_of t)) (eq-eqb (node_of g.term) (node_of t) (ap node_of same)) i)
-open_allows (g ∷ fs) t f o (inr k) e i = open_allows fs t f o k e (fact_past g (is_open fs (node_of t) o) o (nat_eq (node_of g.term) (node_of t)) i)
+open_allows : (facts : List Fact) (t : Term) (f : Fact) (o : Option ℕ) → Contains facts f → f.term ≡ t → is_open facts (node_of t) o ≡ true → allows t o ≡ true
+open_allows [] t f o h e i = absurd (in_none f h)
+open_allows (g ∷ fs) t f o h e i = elim (head_or_rest g fs f h) [
+  | inl k ↦ (
+      let same : g.term ≡ t = ap (λ (x : Fact). x.term) k ∙ e in
+      subst (λ (x : Term). allows x o ≡ true) same (fact_here g (is_open fs (node_of t) o) o (nat_eq (node_of g.term) (node_of t)) (eq-eqb (node_of g.term) (node_of t) (ap node_of same)) i))
+  | inr k ↦ open_allows fs t f o k e (fact_past g (is_open fs (node_of t) o) o (nat_eq (node_of g.term) (node_of t)) i)
+]
 
 -- the fact of a pick
 abbrev pub HasFact : Plain → List Fact → ℕ → ℕ → Type 0
-HasFact p facts n v = (v < size_of p n) × ((f : Fact) × IsOneOf f facts × (f.term ≡ In n (one_of (size_of p n) v)))
+HasFact p facts n v = (v < size_of p n) × ((f : Fact) × Contains facts f × (f.term ≡ In n (one_of (size_of p n) v)))
 
-pick_here : (p : Plain) (steps : List Step) (earlier : List Fact) (f : Fact) (fs : List Fact) (c : Option ℕ) (n v : ℕ) → f.cause ≡ c → IsDerived p steps earlier f.term c → (IsOneOf (n, v) (picks_of fs) → HasFact p fs n v) → IsOneOf (n, v) (pick_with c f.term (picks_of fs)) → HasFact p (f ∷ fs) n v
-pick_here p steps earlier f fs (Some c) n v e d k h = let r = k h in (r.0, (r.1.0, inr r.1.1, r.1.2))
-pick_here p steps earlier f fs None n v e d k (inr h) = let r = k h in (r.0, (r.1.0, inr r.1.1, r.1.2))
-pick_here p steps earlier f fs None n v e (m, u, below, is) k (inl h) =
-    let en : m ≡ n = ap node_of (sym is) ∙ ap (λ (x : ℕ × ℕ). x.0) h in
-    let ev : u ≡ v = sym (one_first (size_of p m) u below) ∙ (ap (λ (t : Term). first_of (set_of t)) (sym is) ∙ ap (λ (x : ℕ × ℕ). x.1) h) in (
-      subst (λ (x : ℕ × ℕ). x.1 < size_of p x.0) (λ i. (en i, ev i)) below,
-      (f, inl refl, subst (λ (x : ℕ × ℕ). f.term ≡ In x.0 (one_of (size_of p x.0) x.1)) (λ i. (en i, ev i)) is),
-    )
+pick_here : (p : Plain) (steps : List Step) (earlier : List Fact) (f : Fact) (fs : List Fact) (c : Option ℕ) (n v : ℕ) → f.cause ≡ c → IsDerived p steps earlier f.term c → (Contains (picks_of fs) (n, v) → HasFact p fs n v) → Contains (pick_with c f.term (picks_of fs)) (n, v) → HasFact p (f ∷ fs) n v
+pick_here p steps earlier f fs (Some c) n v e d k h = let r = k h in (r.0, (r.1.0, in_rest f fs r.1.0 r.1.1, r.1.2))
+pick_here p steps earlier f fs None n v e (m, u, below, is) k i = elim (head_or_rest (node_of f.term, first_of (set_of f.term)) (picks_of fs) (n, v) i) [
+  | inr g ↦ (let r = k g in (r.0, (r.1.0, in_rest f fs r.1.0 r.1.1, r.1.2)))
+  | inl h ↦ (
+      let en : m ≡ n = ap node_of (sym is) ∙ ap (λ (x : ℕ × ℕ). x.0) h in
+      let ev : u ≡ v = sym (one_first (size_of p m) u below) ∙ (ap (λ (t : Term). first_of (set_of t)) (sym is) ∙ ap (λ (x : ℕ × ℕ). x.1) h) in (
+        subst (λ (x : ℕ × ℕ). x.1 < size_of p x.0) (λ i. (en i, ev i)) below,
+        (f, at_head f fs f refl, subst (λ (x : ℕ × ℕ). f.term ≡ In x.0 (one_of (size_of p x.0) x.1)) (λ i. (en i, ev i)) is),
+      ))
+]
 
-pub pick_fact : (p : Plain) (steps : List Step) (earlier facts : List Fact) (n v : ℕ) → AreDerivedAfter p steps earlier facts → IsOneOf (n, v) (picks_of facts) → HasFact p facts n v
-pick_fact p steps earlier [] n v d h = absurd h
+pub pick_fact : (p : Plain) (steps : List Step) (earlier facts : List Fact) (n v : ℕ) → AreDerivedAfter p steps earlier facts → Contains (picks_of facts) (n, v) → HasFact p facts n v
+pick_fact p steps earlier [] n v d h = absurd (in_none (n, v) h)
 pick_fact p steps earlier (f ∷ fs) n v d h = pick_here p steps earlier f fs f.cause n v refl d.0 (pick_fact p steps (earlier ++ f ∷ []) fs n v d.1) h
 
 -- at a decided node its version alone is open
@@ -124,8 +124,8 @@ pair_held' facts t u false false e f h i =
 pub pair_held : (facts : List Fact) (t u : Term) → IsHeld facts t → IsHeld facts u → AreHeld facts (pair_of t u)
 pair_held facts t u h i = pair_held' facts t u (nat_lt (node_of t) (node_of u)) (nat_lt (node_of u) (node_of t)) refl refl h i
 
-clash : (p : Plain) (t : Track) (s : Step) → NoConflict p t → IsOneOf s t.steps → AreHeld t.facts (says p s) → ⊥
-clash p t s none one h = let k = one_place s t.steps one in none k.0 (s, k.1, h)
+clash : (p : Plain) (t : Track) (s : Step) → NoConflict p t → Contains t.steps s → AreHeld t.facts (says p s) → ⊥
+clash p t s none one h = let k = one_place t.steps s one in none k.0 (s, k.1, h)
 
 true_unless : (b : Bool) → (b ≡ false → ⊥) → b ≡ true
 true_unless true h = refl

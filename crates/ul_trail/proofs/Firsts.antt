@@ -3,17 +3,18 @@ use Rattle.std.proofs.Common.{◌≡◌, ℕ, zero, suc, ◌+◌, List, [], ◌�
 use Rattle.std.proofs.lemmas.Bool.{cases_eq, cases_lt, true≢false, eqb-true, eqb-false}
 use Rattle.std.proofs.lemmas.List.{append-nil}
 use Rattle.std.proofs.lemmas.Option.{none-some, same_Some, slice_get_within, slice_get_read, slice_get-get_or}
+use Rattle.std.specs.List.{Contains}
 use Rattle.ul_ranges.specs.Flags.{has, is_blank}
 use Rattle.ul_ranges.proofs.ForCallers.{blank_none}
 use Rattle.ul_problem.specs.Plain.{Plain, node_at, size_of, base_of, barred_of, needs_of, size_in, base_in, barred_in, needs_in}
-use Rattle.ul_problem.specs.Serving.{IsOneOf, Forbids}
+use Rattle.ul_problem.specs.Serving.{Forbids}
 use Rattle.ul_problem.specs.Problems.{IsWellFormed}
 use Rattle.ul_problem.specs.Steps.{says, IsRight, HasNeed, AreRightAfter}
 use Rattle.ul_problem.specs.declared.problem.Need.{Need}
 use Rattle.ul_problem.specs.declared.problem.NodeFacts.{NodeFacts}
 use Rattle.ul_problem.specs.declared.step.Step.{Step}
 use Rattle.ul_problem.specs.declared.step.Step.TheVariants.{Need as NeedStep, Python, Base, Cut}
-use Rattle.ul_problem.proofs.ForCallers.{node_whole, node_of_size, node_of_base, need_fits, one_place, barred_size, one_left, one_right, step_sound, has_within}
+use Rattle.ul_problem.proofs.ForCallers.{node_whole, node_of_size, node_of_base, need_fits, one_place, barred_size, one_left, one_right, step_sound, has_within, at_head, in_rest, head_or_rest, in_none}
 use Rattle.ul_trail.specs.Facts.{one_of}
 use Rattle.ul_trail.specs.Propagation.{AreForbidden}
 use Rattle.ul_trail.specs.Moves.{HasSteps}
@@ -32,35 +33,37 @@ needs_next n s t w start steps now needs i x e q et ew g =
     ∙ (append_assoc start (need_steps n s (take i needs)) (NeedStep n s x.node x.permitted ∷ []) ∙ ap (λ (l : List Step). start ++ l) (sym (ap (need_steps n s) (take_next needs x i e) ∙ needs_append n s (take i needs) x))))))
 
 -- members
-in_needs : (n : ℕ) (s : List Bool) (needs : List Need) (need : Need) → IsOneOf need needs → IsOneOf (NeedStep n s need.node need.permitted) (need_steps n s needs)
-in_needs n s [] need h = absurd h
-in_needs n s (x ∷ xs) need (inl e) = inl (ap (λ (y : Need). NeedStep n s y.node y.permitted) e)
-in_needs n s (x ∷ xs) need (inr h) = inr (in_needs n s xs need h)
+in_needs : (n : ℕ) (s : List Bool) (needs : List Need) (need : Need) → Contains needs need → Contains (need_steps n s needs) (NeedStep n s need.node need.permitted)
+in_needs n s [] need h = absurd (in_none need h)
+in_needs n s (x ∷ xs) need h = elim (head_or_rest x xs need h) [
+  | inl e ↦ at_head (NeedStep n s x.node x.permitted) (need_steps n s xs) (NeedStep n s need.node need.permitted) (ap (λ (y : Need). NeedStep n s y.node y.permitted) e)
+  | inr i ↦ in_rest (NeedStep n s x.node x.permitted) (need_steps n s xs) (NeedStep n s need.node need.permitted) (in_needs n s xs need i)
+]
 
-in_versions : (f : NodeFacts) (n v k : ℕ) (s : Step) → v < k → IsOneOf s (version_steps f n v) → IsOneOf s (versions_steps f n k)
+in_versions : (f : NodeFacts) (n v k : ℕ) (s : Step) → v < k → Contains (version_steps f n v) s → Contains (versions_steps f n k) s
 in_versions f n v zero s h i = absurd (omega arith)
 in_versions f n v (suc k) s h i = elim (cases_eq v k) [
-  | inl e ↦ one_right s (versions_steps f n k) (version_steps f n k) (subst (λ (j : ℕ). IsOneOf s (version_steps f n j)) e i)
+  | inl e ↦ one_right s (versions_steps f n k) (version_steps f n k) (subst (λ (j : ℕ). Contains (version_steps f n j) s) e i)
   | inr d ↦ one_left s (versions_steps f n k) (version_steps f n k) (in_versions f n v k s (omega arith) i)
 ]
 
-in_nodes : (nodes : List NodeFacts) (n k : ℕ) (f : NodeFacts) (s : Step) → slice_get nodes n ≡ Some f → n < k → IsOneOf s (node_steps f n) → IsOneOf s (first_steps nodes k)
+in_nodes : (nodes : List NodeFacts) (n k : ℕ) (f : NodeFacts) (s : Step) → slice_get nodes n ≡ Some f → n < k → Contains (node_steps f n) s → Contains (first_steps nodes k) s
 in_nodes nodes n zero f s e h i = absurd (omega arith)
 in_nodes nodes n (suc k) f s e h i = elim (cases_eq n k) [
-  | inl q ↦ one_right s (first_steps nodes k) (steps_at (slice_get nodes k) k) (subst (λ (j : ℕ). IsOneOf s (steps_at (slice_get nodes j) j)) q (subst (λ (o : Option NodeFacts). IsOneOf s (steps_at o n)) (sym e) i))
+  | inl q ↦ one_right s (first_steps nodes k) (steps_at (slice_get nodes k) k) (subst (λ (j : ℕ). Contains (steps_at (slice_get nodes j) j) s) q (subst (λ (o : Option NodeFacts). Contains (steps_at o n) s) (sym e) i))
   | inr d ↦ one_left s (first_steps nodes k) (steps_at (slice_get nodes k) k) (in_nodes nodes n k f s e (omega arith) i)
 ]
 
-base_one : (n b : ℕ) (s : List Bool) (o : Option ℕ) → o ≡ Some b → IsOneOf (Base n s) (base_steps n s o)
+base_one : (n b : ℕ) (s : List Bool) (o : Option ℕ) → o ≡ Some b → Contains (base_steps n s o) (Base n s)
 base_one n b s None e = absurd (none-some b e)
-base_one n b s (Some c) e = inl refl
+base_one n b s (Some c) e = at_head (Base n s) [] (Base n s) refl
 
-python_one : (n v : ℕ) (s : List Bool) → has v s ≡ true → IsOneOf (Python n s) (python_steps n s)
+python_one : (n v : ℕ) (s : List Bool) → has v s ≡ true → Contains (python_steps n s) (Python n s)
 python_one n v s h = which (is_blank s) refl
   where
-    which : (b : Bool) → is_blank s ≡ b → IsOneOf (Python n s) (cond b [] (Python n s ∷ []))
+    which : (b : Bool) → is_blank s ≡ b → Contains (cond b [] (Python n s ∷ [])) (Python n s)
     which true e = absurd (true≢false (sym h ∙ blank_none s e v))
-    which false e = inl refl
+    which false e = at_head (Python n s) [] (Python n s) refl
 
 -- what is known of a node, read off the problem
 pub first_has : (p : Plain) → IsWellFormed p → HasSteps p (first_steps p.nodes (length p.nodes))
@@ -71,19 +74,19 @@ first_has p wf = record {
       in_nodes p.nodes n (length p.nodes) f.0 _ f.1 (slice_get_within p.nodes n f.0 f.1)
       (one_right _ (python_steps n f.0.barred) (versions_steps f.0 n (length f.0.versions)) (in_versions f.0 n v (length f.0.versions) _ (subst (λ (z : ℕ). v < z) es h)
       (one_right _ (base_steps n (one_of (length f.0.versions) v) f.0.base) (need_steps n (one_of (length f.0.versions) v) (get_or f.0.needs v []))
-      (subst (λ (z : ℕ). IsOneOf (NeedStep n (one_of z v) need.node need.permitted) (need_steps n (one_of (length f.0.versions) v) (get_or f.0.needs v []))) (sym es) (in_needs n (one_of (length f.0.versions) v) (get_or f.0.needs v []) need (subst (IsOneOf need) en i)))))));
+      (subst (λ (z : ℕ). Contains (need_steps n (one_of (length f.0.versions) v) (get_or f.0.needs v [])) (NeedStep n (one_of z v) need.node need.permitted)) (sym es) (in_needs n (one_of (length f.0.versions) v) (get_or f.0.needs v []) need (subst (λ (l : List Need). Contains l need) en i)))))));
   bases = λ n v b h e. (let f = node_of_size p n v h in
       let es : size_of p n ≡ length f.0.versions = ap size_in f.1 in
       let eb : f.0.base ≡ Some b = sym (ap base_in f.1) ∙ e in
       in_nodes p.nodes n (length p.nodes) f.0 _ f.1 (slice_get_within p.nodes n f.0 f.1)
       (one_right _ (python_steps n f.0.barred) (versions_steps f.0 n (length f.0.versions)) (in_versions f.0 n v (length f.0.versions) _ (subst (λ (z : ℕ). v < z) es h)
       (one_left _ (base_steps n (one_of (length f.0.versions) v) f.0.base) (need_steps n (one_of (length f.0.versions) v) (get_or f.0.needs v []))
-      (subst (λ (z : ℕ). IsOneOf (Base n (one_of z v)) (base_steps n (one_of (length f.0.versions) v) f.0.base)) (sym es) (base_one n b (one_of (length f.0.versions) v) f.0.base eb))))));
+      (subst (λ (z : ℕ). Contains (base_steps n (one_of (length f.0.versions) v) f.0.base) (Base n (one_of z v))) (sym es) (base_one n b (one_of (length f.0.versions) v) f.0.base eb))))));
   pythons = λ n v h. (let w = has_within (barred_of p n) v h in let z = barred_size p n wf in
       let f = node_of_size p n v (omega arith) in
       let eb : barred_of p n ≡ f.0.barred = ap barred_in f.1 in
       in_nodes p.nodes n (length p.nodes) f.0 _ f.1 (slice_get_within p.nodes n f.0 f.1)
-      (one_left _ (python_steps n f.0.barred) (versions_steps f.0 n (length f.0.versions)) (subst (λ (s : List Bool). IsOneOf (Python n s) (python_steps n f.0.barred)) (sym eb) (python_one n v f.0.barred (subst (λ (s : List Bool). has v s ≡ true) eb h)))));
+      (one_left _ (python_steps n f.0.barred) (versions_steps f.0 n (length f.0.versions)) (subst (λ (s : List Bool). Contains (python_steps n f.0.barred) (Python n s)) (sym eb) (python_one n v f.0.barred (subst (λ (s : List Bool). has v s ≡ true) eb h)))));
 }
 
 -- each is right, whatever stands before it
@@ -107,12 +110,12 @@ first_forbidden p (x ∷ xs) h (suc k) s e = first_forbidden p xs h.1 k s e
 one_only : (size v k : ℕ) → has k (one_of size v) ≡ true → k ≡ v
 one_only size v k h = elim (cases_eq v k) [ inl e ↦ sym e | inr d ↦ absurd (true≢false (sym h ∙ one_other size v k d)) ]
 
-needs_right : (p : Plain) (n v : ℕ) (needs : List Need) → IsWellFormed p → n < length p.nodes → ((need : Need) → IsOneOf need needs → IsOneOf need (needs_of p n v)) → AreFirst p (need_steps n (one_of (size_of p n) v) needs)
+needs_right : (p : Plain) (n v : ℕ) (needs : List Need) → IsWellFormed p → n < length p.nodes → ((need : Need) → Contains needs need → Contains (needs_of p n v) need) → AreFirst p (need_steps n (one_of (size_of p n) v) needs)
 needs_right p n v [] wf l h = tt
 needs_right p n v (x ∷ xs) wf l h =
-    let fits = need_fits p n v x wf (h x (inl refl)) in (
-      (λ earlier. (l, fits.0, one_length (size_of p n) v, fits.1, (λ u g. (x, subst (λ (k : ℕ). IsOneOf x (needs_of p n k)) (sym (one_only (size_of p n) v u g)) (h x (inl refl)), refl, (λ z y. y))))),
-      needs_right p n v xs wf l (λ need i. h need (inr i)),
+    let fits = need_fits p n v x wf (h x (at_head x xs x refl)) in (
+      (λ earlier. (l, fits.0, one_length (size_of p n) v, fits.1, (λ u g. (x, subst (λ (k : ℕ). Contains (needs_of p n k) x) (sym (one_only (size_of p n) v u g)) (h x (at_head x xs x refl)), refl, (λ z y. y))))),
+      needs_right p n v xs wf l (λ need i. h need (in_rest x xs need i)),
     )
 
 base_right : (p : Plain) (n v : ℕ) (o : Option ℕ) → n < length p.nodes → base_of p n ≡ o → AreFirst p (base_steps n (one_of (size_of p n) v) o)
@@ -136,7 +139,7 @@ versions_right p n (suc k) f wf e =
     first_join p (versions_steps f n k) (version_steps f n k) (versions_right p n k f wf e)
     (first_join p (base_steps n (one_of (length f.versions) k) f.base) (need_steps n (one_of (length f.versions) k) (get_or f.needs k []))
     (subst (λ (z : ℕ). AreFirst p (base_steps n (one_of z k) f.base)) es (base_right p n k f.base l eb))
-    (subst (λ (z : ℕ). AreFirst p (need_steps n (one_of z k) (get_or f.needs k []))) es (needs_right p n k (get_or f.needs k []) wf l (λ need i. subst (IsOneOf need) (sym en) i))))
+    (subst (λ (z : ℕ). AreFirst p (need_steps n (one_of z k) (get_or f.needs k []))) es (needs_right p n k (get_or f.needs k []) wf l (λ need i. subst (λ (l : List Need). Contains l need) (sym en) i))))
 
 nodes_right : (p : Plain) (k : ℕ) → IsWellFormed p → AreFirst p (first_steps p.nodes k)
 nodes_right p zero wf = tt

@@ -10,8 +10,8 @@ pub use Rattle.ul_trail.proofs.Singles.{one_other}
 pub use Rattle.ul_trail.proofs.Following.{derived_left, excluded_passed, facts_follow, one_has, one_first}
 pub use Rattle.ul_trail.proofs.Settling.{negation_node, places_within}
 pub use Rattle.ul_trail.proofs.Cuts.{cut_held, but_on}
--- what steps say, and the sizes of nodes
-pub use Rattle.ul_trail.proofs.Propagating.{said_at, said_of, sizes_length, sizes_at}
+-- the sizes of nodes
+pub use Rattle.ul_trail.proofs.Propagating.{sizes_length, sizes_at}
 -- decided nodes, and the facts of roots
 pub use Rattle.ul_trail.proofs.Decided.{first_is, place_decided}
 pub use Rattle.ul_trail.proofs.Rooted.{root_undecided, root_there, roots_picks, facts_snoc, rooted_level}

@@ -2,9 +2,10 @@
 use Rattle.std.proofs.Common.{◌≡◌, ℕ, zero, suc, ◌+◌, List, [], ◌∷◌, ◌++◌, Bool, true, false, cond, Option, Some, None, refl, ap, ◌∙◌, sym, subst, ◌<◌, ◌≤◌, ◌⊎◌, inl, inr, arith, slice_get, get_or, length, take, max, append_assoc, length-append}
 use Rattle.std.proofs.lemmas.List.{append-nil}
 use Rattle.std.proofs.lemmas.Option.{none-some, same_Some, slice_get_within}
+use Rattle.ul_problem.proofs.ForCallers.{said_place, said_of}
 use Rattle.ul_problem.specs.Terms.{node_of, allows, negation}
 use Rattle.ul_problem.specs.Plain.{Plain, size_of, size_in}
-use Rattle.ul_problem.specs.Steps.{says}
+use Rattle.ul_problem.specs.Steps.{says, said_by}
 use Rattle.ul_problem.specs.Best.{Picks, wanted}
 use Rattle.ul_problem.specs.declared.term.Term.{Term}
 use Rattle.ul_problem.specs.declared.step.Step.{Step}
@@ -16,7 +17,7 @@ use Rattle.ul_trail.specs.declared.fact.Progress.TheVariants.{Quiet, Conflict}
 use Rattle.ul_trail.specs.declared.mark.Mark.{Mark}
 use Rattle.ul_trail.specs.Facts.{is_open, AreHeld, AreHeldBut, picks_of, pick_with, level_of, up_to, AreAt}
 use Rattle.ul_trail.specs.Counts.{sizes_of, size_list}
-use Rattle.ul_trail.specs.Propagation.{IsDerived, Follow, said_by, IsTrailOf, IsOption, IsNew, AreNewAfter, HasGrown, IsQuietAt, IsConflict, IsProgress, AreRaised, IsAlive, AreLater, IsBegun, root_facts}
+use Rattle.ul_trail.specs.Propagation.{IsDerived, Follow, IsTrailOf, IsOption, IsNew, AreNewAfter, HasGrown, IsQuietAt, IsConflict, IsProgress, AreRaised, IsAlive, AreLater, IsBegun, root_facts}
 use Rattle.ul_trail.specs.Standing.{IsForced, AreForced, HasForced, IsCalm, HasConflict, IsFresh, IsSettled}
 use Rattle.ul_trail.specs.Findings.{IsSpread}
 use Rattle.ul_trail.specs.Kept.{IsMark, AreMarks, HasPassed}
@@ -81,17 +82,6 @@ forced_marks sizes terms level old now picks queue marks g e h = record {
   rise = h.rise;
 }
 
--- what a place says
-pub said_at : (p : Plain) (steps : List Step) (k : ℕ) (ts : List Term) → slice_get (said_by p steps) k ≡ Some ts → (s : Step) × (slice_get steps k ≡ Some s) × (says p s ≡ ts)
-said_at p [] k ts e = absurd (none-some ts e)
-said_at p (s ∷ ss) zero ts e = (s, refl, same_Some (says p s) ts e)
-said_at p (s ∷ ss) (suc k) ts e = said_at p ss k ts e
-
-pub said_of : (p : Plain) (steps : List Step) (k : ℕ) (s : Step) → slice_get steps k ≡ Some s → slice_get (said_by p steps) k ≡ Some (says p s)
-said_of p [] k s e = absurd (none-some s e)
-said_of p (x ∷ ss) zero s e = ap (λ (y : Step). Some (says p y)) (same_Some x s e)
-said_of p (x ∷ ss) (suc k) s e = said_of p ss k s e
-
 -- sizes
 pub sizes_length : (fs : List NodeFacts) → length (size_list fs) ≡ length fs
 sizes_length [] = refl
@@ -108,7 +98,7 @@ sizes_at p n = each p.nodes n
 -- the facts follow
 forced_derived : (p : Plain) (sizes : List ℕ) (steps : List Step) (level : ℕ) (earlier : List Fact) (f : Fact) → IsForced sizes (said_by p steps) level earlier f → IsDerived p steps earlier f.term f.cause
 forced_derived p sizes steps level earlier f h =
-    let s = said_at p steps h.place h.list h.is in
+    let s = said_place p steps h.place h.list h.is in
     subst (λ (x : Fact). IsDerived p steps earlier x.term x.cause) (sym h.fact) (s.0, h.term, s.1, refl, subst (AreHeldBut earlier h.term) (sym s.2) h.but)
 
 all_follow : (p : Plain) (sizes : List ℕ) (steps : List Step) (level : ℕ) (earlier more : List Fact) → level_of earlier ≤ level → Follow p steps earlier → AreForced sizes (said_by p steps) level earlier more → Follow p steps (earlier ++ more)
@@ -187,5 +177,5 @@ spread_progress p t Quiet e h = λ k s i.
     let c = h k (says p s) (subst (λ (x : List (List Term)). slice_get x k ≡ Some (says p s)) (sym e) (said_of p t.steps k s i)) in
     (c.free, c.spent)
 spread_progress p t (Conflict k) e h =
-    let s = said_at p t.steps k h.0 (subst (λ (x : List (List Term)). slice_get x k ≡ Some h.0) e h.1) in
+    let s = said_place p t.steps k h.0 (subst (λ (x : List (List Term)). slice_get x k ≡ Some h.0) e h.1) in
     (s.0, s.1, subst (AreHeld t.facts) (sym s.2) h.2)

@@ -3,27 +3,25 @@ use Rattle.std.proofs.Common.{◌≡◌, ℕ, zero, suc, ◌+◌, List, [], ◌�
 use Rattle.std.proofs.lemmas.Bool.{cases_lt, le-leb, lt-leb}
 use Rattle.std.proofs.lemmas.List.{append-nil}
 use Rattle.std.proofs.lemmas.Option.{none-some, same_Some, slice_get_within, slice_get_read}
-use Rattle.ul_problem.specs.Serving.{IsOneOf}
 use Rattle.ul_problem.specs.Terms.{node_of, set_of, IsOrdered}
 use Rattle.ul_problem.specs.Plain.{Plain, size_of}
 use Rattle.ul_problem.specs.Problems.{IsWellFormed}
 use Rattle.ul_problem.specs.Best.{Picks, wanted}
-use Rattle.ul_problem.specs.Steps.{says, AreRightAfter, IsStepWithin, AreTermsOf}
+use Rattle.ul_problem.specs.Steps.{says, AreRightAfter, IsStepWithin, AreTermsOf, said_by}
 use Rattle.ul_problem.specs.declared.term.Term.{Term}
 use Rattle.ul_problem.specs.declared.step.Step.{Step}
-use Rattle.ul_problem.proofs.ForCallers.{says_whole, says_fits, all_within, fits_at}
+use Rattle.ul_problem.proofs.ForCallers.{says_whole, says_fits, all_within, fits_at, said_append, said_place, place_one}
 use Rattle.ul_trail.specs.Track.{Track}
 use Rattle.ul_trail.specs.declared.fact.Fact.{Fact}
 use Rattle.ul_trail.specs.declared.mark.Mark.{Mark}
 use Rattle.ul_trail.specs.Facts.{is_open, picks_of, level_of, up_to, AreAt}
 use Rattle.ul_trail.specs.Counts.{sizes_of}
-use Rattle.ul_trail.specs.Propagation.{IsTrailOf, Follow, AreForbidden, AreRaised, IsAlive, AreLater, IsBegun, root_facts, said_by}
+use Rattle.ul_trail.specs.Propagation.{IsTrailOf, Follow, AreForbidden, AreRaised, IsAlive, AreLater, IsBegun, root_facts}
 use Rattle.ul_trail.specs.Standing.{IsSettled, IsSized, AreSized, AllSized}
 use Rattle.ul_trail.specs.Kept.{IsIndexed, HasPassed, IsMark, AreMarks, turns_of}
 use Rattle.ul_trail.proofs.Places.{take_front, take_whole, get_more, last_cases, take_next}
 use Rattle.ul_trail.proofs.Levels.{append_within, up_to-append, up_to-now, up_to-all, up_to-up_to}
 use Rattle.ul_trail.proofs.Keeping.{follow_back, right_join}
-use Rattle.ul_trail.proofs.Settling.{one_at}
 use Rattle.ul_trail.proofs.Propagating.{sizes_length, sizes_at}
 
 -- fronts
@@ -177,10 +175,6 @@ marks_terms terms more facts picks queue marks h = record {
   rise = h.rise;
 }
 
-pub said_append : (p : Plain) (xs ys : List Step) → said_by p (xs ++ ys) ≡ said_by p xs ++ said_by p ys
-said_append p [] ys = refl
-said_append p (x ∷ xs) ys = ap (λ (l : List (List Term)). says p x ∷ l) (said_append p xs ys)
-
 pub learned_within : (p : Plain) (steps learned : List Step) → AreRightAfter p [] steps → AreRightAfter p steps learned → (k : ℕ) (s : Step) → slice_get learned k ≡ Some s → IsStepWithin p s
 learned_within p steps learned r h k s e = all_within p (steps ++ learned) (right_join p [] steps learned r h) (length steps + k) s (shifted steps k e)
   where
@@ -190,16 +184,11 @@ learned_within p steps learned r h k s e = all_within p (steps ++ learned) (righ
 
 pub said_sized : (p : Plain) (steps : List Step) → IsWellFormed p → ((k : ℕ) (s : Step) → slice_get steps k ≡ Some s → IsStepWithin p s) → AllSized (sizes_of p) (said_by p steps)
 said_sized p steps wf w = record {
-  at = λ k ts e. (let s = said_place steps k ts e in record {
-    at = λ i t g. (let f = fits_at p ts t (subst (AreTermsOf p) s.2 (says_fits p s.0 wf (w k s.0 s.1))) (one_at ts i t g) in
+  at = λ k ts e. (let s = said_place p steps k ts e in record {
+    at = λ i t g. (let f = fits_at p ts t (subst (AreTermsOf p) s.2 (says_fits p s.0 wf (w k s.0 s.1))) (place_one ts i t g) in
         (subst (λ (n : ℕ). node_of t < n) (sym (sizes_length p.nodes)) f.0, f.1 ∙ sym (sizes_at p (node_of t))));
   });
 }
-  where
-    said_place : (ss : List Step) (j : ℕ) (ts : List Term) → slice_get (said_by p ss) j ≡ Some ts → (s : Step) × (slice_get ss j ≡ Some s) × (says p s ≡ ts)
-    said_place [] j ts e = absurd (none-some ts e)
-    said_place (x ∷ xs) zero ts e = (x, refl, same_Some (says p x) ts e)
-    said_place (x ∷ xs) (suc j) ts e = said_place xs j ts e
 
 pub all_sized_join : (sizes : List ℕ) (xs ys : List (List Term)) → AllSized sizes xs → AllSized sizes ys → AllSized sizes (xs ++ ys)
 all_sized_join sizes xs ys a b = record { at = λ k ts e. which xs a k ts e }
@@ -227,7 +216,7 @@ trail_learned p t learned w r f = record {
 
 -- holding
 pub held_nodes : (p : Plain) (ts : List Term) (rows : List (List ℕ)) → length rows ≡ length p.nodes → AreTermsOf p ts → (i : ℕ) (t : Term) → slice_get ts i ≡ Some t → node_of t < length rows
-held_nodes p ts rows e h i t g = let f = fits_at p ts t h (one_at ts i t g) in let a = f.0 in omega arith
+held_nodes p ts rows e h i t g = let f = fits_at p ts t h (place_one ts i t g) in let a = f.0 in omega arith
 
 pub held_ordered : (p : Plain) (s : Step) (ts : List Term) → IsStepWithin p s → ts ≡ says p s → IsOrdered ts
 held_ordered p s ts w e = subst IsOrdered (sym e) (says_whole p s w).0

@@ -6,14 +6,14 @@ use Rattle.std.proofs.lemmas.Option.{none-some, same_Some, slice_get_within, sli
 use Rattle.ul_ranges.specs.Flags.{has}
 use Rattle.ul_problem.specs.Terms.{node_of, set_of, allows}
 use Rattle.ul_problem.specs.Plain.{Plain, node_at, size_of, needs_of}
-use Rattle.ul_problem.specs.Serving.{IsOneOf}
+use Rattle.std.specs.List.{Contains}
 use Rattle.ul_problem.specs.Problems.{IsWellFormed, Increases, IncreasesFrom, PlaceBefore}
 use Rattle.ul_problem.specs.Best.{Picks, is_decided, wanted, targets}
 use Rattle.ul_problem.specs.declared.term.Term.{Term}
 use Rattle.ul_problem.specs.declared.term.Term.TheVariants.{In, NotIn}
 use Rattle.ul_problem.specs.declared.step.Step.{Step}
 use Rattle.ul_problem.specs.declared.problem.NodeFacts.{NodeFacts}
-use Rattle.ul_problem.proofs.ForCallers.{root_single, node_of_size, node_whole}
+use Rattle.ul_problem.proofs.ForCallers.{root_single, node_of_size, node_whole, place_one, at_head, in_rest, head_or_rest, in_none}
 use Rattle.ul_trail.specs.declared.fact.Fact.{Fact}
 use Rattle.ul_trail.specs.declared.mark.Mark.{Mark}
 use Rattle.ul_trail.specs.Facts.{is_open, one_of, first_of, picks_of, level_of, IsMirror}
@@ -25,7 +25,6 @@ use Rattle.ul_trail.specs.Kept.{AreMarks, HasPassed}
 use Rattle.ul_trail.specs.Roots.{root_picks}
 use Rattle.ul_trail.proofs.Places.{last_cases, take_next, take_whole}
 use Rattle.ul_trail.proofs.Following.{one_has, one_first}
-use Rattle.ul_trail.proofs.Settling.{one_at}
 
 -- sizes
 size_append : (fs : List NodeFacts) (f : NodeFacts) → size_list (fs ++ f ∷ []) ≡ size_list fs ++ length f.versions ∷ []
@@ -111,7 +110,7 @@ root_undecided (y ∷ ys) (suc k) r h e =
 
 pub root_there : (p : Plain) (k r : ℕ) → IsWellFormed p → slice_get p.roots k ≡ Some r → (r < length p.nodes) × (size_of p r ≡ 1)
 root_there p k r wf e =
-    let s = root_single p r wf (one_at p.roots k r e) in
+    let s = root_single p r wf (place_one p.roots k r e) in
     let f = node_of_size p r 0 (omega arith) in
     (slice_get_within p.nodes r f.0 f.1, s)
 
@@ -139,22 +138,21 @@ queue_next p roots k r queue now e f n =
     ∙ ap (λ (x : List ℕ). p.roots ++ x) (sym (ap (λ (d : Picks). wanted p d) (ap root_picks (take_next roots r k e) ∙ picks_snoc (take k roots) r) ∙ wanted_snoc p (root_picks (take k roots)) r 0))))
 
 -- the trail
-has_one : (k : ℕ) (ns : List ℕ) → IsOneOf k ns ⊎ (IsOneOf k ns → ⊥)
-has_one k [] = inr (λ h. h)
+has_one : (k : ℕ) (ns : List ℕ) → Contains ns k ⊎ (Contains ns k → ⊥)
+has_one k [] = inr (λ h. in_none k h)
 has_one k (n ∷ ns) = elim (cases_eq n k) [
-  | inl e ↦ inl (inl e)
-  | inr d ↦ elim (has_one k ns) [ inl h ↦ inl (inr h) | inr h ↦ inr (λ x. neither d h x) ]
+  | inl e ↦ inl (at_head n ns k e)
+  | inr d ↦ elim (has_one k ns) [ inl h ↦ inl (in_rest n ns k h) | inr h ↦ inr (λ x. neither d h x) ]
 ]
   where
-    neither : (n ≡ k → ⊥) → (IsOneOf k ns → ⊥) → IsOneOf k (n ∷ ns) → ⊥
-    neither d h (inl e) = d e
-    neither d h (inr e) = h e
+    neither : (n ≡ k → ⊥) → (Contains ns k → ⊥) → Contains (n ∷ ns) k → ⊥
+    neither d h x = elim (head_or_rest n ns k x) [ inl e ↦ d e | inr e ↦ h e ]
 
-roots_open : (p : Plain) (ns : List ℕ) (k : ℕ) (o : Option ℕ) → (IsOneOf k ns → ⊥) → is_open (root_facts p ns) k o ≡ true
+roots_open : (p : Plain) (ns : List ℕ) (k : ℕ) (o : Option ℕ) → (Contains ns k → ⊥) → is_open (root_facts p ns) k o ≡ true
 roots_open p [] k o h = refl
 roots_open p (n ∷ ns) k o h =
-    ap (λ (b : Bool). cond b (cond (allows (In n (one_of (size_of p n) 0)) o) (is_open (root_facts p ns) k o) false) (is_open (root_facts p ns) k o)) (ne_eqb n k (λ e. h (inl e)))
-    ∙ roots_open p ns k o (λ x. h (inr x))
+    ap (λ (b : Bool). cond b (cond (allows (In n (one_of (size_of p n) 0)) o) (is_open (root_facts p ns) k o) false) (is_open (root_facts p ns) k o)) (ne_eqb n k (λ e. h (at_head n ns k e)))
+    ∙ roots_open p ns k o (λ x. h (in_rest n ns k x))
 
 roots_first : (p : Plain) (ns : List ℕ) (k : ℕ) → 0 < size_of p k → is_open (root_facts p ns) k (Some 0) ≡ true
 roots_first p [] k h = refl
@@ -170,9 +168,9 @@ roots_alive p k wf = elim (has_one k p.roots) [
   | inr h ↦ (None, roots_open p p.roots k None h)
 ]
 
-roots_derived : (p : Plain) (earlier : List Fact) (ns : List ℕ) → ((n : ℕ) → IsOneOf n ns → size_of p n ≡ 1) → AreDerivedAfter p [] earlier (root_facts p ns)
+roots_derived : (p : Plain) (earlier : List Fact) (ns : List ℕ) → ((n : ℕ) → Contains ns n → size_of p n ≡ 1) → AreDerivedAfter p [] earlier (root_facts p ns)
 roots_derived p earlier [] h = tt
-roots_derived p earlier (n ∷ ns) h = ((n, 0, (let s = h n (inl refl) in omega arith), refl), roots_derived p (earlier ++ root_fact p n ∷ []) ns (λ m i. h m (inr i)))
+roots_derived p earlier (n ∷ ns) h = ((n, 0, (let s = h n (at_head n ns n refl) in omega arith), refl), roots_derived p (earlier ++ root_fact p n ∷ []) ns (λ m i. h m (in_rest n ns m i)))
 
 roots_levels : (p : Plain) (ns : List ℕ) → AreLevels 0 (root_facts p ns)
 roots_levels p [] = tt
@@ -187,15 +185,15 @@ root_level p [] i f e = absurd (none-some f e)
 root_level p (n ∷ ns) zero f e = sym (ap (λ (y : Fact). y.level) (same_Some (root_fact p n) f e))
 root_level p (n ∷ ns) (suc i) f e = root_level p ns i f e
 
-pub roots_picks : (p : Plain) (ns : List ℕ) → ((n : ℕ) → IsOneOf n ns → size_of p n ≡ 1) → picks_of (root_facts p ns) ≡ root_picks ns
+pub roots_picks : (p : Plain) (ns : List ℕ) → ((n : ℕ) → Contains ns n → size_of p n ≡ 1) → picks_of (root_facts p ns) ≡ root_picks ns
 roots_picks p [] h = refl
 roots_picks p (n ∷ ns) h =
-    let s = h n (inl refl) in
-    ap (λ (v : ℕ). (n, v) ∷ picks_of (root_facts p ns)) (one_first (size_of p n) 0 (omega arith)) ∙ ap (λ (l : Picks). (n, 0) ∷ l) (roots_picks p ns (λ m i. h m (inr i)))
+    let s = h n (at_head n ns n refl) in
+    ap (λ (v : ℕ). (n, v) ∷ picks_of (root_facts p ns)) (one_first (size_of p n) 0 (omega arith)) ∙ ap (λ (l : Picks). (n, 0) ∷ l) (roots_picks p ns (λ m i. h m (in_rest n ns m i)))
 
 pub rooted_trail : (p : Plain) → IsWellFormed p → IsTrailOf p (record { steps = []; terms = []; facts = root_facts p p.roots; sizes = sizes_of p; width = length p.nodes; queue = p.roots ++ wanted p (root_picks p.roots); turns = []; whole = true })
 rooted_trail p wf =
-    let single : (n : ℕ) → IsOneOf n p.roots → size_of p n ≡ 1 = (λ n i. root_single p n wf i) in
+    let single : (n : ℕ) → Contains p.roots n → size_of p n ≡ 1 = (λ n i. root_single p n wf i) in
     record {
       whole = refl;
       follow = record { right = tt; forbidden = λ k s e. absurd (none-some s e); derived = roots_derived p [] p.roots single; levels = roots_levels p p.roots };

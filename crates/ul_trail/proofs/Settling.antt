@@ -3,7 +3,8 @@ use Rattle.std.proofs.Common.{◌≡◌, ℕ, zero, suc, ◌+◌, List, [], ◌�
 use Rattle.std.proofs.lemmas.Bool.{ne_eqb, eqb-false, cases_eq}
 use Rattle.std.proofs.lemmas.List.{append-nil}
 use Rattle.std.proofs.lemmas.Option.{none-some, same_Some, slice_get_read, slice_get_within}
-use Rattle.ul_problem.specs.Serving.{IsOneOf}
+use Rattle.std.specs.List.{Contains}
+use Rattle.ul_problem.proofs.ForCallers.{at_head, in_rest, head_or_rest, in_none}
 use Rattle.ul_problem.specs.Terms.{node_of, set_of, allows, negation}
 use Rattle.ul_problem.specs.declared.term.Term.{Term}
 use Rattle.ul_problem.specs.declared.term.Term.TheVariants.{In, NotIn}
@@ -132,29 +133,23 @@ settled_next facts terms seen checked h i = record {
 }
 
 -- rows
-pub places_has : (n j i k : ℕ) (terms : List (List Term)) (ts : List Term) → slice_get terms i ≡ Some ts → has_term n ts ≡ true → k ≡ j + i → IsOneOf k (places_from n j terms)
+pub places_has : (n j i k : ℕ) (terms : List (List Term)) (ts : List Term) → slice_get terms i ≡ Some ts → has_term n ts ≡ true → k ≡ j + i → Contains (places_from n j terms) k
 places_has n j i k [] ts e h q = absurd (none-some ts e)
 places_has n j zero k (x ∷ xs) ts e h q = here (has_term n x) (ap (has_term n) (same_Some x ts e) ∙ h)
   where
-    here : (b : Bool) → b ≡ true → IsOneOf k (cond b (j ∷ places_from n (suc j) xs) (places_from n (suc j) xs))
-    here true g = inl (omega arith)
+    here : (b : Bool) → b ≡ true → Contains (cond b (j ∷ places_from n (suc j) xs) (places_from n (suc j) xs)) k
+    here true g = at_head j (places_from n (suc j) xs) k (omega arith)
     here false g = cc
 places_has n j (suc i) k (x ∷ xs) ts e h q = past (has_term n x) (places_has n (suc j) i k xs ts e h (omega arith))
   where
-    past : (b : Bool) → IsOneOf k (places_from n (suc j) xs) → IsOneOf k (cond b (j ∷ places_from n (suc j) xs) (places_from n (suc j) xs))
-    past true g = inr g
+    past : (b : Bool) → Contains (places_from n (suc j) xs) k → Contains (cond b (j ∷ places_from n (suc j) xs) (places_from n (suc j) xs)) k
+    past true g = in_rest j (places_from n (suc j) xs) k g
     past false g = g
 
-pub places_within : (n j k : ℕ) (terms : List (List Term)) → IsOneOf k (places_from n j terms) → k < j + length terms
-places_within n j k [] h = absurd h
+pub places_within : (n j k : ℕ) (terms : List (List Term)) → Contains (places_from n j terms) k → k < j + length terms
+places_within n j k [] h = absurd (in_none k h)
 places_within n j k (x ∷ xs) h = which (has_term n x) (places_within n (suc j) k xs) h
   where
-    which : (b : Bool) → (IsOneOf k (places_from n (suc j) xs) → k < suc j + length xs) → IsOneOf k (cond b (j ∷ places_from n (suc j) xs) (places_from n (suc j) xs)) → k < j + suc (length xs)
-    which true r (inl e) = omega arith
-    which true r (inr g) = let a = r g in omega arith
+    which : (b : Bool) → (Contains (places_from n (suc j) xs) k → k < suc j + length xs) → Contains (cond b (j ∷ places_from n (suc j) xs) (places_from n (suc j) xs)) k → k < j + suc (length xs)
+    which true r i = elim (head_or_rest j (places_from n (suc j) xs) k i) [ inl e ↦ omega arith | inr g ↦ (let a = r g in omega arith) ]
     which false r g = let a = r g in omega arith
-
-pub one_at : {A : Type 0} (xs : List A) (i : ℕ) (x : A) → slice_get xs i ≡ Some x → IsOneOf x xs
-one_at [] i x e = absurd (none-some x e)
-one_at (y ∷ ys) zero x e = inl (same_Some y x e)
-one_at (y ∷ ys) (suc i) x e = inr (one_at ys i x e)

@@ -3,7 +3,8 @@ use Rattle.std.proofs.Common.{◌≡◌, ℕ, zero, suc, ◌+◌, ◌-◌, ◌*�
 use Rattle.std.proofs.lemmas.Bool.{cases_eq}
 use Rattle.std.proofs.lemmas.List.{append-nil}
 use Rattle.std.proofs.lemmas.Option.{same_Some, slice_get_read, slice_get-get_or, get_or_from_slice_get, slice_get_within}
-use Rattle.ul_problem.specs.Serving.{IsOneOf}
+use Rattle.std.specs.List.{Contains}
+use Rattle.ul_problem.proofs.ForCallers.{place_one, head_or_rest, in_none}
 use Rattle.ul_problem.specs.Terms.{node_of, allows, is_among, negation}
 use Rattle.ul_problem.specs.declared.term.Term.TheVariants.{In, NotIn}
 use Rattle.ul_problem.specs.declared.term.Term.{Term}
@@ -15,7 +16,7 @@ use Rattle.ul_trail.specs.Standing.{IsCalm, IsPending, IsSettled, IsForced, AreF
 use Rattle.ul_trail.specs.Watched.{IsWatched, has_term, places_on}
 use Rattle.ul_trail.specs.Findings.{IsCalmAt, HasForcedOne, IsSettlement}
 use Rattle.ul_trail.proofs.Places.{drop_get}
-use Rattle.ul_trail.proofs.Settling.{IsStill, still_push, settled_push, forced_pending, places_has, places_within, one_at, settled_next, negation_node}
+use Rattle.ul_trail.proofs.Settling.{IsStill, still_push, settled_push, forced_pending, places_has, places_within, settled_next, negation_node}
 use Rattle.ul_trail.proofs.Levels.{new_lowers}
 
 -- facts that have grown
@@ -46,9 +47,9 @@ forced_join sizes terms level a b c g h = record {
 
 -- what a walk has still to look at
 pub record IsWalking (facts : List Fact) (terms : List (List Term)) (seen checked : ℕ) (row : List ℕ) : Type 0 where
-  pub at : (k : ℕ) (ts : List Term) → k < checked → slice_get terms k ≡ Some ts → IsStill facts (suc seen) ts ⊎ IsOneOf k row
+  pub at : (k : ℕ) (ts : List Term) → k < checked → slice_get terms k ≡ Some ts → IsStill facts (suc seen) ts ⊎ Contains row k
 
-later : (facts : List Fact) (f : Fact) (terms : List (List Term)) (seen k : ℕ) (ts : List Term) → slice_get facts seen ≡ Some f → slice_get terms k ≡ Some ts → IsStill facts seen ts → IsStill facts (suc seen) ts ⊎ IsOneOf k (places_on (node_of f.term) terms)
+later : (facts : List Fact) (f : Fact) (terms : List (List Term)) (seen k : ℕ) (ts : List Term) → slice_get facts seen ≡ Some f → slice_get terms k ≡ Some ts → IsStill facts seen ts → IsStill facts (suc seen) ts ⊎ Contains (places_on (node_of f.term) terms) k
 later facts f terms seen k ts e g (inl h) = inl (inl h)
 later facts f terms seen k ts e g (inr h) = elim (cases_eq h.place seen) [
   | inl s ↦ (let same : f ≡ h.fact = same_Some f h.fact (sym e ∙ subst (λ (i : ℕ). slice_get facts i ≡ Some h.fact) s h.is) in
@@ -57,20 +58,24 @@ later facts f terms seen k ts e g (inr h) = elim (cases_eq h.place seen) [
 ]
 
 pub walking_start : (facts : List Fact) (f : Fact) (terms : List (List Term)) (seen checked : ℕ) (row : List ℕ) → slice_get facts seen ≡ Some f → row ≡ places_on (node_of f.term) terms → IsSettled facts terms seen checked → IsWalking facts terms seen checked row
-walking_start facts f terms seen checked row e r h = record { at = λ k ts c g. subst (λ (l : List ℕ). IsStill facts (suc seen) ts ⊎ IsOneOf k l) (sym r) (later facts f terms seen k ts e g (h.at k ts c g)) }
+walking_start facts f terms seen checked row e r h = record { at = λ k ts c g. subst (λ (l : List ℕ). IsStill facts (suc seen) ts ⊎ Contains l k) (sym r) (later facts f terms seen k ts e g (h.at k ts c g)) }
 
-next_calm : (facts : List Fact) (terms : List (List Term)) (seen k k' : ℕ) (row : List ℕ) (ts : List Term) → IsCalmAt terms facts k → slice_get terms k' ≡ Some ts → IsStill facts (suc seen) ts ⊎ IsOneOf k' (k ∷ row) → IsStill facts (suc seen) ts ⊎ IsOneOf k' row
+next_calm : (facts : List Fact) (terms : List (List Term)) (seen k k' : ℕ) (row : List ℕ) (ts : List Term) → IsCalmAt terms facts k → slice_get terms k' ≡ Some ts → IsStill facts (suc seen) ts ⊎ Contains (k ∷ row) k' → IsStill facts (suc seen) ts ⊎ Contains row k'
 next_calm facts terms seen k k' row ts c e (inl h) = inl h
-next_calm facts terms seen k k' row ts c e (inr (inl s)) = inl (inl (subst (IsCalm facts) (same_Some c.list ts (sym c.is ∙ subst (λ (j : ℕ). slice_get terms j ≡ Some ts) (sym s) e)) c.calm))
-next_calm facts terms seen k k' row ts c e (inr (inr h)) = inr h
+next_calm facts terms seen k k' row ts c e (inr i) = elim (head_or_rest k row k' i) [
+  | inl s ↦ inl (inl (subst (IsCalm facts) (same_Some c.list ts (sym c.is ∙ subst (λ (j : ℕ). slice_get terms j ≡ Some ts) (sym s) e)) c.calm))
+  | inr h ↦ inr h
+]
 
 next_forced : (sizes : List ℕ) (facts now : List Fact) (terms : List (List Term)) (level seen k k' : ℕ) (row : List ℕ) (ts : List Term) → HasForcedOne sizes terms level k facts now → seen < length facts → slice_get terms k' ≡ Some ts
-    → IsStill facts (suc seen) ts ⊎ IsOneOf k' (k ∷ row) → IsStill now (suc seen) ts ⊎ IsOneOf k' row
+    → IsStill facts (suc seen) ts ⊎ Contains (k ∷ row) k' → IsStill now (suc seen) ts ⊎ Contains row k'
 next_forced sizes facts now terms level seen k k' row ts c l e (inl h) = inl (subst (λ (x : List Fact). IsStill x (suc seen) ts) (sym c.is) (still_push facts c.fact (suc seen) ts (omega arith) h))
-next_forced sizes facts now terms level seen k k' row ts c l e (inr (inl s)) =
-    let same : c.forced.list ≡ ts = same_Some c.forced.list ts (sym c.forced.is ∙ subst (λ (j : ℕ). slice_get terms j ≡ Some ts) (sym (c.place ∙ s)) e) in
-    inl (inr (subst (λ (x : List Fact). IsPending x (suc seen) ts) (sym c.is) (subst (IsPending (facts ++ c.fact ∷ []) (suc seen)) same (forced_pending sizes terms level facts c.fact (suc seen) c.forced (omega arith)))))
-next_forced sizes facts now terms level seen k k' row ts c l e (inr (inr h)) = inr h
+next_forced sizes facts now terms level seen k k' row ts c l e (inr i) = elim (head_or_rest k row k' i) [
+  | inl s ↦ (
+      let same : c.forced.list ≡ ts = same_Some c.forced.list ts (sym c.forced.is ∙ subst (λ (j : ℕ). slice_get terms j ≡ Some ts) (sym (c.place ∙ s)) e) in
+      inl (inr (subst (λ (x : List Fact). IsPending x (suc seen) ts) (sym c.is) (subst (IsPending (facts ++ c.fact ∷ []) (suc seen)) same (forced_pending sizes terms level facts c.fact (suc seen) c.forced (omega arith))))))
+  | inr h ↦ inr h
+]
 
 -- what the loop of a walk keeps
 pub record Walks (sizes : List ℕ) (known before : List Term) (terms : List (List Term)) (level seen checked : ℕ) (start facts : List Fact) (row : List ℕ) (i : ℕ) : Type 0 where
@@ -88,26 +93,26 @@ walks_next sizes known before known' before' terms level seen checked start old 
   more = subst (λ (l : List Fact). seen < length l) (sym h.0) w.more;
   kept = subst (λ (l : List Fact). IsSettled l terms seen checked) (sym h.0) w.kept;
   walking = subst (λ (l : List Fact). IsWalking l terms seen checked (drop (i + 1) row)) (sym h.0)
-      (record { at = λ k' ts c g. next_calm old terms seen k k' (drop (i + 1) row) ts h.1 g (subst (λ (l : List ℕ). IsStill old (suc seen) ts ⊎ IsOneOf k' l) (drop_get row k i e) (w.walking.at k' ts c g)) });
+      (record { at = λ k' ts c g. next_calm old terms seen k k' (drop (i + 1) row) ts h.1 g (subst (λ (l : List ℕ). IsStill old (suc seen) ts ⊎ Contains l k') (drop_get row k i e) (w.walking.at k' ts c g)) });
 }
 walks_next sizes known before known' before' terms level seen checked start old now row i k w s e (inr h) = record {
   standing = s;
   grown = forced_more sizes terms level k start old now w.grown h;
   more = subst (λ (l : List Fact). seen < length l) (sym h.is) (let a = length-append old (h.fact ∷ []) in let b = w.more in omega arith);
   kept = subst (λ (l : List Fact). IsSettled l terms seen checked) (sym h.is) (settled_push old h.fact terms seen checked (let b = w.more in omega arith) w.kept);
-  walking = record { at = λ k' ts c g. next_forced sizes old now terms level seen k k' (drop (i + 1) row) ts h w.more g (subst (λ (l : List ℕ). IsStill old (suc seen) ts ⊎ IsOneOf k' l) (drop_get row k i e) (w.walking.at k' ts c g)) };
+  walking = record { at = λ k' ts c g. next_forced sizes old now terms level seen k k' (drop (i + 1) row) ts h w.more g (subst (λ (l : List ℕ). IsStill old (suc seen) ts ⊎ Contains l k') (drop_get row k i e) (w.walking.at k' ts c g)) };
 }
 
-ended : (facts : List Fact) (seen k : ℕ) (ts : List Term) → IsStill facts (suc seen) ts ⊎ IsOneOf k [] → IsStill facts (suc seen) ts
+ended : (facts : List Fact) (seen k : ℕ) (ts : List Term) → IsStill facts (suc seen) ts ⊎ Contains [] k → IsStill facts (suc seen) ts
 ended facts seen k ts (inl h) = h
-ended facts seen k ts (inr h) = absurd h
+ended facts seen k ts (inr h) = absurd (in_none k h)
 
 pub walks_end : (facts : List Fact) (terms : List (List Term)) (seen checked : ℕ) (row : List ℕ) → IsWalking facts terms seen checked row → row ≡ [] → IsSettled facts terms (suc seen) checked
-walks_end facts terms seen checked row h e = record { at = λ k ts c g. ended facts seen k ts (subst (λ (l : List ℕ). IsStill facts (suc seen) ts ⊎ IsOneOf k l) e (h.at k ts c g)) }
+walks_end facts terms seen checked row h e = record { at = λ k ts c g. ended facts seen k ts (subst (λ (l : List ℕ). IsStill facts (suc seen) ts ⊎ Contains l k) e (h.at k ts c g)) }
 
 -- a row's places
 pub row_within : (n k i : ℕ) (row : List ℕ) (terms : List (List Term)) → row ≡ places_on n terms → slice_get row i ≡ Some k → k < length terms
-row_within n k i row terms e g = let a = places_within n 0 k terms (one_at (places_on n terms) i k (subst (λ (l : List ℕ). slice_get l i ≡ Some k) e g)) in omega arith
+row_within n k i row terms e g = let a = places_within n 0 k terms (place_one (places_on n terms) i k (subst (λ (l : List ℕ). slice_get l i ≡ Some k) e g)) in omega arith
 
 pub row_is : (sizes : List ℕ) (known before : List Term) (facts : List Fact) (terms : List (List Term)) (rows : List (List ℕ)) (seen n : ℕ) (f : Fact) (x v w : List ℕ) → IsStanding sizes known before facts → IsWatched terms rows → length rows ≡ length sizes
     → seen < length facts → f ≡ get_or facts seen f → n ≡ node_of f.term → x ≡ get_or rows n x → v ≡ x → w ≡ v → w ≡ places_on n terms

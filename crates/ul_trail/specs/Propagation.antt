@@ -2,8 +2,8 @@
 use Rattle.std.specs.Prelude.{◌≡◌, ℕ, suc, ◌+◌, List, [], ◌∷◌, ◌++◌, Bool, true, false, Option, Some, None, ◌<◌, ◌≤◌, slice_get, length, take, ◌⊎◌}
 use Rattle.ul_problem.specs.Terms.{Selection, node_of, allows, holds, all_hold, negation}
 use Rattle.ul_problem.specs.Plain.{Plain, size_of}
-use Rattle.ul_problem.specs.Serving.{Serves, Forbids, IsOneOf}
-use Rattle.ul_problem.specs.Steps.{says, IsRight, AreRightAfter}
+use Rattle.ul_problem.specs.Serving.{Serves, Forbids}
+use Rattle.ul_problem.specs.Steps.{says, IsRight, AreRightAfter, said_by}
 use Rattle.ul_problem.specs.declared.term.Term.{Term}
 use Rattle.ul_problem.specs.declared.term.Term.TheVariants.{In, NotIn}
 use Rattle.ul_problem.specs.declared.step.Step.{Step}
@@ -73,11 +73,6 @@ pub record IsBegun (p : Plain) (facts : List Fact) : Type 0 where
   pub rest : List Fact
   pub is : facts ≡ root_facts p p.roots ++ rest
   pub later : AreLater rest
-
--- what each step says
-abbrev pub said_by : Plain → List Step → List (List Term)
-said_by p [] = []
-said_by p (s ∷ ss) = says p s ∷ said_by p ss
 
 -- The trail is one of the problem's: nothing was lost for want of memory, the held steps are right, and no serving selection has all
 -- terms of one; the facts begin with the roots', and each further one is a decision, one level up, or derived from its cause and the facts

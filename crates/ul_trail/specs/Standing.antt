@@ -1,7 +1,6 @@
 -- What is known of each node, and what propagation keeps of the held incompatibilities.
 use Rattle.std.specs.Prelude.{◌≡◌, ℕ, suc, ◌+◌, List, [], ◌∷◌, ◌++◌, Bool, true, false, cond, Option, Some, None, ◌<◌, ◌≤◌, ◌⊎◌, nat_eq, slice_get, get_or, length, take, drop, replicate}
 use Rattle.ul_problem.specs.Terms.{node_of, set_of, allows, negation}
-use Rattle.ul_problem.specs.Serving.{IsOneOf}
 use Rattle.ul_ranges.specs.Flags.{has, less}
 use Rattle.ul_problem.specs.declared.term.Term.{Term}
 use Rattle.ul_problem.specs.declared.term.Term.TheVariants.{In, NotIn}

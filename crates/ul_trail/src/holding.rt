@@ -2,7 +2,7 @@
 ghost use Rattle.std.specs.Prelude.{◌≡◌, ◌≤◌, ◌<◌, ◌++◌, ℕ, Some, length, slice_get, take, IfOk};
 ghost use Rattle.ul_problem.specs.Steps.{IsStepWithin};
 ghost use Rattle.ul_problem.specs.declared.step.Step.{Step};
-ghost use Rattle.ul_trail.specs.Propagation.{said_by};
+ghost use Rattle.ul_problem.specs.Steps.{said_by};
 ghost use Rattle.ul_trail.specs.Parts.{Stands, Watches};
 
 use crate::standing::Standing;

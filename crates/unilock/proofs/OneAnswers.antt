@@ -3,7 +3,7 @@ use Rattle.std.proofs.Common.{◌≡◌, ℕ, zero, suc, ◌+◌, ◌<◌, List,
 use Rattle.std.proofs.lemmas.Bool.{cases_Bool}
 use Rattle.std.proofs.lemmas.Bool.Decides.{nat_tests}
 use Rattle.ul_base.specs.Files.{FileMap}
-use Rattle.ul_lock.specs.Text.{lock_text}
+use Rattle.ul_pin_lock.specs.Text.{lock_text}
 use Rattle.unilock.specs.Refused.{Refused}
 use Rattle.unilock.specs.Words.{Asked, usage, unbuilt, lock, question}
 use Rattle.ul_pins.specs.Serving.{AreApart, IsCatalog}

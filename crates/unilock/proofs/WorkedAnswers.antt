@@ -9,9 +9,9 @@ use Rattle.std.specs.declared.cmp.Ordering.TheVariants.{Equal}
 use Rattle.ul_version.specs.Fields.{Fields, plain}
 use Rattle.ul_version.specs.Order.{version_cmp, release_cmp, padded}
 use Rattle.ul_version.specs.Texts.{version_text}
-use Rattle.ul_lock.specs.Text.{lock_text, package_lines, edge_line}
-use Rattle.ul_lock.specs.declared.parts.Lock.{Lock}
-use Rattle.ul_lock.specs.declared.parts.Locked.{Locked}
+use Rattle.ul_pin_lock.specs.Text.{lock_text, package_lines, edge_line}
+use Rattle.ul_pin_lock.specs.declared.parts.Lock.{Lock}
+use Rattle.ul_pin_lock.specs.declared.parts.Locked.{Locked}
 use Rattle.ul_pins.specs.Serving.{IsCatalog, IsOneOf}
 use Rattle.ul_pins.specs.Best.{pins_at, version_in}
 use Rattle.ul_pins.specs.Walking.{Step, decisions_of, IsForced, IsWalked, IsDue, AreMetIn, IsMetIn}

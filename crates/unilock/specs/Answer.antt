@@ -2,8 +2,8 @@
 use Rattle.std.specs.Prelude.{◌≡◌, ℕ, List, ◌++◌, codes, Option, Some, None, Result, Ok, Err, ◌⊎◌}
 use Rattle.std.specs.Fmt.{decimal}
 use Rattle.ul_base.specs.Files.{FileMap}
-use Rattle.ul_lock.specs.Text.{lock_text}
-use Rattle.ul_lock.specs.declared.parts.Lock.{Lock}
+use Rattle.ul_pin_lock.specs.Text.{lock_text}
+use Rattle.ul_pin_lock.specs.declared.parts.Lock.{Lock}
 use Rattle.unilock.specs.Refused.{Refused, not_built, malformed, limit}
 use Rattle.unilock.specs.Words.{Asked, usage, unbuilt, lock, question}
 use Rattle.ul_pins.specs.Serving.{HasNone}

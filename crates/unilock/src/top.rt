@@ -18,7 +18,7 @@ use std::alloc::{AllocError, Global};
 use std::sync::Wait;
 use std::thread::Threads;
 use ul_base::{Files, Gate, Sink, SinkRefused};
-use ul_lock::{WriteFault, write};
+use ul_pin_lock::{WriteFault, write};
 use ul_pins::catalog::Catalog;
 use ul_pins::locked::lock_of;
 use ul_pins::walk::best;

@@ -1,9 +1,21 @@
 use Rattle.std.specs.Prelude.{bit_or}
-use Rattle.ul_ranges.specs.Forms.{in_either}
+use Rattle.ul_ranges.specs.Operations.{in_either}
 use Rattle.ul_ranges.proofs.BlockLaws.{or_flagwise}
 use Rattle.ul_ranges.proofs.FormLaws.{word_joins}
-use Rattle.ul_ranges.proofs.FormMaking.{ok_then, has_blocks, zipped_of, zipped_whole, zipped_sealed, word_made}
+use Rattle.ul_ranges.proofs.FormMaking.{ok_then, has_blocks, same_count, zipped_of, zipped_whole, zipped_sealed, word_made}
 use Rattle.ul_ranges.proofs.forms.join.Goals as goal
+
+pub words_by-requires : goal.words_by-requires
+words_by-requires c =
+    same_count c.args.size c.args.mine.now c.args.theirs.now c.in-Many-Many.xs c.in-Many-Many.ys _ _
+    (has_blocks c.args.size c.args.mine.now c.in-Many-Many.xs c.in-Many-Many.is-0 c.requires.mine)
+    (has_blocks c.args.size c.args.theirs.now c.in-Many-Many.ys c.in-Many-Many.is-1 c.requires.theirs)
+    c.as_slice.ensures c.as_slice-in-Many-Many.ensures
+
+pub words_by-requires-in_default : goal.words_by-requires-in_default
+words_by-requires-in_default c =
+    same_count c.args.size c.args.mine.now c.args.theirs.now c.in_ok-xs-in_default.xs.items c.in_ok-ys-in_default.ys.items _ _
+    c.in_ok-xs-in_default.ensures c.in_ok-ys-in_default.ensures c.as_slice-in_default.ensures.value c.as_slice-in_default-2.ensures.value
 
 pub sealed-requires-clause-exact : goal.sealed-requires-clause-exact
 sealed-requires-clause-exact c =

@@ -1,12 +1,27 @@
 use Rattle.std.proofs.Common.{subst, sym}
 use Rattle.std.specs.Prelude.{bit_and}
 use Rattle.std.specs.Int.{bit_not, w64}
-use Rattle.ul_ranges.specs.Forms.{HasBlocks, in_first}
+use Rattle.ul_ranges.specs.Forms.{HasBlocks}
+use Rattle.ul_ranges.specs.Operations.{in_first}
 use Rattle.ul_ranges.specs.declared.forms.Form.{Form}
 use Rattle.ul_ranges.proofs.BlockLaws.{less_flagwise}
 use Rattle.ul_ranges.proofs.FormLaws.{word_lessens}
-use Rattle.ul_ranges.proofs.FormMaking.{ok_then, has_blocks, zipped_of, zipped_whole, zipped_sealed, word_made}
+use Rattle.ul_ranges.proofs.FormMaking.{ok_then, has_blocks, same_count, zipped_of, zipped_whole, zipped_sealed, word_made}
 use Rattle.ul_ranges.proofs.forms.less.Goals as goal
+
+pub words_by-requires : goal.words_by-requires
+words_by-requires c =
+    same_count c.args.size c.args.mine.now c.args.theirs.now c.in-Many-Many.xs c.in-Many-Many.ys _ _
+    (has_blocks c.args.size c.args.mine.now c.in-Many-Many.xs c.in-Many-Many.is-0 c.requires.mine)
+    (has_blocks c.args.size c.args.theirs.now c.in-Many-Many.ys c.in-Many-Many.is-1 c.requires.theirs)
+    c.as_slice.ensures c.as_slice-in-Many-Many.ensures
+
+pub words_by-requires-in-Many-Few : goal.words_by-requires-in-Many-Few
+words_by-requires-in-Many-Few c =
+    same_count c.args.size c.args.mine.now c.args.theirs.now c.in-Many-Few.xs c.in_ok-ys-in-Many-Few.ys.items _ _
+    (has_blocks c.args.size c.args.mine.now c.in-Many-Few.xs c.in-Many-Few.is-0 c.requires.mine)
+    (subst (λ (g : Form). HasBlocks c.args.size g c.in_ok-ys-in-Many-Few.ys.items) (sym c.in-Many-Few.is-1) c.in_ok-ys-in-Many-Few.ensures)
+    c.as_slice-in-Many-Few.ensures c.as_slice-in-Many-Few-2.ensures.value
 
 pub sealed-requires-clause-exact : goal.sealed-requires-clause-exact
 sealed-requires-clause-exact c =

@@ -1,5 +1,5 @@
+use Rattle.ul_problem.specs.Steps.{said_by}
 use Rattle.std.proofs.Common.{◌≡◌, ◌++◌, take, length}
-use Rattle.ul_trail.specs.Propagation.{said_by}
 use Rattle.ul_trail.specs.Watched.{IsWatched}
 use Rattle.ul_trail.proofs.holding.hold.Given as goal
 

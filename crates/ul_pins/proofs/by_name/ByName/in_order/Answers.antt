@@ -1,5 +1,5 @@
 use Rattle.std.proofs.Common.{◌∙◌, ap, sym, subst, map, Bor}
-use Rattle.ul_lock.specs.WellFormed.{IsIncreasing}
+use Rattle.ul_pin_lock.specs.WellFormed.{IsIncreasing}
 use Rattle.ul_pins.specs.ByNames.{Entry, name_cmp}
 use Rattle.ul_pins.specs.declared.walk.Decision.{Decision}
 use Rattle.ul_pins.proofs.Locks.{map_through}

@@ -1,10 +1,10 @@
 use Rattle.std.proofs.Common.{◌≡◌, ℕ, List, ◌++◌, ◌+◌, ◌≤◌, true, length, slice_get, Some, length-append, arith, ap, subst, sym, ◌∙◌, refl}
 use Rattle.ul_problem.specs.declared.term.Term.{Term}
 use Rattle.ul_problem.specs.declared.step.Step.{Step}
-use Rattle.ul_problem.specs.Steps.{AreRightAfter, IsStepWithin}
+use Rattle.ul_problem.specs.Steps.{AreRightAfter, IsStepWithin, said_by}
 use Rattle.ul_trail.specs.Track.{Track}
 use Rattle.ul_trail.specs.Counts.{sizes_of}
-use Rattle.ul_trail.specs.Propagation.{IsTrailOf, said_by}
+use Rattle.ul_trail.specs.Propagation.{IsTrailOf}
 use Rattle.ul_trail.specs.Standing.{AllSized, IsSettled}
 use Rattle.ul_trail.specs.Watched.{IsWatched}
 use Rattle.ul_trail.specs.Kept.{IsKept, AreMarks, turns_of}

@@ -1,0 +1,5 @@
+pub mod ForCallers
+mod LinePieces
+mod TextLines
+mod Reading
+mod Faults
