@@ -1,0 +1,48 @@
+-- What was read, before what is left to read; and parts that are refused.
+use Rattle.std.proofs.Common.{◌≡◌, ◌++◌, ◌+◌, ℕ, List, [], ◌∷◌, refl, ap, sym, ◌∙◌, append_assoc, append-nil}
+use Rattle.std.specs.Prelude.{Result, Ok, Err}
+use Rattle.ul_project.specs.Answers.{Gives}
+use Rattle.ul_project.specs.Results.{◌>>=◌, each_from}
+use Rattle.ul_project.specs.Shapes.{Fault, Reading, not_toml, requirement_fault, shape, unsupported}
+use Rattle.ul_project.specs.declared.fault.ProjectFault.{ProjectFault}
+use Rattle.ul_project.specs.declared.fault.ProjectFault.TheVariants.{NotToml, Shape, Requirement, Unsupported, EmptyRegion, NoMemory}
+
+-- what refuses a part refuses the whole
+pub Gives-err : {X Y X' Y' : Type 0} (view : X → Y) (view' : X' → Y') (fault : ProjectFault) (part : Reading Y) (whole : Reading Y')
+    → ((f : Fault) → part ≡ Err f → whole ≡ Err f) → Gives view (Err fault) part → Gives view' (Err fault) whole
+Gives-err view view' NotToml part whole f h = f not_toml h
+Gives-err view view' (Shape path) part whole f h = f (shape path) h
+Gives-err view view' (Requirement path) part whole f h = f (requirement_fault path) h
+Gives-err view view' (Unsupported path) part whole f h = f (unsupported path) h
+Gives-err view view' EmptyRegion part whole f h = absurd h
+Gives-err view view' NoMemory part whole f h = tt
+
+-- values found, and then those that are read of the rest
+abbrev pub behind : {B : Type 0} → List B → Reading (List B) → Reading (List B)
+behind found rest = rest >>= λ ys. Ok (found ++ ys)
+
+then_one : {B : Type 0} (found : List B) (y : B) (rest : Reading (List B)) → behind found (rest >>= λ ys. Ok (y ∷ ys)) ≡ behind (found ++ y ∷ []) rest
+then_one found y (Ok ys) = ap Ok (sym (append_assoc found (y ∷ []) ys))
+then_one found y (Err e) = refl
+
+-- nothing was read yet
+pub each-start : {B : Type 0} (found : List B) (rest : Reading (List B)) → found ≡ [] → rest ≡ behind found rest
+each-start found (Ok ys) e = rw e refl
+each-start found (Err f) e = refl
+
+-- one more is read
+pub each-next : {A B : Type 0} (read : ℕ → A → Reading B) (i : ℕ) (found after : List B) (x : A) (xs : List A) (y : B) → read i x ≡ Ok y → after ≡ found ++ y ∷ []
+    → behind found (each_from read i (x ∷ xs)) ≡ behind after (each_from read (i + 1) xs)
+unfolding each_from
+each-next read i found after x xs y e s = rw (e, s) (then_one found y (each_from read (i + 1) xs))
+
+-- one is refused
+pub each-fault : {A B : Type 0} (read : ℕ → A → Reading B) (i : ℕ) (found : List B) (x : A) (xs : List A) (f : Fault) → read i x ≡ Err f
+    → behind found (each_from read i (x ∷ xs)) ≡ Err f
+unfolding each_from
+each-fault read i found x xs f e = rw e refl
+
+-- nothing is left
+pub each-end : {A B : Type 0} (read : ℕ → A → Reading B) (i : ℕ) (found : List B) → behind found (each_from read i []) ≡ Ok found
+unfolding each_from
+each-end read i found = ap Ok (append-nil found)

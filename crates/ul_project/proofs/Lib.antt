@@ -1,0 +1,13 @@
+mod TomlReading
+mod Values
+mod EachRead
+mod GroupExtras
+mod ExtraMarkers
+mod GroupNames
+mod Regions
+mod ProjectRegions
+mod NoFiles
+mod NamedLists
+mod Environments
+mod ProjectExamples
+mod ProjectLaws

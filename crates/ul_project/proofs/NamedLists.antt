@@ -1,0 +1,62 @@
+-- Lists that were put in order, before those that are left to read.
+use Rattle.std.proofs.Common.{◌≡◌, ◌&&◌, ◌||◌, ◌∙◌, ℕ, List, [], ◌∷◌, map, fold, Bool, true, false, not, Option, Some, None, refl, ap, sym, is_some, cond}
+use Rattle.std.specs.Prelude.{Result, Ok, Err}
+use Rattle.std.specs.BTreeMap.{is_at}
+use Rattle.std.specs.List.{list_any}
+use Rattle.std.specs.Map.{lookup}
+use Rattle.toml.specs.Data.{Data, Members, no_members, member}
+use Rattle.ul_base.specs.Names.{name_cmp, name_of}
+use Rattle.ul_project.specs.Lists.{Named, are_new, has_name, is_new, list_at, lists_in, names_of, put_list, with_name}
+use Rattle.ul_project.specs.Results.{◌>>=◌}
+use Rattle.ul_project.specs.Shapes.{Fault, Reading}
+
+-- lists that were put in order, and those that are read of the rest, put among them
+abbrev pub put_behind : {L : Type 0} → List (Named L) → Reading (List (Named L)) → Reading (List (Named L))
+put_behind found rest = rest >>= λ lists. Ok (fold put_list found lists)
+
+put_one : {L : Type 0} (found : List (Named L)) (list : Named L) (rest : Reading (List (Named L)))
+    → put_behind found (rest >>= λ lists. Ok (list ∷ lists)) ≡ put_behind (put_list found list) rest
+put_one found list (Ok lists) = refl
+put_one found list (Err e) = refl
+
+-- one more list is read
+pub lists-next : {L : Type 0} (no_name : Fault) (read : List ℕ → Option Data → Reading L) (found after : List (Named L)) (key : List ℕ) (d : Data) (ms : Members) (list : Named L)
+    → list_at no_name read key d ≡ Ok list → after ≡ put_list found list → put_behind found (lists_in no_name read (member key d ms)) ≡ put_behind after (lists_in no_name read ms)
+unfolding lists_in
+lists-next no_name read found after key d ms list e s = rw (e, s) (put_one found list (lists_in no_name read ms))
+
+-- one list is refused
+pub lists-fault : {L : Type 0} (no_name : Fault) (read : List ℕ → Option Data → Reading L) (found : List (Named L)) (key : List ℕ) (d : Data) (ms : Members) (f : Fault)
+    → list_at no_name read key d ≡ Err f → put_behind found (lists_in no_name read (member key d ms)) ≡ Err f
+unfolding lists_in
+lists-fault no_name read found key d ms f e = rw e refl
+
+-- no list is left
+pub lists-end : {L : Type 0} (no_name : Fault) (read : List ℕ → Option Data → Reading L) (found : List (Named L)) → put_behind found (lists_in no_name read no_members) ≡ Ok found
+unfolding lists_in
+lists-end no_name read found = refl
+
+-- no list was read yet
+pub lists-start : {L : Type 0} (no_name : Fault) (read : List ℕ → Option Data → Reading L) (found : List (Named L)) (ms : Members) → found ≡ []
+    → (lists_in no_name read ms >>= λ lists. Ok (fold put_list [] lists)) ≡ put_behind found (lists_in no_name read ms)
+lists-start no_name read found ms e = ap (λ f. put_behind f (lists_in no_name read ms)) (sym e)
+
+-- ---- names
+
+found_or_not : {L : Type 0} (here : Bool) (list : L) (rest : Option L) (more : Bool) → is_some rest ≡ more → is_some (cond here (Some list) rest) ≡ (here || more)
+found_or_not true list rest more e = refl
+found_or_not false list rest more e = e
+
+-- a map has a list of a name exactly where the name is among those of its lists
+pub list_found : {L : Type 0} (name : List ℕ) (lists : List (Named L)) → is_some (lookup (is_at (name_cmp name)) lists) ≡ has_name (names_of lists) name
+list_found name [] = refl
+list_found name (list ∷ lists) = found_or_not (is_at (name_cmp name) list.0) list.1 _ _ (list_found name lists)
+
+-- a key that isn't new ends the keys
+pub key-old : (extras earlier : List (List ℕ)) (key : List ℕ) (d : Data) (ms : Members) → is_new extras earlier (name_of key) ≡ false → are_new extras earlier (member key d ms) ≡ false
+key-old extras earlier key d ms e = rw e refl
+
+-- a new key leaves it to the others
+pub key-new : (extras earlier after : List (List ℕ)) (key : List ℕ) (d : Data) (ms : Members) → is_new extras earlier (name_of key) ≡ true → after ≡ with_name earlier (name_of key)
+    → are_new extras earlier (member key d ms) ≡ are_new extras after ms
+key-new extras earlier after key d ms e s = rw (e, s) refl

@@ -1,0 +1,7 @@
+use Rattle.std.proofs.Common.{◌∙◌, ap, false}
+use Rattle.ul_tree.specs.Joining.{joint}
+use Rattle.ul_project.proofs.Regions.{any_holds}
+use Rattle.ul_project.proofs.region.some_environment.Goals as goal
+
+pub returns-clause-truth : goal.returns-clause-truth
+returns-clause-truth c w x is = c.in_ok-tree.ensures.truth w x ∙ ap (joint false) (c.in_ok-trees.ensures.truth w x is) ∙ any_holds c.args.environments.now w

@@ -1,0 +1,68 @@
+-- What the answers of the readers say.
+use Rattle.std.specs.Prelude.{◌≡◌, ℕ, List, Option, Some, None, Result, Ok, Err, String, Vec, map, option_map}
+use Rattle.std.specs.BTreeMap.{BTreeMap}
+use Rattle.std.specs.Borrow.{Bor}
+use Rattle.std.specs.declared.alloc.Global.{Global}
+use Rattle.toml.specs.Data.{Data, Members, no_members}
+use Rattle.toml.specs.View.{items_view, table_view, view}
+use Rattle.toml.specs.declared.value.Value.{Value}
+use Rattle.ul_marker.specs.Formulas.{Formula}
+use Rattle.ul_marker.specs.Views.{marker_view}
+use Rattle.ul_marker.specs.declared.marker.Marker.{Marker}
+use Rattle.ul_marker.specs.Worlds.{IsWorld, WorldFields}
+use Rattle.ul_tree.specs.Joining.{truths_of}
+use Rattle.ul_tree.specs.declared.tree.Tree.{Tree}
+use Rattle.ul_project.specs.Fields.{ProjectFields}
+use Rattle.ul_project.specs.Headline.{IsOf, IsNowhere}
+use Rattle.ul_project.specs.ProjectFile.{FileFields}
+use Rattle.ul_project.specs.Region.{holds_bare}
+use Rattle.ul_project.specs.Shapes.{Fault, Reading, not_toml, requirement_fault, shape, unsupported}
+use Rattle.ul_project.specs.Toml.{items_list}
+use Rattle.ul_project.specs.declared.fault.ProjectFault.{ProjectFault}
+use Rattle.ul_project.specs.declared.fault.ProjectFault.TheVariants.{NotToml, Shape, Requirement, Unsupported, EmptyRegion, NoMemory}
+
+-- the result is the definition's answer; want of memory says nothing of it, and no reader judges the region
+abbrev pub Gives : {X Y : Type 0} → (X → Y) → Result X ProjectFault → Reading Y → Type 0
+Gives view (Ok x) answer = answer ≡ Ok (view x)
+Gives view (Err NotToml) answer = answer ≡ Err not_toml
+Gives view (Err (Shape path)) answer = answer ≡ Err (shape path)
+Gives view (Err (Requirement path)) answer = answer ≡ Err (requirement_fault path)
+Gives view (Err (Unsupported path)) answer = answer ≡ Err (unsupported path)
+Gives view (Err EmptyRegion) answer = ⊥
+Gives view (Err NoMemory) answer = Unit {0}
+
+-- a value that may stand behind a reference
+abbrev pub value_view : Option (Bor Value) → Option Data
+value_view = option_map (λ v. view v.now)
+
+-- the values of an array, which stand behind a reference
+abbrev pub values_view : Bor (List Value) → List Data
+values_view vs = items_list (items_view vs.now)
+
+-- a table that may stand behind a reference; nothing is as the empty one
+abbrev pub members_view : Option (Bor (BTreeMap (String Global) Value)) → Members
+members_view None = no_members
+members_view (Some table) = table_view table.now
+
+-- the elements of a vector
+abbrev pub list_view : {A Z : Type 0} → Vec A Z → List A
+list_view v = v.items
+
+-- the formulas of markers in a vector
+abbrev pub formulas_view : {Z : Type 0} → Vec Marker Z → List Formula
+formulas_view v = map marker_view v.items
+
+-- trees have the truths of environments
+abbrev pub HoldAsEnvironments : List Tree → List Marker → Type 0
+HoldAsEnvironments trees environments =
+    (w : WorldFields) (x : List ℕ) → IsWorld w → truths_of trees w x ≡ map (λ m. holds_bare w (marker_view m)) environments
+
+-- what is answered of a file that was read
+abbrev pub IsAnswerOf : FileFields → Result ProjectFields ProjectFault → Type 0
+IsAnswerOf file (Ok p) = IsOf file p
+IsAnswerOf file (Err NotToml) = ⊥
+IsAnswerOf file (Err (Shape path)) = ⊥
+IsAnswerOf file (Err (Requirement path)) = ⊥
+IsAnswerOf file (Err (Unsupported path)) = ⊥
+IsAnswerOf file (Err EmptyRegion) = IsNowhere file
+IsAnswerOf file (Err NoMemory) = Unit {0}

@@ -1,0 +1,25 @@
+//! The project file: what a `pyproject.toml` says of a project, or the first of its faults.
+#![tactic(auto)]
+
+mod extras;
+mod fault;
+mod group;
+mod groups;
+mod head;
+pub mod laws;
+mod lists;
+mod path;
+mod projects;
+mod reading;
+mod region;
+mod requirements;
+mod settings;
+mod shapes;
+
+pub use extras::joined_markers;
+pub use fault::ProjectFault;
+pub use group::{Group, GroupEntry};
+pub use lists::group_extra;
+pub use path::{Place, ProjectKey, ProjectPath};
+pub use projects::Project;
+pub use reading::project;

@@ -1,0 +1,212 @@
+//! Reading project files.
+
+ghost use Rattle.std.specs.Prelude.{◌≡◌, IfOk, false};
+ghost use Rattle.toml.specs.View.{table_view};
+ghost use Rattle.ul_tree.specs.Plain.{truth};
+ghost use Rattle.ul_tree.specs.Regions.{HasTruth, IsRegionTree};
+ghost use Rattle.ul_tree.specs.Views.{tree_view};
+ghost use Rattle.ul_project.specs.Answers.{Gives, IsAnswerOf};
+ghost use Rattle.ul_project.specs.Headline.{IsAnswer, supported_by};
+ghost use Rattle.ul_project.specs.ProjectFile as ProjectFile;
+
+use crate::extras::{add_lists, extras_at, sizes};
+use crate::groups::groups_at;
+use crate::head::{Head, head_in};
+use crate::region::region;
+use crate::requirements::requirements_at;
+use crate::settings::{Settings, settings_in};
+use crate::shapes::{document, table_at, value_at};
+use crate::{Group, Place, Project, ProjectFault, ProjectKey};
+use std::alloc::{AllocError, Global};
+use std::marker::Model;
+use toml::Table;
+use ul_base::Name;
+use ul_marker::Marker;
+use ul_requirement::{Package, Release, Requirement};
+use ul_specifier::Specifiers;
+use ul_tree::Tree;
+use ul_tree::part::is_false;
+use ul_version::Version;
+
+/// What a file says.
+#[derive(Drop)]
+struct File {
+    head: Head,
+    requirements: Vec<Requirement>,
+    extras: Vec<Name>,
+    sizes: Vec<u64>,
+    groups: Vec<Group>,
+    settings: Settings,
+}
+
+impl Model for File {
+    ghost use Rattle.std.specs.Coded.{codes};
+    ghost use Rattle.std.specs.Prelude.{map};
+    ghost use Rattle.ul_marker.specs.Codes.{formula_code};
+    ghost use Rattle.ul_project.specs.ProjectFile.{FileFields, IsFile};
+
+    ghost Value = { FileFields };
+
+    ghost coded = { Prim.hlevel (codes, formula_code) };
+
+    ghost view = { λ f. record { head = f.head; requirements = f.requirements.items; extras = f.extras.items; sizes = f.sizes.items; groups = f.groups.items; settings = f.settings } };
+
+    ghost invariant = { λ f. IsFile f.extras.items (map (λ g. g.name) f.groups.items) };
+}
+
+// What a document says.
+#[tactic(auto, unfolding(crate::specs::ProjectFile::file_in))]
+fn file_in(alloc: Global, document: &Table) -> Result<File, ProjectFault>
+    ensures { Gives (λ f. f) result (ProjectFile.file_in (table_view document.now)) }
+{
+    let project = table_at(ProjectKey::Project, value_at(document, "project"))?;
+    let head = head_in(alloc, project)?;
+    let place = Place::Key(ProjectKey::Dependencies);
+    let mut requirements = requirements_at(alloc, &place, value_at(project, "dependencies"))?;
+    let lists = extras_at(alloc, value_at(project, "optional-dependencies"))?;
+    let groups = groups_at(alloc, &lists, value_at(document, "dependency-groups"))?;
+    let settings = settings_in(alloc, document)?;
+    let sizes = sizes(alloc, &lists)?;
+    let extras = add_lists(alloc, &mut requirements, lists)?;
+    Ok(File {
+        head,
+        requirements,
+        extras,
+        sizes,
+        groups,
+        settings,
+    })
+}
+
+// What the bytes say.
+#[tactic(auto, unfolding(crate::specs::ProjectFile::file_of))]
+fn file_of(alloc: Global, bytes: &[u8]) -> Result<File, ProjectFault>
+    ensures { Gives (λ f. f) result (ProjectFile.file_of bytes.now) }
+{
+    let document = document(alloc, bytes)?;
+    let file = file_in(alloc, &document)?;
+    Ok(file)
+}
+
+// The project as a package with one release.
+fn package_of(
+    alloc: Global,
+    name: Name,
+    version: Version,
+    requirements: Vec<Requirement>,
+) -> Result<Package, AllocError>
+    ensures { IfOk result (λ p. p ≡ ProjectFile.package_with name version requirements.items) }
+{
+    let release = Release {
+        version,
+        python: Specifiers {
+            clauses: Vec::new(alloc),
+        },
+        requirements,
+        yanked: false,
+        files: Vec::new(alloc),
+    };
+    let mut releases = Vec::new(alloc);
+    releases.push(release)?;
+    Ok(Package {
+        name,
+        entries: 1,
+        releases,
+    })
+}
+
+// The project that a file says, with a region.
+fn project_with(alloc: Global, region: Tree, file: File) -> Result<Project, AllocError>
+    requires region { IsRegionTree (tree_view region) }
+    requires some { tree_view region ≡ truth false → ⊥ }
+    ensures { IfOk result (λ p. p ≡ ProjectFile.project_with (tree_view region) file) }
+{
+    let File {
+        head,
+        requirements,
+        extras,
+        sizes,
+        groups,
+        settings,
+    } = file;
+    let Settings {
+        constraints,
+        overrides,
+        environments,
+        mode,
+        strategy,
+    } = settings;
+    let package = package_of(alloc, head.name, head.version, requirements)?;
+    Ok(Project {
+        package,
+        extras,
+        sizes,
+        environments,
+        region,
+        mode,
+        strategy,
+        groups,
+        constraints,
+        overrides,
+    })
+}
+
+// The worlds that the project of a file supports.
+fn region_of(alloc: Global, file: &File) -> Result<Tree, AllocError>
+    ensures { IfOk result (λ t. HasTruth (tree_view t) (supported_by file.now)) }
+{
+    let head: &Head = &file.head;
+    let settings: &Settings = &file.settings;
+    let python: &Specifiers = &head.python;
+    let environments: &Vec<Marker> = &settings.environments;
+    let tree = region(alloc, python, environments.as_slice())?;
+    Ok(tree)
+}
+
+// The project that a file says, unless it supports no world.
+fn project_of(alloc: Global, file: File) -> Result<Project, ProjectFault>
+    ensures { IsAnswerOf file result }
+{
+    let region = region_of(alloc, &file)?;
+    if is_false(&region) {
+        return Err(ProjectFault::EmptyRegion);
+    }
+    let project = project_with(alloc, region, file)?;
+    Ok(project)
+}
+
+/// The project that a project file says: a `pyproject.toml` (PEP 621, PEP 735), with keys of uv.
+///
+/// The checks are made in this order, and the first that fails answers; other keys and tables are passed over. An
+/// absent key passes unless said otherwise. Places count from 0, and extras and groups stand in paths under their
+/// normal forms.
+///
+/// 1. `NotToml` comes exactly where `toml` doesn't read the bytes.
+/// 2. `project` is a table and `project.name` a name, and both are there; `project.version` is a version, and `0`
+///    where it is absent.
+/// 3. `project.dynamic` is an array of texts; with `dependencies`, `optional-dependencies` or `requires-python` among
+///    them it is `Unsupported`.
+/// 4. `project.requires-python` is a specifier.
+/// 5. `project.dependencies` is an array. Each entry, in order, is a text, else `Shape`; not a requirement by a URL,
+///    else `Unsupported`; and a requirement (PEP 508), else `Requirement`.
+/// 6. `project.optional-dependencies` is a table. Its keys are names of which no two have one normal form; its lists
+///    follow, in byte order of the keys, each as in 5.
+/// 7. `dependency-groups` is a table. Its keys are names of which no two have one normal form, and `group-NAME` is no
+///    extra of the project; its lists follow, in byte order of the keys. Each is an array, and each entry a
+///    requirement as in 5, or a table with the one key `include-group`, whose text is a name.
+/// 8. `tool` and `tool.uv` are tables.
+/// 9. The keys of uv that aren't supported say nothing. Constraints and overrides are lists as in 5, without extras
+///    and without markers that ask for one, else `Unsupported`.
+/// 10. `tool.uv.environments` is a marker or an array of markers; the empty array asks for nothing.
+/// 11. `tool.uv.resolution`, `tool.uv.prerelease` and `tool.uv.fork-strategy` are words that are known.
+/// 12. `EmptyRegion` comes exactly where all this passes and no world is supported: none whose interpreter meets
+///     `requires-python` and in which some environment holds.
+///
+/// Where no kind is said, a failed check is `Shape`.
+pub fn project(alloc: Global, bytes: &[u8]) -> Result<Project, ProjectFault>
+    ensures { IsAnswer bytes.now result }
+{
+    let file = file_of(alloc, bytes)?;
+    let project = project_of(alloc, file)?;
+    Ok(project)
+}

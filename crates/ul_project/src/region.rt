@@ -1,0 +1,70 @@
+//! The worlds that a project supports.
+
+ghost use Rattle.std.specs.Prelude.{IfOk, All, map};
+ghost use Rattle.ul_marker.specs.Formulas.{AreFormulas, IsFormula};
+ghost use Rattle.ul_marker.specs.Views.{marker_view, markers_view};
+ghost use Rattle.ul_tree.specs.Regions.{HasTruth};
+ghost use Rattle.ul_tree.specs.TreeFacts.{HoldsAtWorlds, IsTree};
+ghost use Rattle.ul_tree.specs.Views.{tree_view};
+ghost use Rattle.ul_project.specs.Region.{holds_bare, some_holds, supported};
+ghost use Rattle.ul_project.specs.Answers.{HoldAsEnvironments};
+
+use std::alloc::{AllocError, Global};
+use ul_marker::Marker;
+use ul_specifier::Specifiers;
+use ul_tree::markers::joined;
+use ul_tree::{Tree, of_marker, of_python, plain_and, plain_at_extra};
+
+// The tree of a marker with the empty extra.
+fn environment_tree(alloc: Global, marker: &Marker) -> Result<Tree, AllocError>
+    requires { IsFormula (marker_view marker.now) }
+    ensures reduced { IfOk result IsTree }
+    ensures truth { IfOk result (λ t. HoldsAtWorlds t (λ w x. holds_bare w (marker_view marker.now))) }
+{
+    let tree = of_marker(alloc, marker)?;
+    let tree = plain_at_extra(alloc, &tree, "")?;
+    Ok(tree)
+}
+
+// The trees of environments, in order.
+fn environment_trees(alloc: Global, environments: &[Marker]) -> Result<Vec<Tree>, AllocError>
+    requires { AreFormulas (markers_view environments.now) }
+    ensures reduced { IfOk result (λ ts. All IsTree ts.items) }
+    ensures truth { IfOk result (λ ts. HoldAsEnvironments ts.items environments.now) }
+{
+    let mut trees = Vec::new(alloc);
+    for marker in environments {
+        let tree = environment_tree(alloc, marker)?;
+        trees.push(tree)?;
+    }
+    Ok(trees)
+}
+
+// The tree of the worlds in which some environment holds.
+fn some_environment(alloc: Global, environments: &[Marker]) -> Result<Tree, AllocError>
+    requires { AreFormulas (markers_view environments.now) }
+    ensures reduced { IfOk result IsTree }
+    ensures truth { IfOk result (λ t. HoldsAtWorlds t (λ w x. some_holds (map marker_view environments.now) w)) }
+{
+    let trees = environment_trees(alloc, environments)?;
+    let tree = joined(alloc, false, trees)?;
+    Ok(tree)
+}
+
+// The tree of the worlds that a project supports.
+pub(crate) fn region(
+    alloc: Global,
+    python: &Specifiers,
+    environments: &[Marker],
+) -> Result<Tree, AllocError>
+    requires { AreFormulas (markers_view environments.now) }
+    ensures { IfOk result (λ t. HasTruth (tree_view t) (supported python.now (map marker_view environments.now))) }
+{
+    let python = of_python(alloc, python)?;
+    if environments.is_empty() {
+        return Ok(python);
+    }
+    let some = some_environment(alloc, environments)?;
+    let region = plain_and(alloc, &python, &some)?;
+    Ok(region)
+}

@@ -1,0 +1,137 @@
+//! Lists of requirements.
+
+ghost use Rattle.std.specs.Prelude.{◌≡◌, option_map};
+ghost use Rattle.toml.specs.View.{items_view, view};
+ghost use Rattle.ul_marker.specs.Views.{marker_view};
+ghost use Rattle.ul_project.specs.Answers.{Gives, list_view, value_view};
+ghost use Rattle.ul_project.specs.Requirements as Requirements;
+ghost use Rattle.ul_project.specs.Results.{each_from};
+ghost use Rattle.ul_project.specs.Toml.{items_list};
+
+use crate::shapes::{entry_text, optional_items_at};
+use crate::{Place, ProjectFault, ProjectPath};
+use std::alloc::Global;
+use toml::Value;
+use ul_marker::Marker;
+use ul_requirement::{ReqFault, Requirement};
+
+// The requirement of an entry of the array at a place.
+#[tactic(auto, unfolding(crate::specs::Requirements::requirement_at))]
+pub(crate) fn requirement_at(
+    alloc: Global,
+    place: &Place,
+    entry: u64,
+    value: &Value,
+) -> Result<Requirement, ProjectFault>
+    ensures { Gives (λ q. q) result (Requirements.requirement_at place.now entry (view value.now)) }
+{
+    let text = entry_text(alloc, place, entry, value)?;
+    match Requirement::read(alloc, text) {
+        Ok(requirement) => Ok(requirement),
+        Err(ReqFault::Url) => {
+            let place = place.copy(alloc)?;
+            Err(ProjectFault::Unsupported(ProjectPath::Entry(place, entry)))
+        }
+        Err(ReqFault::NoReading) => {
+            let place = place.copy(alloc)?;
+            Err(ProjectFault::Requirement(ProjectPath::Entry(place, entry)))
+        }
+        Err(ReqFault::NoMemory) => Err(ProjectFault::NoMemory),
+    }
+}
+
+// The requirements of the values of an array at a place.
+fn requirements(
+    alloc: Global,
+    place: &Place,
+    items: &[Value],
+) -> Result<Vec<Requirement>, ProjectFault>
+    ensures { Gives list_view result (each_from (Requirements.requirement_at place.now) 0 (items_list (items_view items.now))) }
+{
+    let mut list = Vec::new(alloc);
+    let mut number: u64 = 0;
+    for item in items {
+        let requirement = requirement_at(alloc, place, number, item)?;
+        list.push(requirement)?;
+        number += 1;
+    }
+    Ok(list)
+}
+
+// The requirements of the array at a place, where there is one.
+#[tactic(auto, unfolding(crate::specs::Requirements::requirements_at))]
+pub(crate) fn requirements_at(
+    alloc: Global,
+    place: &Place,
+    value: Option<&Value>,
+) -> Result<Vec<Requirement>, ProjectFault>
+    ensures { Gives list_view result (Requirements.requirements_at place.now (value_view value.entry)) }
+{
+    let items = optional_items_at(alloc, place, value)?;
+    let list = requirements(alloc, place, items)?;
+    Ok(list)
+}
+
+// Whether a comparison with `extra` stands in a marker.
+fn may_ask_extra(marker: &Option<Marker>) -> bool
+    ensures { result ≡ Requirements.may_ask_extra (option_map marker_view marker.now) }
+{
+    match marker {
+        Some(marker) => marker.asks_extra(),
+        None => false,
+    }
+}
+
+// Whether a requirement has extras, or its marker asks for one.
+fn speaks_of_extras(requirement: &Requirement) -> bool
+    ensures { result ≡ Requirements.speaks_of_extras requirement.now }
+{
+    let marker: &Option<Marker> = &requirement.marker;
+    !requirement.extras.is_empty() || may_ask_extra(marker)
+}
+
+// The constraint, or the override, of an entry of the array at a place.
+#[tactic(auto, unfolding(crate::specs::Requirements::bound_at))]
+fn bound_at(
+    alloc: Global,
+    place: &Place,
+    entry: u64,
+    value: &Value,
+) -> Result<Requirement, ProjectFault>
+    ensures { Gives (λ q. q) result (Requirements.bound_at place.now entry (view value.now)) }
+{
+    let requirement = requirement_at(alloc, place, entry, value)?;
+    if speaks_of_extras(&requirement) {
+        let place = place.copy(alloc)?;
+        return Err(ProjectFault::Unsupported(ProjectPath::Entry(place, entry)));
+    }
+    Ok(requirement)
+}
+
+// The constraints, or the overrides, of the values of an array at a place.
+fn bounds(alloc: Global, place: &Place, items: &[Value]) -> Result<Vec<Requirement>, ProjectFault>
+    ensures { Gives list_view result (each_from (Requirements.bound_at place.now) 0 (items_list (items_view items.now))) }
+{
+    let mut list = Vec::new(alloc);
+    let mut number: u64 = 0;
+    for item in items {
+        let requirement = bound_at(alloc, place, number, item)?;
+        list.push(requirement)?;
+        number += 1;
+    }
+    Ok(list)
+}
+
+// The constraints, or the overrides, of the array at a place, where there is one.
+#[tactic(auto, unfolding(crate::specs::Requirements::bounds_at))]
+pub(crate) fn bounds_at(
+    alloc: Global,
+    place: &Place,
+    value: Option<&Value>,
+) -> Result<Vec<Requirement>, ProjectFault>
+    ensures { Gives list_view result (Requirements.bounds_at place.now (value_view value.entry)) }
+{
+    let items = optional_items_at(alloc, place, value)?;
+    let list = bounds(alloc, place, items)?;
+    Ok(list)
+}

@@ -1,0 +1,256 @@
+//! What a project file asks of a resolver under `tool.uv`.
+
+ghost use Rattle.std.specs.Prelude.{◌≡◌, ◌∷◌, [], IfErr, IfOk, map};
+ghost use Rattle.toml.specs.View.{items_view, table_view, view};
+ghost use Rattle.ul_marker.specs.Formulas.{AreFormulas, IsFormula};
+ghost use Rattle.ul_marker.specs.Views.{marker_view, markers_view};
+ghost use Rattle.ul_project.specs.Answers.{Gives, formulas_view, members_view, value_view};
+ghost use Rattle.ul_project.specs.Results.{each_from};
+ghost use Rattle.ul_project.specs.Settings as spec;
+ghost use Rattle.ul_project.specs.Shapes.{at_key};
+ghost use Rattle.ul_project.specs.Toml.{items_list};
+
+use crate::requirements::bounds_at;
+use crate::shapes::{
+    at_key, entry_text, items_at, optional_table_at, says_nothing, text_or, value_at, value_in,
+};
+use crate::{Place, ProjectFault, ProjectKey, ProjectPath};
+use std::alloc::Global;
+use std::marker::Model;
+use toml::{Table, Value};
+use ul_marker::{Marker, MarkerFault};
+use ul_requirement::{Mode, Requirement, Strategy};
+
+/// What is asked of the resolver.
+#[derive(Drop)]
+pub(crate) struct Settings {
+    pub(crate) constraints: Vec<Requirement>,
+    pub(crate) overrides: Vec<Requirement>,
+    pub(crate) environments: Vec<Marker>,
+    pub(crate) mode: Mode,
+    pub(crate) strategy: Strategy,
+}
+
+impl Model for Settings {
+    ghost use Rattle.std.specs.Coded.{codes};
+    ghost use Rattle.std.specs.Prelude.{map};
+    ghost use Rattle.ul_marker.specs.Codes.{formula_code};
+    ghost use Rattle.ul_marker.specs.Formulas.{AreFormulas};
+    ghost use Rattle.ul_marker.specs.Views.{marker_view, markers_view};
+    ghost use Rattle.ul_project.specs.Settings.{SettingsFields};
+
+    ghost Value = { SettingsFields };
+
+    ghost coded = { Prim.hlevel (codes, formula_code) };
+
+    ghost view = { λ s. record { constraints = s.constraints.items; overrides = s.overrides.items; environments = map marker_view s.environments.items; mode = s.mode; strategy = s.strategy } };
+
+    ghost invariant = { λ s. AreFormulas (markers_view s.environments.items) };
+}
+
+// The table `tool.uv` of a document, where there is one.
+#[tactic(auto, unfolding(crate::specs::Settings::uv_at))]
+fn uv_at(document: &Table) -> Result<Option<&Table>, ProjectFault>
+    ensures { Gives members_view result (spec.uv_at (table_view document.now)) }
+{
+    let tool = optional_table_at(ProjectKey::Tool, value_at(document, "tool"))?;
+    let uv = optional_table_at(ProjectKey::Uv, value_in(tool, "uv"))?;
+    Ok(uv)
+}
+
+// The key says nothing.
+fn silent_at(key: ProjectKey, value: Option<&Value>) -> Result<(), ProjectFault>
+    ensures { Gives (λ _. tt) result (spec.silent_at key (value_view value.entry)) }
+{
+    if says_nothing(value) {
+        Ok(())
+    } else {
+        Err(ProjectFault::Unsupported(at_key(key)))
+    }
+}
+
+// None of the keys that aren't supported says anything.
+#[tactic(auto, unfolding(crate::specs::Settings::all_silent))]
+fn all_silent(uv: Option<&Table>) -> Result<(), ProjectFault>
+    ensures { Gives (λ _. tt) result (spec.all_silent (members_view uv.entry)) }
+{
+    silent_at(ProjectKey::Sources, value_in(uv, "sources"))?;
+    silent_at(ProjectKey::Conflicts, value_in(uv, "conflicts"))?;
+    silent_at(ProjectKey::Index, value_in(uv, "index"))?;
+    silent_at(ProjectKey::ExtraIndexUrl, value_in(uv, "extra-index-url"))?;
+    silent_at(ProjectKey::FindLinks, value_in(uv, "find-links"))?;
+    silent_at(ProjectKey::Workspace, value_in(uv, "workspace"))?;
+    silent_at(
+        ProjectKey::DevDependencies,
+        value_in(uv, "dev-dependencies"),
+    )?;
+    Ok(())
+}
+
+// The marker that a text at a key is.
+fn environment_of(alloc: Global, text: &str) -> Result<Marker, ProjectFault>
+    ensures marker { Gives marker_view result (spec.environment_of (at_key ProjectKey.Environments) text.now) }
+    ensures valid { IfOk result (λ m. IsFormula (marker_view m)) }
+{
+    match Marker::read(alloc, text) {
+        Ok(marker) => Ok(marker),
+        Err(MarkerFault::NoReading) => Err(ProjectFault::Shape(at_key(ProjectKey::Environments))),
+        Err(MarkerFault::NoMemory) => Err(ProjectFault::NoMemory),
+    }
+}
+
+// The path of an environment.
+fn environment_path(entry: u64) -> ProjectPath
+    ensures { result ≡ spec.environment_path entry }
+{
+    ProjectPath::Entry(Place::Key(ProjectKey::Environments), entry)
+}
+
+// The marker that an entry is.
+#[tactic(auto, unfolding(crate::specs::Settings::environment_at))]
+fn environment_at(alloc: Global, entry: u64, value: &Value) -> Result<Marker, ProjectFault>
+    ensures marker { Gives marker_view result (spec.environment_at entry (view value.now)) }
+    ensures valid { IfOk result (λ m. IsFormula (marker_view m)) }
+{
+    let text = entry_text(alloc, &Place::Key(ProjectKey::Environments), entry, value)?;
+    match Marker::read(alloc, text) {
+        Ok(marker) => Ok(marker),
+        Err(MarkerFault::NoReading) => Err(ProjectFault::Shape(environment_path(entry))),
+        Err(MarkerFault::NoMemory) => Err(ProjectFault::NoMemory),
+    }
+}
+
+// The markers that the values of an array are.
+fn environments(alloc: Global, items: &[Value]) -> Result<Vec<Marker>, ProjectFault>
+    ensures markers { Gives formulas_view result (each_from spec.environment_at 0 (items_list (items_view items.now))) }
+    ensures valid { IfOk result (λ v. AreFormulas (markers_view v.items)) }
+{
+    let mut list = Vec::new(alloc);
+    let mut number: u64 = 0;
+    for item in items {
+        let marker = environment_at(alloc, number, item)?;
+        list.push(marker)?;
+        number += 1;
+    }
+    Ok(list)
+}
+
+// One marker.
+fn only(alloc: Global, marker: Marker) -> Result<Vec<Marker>, ProjectFault>
+    requires { IsFormula (marker_view marker) }
+    ensures marker { IfOk result (λ v. map marker_view v.items ≡ marker_view marker ∷ []) }
+    ensures valid { IfOk result (λ v. AreFormulas (markers_view v.items)) }
+    ensures memory { IfErr result (λ e. e ≡ ProjectFault.NoMemory) }
+{
+    let mut list = Vec::new(alloc);
+    list.push(marker)?;
+    Ok(list)
+}
+
+// The environments of a project.
+#[tactic(auto, unfolding(crate::specs::Settings::environments_at))]
+fn environments_at(alloc: Global, value: Option<&Value>) -> Result<Vec<Marker>, ProjectFault>
+    ensures markers { Gives formulas_view result (spec.environments_at (value_view value.entry)) }
+    ensures valid { IfOk result (λ v. AreFormulas (markers_view v.items)) }
+{
+    match value {
+        None => Ok(Vec::new(alloc)),
+        Some(Value::String(text)) => {
+            let marker = environment_of(alloc, text.as_str())?;
+            let list = only(alloc, marker)?;
+            Ok(list)
+        }
+        Some(value) => {
+            let items = items_at(alloc, &Place::Key(ProjectKey::Environments), Some(value))?;
+            let list = environments(alloc, items)?;
+            Ok(list)
+        }
+    }
+}
+
+// The mode of a word.
+fn mode_of(word: &str) -> Option<Mode>
+    ensures { result ≡ spec.mode_of word.now }
+{
+    match word {
+        "highest" => Some(Mode::Highest),
+        "lowest" => Some(Mode::Lowest),
+        "lowest-direct" => Some(Mode::LowestDirect),
+        _ => None,
+    }
+}
+
+// Which versions are tried first.
+#[tactic(auto, unfolding(crate::specs::Settings::mode_at))]
+fn mode_at(value: Option<&Value>) -> Result<Mode, ProjectFault>
+    ensures { Gives (λ m. m) result (spec.mode_at (value_view value.entry)) }
+{
+    let word = text_or("highest", ProjectKey::Resolution, value)?;
+    match mode_of(word) {
+        Some(mode) => Ok(mode),
+        None => Err(ProjectFault::Shape(at_key(ProjectKey::Resolution))),
+    }
+}
+
+// Which pre-releases count.
+#[tactic(auto, unfolding(crate::specs::Settings::prerelease_at))]
+fn prerelease_at(value: Option<&Value>) -> Result<(), ProjectFault>
+    ensures { Gives (λ _. tt) result (spec.prerelease_at (value_view value.entry)) }
+{
+    match value {
+        None => Ok(()),
+        Some(Value::String(word)) if word.as_str() == "if-necessary-or-explicit" => Ok(()),
+        Some(_) => Err(ProjectFault::Unsupported(at_key(ProjectKey::Prerelease))),
+    }
+}
+
+// The strategy of a word.
+fn strategy_of(word: &str) -> Option<Strategy>
+    ensures { result ≡ spec.strategy_of word.now }
+{
+    match word {
+        "fewest" => Some(Strategy::Fewest),
+        "requires-python" => Some(Strategy::RequiresPython),
+        "deep" => Some(Strategy::Deep),
+        _ => None,
+    }
+}
+
+// When a region is split.
+#[tactic(auto, unfolding(crate::specs::Settings::strategy_at))]
+fn strategy_at(value: Option<&Value>) -> Result<Strategy, ProjectFault>
+    ensures { Gives (λ s. s) result (spec.strategy_at (value_view value.entry)) }
+{
+    match value {
+        None => Ok(Strategy::Fewest),
+        Some(Value::String(word)) => match strategy_of(word.as_str()) {
+            Some(strategy) => Ok(strategy),
+            None => Err(ProjectFault::Unsupported(at_key(ProjectKey::ForkStrategy))),
+        },
+        Some(_) => Err(ProjectFault::Unsupported(at_key(ProjectKey::ForkStrategy))),
+    }
+}
+
+// What a file asks of the resolver, in the order of the checks.
+#[tactic(auto, unfolding(crate::specs::Settings::settings_in))]
+pub(crate) fn settings_in(alloc: Global, document: &Table) -> Result<Settings, ProjectFault>
+    ensures { Gives (λ s. s) result (spec.settings_in (table_view document.now)) }
+{
+    let uv = uv_at(document)?;
+    all_silent(uv)?;
+    let place = Place::Key(ProjectKey::ConstraintDependencies);
+    let constraints = bounds_at(alloc, &place, value_in(uv, "constraint-dependencies"))?;
+    let place = Place::Key(ProjectKey::OverrideDependencies);
+    let overrides = bounds_at(alloc, &place, value_in(uv, "override-dependencies"))?;
+    let environments = environments_at(alloc, value_in(uv, "environments"))?;
+    let mode = mode_at(value_in(uv, "resolution"))?;
+    prerelease_at(value_in(uv, "prerelease"))?;
+    let strategy = strategy_at(value_in(uv, "fork-strategy"))?;
+    Ok(Settings {
+        constraints,
+        overrides,
+        environments,
+        mode,
+        strategy,
+    })
+}
