@@ -1,0 +1,9 @@
+pub mod Behind
+pub mod Goods
+pub mod Placed
+pub mod StepsBack
+pub mod TreeTexts
+pub mod SaidTruths
+pub mod MarkerTrees
+pub mod PlainTexts
+pub mod ForCallers

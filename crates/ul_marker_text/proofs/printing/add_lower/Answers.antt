@@ -1,0 +1,6 @@
+use Rattle.std.proofs.Common.{string_bytes}
+use Rattle.ul_marker_text.proofs.Behind.{lower_joined}
+use Rattle.ul_marker_text.proofs.printing.add_lower.Goals as goal
+
+pub returns : goal.returns
+returns c = lower_joined (string_bytes c.args.out.now) _ c.args.start c.if-start-eq0.false c.in_ok-add_bound.ensures

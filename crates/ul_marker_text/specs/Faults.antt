@@ -1,0 +1,16 @@
+-- When there is no text of a tree.
+use Rattle.std.specs.Prelude.{◌≡◌, ◌<◌, ◌^◌, min}
+use Rattle.ul_tree.specs.Paths.{paths_of}
+use Rattle.ul_tree.specs.Plain.{Plain}
+use Rattle.ul_marker_text.specs.declared.fault.TextFault.{TextFault}
+use Rattle.ul_marker_text.specs.declared.fault.TextFault.TheVariants.{TooLong, NoMemory}
+
+-- want of memory
+abbrev pub is_no_memory : TextFault → Type 0
+is_no_memory (TooLong paths) = ⊥
+is_no_memory NoMemory = Unit {0}
+
+-- more than 4,096 paths lead to true, and how many; want of memory says nothing of the tree
+abbrev pub IsTextFault : Plain → TextFault → Type 0
+IsTextFault t (TooLong paths) = (4096 < paths_of t) × (paths ≡ min (paths_of t) (2 ^ 127))
+IsTextFault t NoMemory = Unit {0}

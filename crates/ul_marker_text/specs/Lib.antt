@@ -1,0 +1,7 @@
+pub mod Headline
+pub mod MarkerText
+pub mod MarkerOfText
+pub mod Faults
+pub mod Examples
+pub mod Printing
+pub mod Rows
