@@ -10,7 +10,7 @@ use Rattle.ul_specifier.specs.Reading.{operator, starred, unstarred, clause_afte
 use Rattle.ul_marker.specs.Comparisons.{comparison_of, contained, extra_literal, signed, versions_of, within}
 use Rattle.ul_marker.specs.Reading.{atom_at, before_close, chain_at, chain_with, each, enclosed, marker_of, part_at, pieces_from}
 use Rattle.ul_marker.specs.Words.{front_literal, front_sign, front_token, front_word, tokens_in, tokens_of, word_token}
-use Rattle.ul_requirement.specs.Grammar.{names_of, extras_in, extras_front, front_of, specifiers_in, marker_in, tail_of, reading_of}
+use Rattle.ul_requirement.specs.Reading.{names_of, extras_in, extras_front, front_of, specifiers_in, marker_in, tail_of, reading_of}
 use Rattle.ul_project.specs.Extras.{extras_at}
 use Rattle.ul_project.specs.GroupLists.{group_entries_at, group_entry_at, group_lists_at, groups_at}
 use Rattle.ul_project.specs.Head.{dynamic_at, head_in, name_at, python_at, version_at}

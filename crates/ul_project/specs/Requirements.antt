@@ -4,8 +4,8 @@ use Rattle.toml.specs.Data.{Data}
 use Rattle.ul_marker.specs.Formulas.{Formula}
 use Rattle.ul_marker.specs.Parts.{asks_extra}
 use Rattle.ul_requirement.specs.Fields.{RequirementFields}
-use Rattle.ul_requirement.specs.Grammar as grammar
-use Rattle.ul_requirement.specs.Grammar.{reading_of}
+use Rattle.ul_requirement.specs.Reading as grammar
+use Rattle.ul_requirement.specs.Reading.{reading_of}
 use Rattle.ul_project.specs.Results.{◌>>=◌, each_from}
 use Rattle.ul_project.specs.Shapes.{Reading, optional_items_at, requirement_fault, shape, text_at, unsupported}
 use Rattle.ul_project.specs.declared.path.Place.{Place}
