@@ -1,7 +1,7 @@
 -- What is known of the requirements of a release at a node in a region.
-use Rattle.std.specs.Prelude.{All, Contains, slice_get}
+use Rattle.std.specs.Prelude.{Contains, slice_get}
 use Rattle.std.specs.Borrow.{Bor}
-use Rattle.std.proofs.Common.{◌≡◌, ◌↔◌, ◌<◌, ℕ, List, map, length, get_or, Bool, true, false, not, ◌&&◌, Decides, Option, Some, None, refl, sym, ap, subst, ◌∙◌, inl, inr}
+use Rattle.std.proofs.Common.{◌≡◌, ◌<◌, ℕ, List, length, get_or, Bool, true, false, not, ◌&&◌, Decides, Option, Some, None, refl, sym, ap, subst, ◌∙◌, inl, inr}
 use Rattle.std.proofs.lemmas.List.Elements.{All-contains}
 use Rattle.std.proofs.lemmas.Option.{slice_get_within, slice_get-get_or, get_or_from_slice_get}
 use Rattle.ul_base.specs.Kept.{IsFirst}
@@ -19,13 +19,12 @@ use Rattle.ul_requirement.specs.Fields.{RequirementFields}
 use Rattle.ul_requirement.specs.Truth.{applies_at}
 use Rattle.ul_index.specs.Regions.{Region, Somewhere}
 use Rattle.ul_index.specs.Applied.{IsApplied, IsSplitGroup, IsFirm}
-use Rattle.ul_region.specs.Truths.{PassView, DiagramMark, IsTruth, IsTruthAt, AreWithin, Apart, region_at, truth_within}
-use Rattle.ul_region.specs.Rows.{IsAsked, IsRow, AreNumbered, requirement_of}
-use Rattle.ul_region.specs.Asked.{IsInRegion, IsAtNode, IsOther, asked_of, region_asked}
-use Rattle.ul_region.specs.Groups.{FailsIn, FirstOf, InSplit, IsParting, PartsBy}
+use Rattle.ul_region.specs.Truths.{PassView, DiagramMark, IsTruth, IsTruthAt, AreWithin, Apart, truth_within}
+use Rattle.ul_region.specs.Rows.{IsAsked, requirement_of}
+use Rattle.ul_region.specs.Asked.{IsAtNode, IsOther, asked_of, region_asked}
+use Rattle.ul_region.specs.Groups.{FailsIn, FirstOf, InSplit, PartsBy}
 use Rattle.ul_region.specs.declared.rows.Asked.{Asked}
 use Rattle.ul_region.specs.declared.at_node.AtNode.{AtNode}
-use Rattle.ul_region.specs.declared.in_region.InRegion.{InRegion}
 use Rattle.ul_region.proofs.Existing.{and_true, and_left, and_right, not_of_false}
 
 -- ---- truths at places

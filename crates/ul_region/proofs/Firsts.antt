@@ -1,10 +1,9 @@
 -- Loops over requirements that are asked about, in order.
-use Rattle.std.proofs.Common.{◌≡◌, ℕ, ◌+◌, ◌<◌, ◌≤◌, List, [], ◌∷◌, ◌++◌, map, take, length, get_or, Bool, true, false, Decides, refl, sym, ap, subst, ◌∙◌}
+use Rattle.std.proofs.Common.{◌≡◌, ℕ, ◌+◌, ◌<◌, ◌≤◌, List, map, take, length, get_or, Bool, false, Decides, sym, subst}
 use Rattle.std.specs.Prelude.{All, Contains}
-use Rattle.std.proofs.lemmas.List.{take_all}
-use Rattle.std.proofs.lemmas.List.Elements.{All-more, All-contains}
+use Rattle.std.proofs.lemmas.List.Elements.{All-more}
 use Rattle.ul_requirement.specs.Fields.{RequirementFields}
-use Rattle.ul_base.proofs.ForCallers.{first_next, none_at_all}
+use Rattle.ul_base.proofs.ForCallers.{none_at_all}
 use Rattle.ul_region.specs.Rows.{requirement_of}
 use Rattle.ul_region.specs.declared.rows.Asked.{Asked}
 

@@ -1,5 +1,5 @@
 -- What stands at the places of a problem.
-use Rattle.std.proofs.Common.{◌≡◌, ℕ, List, [], ◌∷◌, Option, Some, None, Contains, refl, sym, subst, inl, inr, ⊎_elim, slice_get}
+use Rattle.std.proofs.Common.{◌≡◌, ℕ, List, [], ◌∷◌, Option, Some, None, Contains, refl, sym, subst, ⊎_elim, slice_get}
 use Rattle.std.proofs.lemmas.Option.{none-some, same_Some, slice_get_within, get_or_from_slice_get}
 use Rattle.ul_base.specs.declared.node.Node.{Node}
 use Rattle.ul_problem.specs.Plain.{Plain, node_at}

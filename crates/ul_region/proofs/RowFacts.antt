@@ -1,6 +1,6 @@
 -- Rows, as more is known and more truths are put.
 use Rattle.std.specs.Prelude.{All, Contains, slice_get, if◌then◌else◌}
-use Rattle.std.proofs.Common.{◌≡◌, ◌↔◌, ◌⊎◌, ◌<◌, ◌≤◌, ◌+◌, ℕ, zero, suc, List, [], ◌∷◌, ◌++◌, length, get_or, map, take, Bool, true, false, Option, Some, None, refl, sym, ap, subst, ◌∙◌, inl, inr, ⊎_elim, bytes_eq, arith}
+use Rattle.std.proofs.Common.{◌≡◌, ◌<◌, ◌≤◌, ◌+◌, ℕ, zero, suc, List, [], ◌∷◌, ◌++◌, length, get_or, map, take, Bool, true, false, Some, refl, sym, ap, subst, ◌∙◌, ⊎_elim, bytes_eq, arith}
 use Rattle.std.proofs.lemmas.Option.{none-some, same_Some, slice_get_within, slice_get-get_or, get_or_from_slice_get}
 use Rattle.std.proofs.lemmas.Slice.Eq.{bytes_eq-Decides}
 use Rattle.std.proofs.lemmas.List.Elements.{All-head, All-tail, All-push, All-weaker, All-contains, All-more}
@@ -16,7 +16,7 @@ use Rattle.ul_algebra.specs.Answers.{IsDiagram}
 use Rattle.ul_algebra.specs.Spelled.{tree_of}
 use Rattle.ul_requirement.specs.Fields.{RequirementFields}
 use Rattle.ul_requirement.specs.Truth.{applies_at}
-use Rattle.ul_region.specs.Truths.{PassView, DiagramMark, IsTruth, IsTruthAt, HasTree, Grows, IsGrown}
+use Rattle.ul_region.specs.Truths.{PassView, DiagramMark, IsTruthAt, HasTree, Grows, IsGrown}
 use Rattle.ul_index.specs.Catalogs.{is_release_fit}
 use Rattle.ul_region.specs.Rows.{IsAsked, IsRow, AreNumbered, requirement_of}
 use Rattle.ul_region.specs.Numbers.{first_on, AreNumbersIn}

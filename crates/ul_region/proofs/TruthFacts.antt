@@ -1,6 +1,6 @@
 -- Truths of requirements as diagrams.
 use Rattle.std.specs.Prelude.{All, slice_get}
-use Rattle.std.proofs.Common.{◌≡◌, ◌⊎◌, ◌<◌, ℕ, zero, suc, List, [], ◌∷◌, ◌++◌, length, get_or, Bool, true, not, ◌&&◌, Option, Some, None, refl, sym, ap, subst, ◌∙◌, inl, inr, ⊎_elim}
+use Rattle.std.proofs.Common.{◌≡◌, ◌⊎◌, ℕ, zero, suc, List, [], ◌∷◌, ◌++◌, length, Bool, true, not, ◌&&◌, Option, Some, None, refl, sym, ap, subst, ◌∙◌, inl, inr, ⊎_elim}
 use Rattle.std.proofs.lemmas.Option.{none-some, same_Some}
 use Rattle.std.proofs.lemmas.List.Elements.{All-push, All-weaker}
 use Rattle.ul_base.specs.declared.node.Node.{Node}
@@ -15,7 +15,7 @@ use Rattle.ul_tree.specs.Laws.{and_of, not_of, at_extra_of}
 use Rattle.ul_tree.specs.Plain.{Plain}
 use Rattle.ul_tree.specs.Reduced.{IsReduced}
 use Rattle.ul_tree.specs.Regions.{HasTruth}
-use Rattle.ul_tree.specs.TreeFacts.{HoldsAtWorlds, HoldsByPython}
+use Rattle.ul_tree.specs.TreeFacts.{HoldsAtWorlds}
 use Rattle.ul_tree.specs.Values.{tree_holds}
 use Rattle.ul_tree.specs.Views.{tree_view}
 use Rattle.ul_tree.specs.declared.tree.Tree.{Tree}

@@ -1,5 +1,5 @@
 -- What a region asks of the requirements of a release at a node.
-use Rattle.std.specs.Prelude.{◌≡◌, ℕ, List, map, Contains, not}
+use Rattle.std.specs.Prelude.{◌≡◌, List, map, Contains, not}
 use Rattle.ul_base.specs.declared.node.Node.{Node}
 use Rattle.ul_requirement.specs.Fields.{RequirementFields}
 use Rattle.ul_requirement.specs.Truth.{applies_at}
@@ -42,13 +42,15 @@ pub record IsOther (R : Region) (n : Node) (one other : RequirementFields) : Typ
 abbrev pub HasAsked : AtNode → Asked → Type 0
 HasAsked s a = Contains s.row.now.asked.items a
 
--- the release is fit at some world of the region, at every one, and not at some one
+-- the release is fit at some world of the region
 abbrev pub IsFitSomewhere : AtNode → Type 0
 IsFitSomewhere s = Somewhere (region_asked s) (is_release_fit s.row.now.release.now)
 
+-- it is fit at every world of the region
 abbrev pub IsFitThroughout : AtNode → Type 0
 IsFitThroughout s = Throughout (region_asked s) (is_release_fit s.row.now.release.now)
 
+-- it isn't fit at some world of the region
 abbrev pub IsUnfitSomewhere : AtNode → Type 0
 IsUnfitSomewhere s = Somewhere (region_asked s) (λ w. not (is_release_fit s.row.now.release.now w))
 

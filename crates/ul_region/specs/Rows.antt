@@ -1,5 +1,5 @@
 -- What is known in every region of the requirements of a release at a node.
-use Rattle.std.specs.Prelude.{◌≡◌, ◌↔◌, ℕ, List, map, All, Contains}
+use Rattle.std.specs.Prelude.{◌≡◌, ◌↔◌, List, map, All, Contains}
 use Rattle.ul_base.specs.declared.node.Node.{Node}
 use Rattle.ul_requirement.specs.Fields.{RequirementFields}
 use Rattle.ul_requirement.specs.Truth.{applies_at}

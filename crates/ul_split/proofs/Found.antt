@@ -1,12 +1,12 @@
 -- What the code finds of a split.
-use Rattle.std.proofs.Common.{◌≡◌, ◌<◌, ◌≤◌, ◌+◌, ℕ, List, map, take, length, get_or, Bool, true, false, not, Decides, Option, Some, None, inl, inr, refl, sym, ap, subst, ◌∙◌}
+use Rattle.std.proofs.Common.{◌≡◌, ◌<◌, ℕ, List, length, get_or, Bool, false, Decides, Option, Some, None, inl, inr, refl, sym, subst}
 use Rattle.std.specs.Prelude.{All, Contains}
 use Rattle.std.specs.Borrow.{Bor}
 use Rattle.std.proofs.lemmas.List.Elements.{All-contains}
 use Rattle.std.proofs.lemmas.Option.{slice_get_within}
 use Rattle.ul_base.specs.declared.node.Node.{Node}
 use Rattle.ul_base.specs.Kept.{IsFirst}
-use Rattle.ul_base.proofs.ForCallers.{first_next, none_next, none_at_all, first_holds}
+use Rattle.ul_base.proofs.ForCallers.{first_holds}
 use Rattle.ul_requirement.specs.Fields.{RequirementFields}
 use Rattle.ul_requirement.specs.Truth.{applies_at}
 use Rattle.ul_index.specs.Regions.{Region}
@@ -14,12 +14,7 @@ use Rattle.ul_index.specs.Applied.{IsSplitGroup}
 use Rattle.ul_index.specs.Catalogs.{is_release_fit}
 use Rattle.ul_region.specs.Truths.{PassView, DiagramMark, IsTruth}
 use Rattle.ul_region.specs.Groups.{IsParting, InSplit, PartsBy}
-use Rattle.ul_region.specs.Rows.{IsRow}
-use Rattle.ul_region.specs.declared.at_node.AtNode.{AtNode}
-use Rattle.ul_region.specs.declared.in_region.InRegion.{InRegion}
-use Rattle.ul_region.specs.Asked.{IsInRegion, IsAtNode}
-use Rattle.ul_region.proofs.ForCallers.{read_at}
-use Rattle.ul_split.specs.Split.{Decided, IsUnfit, AllFit, HasSplit, SplitsBy}
+use Rattle.ul_split.specs.Split.{Decided, IsUnfit, HasSplit}
 use Rattle.ul_split.specs.Answers.{FitsBy, GroupsBy, IsChosen, PartsAt, SplitGives, decided_of}
 use Rattle.ul_split.specs.declared.split.Chosen.{Chosen}
 

@@ -1,5 +1,5 @@
 -- At most one truth splits a region.
-use Rattle.std.proofs.Common.{◌≡◌, ℕ, List, Bool, inl, inr, sym, ap, subst, ◌∙◌}
+use Rattle.std.proofs.Common.{◌≡◌, List, Bool, inl, inr, sym, ap, subst, ◌∙◌}
 use Rattle.ul_base.specs.declared.node.Node.{Node}
 use Rattle.ul_base.specs.Kept.{IsFirst}
 use Rattle.ul_base.proofs.ForCallers.{first_once, first_holds, first_in}

@@ -1,12 +1,11 @@
 -- What the code answers of a split, as diagrams.
-use Rattle.std.specs.Prelude.{List, Bool, All, Contains, Option, Some, None}
+use Rattle.std.specs.Prelude.{List, Bool, Contains, Option, Some, None}
 use Rattle.std.specs.Borrow.{Bor}
 use Rattle.ul_base.specs.Kept.{IsFirst}
 use Rattle.ul_marker.specs.Worlds.{WorldFields}
 use Rattle.ul_requirement.specs.Fields.{RequirementFields}
 use Rattle.ul_requirement.specs.Truth.{applies_at}
 use Rattle.ul_index.specs.Regions.{Region}
-use Rattle.ul_index.specs.Catalogs.{is_release_fit}
 use Rattle.ul_region.specs.Truths.{PassView, DiagramMark, IsTruth}
 use Rattle.ul_region.specs.Rows.{IsRow}
 use Rattle.ul_region.specs.Groups.{IsParting}
@@ -17,6 +16,7 @@ use Rattle.ul_split.specs.declared.split.Chosen.{Chosen}
 abbrev pub IsChosen : PassView → List DiagramMark → Chosen → Type 0
 IsChosen h truths d = IsRow h d.node.now truths d.row.now
 
+-- the decided node and its release
 abbrev pub decided_of : Chosen → Decided
 decided_of d = record { node = d.node.now; release = d.row.now.release.now }
 

@@ -1,7 +1,6 @@
-use Rattle.std.proofs.Common.{◌≡◌, ap, ◌∙◌, map, List}
-use Rattle.ul_requirement.specs.Fields.{ReleaseFields, RequirementFields}
+use Rattle.std.proofs.Common.{ap, ◌∙◌}
+use Rattle.ul_requirement.specs.Fields.{ReleaseFields}
 use Rattle.ul_index.specs.Catalogs.{is_release_fit}
-use Rattle.ul_region.specs.Rows.{requirement_of}
 use Rattle.ul_region.proofs.TruthFacts.{all_still}
 use Rattle.ul_region.proofs.RowFacts.{grown_knows, grown_then, put_grown, truth_grown, truth_there, numbered}
 use Rattle.ul_region.proofs.asking.row_of.Goals as goal

@@ -1,8 +1,8 @@
-use Rattle.std.proofs.Common.{refl, subst, Option}
+use Rattle.std.proofs.Common.{refl}
 use Rattle.ul_base.proofs.ForCallers.{first_next, none_next, none_at_all}
-use Rattle.ul_region.specs.Truths.{DiagramMark, region_at}
+use Rattle.ul_region.specs.Truths.{region_at}
 use Rattle.ul_split.specs.Split.{HasSplit}
-use Rattle.ul_split.specs.Answers.{PartsAt, decided_of}
+use Rattle.ul_split.specs.Answers.{decided_of}
 use Rattle.ul_split.proofs.Found.{listed, group_here, parts_moved}
 use Rattle.ul_split.proofs.split.first_parting.Goals as goal
 

@@ -1,6 +1,4 @@
-use Rattle.std.proofs.Common.{Decides, not}
 use Rattle.ul_index.specs.Catalogs.{is_release_fit}
-use Rattle.ul_index.specs.Regions.{Somewhere}
 use Rattle.ul_region.specs.Asked.{region_asked}
 use Rattle.ul_region.proofs.Existing.{throughout_decided, everywhere_decided}
 use Rattle.ul_region.proofs.AskedFacts.{fit_place}

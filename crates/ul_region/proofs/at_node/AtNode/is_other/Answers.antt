@@ -1,4 +1,3 @@
-use Rattle.std.proofs.Common.{sym}
 use Rattle.ul_requirement.specs.Truth.{applies_at}
 use Rattle.ul_region.specs.Asked.{region_asked}
 use Rattle.ul_region.proofs.Existing.{apart_decided}

@@ -1,5 +1,5 @@
 use Rattle.ul_region.specs.Truths.{region_at}
-use Rattle.std.proofs.Common.{◌≡◌, sym, subst, List, get_or, ap, ◌∙◌}
+use Rattle.std.proofs.Common.{◌≡◌, subst, List, get_or}
 use Rattle.ul_region.specs.Truths.{DiagramMark}
 use Rattle.ul_region.proofs.AskedFacts.{within_at}
 use Rattle.ul_region.proofs.in_region.InRegion.holds_at.Goals as goal
