@@ -5,3 +5,8 @@ pub mod Faults
 pub mod Examples
 pub mod Printing
 pub mod Rows
+pub mod StepViews
+pub mod Nodes
+pub mod NodeViews
+pub mod RowViews
+pub mod TextFacts

@@ -1,18 +1,29 @@
-//! The text of a tree.
-ghost use Rattle.std.specs.Prelude.{◌≡◌, ◌≢◌, ◌≤◌, IfOk, IfErr, false, string_bytes};
+//! The text of a tree, both ways.
+ghost use Rattle.std.specs.Prelude.{◌≡◌, ◌≢◌, ◌≤◌, [], IfOk, IfErr, Err, false, string_bytes, option_map};
+ghost use Rattle.ul_marker.specs.declared.fault.MarkerFault.TheVariants.{NoReading};
 ghost use Rattle.ul_tree.specs.Paths.{paths_of};
-ghost use Rattle.ul_tree.specs.Plain.{truth};
+ghost use Rattle.ul_tree.specs.Plain.{Plain, truth};
 ghost use Rattle.ul_tree.specs.Reduced.{IsReduced};
 ghost use Rattle.ul_tree.specs.TreeFacts.{IsTree};
 ghost use Rattle.ul_tree.specs.Views.{tree_view};
 ghost use Rattle.ul_marker_text.specs.Faults.{IsTextFault};
+ghost use Rattle.ul_marker_text.specs.MarkerOfText as spec;
+ghost use Rattle.ul_marker_text.specs.MarkerOfText.{marker_of_text};
 ghost use Rattle.ul_marker_text.specs.MarkerText.{marker_text};
+ghost use Rattle.ul_marker_text.specs.Nodes.{Keeps};
+ghost use Rattle.ul_marker_text.specs.StepViews.{paths_view, rows_tree, rows_steps};
+ghost use Rattle.ul_marker_text.specs.TextFacts.{IsNodeText};
 
 use crate::TextFault;
+use crate::building::build;
 use crate::printing::print;
+use crate::rows::rows;
+use crate::steps::{Step, steps};
 use std::alloc::{AllocError, Global};
-use ul_tree::part::known;
-use ul_tree::{Tree, paths};
+use ul_marker::printed::Comparison;
+use ul_marker::{Marker, MarkerFault};
+use ul_tree::part::{asks_extra, is_false, known, truth_value};
+use ul_tree::{DEEPEST, Tree, paths};
 
 // How many paths a text may have.
 const MOST_PATHS: u128 = 4096;
@@ -50,4 +61,108 @@ pub fn text(alloc: Global, tree: &Tree) -> Result<String, TextFault>
     }
     let text = whole_text(alloc, tree)?;
     Ok(text)
+}
+
+// The steps of paths.
+fn paths_of_rows<'r, 'm>(
+    alloc: Global,
+    rows: &'r [Vec<Comparison<'m>>],
+) -> Result<Vec<Vec<Step<'r, 'm>>>, AllocError>
+    ensures { IfOk result (λ v. paths_view v.items ≡ rows_steps rows.now) }
+{
+    let mut found = Vec::new(alloc);
+    for row in rows {
+        let path = steps(alloc, row)?;
+        found.push(path)?;
+    }
+    Ok(found)
+}
+
+// The tree of rows of comparisons, if it is reduced; else some reduced tree.
+fn tree_of_rows(alloc: Global, rows: &[Vec<Comparison<'_>>]) -> Result<Tree, AllocError>
+    ensures { IfOk result (λ t. Keeps [] (rows_tree rows.now) (tree_view t)) }
+{
+    let paths = paths_of_rows(alloc, rows)?;
+    let tree = build(alloc, &paths, 0, None, DEEPEST)?;
+    Ok(tree)
+}
+
+// A tree that has this text, if it is one of a tree.
+fn regrouped(alloc: Global, text: &str) -> Result<Tree, MarkerFault>
+    ensures reduced { IfOk result IsTree }
+    ensures tree { IfOk result (λ r. (t : Plain) → IsNodeText text.now t → tree_view r ≡ t) }
+    ensures refused { result ≡ Err NoReading → (t : Plain) → IsNodeText text.now t → ⊥ }
+{
+    let marker = match Marker::read(alloc, text) {
+        Ok(marker) => marker,
+        Err(fault) => return Err(fault),
+    };
+    let rows = match rows(alloc, &marker) {
+        Ok(rows) => rows,
+        Err(fault) => return Err(fault),
+    };
+    let tree = tree_of_rows(alloc, &rows)?;
+    Ok(tree)
+}
+
+/// The tree whose text this is.
+///
+/// # Errors
+///
+/// `NoReading` exactly where it is the text of no tree. There is no limit of paths. A tree with more levels on a
+/// path than trees have here is answered by want of memory.
+pub fn read(alloc: Global, text: &str) -> Result<Tree, MarkerFault>
+    ensures reduced { IfOk result (λ t. IsReduced (tree_view t)) }
+    ensures not_false { IfOk result (λ t. tree_view t ≢ truth false) }
+    ensures text { IfOk result (λ t. marker_text (tree_view t) ≡ text.now) }
+    ensures refused { result ≡ Err NoReading → (t : Plain) → IsReduced t → t ≢ truth false → marker_text t ≡ text.now → ⊥ }
+{
+    if text == "*" {
+        return Ok(Tree::Truth(true));
+    }
+    let tree = match regrouped(alloc, text) {
+        Ok(tree) => tree,
+        Err(fault) => return Err(fault),
+    };
+    if is_false(&tree) {
+        return Err(MarkerFault::NoReading);
+    }
+    let again = whole_text(alloc, &tree)?;
+    if again.as_str() == text {
+        return Ok(tree);
+    }
+    Err(MarkerFault::NoReading)
+}
+
+// Whether a tree is neither true nor false everywhere, and asks for no extra.
+fn is_region(tree: &Tree) -> bool
+    ensures { result ≡ spec.is_region (tree_view tree.now) }
+{
+    truth_value(tree).is_none() && !asks_extra(tree)
+}
+
+/// The tree whose text this is, where it is neither true nor false everywhere, and asks for no extra: that of a
+/// marker or of a fork in a lock. The text may be any bytes.
+///
+/// # Errors
+///
+/// Only for want of memory.
+pub fn read_marker(alloc: Global, bytes: &[u8]) -> Result<Option<Tree>, AllocError>
+    ensures { IfOk result (λ t. option_map tree_view t ≡ marker_of_text bytes.now) }
+{
+    let Ok(text) = str::from_utf8(bytes) else {
+        return Ok(None);
+    };
+    match read(alloc, text) {
+        Ok(tree) => {
+            if is_region(&tree) {
+                return Ok(Some(tree));
+            }
+            Ok(None)
+        }
+        Err(fault) => match fault {
+            MarkerFault::NoReading => Ok(None),
+            MarkerFault::NoMemory => Err(AllocError),
+        },
+    }
 }

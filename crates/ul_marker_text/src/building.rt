@@ -1,0 +1,102 @@
+//! The tree of paths, level by level: paths with one step lead to one part.
+ghost use Rattle.std.specs.Prelude.{◌≡◌, ◌≤◌, suc, IfOk, length};
+ghost use Rattle.ul_tree.specs.Fans.{parts_of, tree_of};
+ghost use Rattle.ul_tree.specs.Keys.{level_view};
+ghost use Rattle.ul_tree.specs.Views.{tree_view};
+ghost use Rattle.ul_marker_text.specs.Nodes.{front_count, parts_view, starts, KeepFirst, KeepParts, Keeps};
+ghost use Rattle.ul_marker_text.specs.StepViews.{above_view, fan_from, path_from, paths_from, step_view};
+
+use crate::nodes::node_of;
+use crate::steps::{Step, same_step, step_level};
+use std::alloc::{AllocError, Global};
+use std::collections::VecDeque;
+use ul_tree::Tree;
+use ul_tree::level::Level;
+
+// The room that is left a level further down; want of memory where there is none.
+fn deeper(room: usize) -> Result<usize, AllocError>
+    ensures { IfOk result (λ rest. suc rest ≡ room) }
+{
+    match room.checked_sub(1) {
+        Some(rest) => Ok(rest),
+        None => Err(AllocError),
+    }
+}
+
+// Whether a path has a step at a place.
+fn starts_with(path: &Vec<Step<'_, '_>>, at: usize, step: &Step<'_, '_>) -> bool
+    ensures { result ≡ starts (step_view step.now) (path_from at path.now) }
+{
+    if path.len() <= at {
+        return false;
+    }
+    same_step(step, &path[at])
+}
+
+// How many paths in front have a step at a place.
+fn group_len(paths: &[Vec<Step<'_, '_>>], at: usize, step: &Step<'_, '_>) -> usize
+    ensures count { result ≡ front_count (step_view step.now) (paths_from at paths.now) }
+    ensures within { result ≤ length paths.now }
+{
+    for index in 0..paths.len() {
+        if !starts_with(&paths[index], at, step) {
+            return index;
+        }
+    }
+    paths.len()
+}
+
+// The parts of a node, by the steps of its paths at a place.
+#[cycle(build)]
+fn parts<'r, 'm>(
+    alloc: Global,
+    paths: &[Vec<Step<'r, 'm>>],
+    at: usize,
+    level: Level<'m>,
+    room: usize,
+) -> Result<VecDeque<(Step<'r, 'm>, Tree)>, AllocError>
+    ensures { IfOk result (λ q. KeepParts (level_view level.entry) (parts_of (fan_from at paths.now)) (parts_view q.items)) }
+{
+    let mut made = VecDeque::new(alloc);
+    let mut from = 0;
+    while from < paths.len() {
+        let path = &paths[from];
+        if path.len() <= at {
+            return Ok(made);
+        }
+        let step = path[at];
+        let count = group_len(&paths[from..], at, &step);
+        let end = from + count;
+        let tree = build(alloc, &paths[from..end], at + 1, Some(level), room)?;
+        made.push_back((step, tree))?;
+        from = end;
+    }
+    Ok(made)
+}
+
+/// The tree of paths from one of their steps on, if it is reduced below a level; else some reduced tree.
+///
+/// Want of memory where a path has more steps than `room`.
+#[cycle(build)]
+pub fn build<'m>(
+    alloc: Global,
+    paths: &[Vec<Step<'_, 'm>>],
+    at: usize,
+    above: Option<Level<'m>>,
+    room: usize,
+) -> Result<Tree, AllocError>
+    ensures { IfOk result (λ t. Keeps (above_view above.entry) (tree_of (fan_from at paths.now)) (tree_view t)) }
+{
+    let [first, ..] = paths else {
+        return Ok(Tree::Truth(false));
+    };
+    if first.len() <= at {
+        return Ok(Tree::Truth(true));
+    }
+    let room = deeper(room)?;
+    let step = first[at];
+    let level = step_level(&step);
+    let parts = parts(alloc, paths, at, level, room)?;
+    let tree = node_of(alloc, above, level, parts)?;
+    Ok(tree)
+}
