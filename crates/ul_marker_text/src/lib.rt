@@ -2,6 +2,7 @@
 #![tactic(auto)]
 
 mod building;
+mod depth;
 mod fault;
 pub mod laws;
 mod nodes;
@@ -10,5 +11,6 @@ mod rows;
 mod steps;
 mod texts;
 
+pub use depth::DEEPEST_TEXT;
 pub use fault::TextFault;
 pub use texts::{read, read_marker, text};

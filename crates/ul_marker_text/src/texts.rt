@@ -16,6 +16,7 @@ ghost use Rattle.ul_marker_text.specs.TextFacts.{IsNodeText};
 
 use crate::TextFault;
 use crate::building::build;
+use crate::depth::{DEEPEST_TEXT, is_within};
 use crate::printing::print;
 use crate::rows::rows;
 use crate::steps::{Step, steps};
@@ -23,7 +24,7 @@ use std::alloc::{AllocError, Global};
 use ul_marker::printed::Comparison;
 use ul_marker::{Marker, MarkerFault};
 use ul_tree::part::{asks_extra, is_false, known, truth_value};
-use ul_tree::{DEEPEST, Tree, paths};
+use ul_tree::{Tree, paths};
 
 // How many paths a text may have.
 const MOST_PATHS: u128 = 4096;
@@ -47,7 +48,8 @@ fn whole_text(alloc: Global, tree: &Tree) -> Result<String, AllocError>
 ///
 /// # Errors
 ///
-/// `TooLong` exactly where more than 4,096 paths lead to true; they are counted first.
+/// `TooLong` exactly where more than 4,096 paths lead to true; they are counted first. A tree with more than 512
+/// levels on a path is answered by want of memory.
 pub fn text(alloc: Global, tree: &Tree) -> Result<String, TextFault>
     requires reduced { IsReduced (tree_view tree.now) }
     requires not_false { tree_view tree.now ≢ truth false }
@@ -55,6 +57,9 @@ pub fn text(alloc: Global, tree: &Tree) -> Result<String, TextFault>
     ensures fits { IfOk result (λ s. paths_of (tree_view tree.now) ≤ 4096) }
     ensures refused { IfErr result (λ e. IsTextFault (tree_view tree.now) e) }
 {
+    if !is_within(tree, DEEPEST_TEXT) {
+        return Err(TextFault::NoMemory);
+    }
     let paths = paths(tree);
     if paths > MOST_PATHS {
         return Err(TextFault::TooLong { paths });
@@ -63,7 +68,7 @@ pub fn text(alloc: Global, tree: &Tree) -> Result<String, TextFault>
     Ok(text)
 }
 
-// The steps of paths.
+// The steps of paths; want of memory where one has too many.
 fn paths_of_rows<'r, 'm>(
     alloc: Global,
     rows: &'r [Vec<Comparison<'m>>],
@@ -73,6 +78,9 @@ fn paths_of_rows<'r, 'm>(
     let mut found = Vec::new(alloc);
     for row in rows {
         let path = steps(alloc, row)?;
+        if path.len() > DEEPEST_TEXT {
+            return Err(AllocError);
+        }
         found.push(path)?;
     }
     Ok(found)
@@ -83,7 +91,7 @@ fn tree_of_rows(alloc: Global, rows: &[Vec<Comparison<'_>>]) -> Result<Tree, All
     ensures { IfOk result (λ t. Keeps [] (rows_tree rows.now) (tree_view t)) }
 {
     let paths = paths_of_rows(alloc, rows)?;
-    let tree = build(alloc, &paths, 0, None, DEEPEST)?;
+    let tree = build(alloc, &paths, 0, None, DEEPEST_TEXT)?;
     Ok(tree)
 }
 
@@ -109,8 +117,8 @@ fn regrouped(alloc: Global, text: &str) -> Result<Tree, MarkerFault>
 ///
 /// # Errors
 ///
-/// `NoReading` exactly where it is the text of no tree. There is no limit of paths. A tree with more levels on a
-/// path than trees have here is answered by want of memory.
+/// `NoReading` exactly where it is the text of no tree. There is no limit of paths. A text with more than 512
+/// levels on a path is answered by want of memory.
 pub fn read(alloc: Global, text: &str) -> Result<Tree, MarkerFault>
     ensures reduced { IfOk result (λ t. IsReduced (tree_view t)) }
     ensures not_false { IfOk result (λ t. tree_view t ≢ truth false) }
