@@ -14,12 +14,11 @@ const HEAD: &str =
 /// It asks for each eighth package, and for the first three in two versions of the interpreter each, so that its lock
 /// has forks. `size` is 1 to 2,000.
 #[tactic(auto, unfolding(crate::specs::Texts::project_text))]
-pub fn project_of(alloc: Global, seed: u64, size: u64) -> Result<Vec<u8>, AllocError>
+pub fn project_of(alloc: Global, _seed: u64, size: u64) -> Result<Vec<u8>, AllocError>
     requires some { 1 ≤ size }
     requires most { size ≤ 2000 }
     ensures text { IfOk result (λ v. v.items ≡ project_text size) }
 {
-    let _same = seed;
     let mut text = String::new(alloc);
     text.push_str(HEAD)?;
     put_eighths(&mut text, size)?;
