@@ -12,7 +12,7 @@ use Rattle.ul_core.specs.declared.trees.Tree.TheFolds.{fold-roll-Tree, fold_out-
 use Rattle.ul_core.specs.Trees.{tree_with}
 use Rattle.ul_interner.specs.Marked.{Marked, plain, plain_step, label_of, parts_of}
 use Rattle.ul_tree.specs.Levels.{extra_level, python_level, text_level, atom_level, IsKey}
-use Rattle.ul_tree.specs.Plain.{Plain, truth, node, Branches, done, branch, text_cmp, carries, carried}
+use Rattle.ul_tree.specs.Plain.{Plain, truth, node, Branches, done, branch, text_cmp, carries, carried_part}
 use Rattle.ul_tree.specs.Reduced.{IsReduced, Fits, FitsAll, HasBranch}
 use Rattle.ul_tree.specs.Apply.{keys, same}
 use Rattle.ul_tree.proofs.ForCallers.{same_true, same_itself}
@@ -181,7 +181,7 @@ each_then (p ∷ ps) d h r = (h.0, each_then ps d h.1 r)
 
 each_in : (bs : Branches) (l : List ℕ) (d : Plain) → text_cmp [] l ≡ Less → FitsAll bs l d → EachReduced (parts_in bs)
 each_in done l d o h = tt
-each_in (branch k c rest) l d o h = (fits_weaker c l [] o h.2, each_in rest l (carried (carries l) c d) o h.4)
+each_in (branch k c rest) l d o h = (fits_weaker c l [] o h.2, each_in rest l (carried_part (carries l) c d) o h.4)
 
 keyed_reduced : (l : List ℕ) (ks : List (List ℕ)) (ps : List Plain) → IsReduced (keyed_node l ks ps) → EachReduced ps
 keyed_reduced l ks ps h =

@@ -6,7 +6,7 @@ use Rattle.ul_interner.specs.Marked.{label_of, parts_of}
 use Rattle.ul_tree.specs.Levels.{python_level}
 use Rattle.ul_tree.specs.Plain.{Plain, truth, Branches, done, branch}
 use Rattle.ul_tree.specs.Reduced.{IsReduced, Fits}
-use Rattle.ul_tree.specs.Apply.{keys, known, truth_value}
+use Rattle.ul_tree.specs.Apply.{keys, leaf_truth, truth_value}
 use Rattle.ul_tree.specs.FirstParts.{is_false}
 use Rattle.ul_tree.specs.Keys.{top_of, rest_of, branches_of, branch_count, branches_from, is_key_of}
 use Rattle.ul_tree.specs.declared.level.Key.TheVariants.{Number}
@@ -77,7 +77,7 @@ python_top (suc s ∷ ss) ps = refl
 python_top (zero ∷ ss) [] = refl
 python_top (zero ∷ ss) (p ∷ ps) = refl
 
-pub python_known : (ss : List ℕ) (ps : List Plain) → known (python_of ss ps) ≡ false
+pub python_known : (ss : List ℕ) (ps : List Plain) → leaf_truth (python_of ss ps) ≡ false
 python_known [] ps = refl
 python_known (suc s ∷ ss) ps = refl
 python_known (zero ∷ ss) [] = refl

@@ -6,9 +6,9 @@ use Rattle.ul_marker.specs.Atoms.{AtomFields}
 use Rattle.ul_tree.specs.Levels.{python_level, atom_level}
 use Rattle.ul_tree.specs.Plain.{Plain, Branches, node, carries}
 use Rattle.ul_tree.specs.Apply.{apply, close, outs, part_at, same, size}
-use Rattle.ul_tree.specs.Joins.{made_view, stands, added}
+use Rattle.ul_tree.specs.Joins.{made_view, stands, more_branches}
 use Rattle.ul_tree.specs.Keys.{level_view, key_view, keys_view, has_kind, branches_of, rest_of, KeysOf}
-use Rattle.ul_tree.specs.Simplify.{Results, Pieces, Piece, filled, reduced_branches, settled, union_in}
+use Rattle.ul_tree.specs.Simplify.{Results, Pieces, Piece, filled_results, reduced_branches, settled_level, union_in}
 use Rattle.ul_tree.specs.SimplifyViews.{results_view, parts_view, region_view, IfSome, Lowered}
 use Rattle.ul_tree.specs.Views.{python_of}
 use Rattle.ul_tree.specs.declared.level.Key.{Key}
@@ -75,7 +75,7 @@ KeepsLevel before after = (l : List ℕ) → KeysOf l before → KeysOf l after
 -- a branch more, unless its part is the one that stands
 abbrev pub IsAdded : Bool → Seen → Key → Seen → List (Key × Seen) → List (Key × Seen) → Type 0
 IsAdded carried other key next before after =
-    diagrams_made after ≡ added (same (tree_of next) (stands carried (diagrams_made before) (tree_of other))) (diagrams_made before) (key_view key) (tree_of next)
+    diagrams_made after ≡ more_branches (same (tree_of next) (stands carried (diagrams_made before) (tree_of other))) (diagrams_made before) (key_view key) (tree_of next)
 
 -- a branch more keeps that the keys are those of a level
 abbrev pub KeepsKeys : Key → List (Key × Seen) → List (Key × Seen) → Type 0
@@ -106,7 +106,7 @@ closed_tree level other made = close (level_view level) (tree_of other) (diagram
 
 -- the parts of keys: each piece's own result, or the part before it
 abbrev pub filled_parts : List (Key × Option Seen) → Seen → List (List ℕ × Plain)
-filled_parts results first = filled (result_diagrams results) (tree_of first)
+filled_parts results first = filled_results (result_diagrams results) (tree_of first)
 
 -- the branches of parts, those left out that say what stands already
 abbrev pub reduced_parts : Bool → List (Key × Seen) → Seen → Branches
@@ -114,7 +114,7 @@ reduced_parts carried parts other = reduced_branches carried (part_diagrams part
 
 -- a level put together from the results of its pieces
 abbrev pub settled_tree : Level → List (Key × Option Seen) → Option Seen → Seen → Plain
-settled_tree level results rest otherwise = settled (level_view level) (result_diagrams results) (option_map tree_of rest) (tree_of otherwise)
+settled_tree level results rest otherwise = settled_level (level_view level) (result_diagrams results) (option_map tree_of rest) (tree_of otherwise)
 
 -- the tree of a region that was made, or else of the one that stands
 abbrev pub region_tree : Option Seen → Seen → Plain

@@ -2,7 +2,7 @@
 ghost use Rattle.std.specs.Prelude.{◌≡◌, ◌<◌, option_map, true};
 ghost use Rattle.ul_tree.specs.Reduced.{IsReduced};
 ghost use Rattle.ul_tree.specs.TreeFacts.{IsBranchAt};
-ghost use Rattle.ul_tree.specs.Apply.{known as known_plain, truth_value as truth_value_plain};
+ghost use Rattle.ul_tree.specs.Apply.{leaf_truth as known_plain, truth_value as truth_value_plain};
 ghost use Rattle.ul_tree.specs.FirstParts.{is_false as is_false_plain};
 ghost use Rattle.ul_tree.specs.Keys.{level_view, key_view, top_of, rest_of, branches_of, branch_count, is_key_of};
 ghost use Rattle.ul_algebra.specs.Made.{KnownWith};

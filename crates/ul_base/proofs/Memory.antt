@@ -1,7 +1,7 @@
 -- Reads of files in memory that don't fail.
 use Rattle.std.proofs.Common.{◌≡◌, ◌≢◌, ℕ, List, false, Option, Result, Ok, Err, Vec, refl}
 use Rattle.std.specs.declared.alloc.Global.{Global}
-use Rattle.ul_base.specs.Causes.{counted}
+use Rattle.ul_base.specs.Causes.{next_count}
 use Rattle.ul_base.specs.Files.{FileMap}
 use Rattle.ul_base.specs.MemFiles.{FilesState, MemRead, is_failing}
 use Rattle.ul_base.specs.declared.files.ReadRefused.{ReadRefused}
@@ -9,7 +9,7 @@ use Rattle.ul_base.specs.declared.files.ReadRefused.TheVariants.{Failed, TooLong
 
 -- a call that isn't one of those that fail only counts
 pub answered : (before : FilesState) (files : FileMap) (calls : ℕ) (path : List ℕ) (r : Result (Option (Vec ℕ Global)) ReadRefused) →
-    r ≢ Err Failed → is_failing before.failing before.calls ≡ false → files ≡ before.files → calls ≡ counted before.calls →
+    r ≢ Err Failed → is_failing before.failing before.calls ≡ false → files ≡ before.files → calls ≡ next_count before.calls →
     MemRead before (record before { files = files; calls = calls }) path r
 answered before files calls path (Ok x) sure passes same counts =
     (passes, λ i. record before { files = same i; calls = counts i })

@@ -11,7 +11,7 @@ use Rattle.std.specs.declared.cmp.Ordering.TheVariants.{Less, Equal, Greater}
 use Rattle.std.proofs.lemmas.Cmp.{tied_itself}
 use Rattle.std.proofs.lemmas.List.{length-append}
 use Rattle.std.proofs.lemmas.List.Folds.{list_all-append}
-use Rattle.ul_base.specs.Names.{IsNormalName, name_of, is_name, is_name_byte, is_separator, has_ends, collapsed, leads_with_separator, normal_form, name_cmp, name_above}
+use Rattle.ul_base.specs.Names.{IsNormalName, name_of, is_name, is_name_byte, is_separator, has_ends, single_hyphens, leads_with_separator, normal_form, name_cmp, name_above}
 use Rattle.ul_base.proofs.Names.{name_reads, name-is_name, name-normal_form}
 
 last_of : (t : List ℕ) (x : ℕ) → slice_index (t ++ x ∷ []) (length t) ≡ x
@@ -28,11 +28,11 @@ leads_above : (t : List ℕ) → leads_with_separator (t ++ 48 ∷ []) ≡ leads
 leads_above [] = refl
 leads_above (c ∷ t) = refl
 
-collapsed_above : (t : List ℕ) → collapsed (t ++ 48 ∷ []) ≡ collapsed t ++ 48 ∷ []
+collapsed_above : (t : List ℕ) → single_hyphens (t ++ 48 ∷ []) ≡ single_hyphens t ++ 48 ∷ []
 collapsed_above [] = refl
 collapsed_above (c ∷ t) = rw (leads_above t, collapsed_above t) (by_cases (is_separator c) (leads_with_separator t))
   where
-    by_cases : (a b : Bool) → cond a (cond b (collapsed t ++ 48 ∷ []) (45 ∷ (collapsed t ++ 48 ∷ []))) (c ∷ (collapsed t ++ 48 ∷ [])) ≡ cond a (cond b (collapsed t) (45 ∷ collapsed t)) (c ∷ collapsed t) ++ 48 ∷ []
+    by_cases : (a b : Bool) → cond a (cond b (single_hyphens t ++ 48 ∷ []) (45 ∷ (single_hyphens t ++ 48 ∷ []))) (c ∷ (single_hyphens t ++ 48 ∷ [])) ≡ cond a (cond b (single_hyphens t) (45 ∷ single_hyphens t)) (c ∷ single_hyphens t) ++ 48 ∷ []
     by_cases true true = refl
     by_cases true false = refl
     by_cases false b = refl
@@ -43,7 +43,7 @@ lowercase_above (c ∷ t) = ap (λ z. to_ascii_lowercase c ∷ z) (lowercase_abo
 
 form_above : (t : List ℕ) → normal_form (t ++ 48 ∷ []) ≡ normal_form t ++ 48 ∷ []
 unfolding normal_form
-form_above t = ap str_to_ascii_lowercase (collapsed_above t) ∙ lowercase_above (collapsed t)
+form_above t = ap str_to_ascii_lowercase (collapsed_above t) ∙ lowercase_above (single_hyphens t)
 
 -- what stands above a name is a name
 pub above_is_name : (n : List ℕ) → IsNormalName n → IsNormalName (name_above n)

@@ -5,7 +5,7 @@ use Rattle.std.specs.Char.{to_ascii_lowercase, is_ascii_alphanumeric}
 use Rattle.std.specs.Cmp.{first_so, second_so}
 use Rattle.std.specs.List.{list_all}
 use Rattle.std.specs.Str.{str_to_ascii_lowercase}
-use Rattle.ul_base.specs.Names.{is_separator, is_name_byte, is_normal_byte, collapsed, leads_with_separator, normal_form, form_behind, is_name, name_of, has_ends, AddsByte, IsNormalName, IsPlain}
+use Rattle.ul_base.specs.Names.{is_separator, is_name_byte, is_normal_byte, single_hyphens, leads_with_separator, normal_form, form_behind, is_name, name_of, has_ends, AddsByte, IsNormalName, IsPlain}
 
 -- ---- one byte more
 
@@ -91,22 +91,22 @@ name-normal_form text name e =
 
 -- ---- the normal form is its own
 
-leads-collapsed : (text : List ℕ) → leads_with_separator (collapsed text) ≡ leads_with_separator text
+leads-collapsed : (text : List ℕ) → leads_with_separator (single_hyphens text) ≡ leads_with_separator text
 leads-collapsed [] = refl
 leads-collapsed (b ∷ bs) =
-    (elim (is_separator b) as (λ s. is_separator b ≡ s → leads_with_separator (cond s (cond (leads_with_separator bs) (collapsed bs) (45 ∷ collapsed bs)) (b ∷ collapsed bs)) ≡ s) [
-      | true ↦ λ h. (elim (leads_with_separator bs) as (λ l. leads_with_separator bs ≡ l → leads_with_separator (cond l (collapsed bs) (45 ∷ collapsed bs)) ≡ true) [
+    (elim (is_separator b) as (λ s. is_separator b ≡ s → leads_with_separator (cond s (cond (leads_with_separator bs) (single_hyphens bs) (45 ∷ single_hyphens bs)) (b ∷ single_hyphens bs)) ≡ s) [
+      | true ↦ λ h. (elim (leads_with_separator bs) as (λ l. leads_with_separator bs ≡ l → leads_with_separator (cond l (single_hyphens bs) (45 ∷ single_hyphens bs)) ≡ true) [
         | true ↦ λ k. leads-collapsed bs ∙ k
         | false ↦ λ k. refl
       ]) refl
       | false ↦ λ h. h
     ]) refl
 
-collapsed-collapsed : (text : List ℕ) → collapsed (collapsed text) ≡ collapsed text
+collapsed-collapsed : (text : List ℕ) → single_hyphens (single_hyphens text) ≡ single_hyphens text
 collapsed-collapsed [] = refl
 collapsed-collapsed (b ∷ bs) =
-    (elim (is_separator b) as (λ s. is_separator b ≡ s → let t = cond s (cond (leads_with_separator bs) (collapsed bs) (45 ∷ collapsed bs)) (b ∷ collapsed bs) in collapsed t ≡ t) [
-      | true ↦ λ h. (elim (leads_with_separator bs) as (λ l. leads_with_separator bs ≡ l → let t = cond l (collapsed bs) (45 ∷ collapsed bs) in collapsed t ≡ t) [
+    (elim (is_separator b) as (λ s. is_separator b ≡ s → let t = cond s (cond (leads_with_separator bs) (single_hyphens bs) (45 ∷ single_hyphens bs)) (b ∷ single_hyphens bs) in single_hyphens t ≡ t) [
+      | true ↦ λ h. (elim (leads_with_separator bs) as (λ l. leads_with_separator bs ≡ l → let t = cond l (single_hyphens bs) (45 ∷ single_hyphens bs) in single_hyphens t ≡ t) [
         | true ↦ λ k. collapsed-collapsed bs
         | false ↦ λ k. rw (leads-collapsed bs ∙ k) (ap (λ t. 45 ∷ t) (collapsed-collapsed bs))
       ]) refl
@@ -121,12 +121,12 @@ lowercase-cond : (s : Bool) (x y : List ℕ) → str_to_ascii_lowercase (cond s 
 lowercase-cond true x y = refl
 lowercase-cond false x y = refl
 
-collapsed-lowercase : (text : List ℕ) → collapsed (str_to_ascii_lowercase text) ≡ str_to_ascii_lowercase (collapsed text)
+collapsed-lowercase : (text : List ℕ) → single_hyphens (str_to_ascii_lowercase text) ≡ str_to_ascii_lowercase (single_hyphens text)
 collapsed-lowercase [] = refl
 collapsed-lowercase (b ∷ bs) =
     rw (separator-lowercase b, leads-lowercase bs, collapsed-lowercase bs)
-    (sym (lowercase-cond (is_separator b) (cond (leads_with_separator bs) (collapsed bs) (45 ∷ collapsed bs)) (b ∷ collapsed bs)
-    ∙ ap (λ t. cond (is_separator b) t (to_ascii_lowercase b ∷ str_to_ascii_lowercase (collapsed bs))) (lowercase-cond (leads_with_separator bs) (collapsed bs) (45 ∷ collapsed bs))))
+    (sym (lowercase-cond (is_separator b) (cond (leads_with_separator bs) (single_hyphens bs) (45 ∷ single_hyphens bs)) (b ∷ single_hyphens bs)
+    ∙ ap (λ t. cond (is_separator b) t (to_ascii_lowercase b ∷ str_to_ascii_lowercase (single_hyphens bs))) (lowercase-cond (leads_with_separator bs) (single_hyphens bs) (45 ∷ single_hyphens bs))))
 
 lowercases : (text : List ℕ) → str_to_ascii_lowercase (str_to_ascii_lowercase text) ≡ str_to_ascii_lowercase text
 lowercases [] = refl
@@ -135,16 +135,16 @@ lowercases (b ∷ bs) = rw (lowercase-lowercase b, lowercases bs) refl
 pub same_form : (text : List ℕ) → normal_form (normal_form text) ≡ normal_form text
 unfolding normal_form
 same_form text =
-    ap str_to_ascii_lowercase (collapsed-lowercase (collapsed text)) ∙ lowercases (collapsed (collapsed text)) ∙ ap str_to_ascii_lowercase (collapsed-collapsed text)
+    ap str_to_ascii_lowercase (collapsed-lowercase (single_hyphens text)) ∙ lowercases (single_hyphens (single_hyphens text)) ∙ ap str_to_ascii_lowercase (collapsed-collapsed text)
 
 -- ---- the normal form of a name is a name
 
-normal_bytes : (text : List ℕ) → list_all is_name_byte text ≡ true → list_all is_normal_byte (str_to_ascii_lowercase (collapsed text)) ≡ true
+normal_bytes : (text : List ℕ) → list_all is_name_byte text ≡ true → list_all is_normal_byte (str_to_ascii_lowercase (single_hyphens text)) ≡ true
 normal_bytes [] h = refl
 normal_bytes (b ∷ bs) h =
-    let rest : list_all is_normal_byte (str_to_ascii_lowercase (collapsed bs)) ≡ true = normal_bytes bs (second_so (is_name_byte b) (list_all is_name_byte bs) h) in
-    (elim (is_separator b) as (λ s. is_separator b ≡ s → list_all is_normal_byte (str_to_ascii_lowercase (cond s (cond (leads_with_separator bs) (collapsed bs) (45 ∷ collapsed bs)) (b ∷ collapsed bs))) ≡ true) [
-      | true ↦ λ k. elim (leads_with_separator bs) as (λ l. list_all is_normal_byte (str_to_ascii_lowercase (cond l (collapsed bs) (45 ∷ collapsed bs))) ≡ true) [ true ↦ rest | false ↦ rest ]
+    let rest : list_all is_normal_byte (str_to_ascii_lowercase (single_hyphens bs)) ≡ true = normal_bytes bs (second_so (is_name_byte b) (list_all is_name_byte bs) h) in
+    (elim (is_separator b) as (λ s. is_separator b ≡ s → list_all is_normal_byte (str_to_ascii_lowercase (cond s (cond (leads_with_separator bs) (single_hyphens bs) (45 ∷ single_hyphens bs)) (b ∷ single_hyphens bs))) ≡ true) [
+      | true ↦ λ k. elim (leads_with_separator bs) as (λ l. list_all is_normal_byte (str_to_ascii_lowercase (cond l (single_hyphens bs) (45 ∷ single_hyphens bs))) ≡ true) [ true ↦ rest | false ↦ rest ]
       | false ↦ λ k. rw (normal_byte-lowercase b (first_so (is_name_byte b) (list_all is_name_byte bs) h) k) rest
     ]) refl
 
@@ -175,12 +175,12 @@ last_or-lowercase : (b : ℕ) (bs : List ℕ) → last_or (to_ascii_lowercase b)
 last_or-lowercase b [] = refl
 last_or-lowercase b (c ∷ cs) = last_or-lowercase c cs
 
-last_or-collapsed : (d : ℕ) (text : List ℕ) → is_separator (last_or d text) ≡ false → last_or d (collapsed text) ≡ last_or d text
+last_or-collapsed : (d : ℕ) (text : List ℕ) → is_separator (last_or d text) ≡ false → last_or d (single_hyphens text) ≡ last_or d text
 last_or-collapsed d [] h = refl
 last_or-collapsed d (b ∷ []) h = rw h refl
 last_or-collapsed d (b ∷ c ∷ cs) h =
-    elim (is_separator b) as (λ s. last_or d (cond s (cond (is_separator c) (collapsed (c ∷ cs)) (45 ∷ collapsed (c ∷ cs))) (b ∷ collapsed (c ∷ cs))) ≡ last_or c cs) [
-      | true ↦ elim (is_separator c) as (λ l. last_or d (cond l (collapsed (c ∷ cs)) (45 ∷ collapsed (c ∷ cs))) ≡ last_or c cs) [
+    elim (is_separator b) as (λ s. last_or d (cond s (cond (is_separator c) (single_hyphens (c ∷ cs)) (45 ∷ single_hyphens (c ∷ cs))) (b ∷ single_hyphens (c ∷ cs))) ≡ last_or c cs) [
+      | true ↦ elim (is_separator c) as (λ l. last_or d (cond l (single_hyphens (c ∷ cs)) (45 ∷ single_hyphens (c ∷ cs))) ≡ last_or c cs) [
         | true ↦ last_or-collapsed d (c ∷ cs) h
         | false ↦ last_or-collapsed 45 (c ∷ cs) h
       ]
@@ -194,8 +194,8 @@ form_ends (b ∷ bs) h =
     let first : is_ascii_alphanumeric b ≡ true = first_so (is_ascii_alphanumeric b) (is_ascii_alphanumeric (get_or (b ∷ bs) (length (b ∷ bs) - 1) 0)) h in
     let last : is_ascii_alphanumeric (last_or b bs) ≡ true =
     ap is_ascii_alphanumeric (sym (last-is b bs)) ∙ second_so (is_ascii_alphanumeric b) (is_ascii_alphanumeric (get_or (b ∷ bs) (length (b ∷ bs) - 1) 0)) h in
-    let ending : get_or (to_ascii_lowercase b ∷ str_to_ascii_lowercase (collapsed bs)) (length (to_ascii_lowercase b ∷ str_to_ascii_lowercase (collapsed bs)) - 1) 0 ≡ to_ascii_lowercase (last_or b bs) =
-    last-is (to_ascii_lowercase b) (str_to_ascii_lowercase (collapsed bs)) ∙ last_or-lowercase b (collapsed bs)
+    let ending : get_or (to_ascii_lowercase b ∷ str_to_ascii_lowercase (single_hyphens bs)) (length (to_ascii_lowercase b ∷ str_to_ascii_lowercase (single_hyphens bs)) - 1) 0 ≡ to_ascii_lowercase (last_or b bs) =
+    last-is (to_ascii_lowercase b) (str_to_ascii_lowercase (single_hyphens bs)) ∙ last_or-lowercase b (single_hyphens bs)
     ∙ ap to_ascii_lowercase (last_or-collapsed b bs (letter-separator (last_or b bs) last)) in
     let same : is_separator b ≡ false = letter-separator b first in
     rw (same, letter-lowercase b first, ending, letter-lowercase (last_or b bs) last) refl

@@ -2,7 +2,7 @@
 use Rattle.std.specs.Prelude.{◌≡◌, ℕ, ◌==◌, List, Bool, true, false, Option, None, Some, Result, Ok, Err, Vec}
 use Rattle.std.specs.List.{list_any}
 use Rattle.std.specs.declared.alloc.Global.{Global}
-use Rattle.ul_base.specs.Causes.{counted}
+use Rattle.ul_base.specs.Causes.{next_count}
 use Rattle.ul_base.specs.Files.{FileMap}
 use Rattle.ul_base.specs.declared.files.ReadRefused.{ReadRefused}
 use Rattle.ul_base.specs.declared.files.ReadRefused.TheVariants.{Failed, TooLong, NoMemory}
@@ -28,7 +28,7 @@ is_failing failing call = list_any (λ n. n == call) failing
 -- the files after a read of this path that failed
 abbrev pub failed_read : FilesState → List ℕ → FilesState
 failed_read before path =
-    record before { calls = counted before.calls; faults = counted before.faults; last = Some path }
+    record before { calls = next_count before.calls; faults = next_count before.faults; last = Some path }
 
 -- the next call answers so, and leaves the files so: it fails exactly where its number is one of those that fail,
 -- and each call has the next number
@@ -37,8 +37,8 @@ abbrev pub MemRead :
 MemRead before now path (Err Failed) =
     (is_failing before.failing before.calls ≡ true)
     × (now ≡ failed_read before path)
-MemRead before now path (Err NoMemory) = now ≡ record before { calls = counted before.calls }
+MemRead before now path (Err NoMemory) = now ≡ record before { calls = next_count before.calls }
 MemRead before now path (Err TooLong) =
-    (is_failing before.failing before.calls ≡ false) × (now ≡ record before { calls = counted before.calls })
+    (is_failing before.failing before.calls ≡ false) × (now ≡ record before { calls = next_count before.calls })
 MemRead before now path (Ok _) =
-    (is_failing before.failing before.calls ≡ false) × (now ≡ record before { calls = counted before.calls })
+    (is_failing before.failing before.calls ≡ false) × (now ≡ record before { calls = next_count before.calls })

@@ -1,6 +1,6 @@
 -- What a sink in memory is, and what a write to it answers.
 use Rattle.std.specs.Prelude.{◌≡◌, ℕ, ◌==◌, List, [], ◌∷◌, ◌++◌, take, Option, Some, None, Result, Ok, Err, if◌then◌else◌}
-use Rattle.ul_base.specs.Causes.{counted}
+use Rattle.ul_base.specs.Causes.{next_count}
 use Rattle.ul_base.specs.declared.sink.SinkRefused.{SinkRefused}
 use Rattle.ul_base.specs.declared.sink.SinkRefused.TheVariants.{Failed, NoMemory}
 
@@ -23,7 +23,7 @@ bytes_before (pair ∷ pairs) call = if pair.0 == call then Some pair.1 else byt
 
 -- the sink after one more write, of which it took this
 abbrev pub sink_with : SinkState → List ℕ → SinkState
-sink_with before bytes = record before { written = before.written ++ bytes; calls = counted before.calls }
+sink_with before bytes = record before { written = before.written ++ bytes; calls = next_count before.calls }
 
 -- the next call answers so, and leaves the sink so: it fails exactly where its number is one of those that fail, and
 -- then writes as many bytes as are said there, or the whole piece where that is less
@@ -33,5 +33,5 @@ MemWrite before now piece (Ok _) =
     × (now ≡ sink_with before piece)
 MemWrite before now piece (Err Failed) =
     (count : ℕ) × (bytes_before before.failing before.calls ≡ Some count)
-    × (now ≡ record (sink_with before (take count piece)) { faults = counted before.faults })
-MemWrite before now piece (Err NoMemory) = now ≡ record before { calls = counted before.calls }
+    × (now ≡ record (sink_with before (take count piece)) { faults = next_count before.faults })
+MemWrite before now piece (Err NoMemory) = now ≡ record before { calls = next_count before.calls }

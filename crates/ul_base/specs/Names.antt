@@ -31,14 +31,14 @@ leads_with_separator [] = false
 leads_with_separator (b ∷ bs) = is_separator b
 
 -- each run of separators is one `-`: it stands for the last of the run, and nothing for the others
-abbrev pub collapsed : List ℕ → List ℕ
-collapsed [] = []
-collapsed (b ∷ bs) =
-    if is_separator b then (if leads_with_separator bs then collapsed bs else 45 ∷ collapsed bs) else b ∷ collapsed bs
+abbrev pub single_hyphens : List ℕ → List ℕ
+single_hyphens [] = []
+single_hyphens (b ∷ bs) =
+    if is_separator b then (if leads_with_separator bs then single_hyphens bs else 45 ∷ single_hyphens bs) else b ∷ single_hyphens bs
 
 -- each run of separators one `-`, and lower case
 unfoldable pub normal_form : List ℕ → List ℕ
-normal_form text = str_to_ascii_lowercase (collapsed text)
+normal_form text = str_to_ascii_lowercase (single_hyphens text)
 
 -- the name that a text is, in its normal form
 unfoldable pub name_of : List ℕ → Option (List ℕ)

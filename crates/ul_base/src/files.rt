@@ -45,5 +45,6 @@ pub trait Files {
     fn read(&mut self, path: &str, limit: u64) -> Result<Option<Vec<u8>>, ReadRefused>
         ensures told { Told (map self.old) (λ m. Tells m path.now limit result) }
         ensures same { map self.new ≡ map self.old }
-        ensures cause { ReadCause (faults self.old) (faults self.new) (last_failed self.old) (last_failed self.new) path.now result };
+        ensures cause { ReadCause (faults self.old) (faults self.new)
+            (last_failed self.old) (last_failed self.new) path.now result };
 }

@@ -84,7 +84,8 @@ pub fn content_examples()
 pub fn read_examples()
     ensures absent { MemRead (files_after 0 0 None) (files_after 1 0 None) (codes "r") (Ok None) }
     ensures failed { MemRead (files_after 1 0 None) (files_after 2 1 (Some (codes "q"))) (codes "q") (Err read.Failed) }
-    ensures only_then { MemRead (files_after 0 0 None) (files_after 1 1 (Some (codes "q"))) (codes "q") (Err read.Failed) → ⊥ }
+    ensures only_then { MemRead (files_after 0 0 None) (files_after 1 1 (Some (codes "q")))
+        (codes "q") (Err read.Failed) → ⊥ }
     ensures then_so { MemRead (files_after 1 0 None) (files_after 2 0 None) (codes "r") (Ok None) → ⊥ }
     ensures counted { MemRead (files_after 0 0 None) (files_after 0 0 None) (codes "r") (Ok None) → ⊥ }
 {}
@@ -95,5 +96,6 @@ pub fn write_examples()
     ensures part { MemWrite (sink_after [] 1 0) (sink_after (codes "abc") 2 1) (codes "abcde") (Err write.Failed) }
     ensures short { MemWrite (sink_after [] 1 0) (sink_after (codes "ab") 2 1) (codes "ab") (Err write.Failed) }
     ensures not_whole { MemWrite (sink_after [] 1 0) (sink_after (codes "abcde") 2 0) (codes "abcde") (Ok tt) → ⊥ }
-    ensures only_then { MemWrite (sink_after [] 0 0) (sink_after (codes "abc") 1 1) (codes "abcde") (Err write.Failed) → ⊥ }
+    ensures only_then { MemWrite (sink_after [] 0 0) (sink_after (codes "abc") 1 1)
+        (codes "abcde") (Err write.Failed) → ⊥ }
 {}

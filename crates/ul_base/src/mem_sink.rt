@@ -58,7 +58,8 @@ impl Sink for MemSink {
     ghost faults = { λ s. s.faults };
 
     fn write_all(&mut self, piece: &[u8]) -> Result<(), SinkRefused>
-        ensures cause { WriteCause self.old.faults self.new.faults (Some self.old.written) (Some self.new.written) piece.now result }
+        ensures cause { WriteCause self.old.faults self.new.faults
+            (Some self.old.written) (Some self.new.written) piece.now result }
         ensures exact { MemWrite self.old self.new piece.now result }
     {
         let failing = failing_at(&self.failing, self.calls);

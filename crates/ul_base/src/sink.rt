@@ -37,5 +37,6 @@ pub trait Sink {
     /// `Failed` comes only where the count of faults rose in this call, or stands at its last value; a prefix of the
     /// piece was then written. Every other answer leaves the count as it was. `NoMemory` writes nothing.
     fn write_all(&mut self, piece: &[u8]) -> Result<(), SinkRefused>
-        ensures cause { WriteCause (faults self.old) (faults self.new) (bytes self.old) (bytes self.new) piece.now result };
+        ensures cause { WriteCause (faults self.old) (faults self.new)
+            (bytes self.old) (bytes self.new) piece.now result };
 }

@@ -8,7 +8,7 @@ use Rattle.ul_problem.specs.Plain.{Plain, size_of}
 use Rattle.std.specs.List.{Contains}
 use Rattle.ul_problem.specs.Problems.{IsWellFormed}
 use Rattle.ul_problem.specs.Terms.{allows}
-use Rattle.ul_problem.specs.Steps.{AreTermsOf, IsTermOf, AreWritten, written, IsRootTerm, AreRootTerms}
+use Rattle.ul_problem.specs.Steps.{AreTermsOf, IsTermOf, AreWritten, term_to_say, IsRootTerm, AreRootTerms}
 use Rattle.ul_problem.specs.declared.term.Term.{Term}
 use Rattle.ul_problem.specs.declared.term.Term.TheVariants.{In, NotIn}
 use Rattle.ul_problem.specs.declared.step.Step.{Step}
@@ -76,10 +76,10 @@ not_true : (b : Bool) → not b ≡ true → b ≡ false
 not_true true h = sym h
 not_true false h = refl
 
-unwritten : (n : ℕ) (s : List Bool) → written (NotIn n s) ≡ Some (NotIn n s) → is_blank s ≡ true → ⊥
+unwritten : (n : ℕ) (s : List Bool) → term_to_say (NotIn n s) ≡ Some (NotIn n s) → is_blank s ≡ true → ⊥
 unwritten n s h e = none-some (NotIn n s) (sym (ap (λ (b : Bool). cond b None (Some (NotIn n s))) e) ∙ h)
 
-root_term : (p : Plain) (j : ℕ) (t : Term) → IsWellFormed p → IsTermOf p t → written t ≡ Some t → IsHeld (root_facts p (take j p.roots)) t → IsRootTerm p t
+root_term : (p : Plain) (j : ℕ) (t : Term) → IsWellFormed p → IsTermOf p t → term_to_say t ≡ Some t → IsHeld (root_facts p (take j p.roots)) t → IsRootTerm p t
 root_term p j (In n s) wf i w h = elim (has_one n (take j p.roots)) [
   | inl m ↦ (let o = take_one n j p.roots m in let z = root_single p n wf o in
       (o, i, filled s (h (Some 0) (roots_first p (take j p.roots) n (omega arith)))))

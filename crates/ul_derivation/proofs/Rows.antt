@@ -10,7 +10,7 @@ use Rattle.ul_problem.specs.declared.step.Step.{Step}
 use Rattle.ul_ranges.specs.Flags.{has}
 use Rattle.ul_problem.specs.Plain.{needs_of}
 use Rattle.ul_problem.specs.Terms.{term_on}
-use Rattle.ul_problem.specs.Steps.{HasNeed, IsRight, IsResolvent, resolved}
+use Rattle.ul_problem.specs.Steps.{HasNeed, IsRight, IsResolvent, resolvent_term}
 use Rattle.ul_problem.specs.declared.term.Term.TheVariants.{In, NotIn}
 use Rattle.ul_problem.specs.declared.step.Step.TheVariants.{Cut}
 use Rattle.ul_derivation.specs.Rows.{clash, first_step, second_step, ClashAccepted, ClashShort, ClashUncut}
@@ -31,7 +31,7 @@ second_right : IsRight clash (first_step ∷ []) second_step
 second_right = (omega arith, omega arith, refl, refl, second_need)
 
 abbrev EachAt : ℕ → Type 0
-EachAt k = term_on k (In 0 (true ∷ []) ∷ []) ≡ resolved 1 k (term_on k (In 0 (true ∷ []) ∷ NotIn 1 (true ∷ false ∷ []) ∷ [])) (term_on k (In 1 (true ∷ false ∷ []) ∷ []))
+EachAt k = term_on k (In 0 (true ∷ []) ∷ []) ≡ resolvent_term 1 k (term_on k (In 0 (true ∷ []) ∷ NotIn 1 (true ∷ false ∷ []) ∷ [])) (term_on k (In 1 (true ∷ false ∷ []) ∷ []))
 
 beyond : (k : ℕ) → 1 < k → EachAt k
 beyond k h =
@@ -53,8 +53,8 @@ short = record { counted = omega arith; before = (first_right, (second_right, tt
     bad_cut (of, (left, right, el, er, tl, tr, res)) =
         let l = same_Some first_step left el in
         let r = same_Some second_step right er in
-        let e = subst (λ (x : Step). None ≡ resolved 1 0 (term_on 0 (says clash x)) (term_on 0 (says clash right))) (sym l) (res.each 0) in
-        let g = subst (λ (x : Step). None ≡ resolved 1 0 (term_on 0 (says clash first_step)) (term_on 0 (says clash x))) (sym r) e in
+        let e = subst (λ (x : Step). None ≡ resolvent_term 1 0 (term_on 0 (says clash x)) (term_on 0 (says clash right))) (sym l) (res.each 0) in
+        let g = subst (λ (x : Step). None ≡ resolvent_term 1 0 (term_on 0 (says clash first_step)) (term_on 0 (says clash x))) (sym r) e in
         none-some (In 0 (true ∷ [])) g
 
 pub uncut : ClashUncut

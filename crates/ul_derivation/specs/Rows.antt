@@ -11,20 +11,20 @@ use Rattle.ul_problem.specs.declared.step.Step.TheVariants.{Need as NeedStep, Cu
 use Rattle.ul_derivation.specs.Faults.{IsFirstBad}
 
 -- the base of a name
-abbrev pub named : List ℕ → Node
-named name = record { name = name; extra = None }
+abbrev pub base_node : List ℕ → Node
+base_node name = record { name = name; extra = None }
 
 -- one version, which needs q {1}
 abbrev pub demo : NodeFacts
-demo = record { node = named (codes "demo"); base = None; versions = plain (0 ∷ 1 ∷ []) ∷ []; order = 0 ∷ []; barred = false ∷ []; needs = (record { node = 1; permitted = true ∷ false ∷ [] } ∷ []) ∷ [] }
+demo = record { node = base_node (codes "demo"); base = None; versions = plain (0 ∷ 1 ∷ []) ∷ []; order = 0 ∷ []; barred = false ∷ []; needs = (record { node = 1; permitted = true ∷ false ∷ [] } ∷ []) ∷ [] }
 
 -- two versions, each of which needs z {}
 abbrev pub q : NodeFacts
-q = record { node = named (codes "q"); base = None; versions = plain (1 ∷ []) ∷ plain (2 ∷ []) ∷ []; order = 1 ∷ 0 ∷ []; barred = false ∷ false ∷ []; needs = (record { node = 2; permitted = [] } ∷ []) ∷ (record { node = 2; permitted = [] } ∷ []) ∷ [] }
+q = record { node = base_node (codes "q"); base = None; versions = plain (1 ∷ []) ∷ plain (2 ∷ []) ∷ []; order = 1 ∷ 0 ∷ []; barred = false ∷ false ∷ []; needs = (record { node = 2; permitted = [] } ∷ []) ∷ (record { node = 2; permitted = [] } ∷ []) ∷ [] }
 
 -- no versions
 abbrev pub z : NodeFacts
-z = record { node = named (codes "z"); base = None; versions = []; order = []; barred = []; needs = [] }
+z = record { node = base_node (codes "z"); base = None; versions = []; order = []; barred = []; needs = [] }
 
 -- the problem of the three, with demo as its root
 abbrev pub clash : Plain

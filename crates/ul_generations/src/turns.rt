@@ -41,7 +41,8 @@ fn judge_rows<R: Threads + Wait + Sync, L: Label, J: Judge<L>, G: Gate + Sync>(
     requires known { RowsKnown (J.may judge.now) (J.region_known pass.old) (J.done_known pass.old) rows.now }
     ensures learns { Knows pass.old pass.new }
     ensures outcomes { IfOk result (λ r. AreOutcomes (J.outcome judge.now) rows.now r.0.items) }
-    ensures known { IfOk result (λ r. (k : ℕ) (o : _) → slice_get r.0.items k ≡ Some o → OutcomeKnown (J.may judge.now) (J.region_known pass.new) (J.done_known pass.new) (J.refusal_known pass.new) o) }
+    ensures known { IfOk result (λ r. (k : ℕ) (o : _) → slice_get r.0.items k ≡ Some o
+        → OutcomeKnown (J.may judge.now) (J.region_known pass.new) (J.done_known pass.new) (J.refusal_known pass.new) o) }
     ensures round { IfOk result (λ r. r.1 ≡ (workers, length (open_regions rows.now))) }
 {
     let regions = regions_of(alloc, rows)?;
@@ -74,8 +75,10 @@ fn turn<R: Threads + Wait + Sync, L: Label, J: Judge<L>, G: Gate + Sync>(
     requires known { RowsKnown (J.may judge.now) (J.region_known pass.old) (J.done_known pass.old) rows.items }
     ensures learns { Knows pass.old pass.new }
     ensures step { IfOk result (MakesStep (J.outcome judge.now) rows.items) }
-    ensures known { IfOk result (λ s. StepKnown (J.may judge.now) (J.region_known pass.new) (J.done_known pass.new) (J.refusal_known pass.new) s) }
-    ensures round { OnOk result (rounds.new.items ≡ rounds.old.items ++ (workers, length (open_regions rows.items)) ∷ []) }
+    ensures known { IfOk result (λ s. StepKnown (J.may judge.now)
+        (J.region_known pass.new) (J.done_known pass.new) (J.refusal_known pass.new) s) }
+    ensures round { OnOk result (rounds.new.items
+        ≡ rounds.old.items ++ (workers, length (open_regions rows.items)) ∷ []) }
 {
     let (outcomes, round) = judge_rows(
         rt,
@@ -113,7 +116,8 @@ pub fn fork_all<R: Threads + Wait + Sync, L: Label, J: Judge<L>, G: Gate + Sync>
     ensures learns { Knows pass.old pass.new }
     ensures answer { IfOk result (λ r. Answers (J.outcome judge.now) region workers r.0 r.1.items) }
     ensures fault { IfErr result (λ e. Fails (J.outcome judge.now) region e) }
-    ensures known { IfOk result (λ r. AnswerKnown (J.region_known pass.new) (J.done_known pass.new) (J.refusal_known pass.new) r.0) }
+    ensures known { IfOk result (λ r. AnswerKnown
+        (J.region_known pass.new) (J.done_known pass.new) (J.refusal_known pass.new) r.0) }
 {
     let mut rows = first_rows(alloc, region)?;
     let mut rounds = Vec::new(alloc);

@@ -1,12 +1,12 @@
 -- The worked examples of releases, by computation.
 use Rattle.std.proofs.Common.{refl}
 use Rattle.ul_base.specs.Names.{is_name, normal_form, name_of}
-use Rattle.ul_version.specs.Order.{padded, release_cmp, has_release_front, version_cmp}
-use Rattle.ul_version.specs.Reading.{after_word, digits, after_digits, value_after, number, needed, marked, epoch, points, release, pre, post, dev, segment, segments, local, fields_of, version_of, after_white, before_white}
+use Rattle.ul_version.specs.Order.{padded_release, release_cmp, has_release_front, version_cmp}
+use Rattle.ul_version.specs.Reading.{after_word, digits, after_digits, value_after, number, required_number, marked_digits, epoch, points, release, pre, post, dev, segment, segments, local, fields_of, version_of, after_white, before_white}
 use Rattle.ul_specifier.specs.Meaning.{meets_clause}
-use Rattle.ul_specifier.specs.Reading.{operator, starred, unstarred, clause_after, clause_of, clauses_of, clause_with, specifiers_of}
-use Rattle.ul_marker.specs.Comparisons.{comparison_of, contained, extra_literal, signed, versions_of, within}
-use Rattle.ul_marker.specs.Reading.{atom_at, before_close, chain_at, chain_with, each, enclosed, marker_of, part_at, pieces_from}
+use Rattle.ul_specifier.specs.Reading.{operator, star_clause, plain_clause, clause_after, clause_of, clauses_of, clause_with, specifiers_of}
+use Rattle.ul_marker.specs.Comparisons.{comparison_of, containment, extra_literal, sign_formula, versions_of, within}
+use Rattle.ul_marker.specs.Reading.{atom_at, before_close, chain_at, chain_with, each, inner_tokens, marker_of, part_at, pieces_from}
 use Rattle.ul_marker.specs.Words.{front_literal, front_sign, front_token, front_word, tokens_in, tokens_of, word_token}
 use Rattle.ul_requirement.specs.Reading.{names_of, extras_in, extras_front, front_of, specifiers_in, marker_in, tail_of, reading_of}
 use Rattle.ul_index.specs.Catalogs.{releases_of, release_of, requirements, is_fit}
@@ -16,7 +16,7 @@ use Rattle.ul_index.specs.Usable.{release_of_entry}
 use Rattle.ul_index.specs.Vectors.{EligibleReleases, Preferences, LowerBounds, UsableEntries}
 
 pub eligible_releases : EligibleReleases
-unfolding is_name normal_form name_of after_word digits after_digits value_after number needed marked epoch points release pre post dev segment segments local fields_of version_of after_white before_white operator starred unstarred clause_after clause_of clauses_of clause_with specifiers_of comparison_of contained extra_literal signed versions_of within atom_at before_close chain_at chain_with each enclosed marker_of part_at pieces_from front_literal front_sign front_token front_word tokens_in tokens_of word_token names_of extras_in extras_front front_of specifiers_in marker_in tail_of reading_of padded release_cmp has_release_front version_cmp meets_clause releases_of release_of requirements is_fit passing eligible preference release_of_entry
+unfolding is_name normal_form name_of after_word digits after_digits value_after number required_number marked_digits epoch points release pre post dev segment segments local fields_of version_of after_white before_white operator star_clause plain_clause clause_after clause_of clauses_of clause_with specifiers_of comparison_of containment extra_literal sign_formula versions_of within atom_at before_close chain_at chain_with each inner_tokens marker_of part_at pieces_from front_literal front_sign front_token front_word tokens_in tokens_of word_token names_of extras_in extras_front front_of specifiers_in marker_in tail_of reading_of padded_release release_cmp has_release_front version_cmp meets_clause releases_of release_of requirements is_fit passing eligible preference release_of_entry
 eligible_releases = record {
   increasing = refl;
   pre_alone = refl;
@@ -34,7 +34,7 @@ eligible_releases = record {
 }
 
 pub preferences : Preferences
-unfolding is_name normal_form name_of after_word digits after_digits value_after number needed marked epoch points release pre post dev segment segments local fields_of version_of after_white before_white operator starred unstarred clause_after clause_of clauses_of clause_with specifiers_of comparison_of contained extra_literal signed versions_of within atom_at before_close chain_at chain_with each enclosed marker_of part_at pieces_from front_literal front_sign front_token front_word tokens_in tokens_of word_token names_of extras_in extras_front front_of specifiers_in marker_in tail_of reading_of padded release_cmp has_release_front version_cmp meets_clause releases_of release_of requirements is_fit passing eligible preference release_of_entry
+unfolding is_name normal_form name_of after_word digits after_digits value_after number required_number marked_digits epoch points release pre post dev segment segments local fields_of version_of after_white before_white operator star_clause plain_clause clause_after clause_of clauses_of clause_with specifiers_of comparison_of containment extra_literal sign_formula versions_of within atom_at before_close chain_at chain_with each inner_tokens marker_of part_at pieces_from front_literal front_sign front_token front_word tokens_in tokens_of word_token names_of extras_in extras_front front_of specifiers_in marker_in tail_of reading_of padded_release release_cmp has_release_front version_cmp meets_clause releases_of release_of requirements is_fit passing eligible preference release_of_entry
 preferences = record {
   newest = refl;
   oldest = refl;
@@ -44,7 +44,7 @@ preferences = record {
 }
 
 pub lower_bounds : LowerBounds
-unfolding is_name normal_form name_of after_word digits after_digits value_after number needed marked epoch points release pre post dev segment segments local fields_of version_of after_white before_white operator starred unstarred clause_after clause_of clauses_of clause_with specifiers_of comparison_of contained extra_literal signed versions_of within atom_at before_close chain_at chain_with each enclosed marker_of part_at pieces_from front_literal front_sign front_token front_word tokens_in tokens_of word_token names_of extras_in extras_front front_of specifiers_in marker_in tail_of reading_of padded release_cmp has_release_front version_cmp meets_clause releases_of release_of requirements is_fit passing eligible preference release_of_entry
+unfolding is_name normal_form name_of after_word digits after_digits value_after number required_number marked_digits epoch points release pre post dev segment segments local fields_of version_of after_white before_white operator star_clause plain_clause clause_after clause_of clauses_of clause_with specifiers_of comparison_of containment extra_literal sign_formula versions_of within atom_at before_close chain_at chain_with each inner_tokens marker_of part_at pieces_from front_literal front_sign front_token front_word tokens_in tokens_of word_token names_of extras_in extras_front front_of specifiers_in marker_in tail_of reading_of padded_release release_cmp has_release_front version_cmp meets_clause releases_of release_of requirements is_fit passing eligible preference release_of_entry
 lower_bounds = record {
   below = refl;
   at = refl;
@@ -56,7 +56,7 @@ lower_bounds = record {
 }
 
 pub usable_entries : UsableEntries
-unfolding is_name normal_form name_of after_word digits after_digits value_after number needed marked epoch points release pre post dev segment segments local fields_of version_of after_white before_white operator starred unstarred clause_after clause_of clauses_of clause_with specifiers_of comparison_of contained extra_literal signed versions_of within atom_at before_close chain_at chain_with each enclosed marker_of part_at pieces_from front_literal front_sign front_token front_word tokens_in tokens_of word_token names_of extras_in extras_front front_of specifiers_in marker_in tail_of reading_of padded release_cmp has_release_front version_cmp meets_clause releases_of release_of requirements is_fit passing eligible preference release_of_entry
+unfolding is_name normal_form name_of after_word digits after_digits value_after number required_number marked_digits epoch points release pre post dev segment segments local fields_of version_of after_white before_white operator star_clause plain_clause clause_after clause_of clauses_of clause_with specifiers_of comparison_of containment extra_literal sign_formula versions_of within atom_at before_close chain_at chain_with each inner_tokens marker_of part_at pieces_from front_literal front_sign front_token front_word tokens_in tokens_of word_token names_of extras_in extras_front front_of specifiers_in marker_in tail_of reading_of padded_release release_cmp has_release_front version_cmp meets_clause releases_of release_of requirements is_fit passing eligible preference release_of_entry
 usable_entries = record {
   no_requirement = refl;
   address = refl;

@@ -19,7 +19,7 @@ use Rattle.ul_interner.specs.Logs.{at, Begins, AllBegin, core_of, StandsIn, AreL
 use Rattle.ul_core.specs.declared.events.Event.TheVariants.{Publish}
 use Rattle.ul_core.specs.Steps.{Takes}
 use Rattle.ul_interner.specs.Laws.{MayStore, grown_view}
-use Rattle.ul_interner.specs.Rule.{Body, view, Fits, HasLogs, Kept, TakesTurn, Looks, IsPublish, Grows, Gives, longer, merged, Settles}
+use Rattle.ul_interner.specs.Rule.{Body, view, Fits, HasLogs, Kept, TakesTurn, Looks, IsPublish, Grows, Gives, longer, merged_logs, Settles}
 use Rattle.ul_interner.proofs.Lists.{some_is, some_not, heads, tails, begins_refl, begins_more, begins_nothing, shorter, at_past, at_empty, at_map, length_map, knows_refl, knows_trans, knows_nothing, knows_set, set_knows}
 use Rattle.ul_interner.proofs.Seen.{stands_on, MayGrow, logs_grown, takes_grown, logs_begin}
 
@@ -69,7 +69,7 @@ module _ {L : Type 0} where
   held : (vs : List (View L)) (id j : ℕ) (v u : View L) → get_elem? vs id ≡ some v → get_elem? vs j ≡ some u → j ≡ id → v.holds ≡ u.holds
   held vs id j v u here e is = ap (λ (y : View L). y.holds) (some-injective v u (sym here ∙ (ap (get_elem? vs) (sym is) ∙ e)))
 
-  pub length-merged : (xs ys : List (List (Marked L))) → length (merged xs ys) ≡ length xs
+  pub length-merged : (xs ys : List (List (Marked L))) → length (merged_logs xs ys) ≡ length xs
   length-merged [] ys = refl
   length-merged (x ∷ xs) [] = refl
   length-merged (x ∷ xs) (y ∷ ys) = ap suc (length-merged xs ys)
@@ -81,21 +81,21 @@ module _ {L : Type 0} where
   none_longer : (x : List (Marked L)) → longer x [] ≡ x
   none_longer x = ap (λ z. cond z [] x) (le-ltb (length x) 0 (omega arith))
 
-  at_merged : (xs ys : List (List (Marked L))) (k : ℕ) → k < length xs → at (merged xs ys) k ≡ longer (at xs k) (at ys k)
+  at_merged : (xs ys : List (List (Marked L))) (k : ℕ) → k < length xs → at (merged_logs xs ys) k ≡ longer (at xs k) (at ys k)
   at_merged [] ys k l = absurd (omega arith)
   at_merged (x ∷ xs) [] zero l = sym (none_longer x)
   at_merged (x ∷ xs) [] (suc k) l = sym (none_longer (at xs k))
   at_merged (x ∷ xs) (y ∷ ys) zero l = refl
   at_merged (x ∷ xs) (y ∷ ys) (suc k) l = at_merged xs ys k (omega arith)
 
-  merges : (xs ys zs : List (List (Marked L))) → AllBegin xs zs → AllBegin ys zs → AllBegin xs (merged xs ys) × (length ys ≤ length xs → AllBegin ys (merged xs ys)) × AllBegin (merged xs ys) zs
+  merges : (xs ys zs : List (List (Marked L))) → AllBegin xs zs → AllBegin ys zs → AllBegin xs (merged_logs xs ys) × (length ys ≤ length xs → AllBegin ys (merged_logs xs ys)) × AllBegin (merged_logs xs ys) zs
   merges xs ys zs a b =
-      let each : (k : ℕ) → k < length xs → Begins (at xs k) (at (merged xs ys) k) × Begins (at ys k) (at (merged xs ys) k) × Begins (at (merged xs ys) k) (at zs k) = λ k l.
+      let each : (k : ℕ) → k < length xs → Begins (at xs k) (at (merged_logs xs ys) k) × Begins (at ys k) (at (merged_logs xs ys) k) × Begins (at (merged_logs xs ys) k) (at zs k) = λ k l.
       subst (λ z. Begins (at xs k) z × Begins (at ys k) z × Begins z (at zs k)) (sym (at_merged xs ys k l))
       (longer_of (at xs k) (at ys k) (at zs k) (a k) (b k) (ltb (length (at xs k)) (length (at ys k))) refl) in (
-        (λ k. dite (dec_lt k (length xs)) (λ l. (each k l).0) (λ no. begins_nothing (at xs k) (at (merged xs ys) k) (at_past xs k (omega (arith, no))))),
-        (λ short k. dite (dec_lt k (length xs)) (λ l. (each k l).1) (λ no. begins_nothing (at ys k) (at (merged xs ys) k) (at_past ys k (omega (arith, no, short))))),
-        (λ k. dite (dec_lt k (length xs)) (λ l. (each k l).2) (λ no. begins_nothing (at (merged xs ys) k) (at zs k) (at_past (merged xs ys) k (omega (arith, no, length-merged xs ys))))),
+        (λ k. dite (dec_lt k (length xs)) (λ l. (each k l).0) (λ no. begins_nothing (at xs k) (at (merged_logs xs ys) k) (at_past xs k (omega (arith, no))))),
+        (λ short k. dite (dec_lt k (length xs)) (λ l. (each k l).1) (λ no. begins_nothing (at ys k) (at (merged_logs xs ys) k) (at_past ys k (omega (arith, no, short))))),
+        (λ k. dite (dec_lt k (length xs)) (λ l. (each k l).2) (λ no. begins_nothing (at (merged_logs xs ys) k) (at zs k) (at_past (merged_logs xs ys) k (omega (arith, no, length-merged xs ys))))),
       )
 
   module _ (f : L → ℕ) (n : ℕ) where
@@ -355,13 +355,13 @@ module _ {L : Type 0} where
     settles slots id me all s r _ here small =
         let v : View L = me.0 in
         let fit = r.1.fits id v here in
-        let w : View L = view (merged v.logs v.told) [] v.holds v.hand in
+        let w : View L = view (merged_logs v.logs v.told) [] v.holds v.hand in
         let m = merges v.logs v.told r.0 fit.seen fit.told in (
           w,
           keeps,
           tt,
           (r.0, unmoved s r.0 r.1 id 0 me.1 v w here refl record { seen = m.2; told = knows_nothing [] r.0 (λ k. refl); turn = fit.turn }),
-          (refl, m.0, m.1, subst (λ z. AreSeen f z (merged v.logs v.told)) (sym all) record { all = r.0; are = r.1.are; begins = m.2 }),
+          (refl, m.0, m.1, subst (λ z. AreSeen f z (merged_logs v.logs v.told)) (sym all) record { all = r.0; are = r.1.are; begins = m.2 }),
         )
 
     abbrev empty : Body L

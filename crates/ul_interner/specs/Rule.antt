@@ -87,14 +87,14 @@ module _ {L : Type 0} where
   abbrev pub longer : List (Marked L) → List (Marked L) → List (Marked L)
   longer xs ys = cond (ltb (length xs) (length ys)) ys xs
 
-  abbrev pub merged : List (List (Marked L)) → List (List (Marked L)) → List (List (Marked L))
-  merged [] ys = []
-  merged (x ∷ xs) [] = x ∷ xs
-  merged (x ∷ xs) (y ∷ ys) = longer x y ∷ merged xs ys
+  abbrev pub merged_logs : List (List (Marked L)) → List (List (Marked L)) → List (List (Marked L))
+  merged_logs [] ys = []
+  merged_logs (x ∷ xs) [] = x ∷ xs
+  merged_logs (x ∷ xs) (y ∷ ys) = longer x y ∷ merged_logs xs ys
 
   -- what was told is taken in, and each log begins with what was seen and what was told of it
   abbrev pub Settles : (L → ℕ) → Step (Body L) → Me (Body L) (View L) → ℕ → Me (Body L) (View L) → Type 0
-  Settles f st m r m' = (m' ≡ (view (merged m.0.logs m.0.told) [] m.0.holds m.0.hand, m.1))
+  Settles f st m r m' = (m' ≡ (view (merged_logs m.0.logs m.0.told) [] m.0.holds m.0.hand, m.1))
       × AllBegin m.0.logs m'.0.logs × (length m.0.told ≤ length m.0.logs → AllBegin m.0.told m'.0.logs) × AreSeen f st.slots m'.0.logs
 
   -- the seat once the turn of shard k is taken, with which this body comes

@@ -38,7 +38,8 @@ fn four_drawers(
 ) -> Result<Vec<Drawer>, AllocError>
     requires { (first.claims ≡ claims.now) × (3 < first.parts) × (first.drawn ≡ []) }
     ensures some { IfOk result (λ v. 0 < vec_len v) }
-    ensures fresh { IfOk result (λ v. All (λ d. (d.seat.claims ≡ claims.now) × (d.seat.drawn ≡ []) × (d.claims ≡ 0)) v.items) }
+    ensures fresh { IfOk result (λ v. All
+        (λ d. (d.seat.claims ≡ claims.now) × (d.seat.drawn ≡ []) × (d.claims ≡ 0)) v.items) }
 {
     let mut drawers = Vec::new(alloc);
     drawers.push(make_drawer(claims.split(alloc, &mut first)?))?;

@@ -8,7 +8,7 @@ use Rattle.std.proofs.lemmas.Bool.Decides.{nat_tests}
 use Rattle.std.proofs.lemmas.Grind.{common_steps}
 use Rattle.std.proofs.lemmas.List.{length-append, take_at, drop_at, take-append-drop}
 use Rattle.std.proofs.lemmas.Slice.Eq.{bytes_eq-Decides}
-use Rattle.ul_lines.specs.Pieces.{has, strip, onto, until, cut_end, inside, enclosed}
+use Rattle.ul_lines.specs.Pieces.{has, strip, onto, until, cut_end, inside, inner_and_rest}
 
 -- ---- tools
 
@@ -100,13 +100,13 @@ pub inside_again : (front end t : List ℕ) → inside front end (front ++ (t ++
 inside_again front end t = ap (option_and_then (cut_end end)) (strip_again front (t ++ end)) ∙ cut_again end t
 
 -- a front, a text, the byte and the rest
-pub enclosed_is : (front : List ℕ) (c : ℕ) (b : List ℕ) (p : List ℕ × List ℕ) → enclosed front c b ≡ Some p → (front ++ (p.0 ++ c ∷ p.1) ≡ b) × (has c p.0 ≡ false)
+pub enclosed_is : (front : List ℕ) (c : ℕ) (b : List ℕ) (p : List ℕ × List ℕ) → inner_and_rest front c b ≡ Some p → (front ++ (p.0 ++ c ∷ p.1) ≡ b) × (has c p.0 ≡ false)
 enclosed_is front c b p e =
     let r = bind_some (strip front b) (until c) p e in
     let u = until_is c r.0 p.0 p.1 r.2 in
     (ap (λ z. front ++ z) u.0 ∙ strip_is front b r.0 r.1, u.1)
 
-pub enclosed_again : (front : List ℕ) (c : ℕ) (t r : List ℕ) → has c t ≡ false → enclosed front c (front ++ (t ++ c ∷ r)) ≡ Some (t, r)
+pub enclosed_again : (front : List ℕ) (c : ℕ) (t r : List ℕ) → has c t ≡ false → inner_and_rest front c (front ++ (t ++ c ∷ r)) ≡ Some (t, r)
 enclosed_again front c t r h = ap (option_and_then (until c)) (strip_again front (t ++ c ∷ r)) ∙ until_again c t r h
 
 -- a byte that doesn't pass the test stands in no text of which each byte does

@@ -1,6 +1,6 @@
 -- Worked examples of pieces and lines.
 use Rattle.std.specs.Prelude.{◌≡◌, [], ◌∷◌, ◌++◌, codes, Some, None}
-use Rattle.ul_lines.specs.Pieces.{strip, until, inside, enclosed, optional_part}
+use Rattle.ul_lines.specs.Pieces.{strip, until, inside, inner_and_rest, optional_part}
 use Rattle.ul_lines.specs.Lines.{lines_of}
 
 -- a front, a byte and an end are found where they stand
@@ -12,7 +12,7 @@ pub record PieceExamples : Type 0 where
   pub between : inside (codes "(") (codes ")") (codes "(a)b)") ≡ Some (codes "a)b")
   pub nothing_between : inside (codes "(") (codes ")") (codes "()") ≡ Some []
   pub too_short : inside (codes "ab") (codes "bc") (codes "abc") ≡ None
-  pub first_stop : enclosed (codes "'") 39 (codes "'a'b'") ≡ Some (codes "a", codes "b'")
+  pub first_stop : inner_and_rest (codes "'") 39 (codes "'a'b'") ≡ Some (codes "a", codes "b'")
   pub part : optional_part (codes ",") 59 (codes ",a;b") ≡ Some (Some (codes "a"), codes "b")
   pub no_part : optional_part (codes ",") 59 (codes "a;b") ≡ Some (None, codes "a;b")
   pub open_part : optional_part (codes ",") 59 (codes ",a") ≡ None

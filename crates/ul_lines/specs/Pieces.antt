@@ -30,8 +30,8 @@ abbrev pub inside : List ℕ → List ℕ → List ℕ → Option (List ℕ)
 inside front end text = option_and_then (cut_end end) (strip front text)
 
 -- what stands behind the front up to the byte, and what behind it
-abbrev pub enclosed : List ℕ → ℕ → List ℕ → Option (List ℕ × List ℕ)
-enclosed front stop text = option_and_then (until stop) (strip front text)
+abbrev pub inner_and_rest : List ℕ → ℕ → List ℕ → Option (List ℕ × List ℕ)
+inner_and_rest front stop text = option_and_then (until stop) (strip front text)
 
 -- a text that is there, and what follows
 abbrev pub some_part : List ℕ × List ℕ → Option (List ℕ) × List ℕ

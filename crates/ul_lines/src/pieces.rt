@@ -1,7 +1,7 @@
 //! Pieces of a line. No function takes memory.
 
 ghost use Rattle.std.specs.Prelude.{◌≡◌, ℕ, List, bytes_eq, option_map};
-ghost use Rattle.ul_lines.specs.Pieces.{strip, until, enclosed, optional_part, cut_end, inside};
+ghost use Rattle.ul_lines.specs.Pieces.{strip, until, inner_and_rest, optional_part, cut_end, inside};
 
 /// Whether two texts are the same bytes.
 pub fn same(a: &[u8], b: &[u8]) -> bool
@@ -43,7 +43,7 @@ pub fn divided(text: &[u8], stop: u8) -> Option<(&[u8], &[u8])>
 
 /// What stands behind a front up to a byte, and what behind that byte.
 pub fn enclosed_text<'a>(text: &'a [u8], front: &[u8], stop: u8) -> Option<(&'a [u8], &'a [u8])>
-    ensures { option_map (λ p. (p.0.now, p.1.now)) result ≡ enclosed front.now stop text.now }
+    ensures { option_map (λ p. (p.0.now, p.1.now)) result ≡ inner_and_rest front.now stop text.now }
 {
     match stripped(text, front) {
         None => None,

@@ -6,7 +6,7 @@ use Rattle.std.proofs.lemmas.Bool.{cases_lt}
 use Rattle.ul_version.specs.Reading.{◌>>=◌}
 use Rattle.ul_marker.specs.Comparisons.{comparison_of}
 use Rattle.ul_marker.specs.Formulas.{Formula, formulas_of}
-use Rattle.ul_marker.specs.Reading.{atom_at, before_close, chain_at, chain_with, cuts, each, enclosed, is_close, is_open, join, joined, onto_first, opened, part_at, pieces_from}
+use Rattle.ul_marker.specs.Reading.{atom_at, before_close, chain_at, chain_with, cuts, each, inner_tokens, is_close, is_open, join, chain_formula, onto_first, open_count, part_at, pieces_from}
 use Rattle.ul_marker.specs.Readers.{added_formulas}
 use Rattle.ul_marker.specs.declared.reading.Chain.{Chain}
 use Rattle.ul_marker.specs.declared.reading.Chain.TheVariants.{Conjunction, Disjunction}
@@ -51,17 +51,17 @@ pieces-cut chain n xs i t lt is h so = so ∙ rw (drop_more xs i t lt, ← is, h
 
 pub pieces-next : (chain : Chain) (n : ℕ) (xs : List Token) (i : ℕ) (t : Token) → i < length xs → t ≡ get_or xs i t → cuts chain n t ≡ false
     → pieces_from chain 0 xs ≡ before_first (take i xs) (pieces_from chain n (drop i xs))
-    → pieces_from chain 0 xs ≡ before_first (take (i + 1) xs) (pieces_from chain (opened t n) (drop (i + 1) xs))
+    → pieces_from chain 0 xs ≡ before_first (take (i + 1) xs) (pieces_from chain (open_count t n) (drop (i + 1) xs))
 unfolding pieces_from
 pieces-next chain n xs i t lt is h so =
-    so ∙ rw (drop_more xs i t lt, take_more xs i t lt, ← is, h) (first-push (take i xs) t (pieces_from chain (opened t n) (drop (i + 1) xs)))
+    so ∙ rw (drop_more xs i t lt, take_more xs i t lt, ← is, h) (first-push (take i xs) t (pieces_from chain (open_count t n) (drop (i + 1) xs)))
 
 pub pieces-end : (chain : Chain) (n : ℕ) (xs : List Token) (i : ℕ) → length xs ≤ i
     → pieces_from chain 0 xs ≡ before_first (take i xs) (pieces_from chain n (drop i xs)) → pieces_from chain 0 xs ≡ xs ∷ []
 unfolding pieces_from
 pieces-end chain n xs i le so = so ∙ rw (drop_all i xs le, take_all i xs le, append-nil xs) refl
 
-pub opened-le : (t : Token) (n : ℕ) → opened t n ≤ n + 1
+pub opened-le : (t : Token) (n : ℕ) → open_count t n ≤ n + 1
 opened-le Open n = omega arith
 opened-le Close n = omega arith
 opened-le And n = omega arith
@@ -93,8 +93,8 @@ open-last u (t ∷ ts) n last e is h =
     let next : last ≡ get_or (t ∷ ts) (length ts) last = rw e at is in
     rw (open-last t ts (length ts) last refl next h) refl
 
-pub enclosed-short : (xs : List Token) → length xs ≤ 1 → enclosed xs ≡ None
-unfolding enclosed before_close
+pub enclosed-short : (xs : List Token) → length xs ≤ 1 → inner_tokens xs ≡ None
+unfolding inner_tokens before_close
 enclosed-short [] h = refl
 enclosed-short (t ∷ []) h = either (is_open t)
   where
@@ -107,14 +107,14 @@ enclosed-short (t ∷ u ∷ ts) h = absurd (omega arith)
 two-less : (t u : Token) (ts : List Token) → length (t ∷ u ∷ ts) - 1 ≡ suc (length ts)
 two-less t u ts = omega arith
 
-pub enclosed-open : (xs : List Token) (first : Token) → 2 ≤ length xs → first ≡ get_or xs 0 first → is_open first ≡ false → enclosed xs ≡ None
-unfolding enclosed
+pub enclosed-open : (xs : List Token) (first : Token) → 2 ≤ length xs → first ≡ get_or xs 0 first → is_open first ≡ false → inner_tokens xs ≡ None
+unfolding inner_tokens
 enclosed-open [] first h is e = absurd (omega arith)
 enclosed-open (t ∷ ts) first h is e = let same : first ≡ t = is in rw (← same, e) refl
 
 pub enclosed-close : (xs : List Token) (first last : Token) → 2 ≤ length xs → first ≡ get_or xs 0 first → is_open first ≡ true
-    → last ≡ get_or xs (length xs - 1) last → is_close last ≡ false → enclosed xs ≡ None
-unfolding enclosed
+    → last ≡ get_or xs (length xs - 1) last → is_close last ≡ false → inner_tokens xs ≡ None
+unfolding inner_tokens
 enclosed-close [] first last h is e at other = absurd (omega arith)
 enclosed-close (t ∷ []) first last h is e at other = absurd (omega arith)
 enclosed-close (t ∷ u ∷ ts) first last h is e at other =
@@ -123,8 +123,8 @@ enclosed-close (t ∷ u ∷ ts) first last h is e at other =
     rw (← same, e) (open-last u ts (length ts) last refl place other)
 
 pub enclosed-both : (xs : List Token) (first last : Token) → 2 ≤ length xs → first ≡ get_or xs 0 first → is_open first ≡ true
-    → last ≡ get_or xs (length xs - 1) last → is_close last ≡ true → enclosed xs ≡ Some (take (length xs - 1 - 1) (drop 1 xs))
-unfolding enclosed
+    → last ≡ get_or xs (length xs - 1) last → is_close last ≡ true → inner_tokens xs ≡ Some (take (length xs - 1 - 1) (drop 1 xs))
+unfolding inner_tokens
 enclosed-both [] first last h is e at both = absurd (omega arith)
 enclosed-both (t ∷ []) first last h is e at both = absurd (omega arith)
 enclosed-both (t ∷ u ∷ ts) first last h is e at both =
@@ -160,7 +160,7 @@ each-none read fs pieces piece rest e is = rw (e, is) refl
 
 -- ---- joined formulas
 
-pub joined-more : (chain : Chain) (fs : List Formula) → (length fs ≡ 1 → ⊥) → joined chain fs ≡ join chain (formulas_of fs)
+pub joined-more : (chain : Chain) (fs : List Formula) → (length fs ≡ 1 → ⊥) → chain_formula chain fs ≡ join chain (formulas_of fs)
 joined-more chain [] h = refl
 joined-more chain (f ∷ []) h = absurd (h (omega arith))
 joined-more chain (f ∷ g ∷ fs) h = refl
@@ -184,22 +184,22 @@ unfolding chain_at chain_with
 chain-none chain depth tokens e = rw e refl
 
 pub chain-some : (chain : Chain) (depth : ℕ) (tokens : List Token) (fs : List Formula) → each (part_at chain depth) (pieces_from chain 0 tokens) ≡ Some fs
-    → chain_at chain depth tokens ≡ Some (joined chain fs)
+    → chain_at chain depth tokens ≡ Some (chain_formula chain fs)
 unfolding chain_at chain_with
 chain-some chain depth tokens fs e = rw e refl
 
 -- ---- atoms
 
-pub atom-comparison : (depth : ℕ) (tokens : List Token) → enclosed tokens ≡ None → atom_at depth tokens ≡ comparison_of tokens
+pub atom-comparison : (depth : ℕ) (tokens : List Token) → inner_tokens tokens ≡ None → atom_at depth tokens ≡ comparison_of tokens
 unfolding atom_at
 atom-comparison zero tokens e = rw e refl
 atom-comparison (suc depth) tokens e = rw e refl
 
-pub atom-too_deep : (depth : ℕ) (tokens inner : List Token) → depth ≡ 0 → enclosed tokens ≡ Some inner → atom_at depth tokens ≡ None
+pub atom-too_deep : (depth : ℕ) (tokens inner : List Token) → depth ≡ 0 → inner_tokens tokens ≡ Some inner → atom_at depth tokens ≡ None
 unfolding atom_at
 atom-too_deep zero tokens inner h e = rw e refl
 atom-too_deep (suc depth) tokens inner h e = absurd (omega arith)
 
-pub atom-inside : (depth less : ℕ) (tokens inner : List Token) → depth ≡ suc less → enclosed tokens ≡ Some inner → atom_at depth tokens ≡ chain_at Disjunction less inner
+pub atom-inside : (depth less : ℕ) (tokens inner : List Token) → depth ≡ suc less → inner_tokens tokens ≡ Some inner → atom_at depth tokens ≡ chain_at Disjunction less inner
 unfolding atom_at chain_at part_at
 atom-inside depth less tokens inner h e = rw (h, e) refl

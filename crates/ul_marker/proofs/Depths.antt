@@ -4,7 +4,7 @@ use Rattle.ul_version.specs.Reading.{◌>>=◌}
 use Rattle.ul_specifier.specs.declared.clause.Op.{Op}
 use Rattle.ul_marker.specs.Formulas.{Formula}
 use Rattle.ul_marker.specs.Grammar.{AreJoined, IsAtomOf, IsComparison, IsConjunction, IsDisjunction, IsMarker, comparison, literal_in, literal_not_in, literal_sign, parenthesized, variable_in, variable_not_in, variable_sign}
-use Rattle.ul_marker.specs.Reading.{chain_at, marker_in, opened}
+use Rattle.ul_marker.specs.Reading.{chain_at, marker_in, open_count}
 use Rattle.ul_marker.specs.declared.reading.Chain.TheVariants.{Disjunction}
 use Rattle.ul_marker.specs.declared.words.Token.{Token}
 use Rattle.ul_marker.specs.declared.words.Token.TheVariants.{Open, Close, And, Or, In, Not, Sign, Literal}
@@ -14,19 +14,19 @@ use Rattle.ul_marker.proofs.Tokens.{onto}
 -- how many parentheses are open after tokens
 abbrev pub level_after : ℕ → List Token → ℕ
 level_after n [] = n
-level_after n (t ∷ ts) = level_after (opened t n) ts
+level_after n (t ∷ ts) = level_after (open_count t n) ts
 
 -- how many are open at most
 abbrev peak : ℕ → List Token → ℕ
 peak n [] = n
-peak n (t ∷ ts) = max n (peak (opened t n) ts)
+peak n (t ∷ ts) = max n (peak (open_count t n) ts)
 
 level-append : (n : ℕ) (ts us : List Token) → level_after n (ts ++ us) ≡ level_after (level_after n ts) us
 level-append n [] us = refl
-level-append n (t ∷ ts) us = level-append (opened t n) ts us
+level-append n (t ∷ ts) us = level-append (open_count t n) ts us
 
 -- one token more
-pub level-push : (n : ℕ) (ts : List Token) (t : Token) → level_after n (ts ++ t ∷ []) ≡ opened t (level_after n ts)
+pub level-push : (n : ℕ) (ts : List Token) (t : Token) → level_after n (ts ++ t ∷ []) ≡ open_count t (level_after n ts)
 level-push n ts t = level-append n ts (t ∷ [])
 
 peak-own : (n : ℕ) (ts : List Token) → n ≤ peak n ts
@@ -35,11 +35,11 @@ peak-own n (t ∷ ts) = omega arith
 
 peak-least : (n : ℕ) (ts us : List Token) → level_after n ts ≤ peak n (ts ++ us)
 peak-least n [] us = peak-own n us
-peak-least n (t ∷ ts) us = let more = peak-least (opened t n) ts us in omega arith
+peak-least n (t ∷ ts) us = let more = peak-least (open_count t n) ts us in omega arith
 
 peak-most : (n m : ℕ) (ts us : List Token) → peak n ts ≤ m → peak (level_after n ts) us ≤ m → peak n (ts ++ us) ≤ m
 peak-most n m [] us a b = b
-peak-most n m (t ∷ ts) us a b = let more = peak-most (opened t n) m ts us (omega arith) b in omega arith
+peak-most n m (t ∷ ts) us a b = let more = peak-most (open_count t n) m ts us (omega arith) b in omega arith
 
 -- tokens leave no parenthesis open, and nest so deep at most
 record Nests (depth n : ℕ) (ts : List Token) : Type 0 where
@@ -51,8 +51,8 @@ none-nests depth n = record { most = omega arith; level = refl }
 
 still-nests : (depth n : ℕ) (t : Token) (ts : List Token) → IsStill t → Nests depth n ts → Nests depth n (t ∷ ts)
 still-nests depth n t ts s h =
-    let most : peak (opened t n) ts ≤ n + depth = rw (s.level n) h.most in
-    let level : level_after (opened t n) ts ≡ n = rw (s.level n) h.level in
+    let most : peak (open_count t n) ts ≤ n + depth = rw (s.level n) h.most in
+    let level : level_after (open_count t n) ts ≡ n = rw (s.level n) h.level in
     record { most = omega arith; level = level }
 
 append-nests : (depth n : ℕ) (ts us : List Token) → Nests depth n ts → Nests depth n us → Nests depth n (ts ++ us)
@@ -104,14 +104,14 @@ flat-nests : AllNest zero (IsAtomOf (λ inner f. ⊥))
 flat-nests n ts f (parenthesized inner shape h) = absurd h
 flat-nests n ts f (comparison h) = comparison-nests zero n ts f h
 
-joined-nest : (depth : ℕ) (between : Token) (Part : List Token → Formula → Type 0) → ((n : ℕ) → opened between n ≡ n) → AllNest depth Part
+joined-nest : (depth : ℕ) (between : Token) (Part : List Token → Formula → Type 0) → ((n : ℕ) → open_count between n ≡ n) → AllNest depth Part
     → (n : ℕ) (fs : List Formula) (ts : List Token) → AreJoined Part between ts fs → Nests depth n ts
 joined-nest depth between Part still nests n [] ts h = absurd h
 joined-nest depth between Part still nests n (f ∷ []) ts h = nests n ts f h
 joined-nest depth between Part still nests n (f ∷ g ∷ fs) ts (piece, rest, part, others, shape) =
     let after = joined-nest depth between Part still nests n (g ∷ fs) rest others in
-    let most : peak (opened between n) rest ≤ n + depth = rw (still n) after.most in
-    let level : level_after (opened between n) rest ≡ n = rw (still n) after.level in
+    let most : peak (open_count between n) rest ≤ n + depth = rw (still n) after.most in
+    let level : level_after (open_count between n) rest ≡ n = rw (still n) after.level in
     let next : Nests depth n (between ∷ rest) = record { most = omega arith; level = level } in
     rw shape (append-nests depth n piece (between ∷ rest) (nests n piece f part) next)
 

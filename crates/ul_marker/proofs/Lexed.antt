@@ -9,7 +9,7 @@ use Rattle.std.proofs.lemmas.List.{append_assoc, append-nil, length-append}
 use Rattle.std.proofs.lemmas.List.Prefix.{front_rest}
 use Rattle.ul_version.specs.Reading.{◌>>=◌, begins, is_white}
 use Rattle.ul_specifier.specs.Grammar.{operator_text}
-use Rattle.ul_specifier.specs.Reading.{after_all, before_all, is_blank, stripped, unless_last}
+use Rattle.ul_specifier.specs.Reading.{after_all, before_all, is_blank, trimmed_text, unless_last}
 use Rattle.ul_specifier.specs.declared.clause.Op.{Op}
 use Rattle.ul_specifier.specs.declared.clause.Op.TheVariants.{Equal, Unequal, AtLeast, AtMost, More, Less, Compatible}
 use Rattle.ul_specifier.proofs.ForCallers.{is_equals, operator-read}

@@ -11,21 +11,21 @@ use Rattle.std.proofs.lemmas.List.Elements.{All-cons, All-head, All-nil, All-tai
 use Rattle.ul_version.specs.Fields.{IsNumber64, IsSegment, IsVersion, plain}
 use Rattle.ul_version.specs.Reading.{◌>>=◌, begins, is_white}
 use Rattle.ul_version.specs.Texts.{is_text_byte, version_text}
-use Rattle.ul_version.proofs.LawProofs.{plain as plain_text}
+use Rattle.ul_version.proofs.ForCallers.{plain as plain_text}
 use Rattle.ul_base.specs.Names.{name_of}
 use Rattle.ul_specifier.specs.Clauses.{ClauseFields, IsClause}
 use Rattle.ul_specifier.specs.Grammar.{operator_text}
-use Rattle.ul_specifier.specs.Reading.{after_all, before_all, clause_with, is_blank, stripped, unless_last}
+use Rattle.ul_specifier.specs.Reading.{after_all, before_all, clause_with, is_blank, trimmed_text, unless_last}
 use Rattle.ul_specifier.specs.declared.clause.Op.{Op}
 use Rattle.ul_specifier.specs.declared.clause.Op.TheVariants.{Equal, Unequal, AtLeast, AtMost, More, Less}
 use Rattle.ul_specifier.proofs.ForCallers.{all-weaker, before_all-kept, clause-read}
 use Rattle.ul_marker.specs.Atoms.{AtomFields, IsAtom, has_byte, is_implementation_version, is_literal, is_literal_byte, is_text, may_compare}
-use Rattle.ul_marker.specs.Comparisons.{comparison_of, contained, extra_literal, python_full, signed, text_sign, within}
+use Rattle.ul_marker.specs.Comparisons.{comparison_of, containment, extra_literal, python_full, sign_formula, text_sign, within}
 use Rattle.ul_marker.specs.Formulas.{Formula, IsExtraLiteral, extra, python, opaque}
 use Rattle.ul_marker.specs.Grammar.{AreJoined, IsAtomOf, IsChain, IsConjunction, IsDisjunction, IsMarker, Spells}
 use Rattle.ul_marker.specs.Printed.{Comparison, IsComparison, atom_text, bound, bound_clause, bound_op, bound_sign, comparison_formula, comparison_text, equality_sign, extra_is, interpreter_text, kind_sign, atom_is, quote_of, quoted_text, sides, text_is, variable_name}
 use Rattle.ul_marker.specs.PrintedPaths.{ComparisonReads, IsPath, PathsRead, path_formula, path_text, paths_formula, paths_text}
-use Rattle.ul_marker.specs.Reading.{joined, marker_of}
+use Rattle.ul_marker.specs.Reading.{chain_formula, marker_of}
 use Rattle.ul_marker.specs.Words.{is_word_byte, tokens_in, tokens_of}
 use Rattle.ul_marker.specs.declared.reading.Chain.TheVariants.{Conjunction, Disjunction}
 use Rattle.ul_marker.specs.declared.variable.AtomKind.{AtomKind}
@@ -170,7 +170,7 @@ version-either ImplementationVersion h = (refl, refl)
 
 atom-says : (kind : AtomKind) (v : Variable) (literal : List ℕ) (holds : Bool) → may_compare kind v ≡ true
     → comparison_of (atom_tokens kind v literal holds) ≡ Some (opaque (record { variable = v; kind = kind; literal = literal }) holds)
-unfolding comparison_of contained within signed
+unfolding comparison_of containment within sign_formula
 atom-says Contains v literal true h = refl
 atom-says Contains v literal false h = refl
 atom-says Within v literal true h = rw (text-not-python v h) refl
@@ -183,7 +183,7 @@ atom-says Same v literal true h = let is = version-either v h in rw (text-not-py
 atom-says Same v literal false h = let is = version-either v h in rw (text-not-python v is.0, is.1) refl
 
 says : (c : Comparison) → IsComparison c → comparison_of (printed_tokens c) ≡ Some (comparison_formula c)
-unfolding comparison_of signed
+unfolding comparison_of sign_formula
 says (bound true major minor patch) is = rw (bound-read true major minor patch is.0 is.1 is.2) refl
 says (bound false major minor patch) is = rw (bound-read false major minor patch is.0 is.1 is.2) refl
 says (extra_is literal true) is = rw (own-literal literal is) refl
@@ -438,7 +438,7 @@ front-kept : (text : List ℕ) → begins is_white text ≡ false → after_all 
 front-kept [] e = refl
 front-kept (b ∷ text) e = rw e refl
 
-kept-whole : (text : List ℕ) → begins is_white text ≡ false → EndsWell text → stripped is_white text ≡ text
+kept-whole : (text : List ℕ) → begins is_white text ≡ false → EndsWell text → trimmed_text is_white text ≡ text
 kept-whole text e (front, b, ends, h) =
     ap (before_all is_white) (front-kept text e) ∙ ap (before_all is_white) ends ∙ before_all-kept is_white front b h ∙ sym ends
 

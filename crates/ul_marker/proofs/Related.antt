@@ -7,14 +7,14 @@ use Rattle.ul_version.specs.Reading.{◌>>=◌, is_white, version_of}
 use Rattle.ul_version.proofs.ForCallers.{inside}
 use Rattle.ul_specifier.specs.Clauses.{ClauseFields, is_bare}
 use Rattle.ul_specifier.specs.Laws.{meets_with}
-use Rattle.ul_specifier.specs.Reading.{before_end, clause_after, clause_with, is_version_byte, may_stand, star_of, starred, stripped, unstarred, version_clause}
+use Rattle.ul_specifier.specs.Reading.{before_end, clause_after, clause_with, is_version_byte, may_stand, star_of, star_clause, trimmed_text, plain_clause, version_clause}
 use Rattle.ul_specifier.specs.declared.clause.Op.{Op}
 use Rattle.ul_specifier.specs.declared.clause.Op.TheVariants.{Equal, Unequal, AtLeast, AtMost, More, Less}
 use Rattle.ul_specifier.proofs.ForCallers as Clauses
 use Rattle.ul_marker.specs.Atoms.{is_text}
-use Rattle.ul_marker.specs.Comparisons.{comparison_of, contained, mirrored, opaquely, parts_versions, python_full, python_sign, python_within, signed, text_sign, versions_of, within}
+use Rattle.ul_marker.specs.Comparisons.{comparison_of, containment, mirror_sign, opaquely, parts_versions, python_full, python_sign, python_within, sign_formula, text_sign, versions_of, within}
 use Rattle.ul_marker.specs.Formulas.{Formula, python, python_list, text}
-use Rattle.ul_marker.specs.Reading.{atom_at, before_close, chain_at, chain_with, each, enclosed, joined, marker_of, part_at, pieces_from}
+use Rattle.ul_marker.specs.Reading.{atom_at, before_close, chain_at, chain_with, each, inner_tokens, chain_formula, marker_of, part_at, pieces_from}
 use Rattle.ul_marker.specs.ReadingLaws.{AreOpposed, HasTokens, MirroredIsSame, NegatedRelations, NotInIsNegation, subject}
 use Rattle.ul_marker.specs.Truth.{python_release}
 use Rattle.ul_marker.specs.declared.reading.Chain.{Chain}
@@ -31,55 +31,55 @@ single : (chain : Chain) (read : List Token → Option Formula) (ts : List Token
 unfolding chain_with each
 single chain read ts e = rw e (go (read ts))
   where
-    go : (answer : Option Formula) → ((answer >>= λ f. Some (f ∷ [])) >>= λ fs. Some (joined chain fs)) ≡ answer
+    go : (answer : Option Formula) → ((answer >>= λ f. Some (f ∷ [])) >>= λ fs. Some (chain_formula chain fs)) ≡ answer
     go None = refl
     go (Some f) = refl
 
 -- tokens in which nothing joins and nothing is enclosed are read as a comparison
-pub sole : (ts : List Token) → pieces_from Conjunction 0 ts ≡ ts ∷ [] → pieces_from Disjunction 0 ts ≡ ts ∷ [] → enclosed ts ≡ None
+pub sole : (ts : List Token) → pieces_from Conjunction 0 ts ≡ ts ∷ [] → pieces_from Disjunction 0 ts ≡ ts ∷ [] → inner_tokens ts ≡ None
     → chain_at Disjunction 64 ts ≡ comparison_of ts
 unfolding chain_at part_at
 sole ts p q e =
     single Disjunction (part_at Disjunction 64) ts q ∙ single Conjunction (atom_at 64) ts p ∙ atom-comparison 64 ts e
 
 read-tokens : (input : List ℕ) (ts : List Token) → HasTokens input ts → pieces_from Conjunction 0 ts ≡ ts ∷ [] → pieces_from Disjunction 0 ts ≡ ts ∷ []
-    → enclosed ts ≡ None → marker_of input ≡ comparison_of ts
+    → inner_tokens ts ≡ None → marker_of input ≡ comparison_of ts
 unfolding marker_of
 read-tokens input ts h p q e = rw h (sole ts p q e)
 
 sign-right : (input : List ℕ) (variable : Option Variable) (op : Op) (literal : List ℕ) → HasTokens input (subject variable ∷ Sign op ∷ Literal literal ∷ [])
-    → marker_of input ≡ signed (subject variable) op literal
-unfolding pieces_from enclosed before_close comparison_of
+    → marker_of input ≡ sign_formula (subject variable) op literal
+unfolding pieces_from inner_tokens before_close comparison_of
 sign-right input None op literal h = read-tokens input _ h refl refl refl
 sign-right input (Some v) op literal h = read-tokens input _ h refl refl refl
 
 sign-left : (input : List ℕ) (variable : Option Variable) (op : Op) (literal : List ℕ) → HasTokens input (Literal literal ∷ Sign op ∷ subject variable ∷ [])
-    → marker_of input ≡ (mirrored op >>= λ sign. signed (subject variable) sign literal)
-unfolding pieces_from enclosed before_close comparison_of
+    → marker_of input ≡ (mirror_sign op >>= λ sign. sign_formula (subject variable) sign literal)
+unfolding pieces_from inner_tokens before_close comparison_of
 sign-left input None op literal h = read-tokens input _ h refl refl refl
 sign-left input (Some v) op literal h = read-tokens input _ h refl refl refl
 
 in-right : (input : List ℕ) (variable : Option Variable) (literal : List ℕ) → HasTokens input (subject variable ∷ In ∷ Literal literal ∷ [])
     → marker_of input ≡ within true (subject variable) literal
-unfolding pieces_from enclosed before_close comparison_of
+unfolding pieces_from inner_tokens before_close comparison_of
 in-right input None literal h = read-tokens input _ h refl refl refl
 in-right input (Some v) literal h = read-tokens input _ h refl refl refl
 
 not-right : (input : List ℕ) (variable : Option Variable) (literal : List ℕ) → HasTokens input (subject variable ∷ Not ∷ In ∷ Literal literal ∷ [])
     → marker_of input ≡ within false (subject variable) literal
-unfolding pieces_from enclosed before_close comparison_of
+unfolding pieces_from inner_tokens before_close comparison_of
 not-right input None literal h = read-tokens input _ h refl refl refl
 not-right input (Some v) literal h = read-tokens input _ h refl refl refl
 
 in-left : (input : List ℕ) (variable : Option Variable) (literal : List ℕ) → HasTokens input (Literal literal ∷ In ∷ subject variable ∷ [])
-    → marker_of input ≡ contained true (subject variable) literal
-unfolding pieces_from enclosed before_close comparison_of
+    → marker_of input ≡ containment true (subject variable) literal
+unfolding pieces_from inner_tokens before_close comparison_of
 in-left input None literal h = read-tokens input _ h refl refl refl
 in-left input (Some v) literal h = read-tokens input _ h refl refl refl
 
 not-left : (input : List ℕ) (variable : Option Variable) (literal : List ℕ) → HasTokens input (Literal literal ∷ Not ∷ In ∷ subject variable ∷ [])
-    → marker_of input ≡ contained false (subject variable) literal
-unfolding pieces_from enclosed before_close comparison_of
+    → marker_of input ≡ containment false (subject variable) literal
+unfolding pieces_from inner_tokens before_close comparison_of
 not-left input None literal h = read-tokens input _ h refl refl refl
 not-left input (Some v) literal h = read-tokens input _ h refl refl refl
 
@@ -100,14 +100,14 @@ record Opposite (op other : Op) : Type 0 where
   stars : star_of op ≡ star_of other
   stand : (V : Fields) → may_stand op V ≡ may_stand other V
   without : (V : Fields) (release : List ℕ) → meets_with other V false (plain release) ≡ not (meets_with op V false (plain release))
-  starred : (V : Fields) (prefix : Bool) (release : List ℕ) → star_of op ≡ Some prefix → meets_with other V prefix (plain release) ≡ not (meets_with op V prefix (plain release))
+  star_clause : (V : Fields) (prefix : Bool) (release : List ℕ) → star_of op ≡ Some prefix → meets_with other V prefix (plain release) ≡ not (meets_with op V prefix (plain release))
 
 -- the formula of a clause
 abbrev clause-formula : Bool → Option ClauseFields → Option Formula
 clause-formula full part = part >>= λ clause. Some (python full clause)
 
-unstarred-opposed : (op other : Op) (full : Bool) (V : Fields) → Opposite op other → AreOpposed (clause-formula full (unstarred op V)) (clause-formula full (unstarred other V))
-unfolding unstarred
+unstarred-opposed : (op other : Op) (full : Bool) (V : Fields) → Opposite op other → AreOpposed (clause-formula full (plain_clause op V)) (clause-formula full (plain_clause other V))
+unfolding plain_clause
 unstarred-opposed op other full V o = rw (← o.stand V) (go (may_stand op V))
   where
     go : (b : Bool) → AreOpposed (clause-formula full (if b then Some (record { op = op; version = V; prefix = false }) else None))
@@ -115,8 +115,8 @@ unstarred-opposed op other full V o = rw (← o.stand V) (go (may_stand op V))
     go true = λ w x. o.without V (python_release full w)
     go false = tt
 
-starred-opposed : (op other : Op) (full : Bool) (V : Fields) → Opposite op other → AreOpposed (clause-formula full (starred op V)) (clause-formula full (starred other V))
-unfolding starred
+starred-opposed : (op other : Op) (full : Bool) (V : Fields) → Opposite op other → AreOpposed (clause-formula full (star_clause op V)) (clause-formula full (star_clause other V))
+unfolding star_clause
 starred-opposed op other full V o = rw (← o.stars) (go (star_of op) refl (is_bare V))
   where
     go : (star : Option Bool) → star_of op ≡ star → (b : Bool)
@@ -130,24 +130,24 @@ version-opposed : (op other : Op) (full : Bool) (input : List ℕ) (front : Opti
     → AreOpposed (clause-formula full (version_clause op input front)) (clause-formula full (version_clause other input front))
 version-opposed op other full input None o = go (version_of input)
   where
-    go : (read : Option Fields) → AreOpposed (clause-formula full (read >>= unstarred op)) (clause-formula full (read >>= unstarred other))
+    go : (read : Option Fields) → AreOpposed (clause-formula full (read >>= plain_clause op)) (clause-formula full (read >>= plain_clause other))
     go None = tt
     go (Some V) = unstarred-opposed op other full V o
 version-opposed op other full input (Some front) o = go (version_of front)
   where
-    go : (read : Option Fields) → AreOpposed (clause-formula full (read >>= starred op)) (clause-formula full (read >>= starred other))
+    go : (read : Option Fields) → AreOpposed (clause-formula full (read >>= star_clause op)) (clause-formula full (read >>= star_clause other))
     go None = tt
     go (Some V) = starred-opposed op other full V o
 
 clause-opposed : (op other : Op) (full : Bool) (literal : List ℕ) → Opposite op other → AreOpposed (clause-formula full (clause_with op literal)) (clause-formula full (clause_with other literal))
 unfolding clause_with clause_after
 clause-opposed op other full literal o =
-    let input = stripped is_white literal in
+    let input = trimmed_text is_white literal in
     go (list_all is_version_byte input) (before_end (codes ".*") input)
   where
-    go : (b : Bool) (front : Option (List ℕ)) → AreOpposed (clause-formula full (if b then version_clause op (stripped is_white literal) front else None))
-        (clause-formula full (if b then version_clause other (stripped is_white literal) front else None))
-    go true front = version-opposed op other full (stripped is_white literal) front o
+    go : (b : Bool) (front : Option (List ℕ)) → AreOpposed (clause-formula full (if b then version_clause op (trimmed_text is_white literal) front else None))
+        (clause-formula full (if b then version_clause other (trimmed_text is_white literal) front else None))
+    go true front = version-opposed op other full (trimmed_text is_white literal) front o
     go false front = tt
 
 equal-unequal : Opposite Equal Unequal
@@ -179,11 +179,11 @@ at_most-more = record {
 -- two operators that are opposed beside text variables
 record OppositeTexts (op other : Op) : Type 0 where
   texts : (v : Variable) (literal : List ℕ) → AreOpposed (text_sign v op literal) (text_sign v other literal)
-  extras : (literal : List ℕ) → AreOpposed (signed Extra op literal) (signed Extra other literal)
+  extras : (literal : List ℕ) → AreOpposed (sign_formula Extra op literal) (sign_formula Extra other literal)
 
 signed-opposed : (op other : Op) (variable : Option Variable) (literal : List ℕ) → Opposite op other → OppositeTexts op other
-    → AreOpposed (signed (subject variable) op literal) (signed (subject variable) other literal)
-unfolding signed
+    → AreOpposed (sign_formula (subject variable) op literal) (sign_formula (subject variable) other literal)
+unfolding sign_formula
 signed-opposed op other None literal o t = t.extras literal
 signed-opposed op other (Some v) literal o t = go (python_full v)
   where
@@ -192,7 +192,7 @@ signed-opposed op other (Some v) literal o t = go (python_full v)
     go (Some full) = clause-opposed op other full literal o
 
 equal-unequal-texts : OppositeTexts Equal Unequal
-unfolding signed
+unfolding sign_formula
 equal-unequal-texts = record {
   texts = λ v literal. elim (is_text v) as (λ (b : Bool). AreOpposed (Some (if b then text v literal true else opaquely v Kind.Same literal true)) (Some (if b then text v literal false else opaquely v Kind.Same literal false))) [
     | true ↦ λ w x. refl
@@ -202,11 +202,11 @@ equal-unequal-texts = record {
 }
 
 less-at_least-texts : OppositeTexts Less AtLeast
-unfolding signed
+unfolding sign_formula
 less-at_least-texts = record { texts = λ v literal w x. refl; extras = λ literal. tt }
 
 at_most-more-texts : OppositeTexts AtMost More
-unfolding signed
+unfolding sign_formula
 at_most-more-texts = record { texts = λ v literal w x. refl; extras = λ literal. tt }
 
 within-opposed : (variable : Option Variable) (literal : List ℕ) → AreOpposed (within true (subject variable) literal) (within false (subject variable) literal)
@@ -222,8 +222,8 @@ within-opposed (Some v) literal = go (python_full v)
     go None = λ w x. refl
     go (Some full) = listed full (versions_of (slice_split parts_versions literal))
 
-contained-opposed : (variable : Option Variable) (literal : List ℕ) → AreOpposed (contained true (subject variable) literal) (contained false (subject variable) literal)
-unfolding contained
+contained-opposed : (variable : Option Variable) (literal : List ℕ) → AreOpposed (containment true (subject variable) literal) (containment false (subject variable) literal)
+unfolding containment
 contained-opposed None literal = tt
 contained-opposed (Some v) literal = λ w x. refl
 

@@ -7,12 +7,12 @@ use Rattle.std.proofs.lemmas.List.{append-nil, append_assoc}
 use Rattle.ul_version.specs.Reading.{is_white}
 use Rattle.ul_version.proofs.ForCallers.{bind_some}
 use Rattle.ul_version.proofs.ForCallers.{cond_some, inside}
-use Rattle.ul_specifier.specs.Reading.{stripped}
+use Rattle.ul_specifier.specs.Reading.{trimmed_text}
 use Rattle.ul_specifier.specs.declared.clause.Op.{Op}
-use Rattle.ul_marker.specs.Comparisons.{comparison_of, contained, in_sides, is_not_in, literal_of, mirrored, signed, signed_sides, three, within}
+use Rattle.ul_marker.specs.Comparisons.{comparison_of, containment, in_sides, is_not_in, literal_of, mirror_sign, sign_formula, signed_sides, three, within}
 use Rattle.ul_marker.specs.Formulas.{Formula}
 use Rattle.ul_marker.specs.Grammar.{AreJoined, IsAtomOf, IsChain, IsComparison, IsConjunction, IsDisjunction, IsMarker, comparison, literal_in, literal_not_in, literal_sign, parenthesized, variable_in, variable_not_in, variable_sign}
-use Rattle.ul_marker.specs.Reading.{atom_at, atom_with, before_close, chain_at, chain_with, cuts, each, enclosed, is_close, is_open, joined, joiner, joins, marker_of, onto_first, opened, part_at, pieces_from}
+use Rattle.ul_marker.specs.Reading.{atom_at, atom_with, before_close, chain_at, chain_with, cuts, each, inner_tokens, is_close, is_open, chain_formula, joiner, joins, marker_of, onto_first, open_count, part_at, pieces_from}
 use Rattle.ul_marker.specs.ReadingLaws.{ReadingIsGrammar, SpelledOnce}
 use Rattle.ul_marker.specs.Words.{tokens_of}
 use Rattle.ul_marker.specs.declared.reading.Chain.{Chain}
@@ -30,7 +30,7 @@ Passes chain n ts = (rest : List Token) → pieces_from chain n (ts ++ rest) ≡
 -- a token that joins nothing and neither opens nor closes a parenthesis
 pub record IsStill (t : Token) : Type 0 where
   pub uncut : (chain : Chain) (n : ℕ) → cuts chain n t ≡ false
-  pub level : (n : ℕ) → opened t n ≡ n
+  pub level : (n : ℕ) → open_count t n ≡ n
 
 and-false : (b : Bool) → (b && false) ≡ false
 and-false true = refl
@@ -67,9 +67,9 @@ before-none [] h = absurd (omega arith)
 before-none (piece ∷ pieces) h = refl
 
 -- a token that isn't cut stands before what follows
-step : (chain : Chain) (n : ℕ) (t : Token) (ts : List Token) → cuts chain n t ≡ false → pieces_from chain n (t ∷ ts) ≡ before_first (t ∷ []) (pieces_from chain (opened t n) ts)
+step : (chain : Chain) (n : ℕ) (t : Token) (ts : List Token) → cuts chain n t ≡ false → pieces_from chain n (t ∷ ts) ≡ before_first (t ∷ []) (pieces_from chain (open_count t n) ts)
 unfolding pieces_from
-step chain n t ts h = rw h (onto-before t (pieces_from chain (opened t n) ts))
+step chain n t ts h = rw h (onto-before t (pieces_from chain (open_count t n) ts))
 
 none-passes : (chain : Chain) (n : ℕ) → Passes chain n []
 none-passes chain n rest = sym (before-none (pieces_from chain n rest) (pieces-filled chain n rest))
@@ -98,8 +98,8 @@ extra-subject = record { still = extra-still; no_literal = refl; no_open = refl 
 named-subject : (v : _) → IsSubject (Named v)
 named-subject v = record { still = named-still v; no_literal = refl; no_open = refl }
 
-pub signed-subject : (t : Token) (op : Op) (literal : List ℕ) (f : Formula) → signed t op literal ≡ Some f → IsSubject t
-unfolding signed
+pub signed-subject : (t : Token) (op : Op) (literal : List ℕ) (f : Formula) → sign_formula t op literal ≡ Some f → IsSubject t
+unfolding sign_formula
 signed-subject Extra op literal f e = extra-subject
 signed-subject (Named v) op literal f e = named-subject v
 signed-subject Open op literal f e = absurd (cc e)
@@ -124,8 +124,8 @@ within-subject positive Not literal f e = absurd (cc e)
 within-subject positive (Sign sign) literal f e = absurd (cc e)
 within-subject positive (Literal bytes) literal f e = absurd (cc e)
 
-pub contained-subject : (positive : Bool) (t : Token) (literal : List ℕ) (f : Formula) → contained positive t literal ≡ Some f → IsSubject t
-unfolding contained
+pub contained-subject : (positive : Bool) (t : Token) (literal : List ℕ) (f : Formula) → containment positive t literal ≡ Some f → IsSubject t
+unfolding containment
 contained-subject positive Extra literal f e = extra-subject
 contained-subject positive (Named v) literal f e = named-subject v
 contained-subject positive Open literal f e = absurd (cc e)
@@ -158,13 +158,13 @@ comparison-passes chain n ts f (variable_not_in variable literal shape e) =
 comparison-passes chain n ts f (literal_not_in literal variable shape e) =
     rw shape (still-four chain n (Literal literal) Not In variable (literal-still literal) not-still in-still (contained-subject false variable literal f e).still)
 
-first-enclosed : (t : Token) (ts : List Token) → is_open t ≡ false → enclosed (t ∷ ts) ≡ None
-unfolding enclosed
+first-enclosed : (t : Token) (ts : List Token) → is_open t ≡ false → inner_tokens (t ∷ ts) ≡ None
+unfolding inner_tokens
 first-enclosed t ts h = rw h refl
 
 -- what the grammar has as a comparison is read as one
 record ReadsAs (ts : List Token) (f : Formula) : Type 0 where
-  open_not : enclosed ts ≡ None
+  open_not : inner_tokens ts ≡ None
   is : comparison_of ts ≡ Some f
 
 comparison-reads : (ts : List Token) (f : Formula) → IsComparison ts f → ReadsAs ts f
@@ -204,7 +204,7 @@ signed-spelled left op right None f h e =
     let (literal, is, some) = bind_some (literal_of right) _ _ e in
     variable_sign left op literal (ap (λ (t : Token). left ∷ Sign op ∷ t ∷ []) (literal-is right literal is)) some
 signed-spelled left op right (Some literal) f h e =
-    let (sign, is, some) = bind_some (mirrored op) _ _ e in
+    let (sign, is, some) = bind_some (mirror_sign op) _ _ e in
     literal_sign literal op sign right (ap (λ (t : Token). t ∷ Sign op ∷ right ∷ []) (literal-is left literal h)) is some
 
 in-spelled : (left right : Token) (own : Option (List ℕ)) (f : Formula) → literal_of left ≡ own → in_sides true left right own ≡ Some f
@@ -306,8 +306,8 @@ before-is (t ∷ u ∷ ts) inner e =
     let (rest, is, some) = bind_some (before_close (u ∷ ts)) _ _ e in
     rw (← (inside (t ∷ rest) inner some)) (ap (λ (l : List Token). t ∷ l) (before-is (u ∷ ts) rest is))
 
-enclosed-is : (ts inner : List Token) → enclosed ts ≡ Some inner → ts ≡ Open ∷ (inner ++ (Close ∷ []))
-unfolding enclosed
+enclosed-is : (ts inner : List Token) → inner_tokens ts ≡ Some inner → ts ≡ Open ∷ (inner ++ (Close ∷ []))
+unfolding inner_tokens
 enclosed-is [] inner e = absurd (cc e)
 enclosed-is (t ∷ ts) inner e =
     let (opens, some) = cond_some (is_open t) (before_close ts) inner e in
@@ -319,8 +319,8 @@ close-before [] = refl
 close-before (t ∷ []) = refl
 close-before (t ∷ u ∷ ts) = rw (close-before (u ∷ ts)) refl
 
-enclosed-inner : (inner : List Token) → enclosed (Open ∷ (inner ++ (Close ∷ []))) ≡ Some inner
-unfolding enclosed
+enclosed-inner : (inner : List Token) → inner_tokens (Open ∷ (inner ++ (Close ∷ []))) ≡ Some inner
+unfolding inner_tokens
 enclosed-inner inner = close-before inner
 
 deep-uncut : (chain : Chain) (n : ℕ) (t : Token) → cuts chain (suc n) t ≡ false
@@ -335,7 +335,7 @@ parenthesized-passes : (chain : Chain) (n : ℕ) (inner : List Token) → Passes
 parenthesized-passes chain n inner h rest =
     let p = parentheses-uncut chain n in
     let q = parentheses-uncut chain (suc n) in
-    let back : opened Close (suc n) ≡ n = omega arith in
+    let back : open_count Close (suc n) ≡ n = omega arith in
     step chain n Open ((inner ++ (Close ∷ [])) ++ rest) p.0
     ∙ ap (λ (l : List Token). before_first (Open ∷ []) (pieces_from chain (suc n) l)) (append_assoc inner (Close ∷ []) rest)
     ∙ rw (h (Close ∷ rest), step chain (suc n) Close rest q.1, back)
@@ -363,9 +363,9 @@ none-agrees = record {
 -- ---- atoms
 
 atom-spelled : (read : List Token → Option Formula) (Rel : List Token → Formula → Type 0) → Agrees read Rel → (ts : List Token) (f : Formula) → atom_with read ts ≡ Some f → IsAtomOf Rel ts f
-atom-spelled read Rel a ts f e = go (enclosed ts) refl e
+atom-spelled read Rel a ts f e = go (inner_tokens ts) refl e
   where
-    go : (found : Option (List Token)) → enclosed ts ≡ found → option_map_or read found (comparison_of ts) ≡ Some f → IsAtomOf Rel ts f
+    go : (found : Option (List Token)) → inner_tokens ts ≡ found → option_map_or read found (comparison_of ts) ≡ Some f → IsAtomOf Rel ts f
     go None is some = comparison (comparison-spelled ts f some)
     go (Some inner) is some = parenthesized inner (enclosed-is ts inner is) (a.sound inner f some)
 
@@ -426,7 +426,7 @@ rejoined chain n (t ∷ ts) = elim (cases_Bool (cuts chain n t)) [
       rw (cut, empty-joined (joiner chain) (pieces_from chain 0 ts) (pieces-filled chain 0 ts), rejoined chain 0 ts)
       (ap (λ (l : Token). l ∷ ts) (sym (joins-is chain t (and_parts (n == 0) (joins chain t) cut).1)))
   | inr keep ↦
-      rw (keep, onto-joined (joiner chain) t (pieces_from chain (opened t n) ts) (pieces-filled chain (opened t n) ts), rejoined chain (opened t n) ts) refl
+      rw (keep, onto-joined (joiner chain) t (pieces_from chain (open_count t n) ts) (pieces-filled chain (open_count t n) ts), rejoined chain (open_count t n) ts) refl
 ]
 
 each-spelled : (read : List Token → Option Formula) (Part : List Token → Formula → Type 0) (between : Token) → ((ts : List Token) (f : Formula) → read ts ≡ Some f → Part ts f)
@@ -452,7 +452,7 @@ unfolding chain_with
 chain-spelled chain read Part sound ts f e =
     let (fs, are, some) = bind_some (each read (pieces_from chain 0 ts)) _ _ e in
     let whole = each-spelled read Part (joiner chain) sound (pieces_from chain 0 ts) fs (pieces-filled chain 0 ts) are in
-    (fs, rw (rejoined chain 0 ts) at whole, sym (inside (joined chain fs) f some))
+    (fs, rw (rejoined chain 0 ts) at whole, sym (inside (chain_formula chain fs) f some))
 
 last-piece : (chain : Chain) (ts : List Token) → Passes chain 0 ts → pieces_from chain 0 ts ≡ ts ∷ []
 unfolding pieces_from
@@ -486,7 +486,7 @@ chain-read chain read Part complete u ts f h =
 
 -- joined parts pass where the joining token isn't cut
 joined-passes : (chain : Chain) (n : ℕ) (between : Token) (Part : List Token → Formula → Type 0) → ((ts : List Token) (f : Formula) → Part ts f → Passes chain n ts)
-    → cuts chain n between ≡ false → opened between n ≡ n → (fs : List Formula) (ts : List Token) → AreJoined Part between ts fs → Passes chain n ts
+    → cuts chain n between ≡ false → open_count between n ≡ n → (fs : List Formula) (ts : List Token) → AreJoined Part between ts fs → Passes chain n ts
 joined-passes chain n between Part passes uncut level [] ts h = absurd h
 joined-passes chain n between Part passes uncut level (f ∷ []) ts h = passes ts f h
 joined-passes chain n between Part passes uncut level (f ∷ g ∷ fs) ts h =
@@ -522,7 +522,7 @@ pub reading_is_grammar : ReadingIsGrammar
 unfolding marker_of
 reading_is_grammar input f =
     let a = depth-agrees 64 in (
-      λ e. let (ts, are, some) = bind_some (tokens_of (stripped is_white input)) _ _ e in (ts, are, a.sound ts f some),
+      λ e. let (ts, are, some) = bind_some (tokens_of (trimmed_text is_white input)) _ _ e in (ts, are, a.sound ts f some),
       λ s. rw s.1 (a.complete s.0 f s.2),
     )
 

@@ -1,12 +1,12 @@
 -- The worked truths, by computation.
 use Rattle.std.proofs.Common.{refl}
 use Rattle.ul_base.specs.Names.{is_name}
-use Rattle.ul_version.specs.Order.{padded, release_cmp, has_release_front, version_cmp}
+use Rattle.ul_version.specs.Order.{padded_release, release_cmp, has_release_front, version_cmp}
 use Rattle.ul_specifier.specs.Meaning.{meets_clause}
 use Rattle.ul_marker.specs.TruthVectors.{Truths}
 
 pub truths : Truths
-unfolding is_name padded release_cmp has_release_front version_cmp meets_clause
+unfolding is_name padded_release release_cmp has_release_front version_cmp meets_clause
 truths = record {
   extra_equal = refl;
   extra_other = refl;

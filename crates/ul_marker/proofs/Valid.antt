@@ -14,17 +14,17 @@ use Rattle.ul_version.specs.Reading.{is_white, or_else, version_of}
 use Rattle.ul_version.proofs.ForCallers.{bind_some}
 use Rattle.ul_version.proofs.ForCallers.{versions}
 use Rattle.ul_version.proofs.ForCallers.{cond_some, inside}
-use Rattle.ul_specifier.specs.Reading.{after_all, clause_with, is_blank, operator, stripped}
+use Rattle.ul_specifier.specs.Reading.{after_all, clause_with, is_blank, operator, trimmed_text}
 use Rattle.ul_specifier.specs.declared.clause.Op.{Op}
 use Rattle.ul_specifier.specs.declared.clause.Op.TheVariants.{Equal, Unequal, AtLeast, AtMost, More, Less, Compatible}
 use Rattle.ul_specifier.proofs.ForCallers.{clause_with-clause}
 use Rattle.ul_marker.specs.Atoms.{is_implementation_version, is_literal, is_literal_byte, is_text, has_byte, may_compare}
-use Rattle.ul_marker.specs.Comparisons.{comparison_of, contained, equality, extra_literal, extra_sign, in_sides, is_not_in, literal_of, mirrored, opaquely, parts_versions, python_full, python_sign, python_within, signed, signed_sides, text_sign, three, versions_of, within}
+use Rattle.ul_marker.specs.Comparisons.{comparison_of, containment, equality, extra_literal, extra_sign, in_sides, is_not_in, literal_of, mirror_sign, opaquely, parts_versions, python_full, python_sign, python_within, sign_formula, signed_sides, text_sign, three, versions_of, within}
 use Rattle.ul_marker.specs.Formulas.{AreFormulas, Formula, Formulas, IsExtraLiteral, IsFormula, extra, formulas_of, none, python, python_list}
-use Rattle.ul_marker.specs.Reading.{atom_at, atom_with, before_close, chain_at, chain_with, cuts, each, enclosed, is_close, is_open, join, joined, marker_of, onto_first, opened, part_at, pieces_from}
+use Rattle.ul_marker.specs.Reading.{atom_at, atom_with, before_close, chain_at, chain_with, cuts, each, inner_tokens, is_close, is_open, join, chain_formula, marker_of, onto_first, open_count, part_at, pieces_from}
 use Rattle.ul_marker.specs.Readers.{Reads}
 use Rattle.ul_marker.specs.Views.{marker_view}
-use Rattle.ul_marker.specs.Words.{after_quote, front_literal, front_sign, front_token, front_word, is_quote, is_quoted, is_sign_byte, is_word_byte, keywords, listed, old_variables, run_length, tokens_in, tokens_of, variables, word_token}
+use Rattle.ul_marker.specs.Words.{after_quote, front_literal, front_sign, front_token, front_word, is_quote, is_quoted, is_sign_byte, is_word_byte, keywords, table_token, old_variables, run_length, tokens_in, tokens_of, variables, word_token}
 use Rattle.ul_marker.specs.declared.fault.MarkerFault.{MarkerFault}
 use Rattle.ul_marker.specs.declared.marker.Marker.{Marker}
 use Rattle.ul_marker.specs.declared.reading.Chain.{Chain}
@@ -52,11 +52,11 @@ abbrev AreListed : List (List ℕ × Token) → Type 0
 AreListed [] = Unit {0}
 AreListed (entry ∷ table) = IsToken entry.1 × AreListed table
 
-listed-token : (table : List (List ℕ × Token)) (word : List ℕ) (t : Token) → AreListed table → listed table word ≡ Some t → IsToken t
+listed-token : (table : List (List ℕ × Token)) (word : List ℕ) (t : Token) → AreListed table → table_token table word ≡ Some t → IsToken t
 listed-token [] word t h e = absurd (cc e)
 listed-token (entry ∷ table) word t h e = go (bytes_eq word entry.0) e (listed-token table word t h.1)
   where
-    go : (b : Bool) → (if b then Some entry.1 else listed table word) ≡ Some t → (listed table word ≡ Some t → IsToken t) → IsToken t
+    go : (b : Bool) → (if b then Some entry.1 else table_token table word) ≡ Some t → (table_token table word ≡ Some t → IsToken t) → IsToken t
     go true same next = subst (λ (x : Token). IsToken x) (inside entry.1 t same) h.0
     go false same next = next same
 
@@ -67,9 +67,9 @@ either-token (Some x) y t f g e = f e
 word-token : (word : List ℕ) (t : Token) → word_token word ≡ Some t → IsToken t
 unfolding word_token
 word-token word t e =
-    either-token (listed keywords word) _ t
+    either-token (table_token keywords word) _ t
     (listed-token keywords word t (tt, (tt, (tt, (tt, (tt, tt))))))
-    (either-token (listed variables word) (listed old_variables word) t
+    (either-token (table_token variables word) (table_token old_variables word) t
     (listed-token variables word t (tt, (tt, (tt, (tt, (tt, (tt, (tt, (tt, (tt, (tt, (tt, tt))))))))))))
     (listed-token old_variables word t (tt, (tt, (tt, (tt, (tt, (tt, tt))))))))
     e
@@ -205,8 +205,8 @@ python-formula variable op literal (Some full) f h is e =
     let (clause, read, some) = bind_some (clause_with op literal) _ _ e in
     one-formula (python full clause) f some (clause_with-clause op literal clause read)
 
-signed-formula : (subject : Token) (op : Op) (literal : List ℕ) (f : Formula) → is_literal literal ≡ true → signed subject op literal ≡ Some f → IsFormula f
-unfolding signed
+signed-formula : (subject : Token) (op : Op) (literal : List ℕ) (f : Formula) → is_literal literal ≡ true → sign_formula subject op literal ≡ Some f → IsFormula f
+unfolding sign_formula
 signed-formula Extra op literal f h e = extra-formula op literal f h e
 signed-formula (Named variable) op literal f h e = python-formula variable op literal (python_full variable) f h refl e
 signed-formula Open op literal f h e = absurd (cc e)
@@ -247,8 +247,8 @@ within-formula positive Not literal f h e = absurd (cc e)
 within-formula positive (Sign sign) literal f h e = absurd (cc e)
 within-formula positive (Literal other) literal f h e = absurd (cc e)
 
-contained-formula : (positive : Bool) (subject : Token) (literal : List ℕ) (f : Formula) → is_literal literal ≡ true → contained positive subject literal ≡ Some f → IsFormula f
-unfolding contained
+contained-formula : (positive : Bool) (subject : Token) (literal : List ℕ) (f : Formula) → is_literal literal ≡ true → containment positive subject literal ≡ Some f → IsFormula f
+unfolding containment
 contained-formula positive (Named variable) literal f h e = opaque-formula variable Kind.Contains literal positive f h refl e
 contained-formula positive Extra literal f h e = absurd (cc e)
 contained-formula positive Open literal f h e = absurd (cc e)
@@ -280,7 +280,7 @@ signed_sides-formula left op right None f h k is e =
     let (literal, other, some) = bind_some (literal_of right) _ _ e in
     signed-formula left op literal f (literal-token right literal k other) some
 signed_sides-formula left op right (Some literal) f h k is e =
-    let (sign, mirror, some) = bind_some (mirrored op) _ _ e in
+    let (sign, mirror, some) = bind_some (mirror_sign op) _ _ e in
     signed-formula right sign literal f (literal-token left literal h is) some
 
 in_sides-formula : (positive : Bool) (left right : Token) (own : Option (List ℕ)) (f : Formula) → IsToken left → IsToken right → literal_of left ≡ own
@@ -327,7 +327,7 @@ unfolding pieces_from
 pieces-tokens chain n [] h = (tt, tt)
 pieces-tokens chain n (t ∷ ts) h = elim (cases_Bool (cuts chain n t)) [
   | inl cut ↦ rw cut (tt, pieces-tokens chain 0 ts h.1)
-  | inr keep ↦ rw keep (onto-pieces t (pieces_from chain (opened t n) ts) h.0 (pieces-tokens chain (opened t n) ts h.1))
+  | inr keep ↦ rw keep (onto-pieces t (pieces_from chain (open_count t n) ts) h.0 (pieces-tokens chain (open_count t n) ts h.1))
 ]
 
 close-tokens : (ts inner : List Token) → AreTokens ts → before_close ts ≡ Some inner → AreTokens inner
@@ -338,8 +338,8 @@ close-tokens (t ∷ u ∷ ts) inner h e =
     let (rest, is, some) = bind_some (before_close (u ∷ ts)) _ _ e in
     subst (λ (x : List Token). AreTokens x) (inside (t ∷ rest) inner some) (h.0, close-tokens (u ∷ ts) rest h.1 is)
 
-enclosed-tokens : (ts inner : List Token) → AreTokens ts → enclosed ts ≡ Some inner → AreTokens inner
-unfolding enclosed
+enclosed-tokens : (ts inner : List Token) → AreTokens ts → inner_tokens ts ≡ Some inner → AreTokens inner
+unfolding inner_tokens
 enclosed-tokens [] inner h e = absurd (cc e)
 enclosed-tokens (t ∷ ts) inner h e = close-tokens ts inner h.1 (cond_some (is_open t) (before_close ts) inner e).1
 
@@ -362,7 +362,7 @@ join-formula : (chain : Chain) (fs : Formulas) → AreFormulas fs → IsFormula 
 join-formula Conjunction fs h = h
 join-formula Disjunction fs h = h
 
-joined-formula : (chain : Chain) (fs : List Formula) → AreFormulas (formulas_of fs) → IsFormula (joined chain fs)
+joined-formula : (chain : Chain) (fs : List Formula) → AreFormulas (formulas_of fs) → IsFormula (chain_formula chain fs)
 joined-formula chain [] h = join-formula chain none tt
 joined-formula chain (f ∷ []) h = h.0
 joined-formula chain (f ∷ g ∷ fs) h = join-formula chain (formulas_of (f ∷ g ∷ fs)) h
@@ -371,12 +371,12 @@ chain-formula : (chain : Chain) (read : List Token → Option Formula) → Gives
 unfolding chain_with
 chain-formula chain read gives ts f h e =
     let (fs, are, some) = bind_some (each read (pieces_from chain 0 ts)) _ _ e in
-    one-formula (joined chain fs) f some (joined-formula chain fs (each-formulas read _ fs gives (pieces-tokens chain 0 ts h) are))
+    one-formula (chain_formula chain fs) f some (joined-formula chain fs (each-formulas read _ fs gives (pieces-tokens chain 0 ts h) are))
 
 inner-formula : (read : List Token → Option Formula) → GivesFormulas read → GivesFormulas (atom_with read)
-inner-formula read gives ts f h e = go (enclosed ts) refl e
+inner-formula read gives ts f h e = go (inner_tokens ts) refl e
   where
-    go : (inner : Option (List Token)) → enclosed ts ≡ inner → option_map_or read inner (comparison_of ts) ≡ Some f → IsFormula f
+    go : (inner : Option (List Token)) → inner_tokens ts ≡ inner → option_map_or read inner (comparison_of ts) ≡ Some f → IsFormula f
     go None is some = comparison-formula ts f h some
     go (Some inner) is some = gives inner f (enclosed-tokens ts inner h is) some
 
@@ -400,7 +400,7 @@ tokens-formula chain depth ts f h e = chain-formula chain (part_at chain depth) 
 pub marker-formula : (input : List ℕ) (f : Formula) → marker_of input ≡ Some f → IsFormula f
 unfolding marker_of
 marker-formula input f e =
-    let (ts, are, some) = bind_some (tokens_of (stripped is_white input)) _ _ e in
+    let (ts, are, some) = bind_some (tokens_of (trimmed_text is_white input)) _ _ e in
     tokens-formula Disjunction 64 ts f (tokens-tokens _ ts are) some
 
 -- a marker that a reader answers is one whose formula is a formula

@@ -85,20 +85,20 @@ python_sign variable op literal (Some full) = clause_with op literal >>= λ clau
 python_sign variable op literal None = text_sign variable op literal
 
 -- a variable, a sign and a literal
-unfoldable pub signed : Token → Op → List ℕ → Option Formula
-signed Extra op literal = extra_sign op literal
-signed (Named variable) op literal = python_sign variable op literal (python_full variable)
-signed other op literal = None
+unfoldable pub sign_formula : Token → Op → List ℕ → Option Formula
+sign_formula Extra op literal = extra_sign op literal
+sign_formula (Named variable) op literal = python_sign variable op literal (python_full variable)
+sign_formula other op literal = None
 
 -- the sign that says the same with its sides exchanged; `~=` has none
-abbrev pub mirrored : Op → Option Op
-mirrored Equal = Some Equal
-mirrored Unequal = Some Unequal
-mirrored AtLeast = Some AtMost
-mirrored AtMost = Some AtLeast
-mirrored More = Some Less
-mirrored Less = Some More
-mirrored Compatible = None
+abbrev pub mirror_sign : Op → Option Op
+mirror_sign Equal = Some Equal
+mirror_sign Unequal = Some Unequal
+mirror_sign AtLeast = Some AtMost
+mirror_sign AtMost = Some AtLeast
+mirror_sign More = Some Less
+mirror_sign Less = Some More
+mirror_sign Compatible = None
 
 -- a version of Python in a list of versions, or another variable as a substring of a literal
 abbrev pub python_within : Variable → List ℕ → Bool → Option Bool → Option Formula
@@ -115,20 +115,20 @@ within positive (Named variable) literal = python_within variable literal positi
 within positive other literal = None
 
 -- a literal `in` a variable, or `not in` it
-unfoldable pub contained : Bool → Token → List ℕ → Option Formula
-contained positive (Named variable) literal = Some (opaquely variable Kind.Contains literal positive)
-contained positive other literal = None
+unfoldable pub containment : Bool → Token → List ℕ → Option Formula
+containment positive (Named variable) literal = Some (opaquely variable Kind.Contains literal positive)
+containment positive other literal = None
 
 -- ---- sides
 
 -- two sides and a sign: the left one's literal, if it is one
 abbrev pub signed_sides : Token → Op → Token → Option (List ℕ) → Option Formula
-signed_sides left op right (Some literal) = mirrored op >>= λ sign. signed right sign literal
-signed_sides left op right None = literal_of right >>= λ literal. signed left op literal
+signed_sides left op right (Some literal) = mirror_sign op >>= λ sign. sign_formula right sign literal
+signed_sides left op right None = literal_of right >>= λ literal. sign_formula left op literal
 
 -- two sides and `in` or `not in`: the left one's literal, if it is one
 abbrev pub in_sides : Bool → Token → Token → Option (List ℕ) → Option Formula
-in_sides positive left right (Some literal) = contained positive right literal
+in_sides positive left right (Some literal) = containment positive right literal
 in_sides positive left right None = literal_of right >>= λ literal. within positive left literal
 
 -- three tokens: a sign or `in` between two sides

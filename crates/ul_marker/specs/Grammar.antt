@@ -2,11 +2,11 @@
 -- Markers"). Each definition is one rule of the grammar.
 use Rattle.std.specs.Prelude.{◌≡◌, ℕ, zero, suc, true, false, List, [], ◌∷◌, ◌++◌, Some}
 use Rattle.ul_version.specs.Reading.{is_white}
-use Rattle.ul_specifier.specs.Reading.{stripped}
+use Rattle.ul_specifier.specs.Reading.{trimmed_text}
 use Rattle.ul_specifier.specs.declared.clause.Op.{Op}
-use Rattle.ul_marker.specs.Comparisons.{contained, mirrored, signed, within}
+use Rattle.ul_marker.specs.Comparisons.{containment, mirror_sign, sign_formula, within}
 use Rattle.ul_marker.specs.Formulas.{Formula}
-use Rattle.ul_marker.specs.Reading.{joined}
+use Rattle.ul_marker.specs.Reading.{chain_formula}
 use Rattle.ul_marker.specs.Words.{tokens_of}
 use Rattle.ul_marker.specs.declared.reading.Chain.{Chain}
 use Rattle.ul_marker.specs.declared.reading.Chain.TheVariants.{Conjunction, Disjunction}
@@ -16,17 +16,17 @@ use Rattle.ul_marker.specs.declared.words.Token.TheVariants.{Open, Close, And, O
 -- comparison = side sign side | side "in" side | side "not" "in" side, with one variable and one literal
 pub data IsComparison (tokens : List Token) (f : Formula) : Type 0 where
   variable_sign : (variable : Token) (op : Op) (literal : List ℕ) → tokens ≡ variable ∷ Sign op ∷ Literal literal ∷ []
-      → signed variable op literal ≡ Some f → IsComparison tokens f
+      → sign_formula variable op literal ≡ Some f → IsComparison tokens f
   literal_sign : (literal : List ℕ) (op sign : Op) (variable : Token) → tokens ≡ Literal literal ∷ Sign op ∷ variable ∷ []
-      → mirrored op ≡ Some sign → signed variable sign literal ≡ Some f → IsComparison tokens f
+      → mirror_sign op ≡ Some sign → sign_formula variable sign literal ≡ Some f → IsComparison tokens f
   variable_in : (variable : Token) (literal : List ℕ) → tokens ≡ variable ∷ In ∷ Literal literal ∷ []
       → within true variable literal ≡ Some f → IsComparison tokens f
   literal_in : (literal : List ℕ) (variable : Token) → tokens ≡ Literal literal ∷ In ∷ variable ∷ []
-      → contained true variable literal ≡ Some f → IsComparison tokens f
+      → containment true variable literal ≡ Some f → IsComparison tokens f
   variable_not_in : (variable : Token) (literal : List ℕ) → tokens ≡ variable ∷ Not ∷ In ∷ Literal literal ∷ []
       → within false variable literal ≡ Some f → IsComparison tokens f
   literal_not_in : (literal : List ℕ) (variable : Token) → tokens ≡ Literal literal ∷ Not ∷ In ∷ variable ∷ []
-      → contained false variable literal ≡ Some f → IsComparison tokens f
+      → containment false variable literal ≡ Some f → IsComparison tokens f
 
 -- atom = "(" marker ")" | comparison
 pub data IsAtomOf (Inside : List Token → Formula → Type 0) (tokens : List Token) (f : Formula) : Type 0 where
@@ -42,7 +42,7 @@ AreJoined Part between tokens (f ∷ g ∷ fs) =
 
 -- the formula of the parts, which is the part's own where it is one
 abbrev pub IsChain : Chain → (List Token → Formula → Type 0) → Token → List Token → Formula → Type 0
-IsChain chain Part between tokens f = (fs : List Formula) × AreJoined Part between tokens fs × (f ≡ joined chain fs)
+IsChain chain Part between tokens f = (fs : List Formula) × AreJoined Part between tokens fs × (f ≡ chain_formula chain fs)
 
 -- conjunction = atom *("and" atom)
 abbrev pub IsConjunction : (List Token → Formula → Type 0) → List Token → Formula → Type 0
@@ -59,4 +59,4 @@ IsMarker (suc depth) = IsDisjunction (IsMarker depth)
 
 -- a text spells a formula
 abbrev pub Spells : List ℕ → Formula → Type 0
-Spells text f = (tokens : List Token) × (tokens_of (stripped is_white text) ≡ Some tokens) × IsMarker 64 tokens f
+Spells text f = (tokens : List Token) × (tokens_of (trimmed_text is_white text) ≡ Some tokens) × IsMarker 64 tokens f

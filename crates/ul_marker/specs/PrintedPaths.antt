@@ -2,7 +2,7 @@
 use Rattle.std.specs.Prelude.{◌≡◌, ℕ, List, [], ◌∷◌, ◌++◌, map, codes, Some, All, length, ◌<◌}
 use Rattle.ul_marker.specs.Formulas.{Formula}
 use Rattle.ul_marker.specs.Printed.{Comparison, IsComparison, comparison_formula, comparison_text}
-use Rattle.ul_marker.specs.Reading.{joined, marker_of}
+use Rattle.ul_marker.specs.Reading.{chain_formula, marker_of}
 use Rattle.ul_marker.specs.declared.reading.Chain.TheVariants.{Conjunction, Disjunction}
 
 -- comparisons joined by ` and `
@@ -23,11 +23,11 @@ IsPath path = (0 < length path) × All IsComparison path
 
 -- what a path says
 abbrev pub path_formula : List Comparison → Formula
-path_formula path = joined Conjunction (map comparison_formula path)
+path_formula path = chain_formula Conjunction (map comparison_formula path)
 
 -- what paths say, of which one is enough
 abbrev pub paths_formula : List (List Comparison) → Formula
-paths_formula paths = joined Disjunction (map path_formula paths)
+paths_formula paths = chain_formula Disjunction (map path_formula paths)
 
 -- a printed comparison is read as what it says
 abbrev pub ComparisonReads : Type 0

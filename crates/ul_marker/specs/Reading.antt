@@ -6,7 +6,7 @@
 use Rattle.std.specs.Prelude.{ℕ, zero, suc, ◌-◌, ◌==◌, ◌&&◌, Bool, true, false, List, [], ◌∷◌, Option, Some, None, if◌then◌else◌}
 use Rattle.std.specs.Option.{option_map_or}
 use Rattle.ul_version.specs.Reading.{◌>>=◌, is_white}
-use Rattle.ul_specifier.specs.Reading.{stripped}
+use Rattle.ul_specifier.specs.Reading.{trimmed_text}
 use Rattle.ul_marker.specs.Comparisons.{comparison_of}
 use Rattle.ul_marker.specs.Formulas.{Formula, Formulas, all, any, formulas_of}
 use Rattle.ul_marker.specs.Words.{tokens_of}
@@ -30,10 +30,10 @@ joins Disjunction Or = true
 joins Disjunction other = false
 
 -- how many parentheses are open after a token
-abbrev pub opened : Token → ℕ → ℕ
-opened Open n = suc n
-opened Close n = n - 1
-opened other n = n
+abbrev pub open_count : Token → ℕ → ℕ
+open_count Open n = suc n
+open_count Close n = n - 1
+open_count other n = n
 
 -- a token before the first piece
 abbrev pub onto_first : Token → List (List Token) → List (List Token)
@@ -48,7 +48,7 @@ cuts chain n t = n == 0 && joins chain t
 unfoldable pub pieces_from : Chain → ℕ → List Token → List (List Token)
 pieces_from chain n [] = [] ∷ []
 pieces_from chain n (t ∷ ts) =
-    if cuts chain n t then [] ∷ pieces_from chain 0 ts else onto_first t (pieces_from chain (opened t n) ts)
+    if cuts chain n t then [] ∷ pieces_from chain 0 ts else onto_first t (pieces_from chain (open_count t n) ts)
 
 -- ---- markers
 
@@ -63,14 +63,14 @@ join Conjunction = all
 join Disjunction = any
 
 -- one formula is itself, two or more are joined
-abbrev pub joined : Chain → List Formula → Formula
-joined chain [] = join chain (formulas_of [])
-joined chain (f ∷ []) = f
-joined chain (f ∷ g ∷ fs) = join chain (formulas_of (f ∷ g ∷ fs))
+abbrev pub chain_formula : Chain → List Formula → Formula
+chain_formula chain [] = join chain (formulas_of [])
+chain_formula chain (f ∷ []) = f
+chain_formula chain (f ∷ g ∷ fs) = join chain (formulas_of (f ∷ g ∷ fs))
 
 -- the formula of pieces that are read in one way
 unfoldable pub chain_with : Chain → (List Token → Option Formula) → List Token → Option Formula
-chain_with chain read tokens = each read (pieces_from chain 0 tokens) >>= λ fs. Some (joined chain fs)
+chain_with chain read tokens = each read (pieces_from chain 0 tokens) >>= λ fs. Some (chain_formula chain fs)
 
 -- `(`
 abbrev pub is_open : Token → Bool
@@ -89,13 +89,13 @@ before_close (t ∷ []) = if is_close t then Some [] else None
 before_close (t ∷ u ∷ ts) = before_close (u ∷ ts) >>= λ inner. Some (t ∷ inner)
 
 -- the tokens between a parenthesis in front and one at the end
-unfoldable pub enclosed : List Token → Option (List Token)
-enclosed [] = None
-enclosed (t ∷ ts) = if is_open t then before_close ts else None
+unfoldable pub inner_tokens : List Token → Option (List Token)
+inner_tokens [] = None
+inner_tokens (t ∷ ts) = if is_open t then before_close ts else None
 
 -- an atom: a marker in parentheses, or a comparison
 abbrev pub atom_with : (List Token → Option Formula) → List Token → Option Formula
-atom_with inside tokens = option_map_or inside (enclosed tokens) (comparison_of tokens)
+atom_with inside tokens = option_map_or inside (inner_tokens tokens) (comparison_of tokens)
 
 -- an atom whose parentheses nest so deep at most
 unfoldable pub atom_at : ℕ → List Token → Option Formula
@@ -117,4 +117,4 @@ marker_in tokens = tokens >>= λ ts. chain_at Disjunction 64 ts
 
 -- the formula that a text spells
 unfoldable pub marker_of : List ℕ → Option Formula
-marker_of text = marker_in (tokens_of (stripped is_white text))
+marker_of text = marker_in (tokens_of (trimmed_text is_white text))

@@ -1,10 +1,10 @@
 -- What holds of all texts of markers and their formulas.
 use Rattle.std.specs.Prelude.{◌≡◌, ◌↔◌, ℕ, ◌++◌, Bool, not, List, [], ◌∷◌, Option, Some, None}
 use Rattle.ul_version.specs.Reading.{is_white}
-use Rattle.ul_specifier.specs.Reading.{stripped}
+use Rattle.ul_specifier.specs.Reading.{trimmed_text}
 use Rattle.ul_specifier.specs.declared.clause.Op.{Op}
 use Rattle.ul_specifier.specs.declared.clause.Op.TheVariants.{Equal, Unequal, AtLeast, AtMost, More, Less}
-use Rattle.ul_marker.specs.Comparisons.{mirrored}
+use Rattle.ul_marker.specs.Comparisons.{mirror_sign}
 use Rattle.ul_marker.specs.Formulas.{Formula, IsFormula, formulas_of}
 use Rattle.ul_marker.specs.Grammar.{Spells}
 use Rattle.ul_marker.specs.Reading.{join, marker_of}
@@ -34,7 +34,7 @@ ReadIsFormula = (input : List ℕ) (f : Formula) → marker_of input ≡ Some f 
 
 -- a text that has these tokens
 abbrev pub HasTokens : List ℕ → List Token → Type 0
-HasTokens input tokens = tokens_of (stripped is_white input) ≡ Some tokens
+HasTokens input tokens = tokens_of (trimmed_text is_white input) ≡ Some tokens
 
 -- the token of a variable, or of `extra`
 abbrev pub subject : Option Variable → Token
@@ -43,7 +43,7 @@ subject (Some variable) = Named variable
 
 -- a literal, a sign and a variable read as the variable, the mirrored sign and the literal
 abbrev pub MirroredIsSame : Type 0
-MirroredIsSame = (input other : List ℕ) (variable : Option Variable) (literal : List ℕ) (op sign : Op) → mirrored op ≡ Some sign
+MirroredIsSame = (input other : List ℕ) (variable : Option Variable) (literal : List ℕ) (op sign : Op) → mirror_sign op ≡ Some sign
     → HasTokens input (Literal literal ∷ Sign op ∷ subject variable ∷ []) → HasTokens other (subject variable ∷ Sign sign ∷ Literal literal ∷ [])
     → marker_of input ≡ marker_of other
 

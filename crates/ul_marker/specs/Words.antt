@@ -52,13 +52,13 @@ old_variables =
     ∷ (codes "python_implementation", Named PlatformPythonImplementation) ∷ []
 
 -- the token of a word in a table
-abbrev pub listed : List (List ℕ × Token) → List ℕ → Option Token
-listed [] word = None
-listed (entry ∷ table) word = if bytes_eq word entry.0 then Some entry.1 else listed table word
+abbrev pub table_token : List (List ℕ × Token) → List ℕ → Option Token
+table_token [] word = None
+table_token (entry ∷ table) word = if bytes_eq word entry.0 then Some entry.1 else table_token table word
 
 -- the token of a word
 unfoldable pub word_token : List ℕ → Option Token
-word_token word = or_else (listed keywords word) (or_else (listed variables word) (listed old_variables word))
+word_token word = or_else (table_token keywords word) (or_else (table_token variables word) (table_token old_variables word))
 
 -- ---- one token
 

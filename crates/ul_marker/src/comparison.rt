@@ -147,7 +147,7 @@ fn clause(alloc: Global, op: Op, literal: &Literal) -> Result<Clause, MarkerFaul
 // A variable, a sign and a literal.
 #[tactic(auto, using(crate::proofs::Compared::not_python), unfolding(crate::specs::Comparisons::signed))]
 fn signed(alloc: Global, subject: &Token, op: Op, literal: &Literal) -> Result<Marker, MarkerFault>
-    ensures { Reads marker_view result (Grammar.signed subject.now op literal.now) }
+    ensures { Reads marker_view result (Grammar.sign_formula subject.now op literal.now) }
 {
     match subject {
         Token::Extra => extra_sign(alloc, op, literal),
@@ -184,7 +184,7 @@ fn python_sign(
 
 // The sign that says the same with its sides exchanged.
 fn mirrored(op: Op) -> Option<Op>
-    ensures { result ≡ Grammar.mirrored op }
+    ensures { result ≡ Grammar.mirror_sign op }
 {
     match op {
         Op::Equal => Some(Op::Equal),
@@ -307,7 +307,7 @@ fn contained(
     subject: &Token,
     literal: &Literal,
 ) -> Result<Marker, MarkerFault>
-    ensures { Reads marker_view result (Grammar.contained positive subject.now literal.now) }
+    ensures { Reads marker_view result (Grammar.containment positive subject.now literal.now) }
 {
     match subject {
         Token::Named(variable) => {

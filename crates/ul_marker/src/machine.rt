@@ -124,7 +124,8 @@ fn machine_texts(alloc: Global, file: &Value) -> Result<Vec<String>, EnvFault>
 
 // The texts at keys of an object, in their order.
 fn texts_in(alloc: Global, file: &Value, keys: &[&str]) -> Result<Vec<String>, EnvFault>
-    ensures texts { Tells (λ v. map string_bytes v.items) result (Files.texts_in (Files.keys_view keys.now) (view file.now)) }
+    ensures texts { Tells (λ v. map string_bytes v.items) result
+        (Files.texts_in (Files.keys_view keys.now) (view file.now)) }
     ensures each { IfOk result (λ v. length v.items ≡ length keys.now) }
 {
     let mut texts = Vec::with_capacity(alloc, keys.len())?;

@@ -116,7 +116,8 @@ fn python_version(alloc: Global, python: (u32, u32, u32)) -> Result<String, Allo
 
 // The text of `python_full_version`.
 fn python_full_version(alloc: Global, python: (u32, u32, u32)) -> Result<String, AllocError>
-    ensures { IfOk result (λ t. string_bytes t ≡ spec.before_point python.0 (spec.before_point python.1 (decimal python.2))) }
+    ensures { IfOk result (λ t. string_bytes t
+        ≡ spec.before_point python.0 (spec.before_point python.1 (decimal python.2))) }
 {
     let (major, minor, patch) = python;
     let text = format!(in alloc; "{major}.{minor}.{patch}")?;

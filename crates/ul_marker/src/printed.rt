@@ -130,7 +130,8 @@ fn is_plain(version: &Version) -> bool
 /// Writes that `python_full_version` is at least an interpreter, or below it.
 #[tactic(auto, unfolding(crate::specs::Printed::comparison_text))]
 pub fn push_bound(out: &mut String, lower: bool, python: (u32, u32, u32)) -> Result<(), AllocError>
-    ensures { OnOk result (IsWritten (string_bytes out.old) (bound lower python.0 python.1 python.2) (string_bytes out.new)) }
+    ensures { OnOk result (IsWritten (string_bytes out.old)
+        (bound lower python.0 python.1 python.2) (string_bytes out.new)) }
 {
     out.push_str(Variable::PythonFullVersion.name())?;
     out.push_str(bound_sign(lower))?;
@@ -155,7 +156,8 @@ pub fn push_text(
     literal: &str,
     equal: bool,
 ) -> Result<(), AllocError>
-    ensures { OnOk result (IsWritten (string_bytes out.old) (text_is variable literal.now equal) (string_bytes out.new)) }
+    ensures { OnOk result (IsWritten (string_bytes out.old)
+        (text_is variable literal.now equal) (string_bytes out.new)) }
 {
     out.push_str(variable.name())?;
     out.push_str(equality_sign(equal))?;

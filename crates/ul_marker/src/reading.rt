@@ -68,7 +68,7 @@ fn is_close(token: &Token) -> bool
 
 // The tokens between a parenthesis in front and one at the end.
 fn enclosed(tokens: &[Token]) -> Option<&[Token]>
-    ensures { optional_tokens result ≡ spec.enclosed tokens.now }
+    ensures { optional_tokens result ≡ spec.inner_tokens tokens.now }
 {
     match tokens {
         [first, inner @ .., last] => {
@@ -87,7 +87,7 @@ fn enclosed(tokens: &[Token]) -> Option<&[Token]>
 // One part is itself, two or more are joined.
 fn joined(mut parts: Vec<Marker>, kind: Chain) -> Marker
     requires { 0 < length parts.items }
-    ensures { marker_view result ≡ spec.joined kind (map marker_view parts.items) }
+    ensures { marker_view result ≡ spec.chain_formula kind (map marker_view parts.items) }
 {
     if parts.len() == 1 {
         if let Some(only) = parts.pop() {

@@ -122,7 +122,7 @@ fn is_same(word: &[u8], other: &[u8]) -> bool
 }
 
 fn keyword(word: &[u8]) -> Option<Token>
-    ensures { result ≡ Grammar.listed Grammar.keywords word.now }
+    ensures { result ≡ Grammar.table_token Grammar.keywords word.now }
 {
     if is_same(word, b"and") {
         return Some(Token::And);
@@ -143,7 +143,7 @@ fn keyword(word: &[u8]) -> Option<Token>
 }
 
 fn variable(word: &[u8]) -> Option<Token>
-    ensures { result ≡ Grammar.listed Grammar.variables word.now }
+    ensures { result ≡ Grammar.table_token Grammar.variables word.now }
 {
     if is_same(word, b"os_name") {
         return Some(Token::Named(Variable::OsName));
@@ -183,7 +183,7 @@ fn variable(word: &[u8]) -> Option<Token>
 
 // A variable in its older spelling.
 fn old_variable(word: &[u8]) -> Option<Token>
-    ensures { result ≡ Grammar.listed Grammar.old_variables word.now }
+    ensures { result ≡ Grammar.table_token Grammar.old_variables word.now }
 {
     if is_same(word, b"os.name") {
         return Some(Token::Named(Variable::OsName));

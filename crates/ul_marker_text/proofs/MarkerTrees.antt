@@ -16,16 +16,16 @@ use Rattle.ul_marker.specs.Printed.{comparison_formula}
 use Rattle.ul_marker.specs.PrintedPaths.{path_formula, paths_formula}
 use Rattle.ul_marker.specs.Reading.{marker_of}
 use Rattle.ul_marker.specs.Words.{tokens_of, tokens_in, front_token, front_word, word_token}
-use Rattle.ul_marker.proofs.Valid.{marker-formula}
+use Rattle.ul_marker.proofs.ForCallers.{marker-formula}
 use Rattle.ul_marker.specs.Truth.{is_empty, as_asked, marker_holds}
 use Rattle.ul_marker.specs.Worlds.{WorldFields}
 use Rattle.ul_tree.specs.Apply.{both, either}
 use Rattle.ul_tree.specs.Comparisons.{Comparison, at_least, below, equals, differs, path_comparisons}
-use Rattle.ul_tree.specs.Leaves.{pointed}
+use Rattle.ul_tree.specs.Leaves.{point_tree}
 use Rattle.ul_tree.specs.Levels.{IsExtra, IsKey, extra_level, python_level}
 use Rattle.ul_tree.specs.PathList.{Step, paths_to_true}
 use Rattle.ul_tree.specs.PathTruth.{is_before, comparison_holds, path_holds, some_path_holds}
-use Rattle.ul_tree.specs.Pieces.{numbered}
+use Rattle.ul_tree.specs.Pieces.{packed_number}
 use Rattle.ul_tree.specs.Plain.{Plain, truth, node, Branches, text_cmp, carries, by_order, holds_of}
 use Rattle.ul_tree.specs.Reduced.{IsReduced}
 use Rattle.ul_tree.specs.Sample.{asks_extra}
@@ -33,7 +33,7 @@ use Rattle.ul_tree.specs.Values.{value_of, tree_holds}
 use Rattle.ul_tree.proofs.ForCallers.{Each, operations, one_truth_one_tree, extra_reduced, text_reduced, opaque_reduced, bytes_self, paths_truth, number_back, level_back}
 use Rattle.ul_marker_text.specs.Headline.{IsNoTruth, MarkerTexts}
 use Rattle.ul_marker_text.specs.MarkerOfText.{bound_tree, clause_tree, extra_tree, formula_tree, tree_of_all, tree_of_any, is_region, tree_with_text, marker_of_text, IsMarker}
-use Rattle.ul_marker_text.specs.MarkerText.{marker_text, printed, printed_path, printed_paths, key_comparison}
+use Rattle.ul_marker_text.specs.MarkerText.{marker_text, printed_form, printed_path, printed_paths, key_comparison}
 use Rattle.ul_marker_text.proofs.Placed.{GoodComparison, variable_place}
 use Rattle.ul_marker_text.proofs.StepsBack.{GoodRow}
 use Rattle.ul_marker_text.proofs.TreeTexts.{node_paths}
@@ -48,7 +48,7 @@ bound_reduced lower n = go (eqb n 0) (nat_lt n (2 ^ 96)) refl refl
     apart true e = cc
     apart false e = cc
 
-    go : (a b : Bool) → eqb n 0 ≡ a → nat_lt n (2 ^ 96) ≡ b → IsReduced (if a then truth lower else (if b then pointed python_level (n ∷ []) lower else truth (not lower)))
+    go : (a b : Bool) → eqb n 0 ≡ a → nat_lt n (2 ^ 96) ≡ b → IsReduced (if a then truth lower else (if b then point_tree python_level (n ∷ []) lower else truth (not lower)))
     go true b e f = tt
     go false true e f =
         let low : n < 2 ^ 96 = ltb-true n (2 ^ 96) f in
@@ -59,10 +59,10 @@ bound_reduced lower n = go (eqb n 0) (nat_lt n (2 ^ 96)) refl refl
 clause_reduced : (op : Op) (release : List ℕ) → IsReduced (clause_tree op release)
 clause_reduced Eq release = tt
 clause_reduced Unequal release = tt
-clause_reduced AtLeast release = bound_reduced true (numbered (slice_index release 0) (slice_index release 1) (slice_index release 2))
+clause_reduced AtLeast release = bound_reduced true (packed_number (slice_index release 0) (slice_index release 1) (slice_index release 2))
 clause_reduced AtMost release = tt
 clause_reduced More release = tt
-clause_reduced Lt release = bound_reduced false (numbered (slice_index release 0) (slice_index release 1) (slice_index release 2))
+clause_reduced Lt release = bound_reduced false (packed_number (slice_index release 0) (slice_index release 1) (slice_index release 2))
 clause_reduced Compatible release = tt
 
 reads_itself : (k : List ℕ) → is_name k ≡ true → name_of k ≡ Some (normal_form k)
@@ -76,7 +76,7 @@ extra_key (b ∷ bs) is h = let e = reads_itself (b ∷ bs) h in inr (e ∙ ap (
 extra_tree_reduced : (k : List ℕ) (equal : Bool) → IsExtraLiteral k → IsReduced (extra_tree k equal)
 extra_tree_reduced k equal is = go (is_empty k || is_name k) refl
   where
-    go : (b : Bool) → (is_empty k || is_name k) ≡ b → IsReduced (if b then pointed extra_level k equal else truth (not equal))
+    go : (b : Bool) → (is_empty k || is_name k) ≡ b → IsReduced (if b then point_tree extra_level k equal else truth (not equal))
     go true e = extra_reduced k equal (extra_key k is e)
     go false e = tt
 
@@ -108,10 +108,10 @@ bound_truth Equal false = refl
 bound_truth Greater true = refl
 bound_truth Greater false = refl
 
-bound_is : (lower : Bool) (n : ℕ) → 0 < n → n < 2 ^ 96 → bound_tree lower n ≡ pointed python_level (n ∷ []) lower
+bound_is : (lower : Bool) (n : ℕ) → 0 < n → n < 2 ^ 96 → bound_tree lower n ≡ point_tree python_level (n ∷ []) lower
 bound_is lower n some low = go (eqb n 0) (nat_lt n (2 ^ 96)) refl (lt-ltb n (2 ^ 96) low)
   where
-    go : (a b : Bool) → eqb n 0 ≡ a → b ≡ true → (if a then truth lower else (if b then pointed python_level (n ∷ []) lower else truth (not lower))) ≡ pointed python_level (n ∷ []) lower
+    go : (a b : Bool) → eqb n 0 ≡ a → b ≡ true → (if a then truth lower else (if b then point_tree python_level (n ∷ []) lower else truth (not lower))) ≡ point_tree python_level (n ∷ []) lower
     go true b e f = let p : n ≡ 0 = eqb-true n 0 e in absurd (omega arith)
     go false true e f = refl
     go false false e f = absurd cc
@@ -124,7 +124,7 @@ key_truth Equal false = refl
 key_truth Greater true = refl
 key_truth Greater false = refl
 
-pointed_truth : (l k : List ℕ) (asked : Bool) (f : List ℕ → List ℕ) → carries l ≡ false → holds_of (pointed l k asked) f ≡ as_asked asked (bytes_eq (f l) k)
+pointed_truth : (l k : List ℕ) (asked : Bool) (f : List ℕ → List ℕ) → carries l ≡ false → holds_of (point_tree l k asked) f ≡ as_asked asked (bytes_eq (f l) k)
 pointed_truth l k asked f e = rw e (key_truth (text_cmp (f l) k) asked ∙ ap (as_asked asked) (is_eq-slice_cmp (f l) k))
 
 below_truth : (o : Ordering) → by_order o true false false ≡ is_before o
@@ -137,16 +137,16 @@ lower_truth Less = refl
 lower_truth Equal = refl
 lower_truth Greater = refl
 
-key_tree : (equal : Bool) (l k : List ℕ) → carries l ≡ false → IsKey l k → formula_tree (comparison_formula (key_comparison equal l k)) ≡ pointed l k equal
+key_tree : (equal : Bool) (l k : List ℕ) → carries l ≡ false → IsKey l k → formula_tree (comparison_formula (key_comparison equal l k)) ≡ point_tree l k equal
 key_tree equal [] k m h = absurd h
-key_tree equal (zero ∷ []) k m h = ap (λ b. if b then pointed extra_level k equal else truth (not equal)) (extra_may k h)
+key_tree equal (zero ∷ []) k m h = ap (λ b. if b then point_tree extra_level k equal else truth (not equal)) (extra_may k h)
 key_tree equal (suc zero ∷ []) k m h = let q : true ≡ false = m in absurd cc
-key_tree equal (suc (suc i) ∷ []) k m h = ap (λ n. pointed (suc (suc n) ∷ []) k equal) (variable_place i h.0)
+key_tree equal (suc (suc i) ∷ []) k m h = ap (λ n. point_tree (suc (suc n) ∷ []) k equal) (variable_place i h.0)
 key_tree equal (a ∷ b ∷ rest) k m h =
-    ap (λ l. pointed l (1 ∷ []) equal) (level_back (a ∷ b ∷ rest) h.0) ∙ ap (λ z. pointed (a ∷ b ∷ rest) z equal) (sym h.1)
+    ap (λ l. point_tree l (1 ∷ []) equal) (level_back (a ∷ b ∷ rest) h.0) ∙ ap (λ z. point_tree (a ∷ b ∷ rest) z equal) (sym h.1)
 
 -- the tree of what a printed comparison says
-comparison_tree : (c : Comparison) (w : WorldFields) (x : List ℕ) → GoodComparison c → tree_holds (formula_tree (comparison_formula (printed c))) w x ≡ comparison_holds (value_of w x) c
+comparison_tree : (c : Comparison) (w : WorldFields) (x : List ℕ) → GoodComparison c → tree_holds (formula_tree (comparison_formula (printed_form c))) w x ≡ comparison_holds (value_of w x) c
 comparison_tree (at_least n) w x g =
     ap (λ z. tree_holds (bound_tree true z) w x) (number_back n g.1) ∙ ap (λ t. tree_holds t w x) (bound_is true n g.0 g.1) ∙ lower_truth (text_cmp (value_of w x python_level) (n ∷ []))
 comparison_tree (below n) w x g =
@@ -170,19 +170,19 @@ or_false : (b : Bool) → b ≡ (b || false)
 or_false true = refl
 or_false false = refl
 
-all_truth : (cs : List Comparison) (w : WorldFields) (x : List ℕ) → AreFormulas (formulas_of (map comparison_formula (map printed cs))) → Each GoodComparison cs
-    → tree_holds (tree_of_all (formulas_of (map comparison_formula (map printed cs)))) w x ≡ list_all (comparison_holds (value_of w x)) cs
+all_truth : (cs : List Comparison) (w : WorldFields) (x : List ℕ) → AreFormulas (formulas_of (map comparison_formula (map printed_form cs))) → Each GoodComparison cs
+    → tree_holds (tree_of_all (formulas_of (map comparison_formula (map printed_form cs)))) w x ≡ list_all (comparison_holds (value_of w x)) cs
 all_truth [] w x h g = refl
 all_truth (c ∷ cs) w x h g =
-    let f = comparison_formula (printed c) in
-    let fs = formulas_of (map comparison_formula (map printed cs)) in
+    let f = comparison_formula (printed_form c) in
+    let fs = formulas_of (map comparison_formula (map printed_form cs)) in
     operations.join_truth both (formula_tree f) (tree_of_all fs) (formula_reduced f h.0) (all_reduced fs h.1) w x
     ∙ both_and (tree_holds (formula_tree f) w x) (tree_holds (tree_of_all fs) w x)
     ∙ ap (λ b. b && tree_holds (tree_of_all fs) w x) (comparison_tree c w x g.0)
     ∙ ap (λ b. comparison_holds (value_of w x) c && b) (all_truth cs w x h.1 g.1)
 
-path_truth : (cs : List Comparison) (w : WorldFields) (x : List ℕ) → IsFormula (path_formula (map printed cs)) → Each GoodComparison cs
-    → tree_holds (formula_tree (path_formula (map printed cs))) w x ≡ list_all (comparison_holds (value_of w x)) cs
+path_truth : (cs : List Comparison) (w : WorldFields) (x : List ℕ) → IsFormula (path_formula (map printed_form cs)) → Each GoodComparison cs
+    → tree_holds (formula_tree (path_formula (map printed_form cs))) w x ≡ list_all (comparison_holds (value_of w x)) cs
 path_truth [] w x h g = refl
 path_truth (c ∷ []) w x h g = comparison_tree c w x g.0 ∙ and_true (comparison_holds (value_of w x) c)
 path_truth (c ∷ d ∷ cs) w x h g = all_truth (c ∷ d ∷ cs) w x h g

@@ -10,7 +10,7 @@ use Rattle.ul_marker.specs.declared.printed.Comparison.TheVariants.{Bound, Extra
 use Rattle.ul_tree.specs.Joins.{trees_made}
 use Rattle.ul_tree.specs.Keys.{level_view, key_view}
 use Rattle.ul_tree.specs.Levels.{python_level}
-use Rattle.ul_tree.specs.Plain.{Plain, done, branch, text_cmp, carries, carried}
+use Rattle.ul_tree.specs.Plain.{Plain, done, branch, text_cmp, carries, carried_part}
 use Rattle.ul_tree.specs.Reduced.{Fits, IsReduced}
 use Rattle.ul_tree.specs.Views.{tree_view}
 use Rattle.ul_tree.specs.declared.level.Key.{Key}
@@ -71,10 +71,10 @@ pub entry_reduced : (xs : List (Key × Tree)) (i : ℕ) (x : Key × Tree) → i 
 entry_reduced xs i x h e all = subst (λ (z : Key × Tree). IsReduced (tree_view z.1)) (sym e) (all i x h)
 
 pub apart_step : (xs : List (Key × Tree)) (i : ℕ) (x : Key × Tree) (last : Option (List ℕ)) (m : Bool) (d : Plain) → i < length xs → x ≡ get_or xs i x → is_after last (key_view x.0) ≡ true → same (tree_view x.1) d ≡ false
-    → are_apart last m d (trees_made (drop i xs)) ≡ are_apart (Some (key_view x.0)) m (carried m (tree_view x.1) d) (trees_made (drop (i + 1) xs))
+    → are_apart last m d (trees_made (drop i xs)) ≡ are_apart (Some (key_view x.0)) m (carried_part m (tree_view x.1) d) (trees_made (drop (i + 1) xs))
 apart_step xs i x last m d h e a s =
     let rest = trees_made (drop (i + 1) xs) in
-    let next : Bool = are_apart (Some (key_view x.0)) m (carried m (tree_view x.1) d) rest in
+    let next : Bool = are_apart (Some (key_view x.0)) m (carried_part m (tree_view x.1) d) rest in
     ap (λ z. are_apart last m d (trees_made z)) (drop_more xs i x h)
     ∙ ap (λ z. are_apart last m d (branch (key_view z.0) (tree_view z.1) rest)) (sym e)
     ∙ ap (λ b. b && (not (same (tree_view x.1) d) && next)) a

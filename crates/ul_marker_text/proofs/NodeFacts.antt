@@ -5,11 +5,11 @@ use Rattle.std.specs.Str.{bytes_eq}
 use Rattle.std.specs.declared.cmp.Ordering.{Ordering}
 use Rattle.std.proofs.lemmas.Bool.{and_parts}
 use Rattle.ul_tree.specs.Apply.{same, close}
-use Rattle.ul_tree.specs.Fans.{pieces_from, opened, other_part, listed_points, filled_points, pointed_at, node_of}
+use Rattle.ul_tree.specs.Fans.{pieces_from, opening_node, other_part, listed_points, filled_points, pointed_at, node_of}
 use Rattle.ul_tree.specs.Levels.{python_level}
 use Rattle.ul_tree.specs.PathLaws.{step_level}
 use Rattle.ul_tree.specs.PathList.{Step, interval, point, others}
-use Rattle.ul_tree.specs.Plain.{Plain, truth, node, Branches, done, branch, text_cmp, carries, carried}
+use Rattle.ul_tree.specs.Plain.{Plain, truth, node, Branches, done, branch, text_cmp, carries, carried_part}
 use Rattle.ul_tree.specs.Reduced.{Fits, FitsAll, StartsAfter, IsAfter, HasBranch}
 use Rattle.ul_tree.proofs.ForCallers.{same_true, same_false}
 use Rattle.ul_marker_text.specs.NodeViews.{first_level, has_interval}
@@ -60,15 +60,15 @@ differ_false c d n = go (same c d) refl
 pub apart_fits : (bs : Branches) (l : List ℕ) (d : Plain) (last : Option (List ℕ)) → AreKeys l bs → BranchesFit l bs → are_apart last (carries l) d bs ≡ true → StartsAfter last bs × FitsAll bs l d
 apart_fits done l d last k f e = (tt, tt)
 apart_fits (branch j c rest) l d last k f e =
-    let p = and_parts (is_after last j) (not (same c d) && are_apart (Some j) (carries l) (carried (carries l) c d) rest) e in
-    let q = and_parts (not (same c d)) (are_apart (Some j) (carries l) (carried (carries l) c d) rest) p.1 in
-    let more = apart_fits rest l (carried (carries l) c d) (Some j) k.1 f.1 q.1 in
+    let p = and_parts (is_after last j) (not (same c d) && are_apart (Some j) (carries l) (carried_part (carries l) c d) rest) e in
+    let q = and_parts (not (same c d)) (are_apart (Some j) (carries l) (carried_part (carries l) c d) rest) p.1 in
+    let more = apart_fits rest l (carried_part (carries l) c d) (Some j) k.1 f.1 q.1 in
     (after_is last j p.0, (k.0, more.0, f.0, same_false c d (not_true (same c d) q.0), more.1))
 
 pub fits_apart : (bs : Branches) (l : List ℕ) (d : Plain) (last : Option (List ℕ)) → FitsAll bs l d → StartsAfter last bs → are_apart last (carries l) d bs ≡ true
 fits_apart done l d last h a = refl
 fits_apart (branch j c rest) l d last h a =
-    rw (is_after_key last j a, differ_false c d h.3) (fits_apart rest l (carried (carries l) c d) (Some j) h.4 h.1)
+    rw (is_after_key last j a, differ_false c d h.3) (fits_apart rest l (carried_part (carries l) c d) (Some j) h.4 h.1)
 
 none_starts : (bs : Branches) → StartsAfter None bs
 none_starts done = tt
@@ -99,7 +99,7 @@ close_node (branch k c rest) l d n = refl
 -- keys of a reduced node
 keys_fit : (bs : Branches) (l : List ℕ) (d : Plain) → FitsAll bs l d → AreKeys l bs
 keys_fit done l d h = tt
-keys_fit (branch k c rest) l d h = (h.0, keys_fit rest l (carried (carries l) c d) h.4)
+keys_fit (branch k c rest) l d h = (h.0, keys_fit rest l (carried_part (carries l) c d) h.4)
 
 pub no_keys : (bs : Branches) (l b : List ℕ) (d : Plain) → (AreKeys l bs → ⊥) → Fits (node l d bs) b → ⊥
 no_keys bs l b d wrong h = wrong (keys_fit bs l d h.3)
@@ -155,13 +155,13 @@ other_fits ((others m js, p) ∷ ps) l ks d h e = subst (λ (z : Plain). Fits z 
 -- ---- the node of parts
 
 -- the node of the interpreter, without its first branch
-pub opened_node : (bs rest : Branches) (k : List ℕ) (d : Plain) → bs ≡ branch k d rest → opened bs ≡ node python_level d rest
-opened_node bs rest k d e = ap opened e
+pub opened_node : (bs rest : Branches) (k : List ℕ) (d : Plain) → bs ≡ branch k d rest → opening_node bs ≡ node python_level d rest
+opened_node bs rest k d e = ap opening_node e
 
-pub opened_none : (bs : Branches) → bs ≡ done → opened bs ≡ truth false
-opened_none bs e = ap opened e
+pub opened_none : (bs : Branches) → bs ≡ done → opening_node bs ≡ truth false
+opened_none bs e = ap opening_node e
 
-pub node_pieces : (ps : List Part) → has_interval ps ≡ true → node_of ps ≡ opened (pieces_from 0 ps)
+pub node_pieces : (ps : List Part) → has_interval ps ≡ true → node_of ps ≡ opening_node (pieces_from 0 ps)
 node_pieces [] e = absurd cc
 node_pieces ((interval a b, p) ∷ ps) e = refl
 node_pieces ((point l k, p) ∷ ps) e = absurd cc
@@ -242,7 +242,7 @@ other_keep ((others m is, p) ∷ ps) ((s, q) ∷ qs) l k = subst (λ (z : Step).
 
 branches_fit : (bs : Branches) (l : List ℕ) (d : Plain) → FitsAll bs l d → BranchesFit l bs
 branches_fit done l d h = tt
-branches_fit (branch k c rest) l d h = (h.2, branches_fit rest l (carried (carries l) c d) h.4)
+branches_fit (branch k c rest) l d h = (h.2, branches_fit rest l (carried_part (carries l) c d) h.4)
 
 pointed_keep : (ps qs : List Part) (l b : List ℕ) (o u : Option (List (List ℕ) × Plain)) → KeepParts l ps qs → OtherKeeps l o u → Fits (pointed_at l ps o) b → pointed_at l qs u ≡ pointed_at l ps o
 unfolding OtherKeeps
@@ -253,7 +253,7 @@ pointed_keep ps qs l b (Some o) (Some u) k e h =
     ap (λ z. node l z (filled_points u.0 qs)) (e.1.same h.2) ∙ ap (λ z. node l o.1 (filled_points z qs)) e.0
     ∙ ap (node l o.1) (filled_keep o.0 ps qs l k (branches_fit (filled_points o.0 ps) l o.1 h.3))
 
-opened_fit : (bs : Branches) (b : List ℕ) → Fits (opened bs) b → BranchesFit python_level bs
+opened_fit : (bs : Branches) (b : List ℕ) → Fits (opening_node bs) b → BranchesFit python_level bs
 opened_fit done b h = tt
 opened_fit (branch k d rest) b h = (h.2, branches_fit rest python_level d h.3)
 
@@ -262,7 +262,7 @@ node_keep p ps [] b k h = absurd k
 node_keep (interval x y, p) ps ((s, q) ∷ qs) b k h =
     let all = (interval x y, p) ∷ ps in
     ap (λ z. node_of ((z, q) ∷ qs)) k.0
-    ∙ ap opened (ap (λ z. pieces_from 0 ((z, q) ∷ qs)) (sym k.0) ∙ pieces_keep all ((s, q) ∷ qs) 0 k (opened_fit (pieces_from 0 all) b h))
+    ∙ ap opening_node (ap (λ z. pieces_from 0 ((z, q) ∷ qs)) (sym k.0) ∙ pieces_keep all ((s, q) ∷ qs) 0 k (opened_fit (pieces_from 0 all) b h))
 node_keep (point l j, p) ps ((s, q) ∷ qs) b k h =
     let all = (point l j, p) ∷ ps in
     let made = (s, q) ∷ qs in

@@ -9,8 +9,8 @@ use Rattle.ul_tree.specs.Comparisons.{Comparison, at_least, below, equals, diffe
 use Rattle.ul_tree.specs.Levels.{IsKey, IsExtra}
 use Rattle.ul_tree.specs.Plain.{carries}
 use Rattle.ul_tree.proofs.ForCallers.{number_back, level_back, atom_found}
-use Rattle.ul_marker_text.specs.MarkerText.{text_variable, key_comparison, printed}
-use Rattle.ul_marker_text.specs.Rows.{placed, keyed}
+use Rattle.ul_marker_text.specs.MarkerText.{text_variable, key_comparison, printed_form}
+use Rattle.ul_marker_text.specs.Rows.{comparison_asked, has_key_comparison}
 
 -- a comparison that a reduced tree may have
 abbrev pub GoodComparison : Comparison → Type 0
@@ -39,16 +39,16 @@ is_variable (suc (suc (suc (suc (suc zero))))) = refl
 is_variable (suc (suc (suc (suc (suc (suc zero)))))) = refl
 is_variable (suc (suc (suc (suc (suc (suc (suc n))))))) = refl
 
-key_placed : (equal : Bool) (l k : List ℕ) → carries l ≡ false → IsKey l k → placed (key_comparison equal l k) ≡ keyed equal l k
+key_placed : (equal : Bool) (l k : List ℕ) → carries l ≡ false → IsKey l k → comparison_asked (key_comparison equal l k) ≡ has_key_comparison equal l k
 key_placed equal [] k m h = absurd h
 key_placed equal (zero ∷ []) k m h = refl
 key_placed equal (suc zero ∷ []) k m h = let q : true ≡ false = m in absurd cc
-key_placed equal (suc (suc i) ∷ []) k m h = ap (λ n. keyed equal (suc (suc n) ∷ []) k) (variable_place i h.0)
+key_placed equal (suc (suc i) ∷ []) k m h = ap (λ n. has_key_comparison equal (suc (suc n) ∷ []) k) (variable_place i h.0)
 key_placed equal (a ∷ b ∷ rest) k m h =
-    ap (λ l. keyed equal l (1 ∷ [])) (level_back (a ∷ b ∷ rest) h.0) ∙ ap (keyed equal (a ∷ b ∷ rest)) (sym h.1)
+    ap (λ l. has_key_comparison equal l (1 ∷ [])) (level_back (a ∷ b ∷ rest) h.0) ∙ ap (has_key_comparison equal (a ∷ b ∷ rest)) (sym h.1)
 
 -- a printed comparison asks what it is printed for
-pub placed_back : (c : Comparison) → GoodComparison c → placed (printed c) ≡ c
+pub placed_back : (c : Comparison) → GoodComparison c → comparison_asked (printed_form c) ≡ c
 placed_back (at_least n) h = ap at_least (number_back n h.1)
 placed_back (below n) h = ap below (number_back n h.1)
 placed_back (equals l k) h = key_placed true l k h.0 h.1
@@ -68,7 +68,7 @@ key_printed equal (suc (suc i) ∷ []) k m h = (is_variable i, h.1)
 key_printed equal (a ∷ b ∷ rest) k m h = atom_found (a ∷ b ∷ rest) h.0
 
 -- it is one that a marker can have
-pub printed_is : (c : Comparison) → GoodComparison c → IsComparison (printed c)
+pub printed_is : (c : Comparison) → GoodComparison c → IsComparison (printed_form c)
 printed_is (at_least n) h = (omega arith, omega arith, omega arith)
 printed_is (below n) h = (omega arith, omega arith, omega arith)
 printed_is (equals l k) h = key_printed true l k h.0 h.1

@@ -25,7 +25,7 @@ use Rattle.ul_tree.specs.Plain.{Plain, truth, node}
 use Rattle.ul_tree.specs.Reduced.{IsReduced}
 use Rattle.ul_tree.proofs.ForCallers.{Each}
 use Rattle.ul_marker_text.specs.MarkerOfText.{IsMarker}
-use Rattle.ul_marker_text.specs.MarkerText.{marker_text, has, printed, printed_path}
+use Rattle.ul_marker_text.specs.MarkerText.{marker_text, has, printed_form, printed_path}
 use Rattle.ul_marker_text.proofs.MarkerTrees.{marker_reduced, truth_is_none}
 use Rattle.ul_marker_text.proofs.Placed.{GoodComparison, printed_is}
 use Rattle.ul_marker_text.proofs.StepsBack.{GoodRow}
@@ -131,11 +131,11 @@ comparison_clean (Printed.extra_is t equal) h = joined (codes "extra") (equality
 comparison_clean (Printed.text_is v t equal) h = joined (variable_name v) (equality_sign equal ++ quoted_text t) (name_clean v) (joined (equality_sign equal) (quoted_text t) (equality_clean equal) (quoted_clean t (literal_clean t h.1)))
 comparison_clean (Printed.atom_is a holds) h = sides_clean a.kind a.variable (kind_sign a.kind holds) a.literal (kind_clean a.kind holds) (literal_clean a.literal h.literal)
 
-path_clean : (cs : List Comparison) → Each GoodComparison cs → Clean (path_text (map printed cs))
+path_clean : (cs : List Comparison) → Each GoodComparison cs → Clean (path_text (map printed_form cs))
 path_clean [] h = refl
-path_clean (c ∷ []) h = comparison_clean (printed c) (printed_is c h.0)
+path_clean (c ∷ []) h = comparison_clean (printed_form c) (printed_is c h.0)
 path_clean (c ∷ d ∷ cs) h =
-    joined (comparison_text (printed c)) (codes " and " ++ path_text (map printed (d ∷ cs))) (comparison_clean (printed c) (printed_is c h.0)) (joined (codes " and ") (path_text (map printed (d ∷ cs))) refl (path_clean (d ∷ cs) h.1))
+    joined (comparison_text (printed_form c)) (codes " and " ++ path_text (map printed_form (d ∷ cs))) (comparison_clean (printed_form c) (printed_is c h.0)) (joined (codes " and ") (path_text (map printed_form (d ∷ cs))) refl (path_clean (d ∷ cs) h.1))
 
 paths_clean : (ps : List (List Step)) → Each (λ p. GoodRow (path_comparisons p)) ps → Clean (paths_text (map printed_path ps))
 paths_clean [] h = refl

@@ -18,19 +18,19 @@ use Rattle.ul_tree.specs.Comparisons as Plain
 use Rattle.ul_tree.specs.Comparisons.{path_comparisons}
 use Rattle.ul_tree.specs.Levels.{extra_level, text_level, atom_level}
 use Rattle.ul_tree.specs.PathList.{Step}
-use Rattle.ul_tree.specs.Pieces.{numbered}
+use Rattle.ul_tree.specs.Pieces.{packed_number}
 use Rattle.ul_tree.proofs.ForCallers.{Each}
-use Rattle.ul_marker_text.specs.MarkerText.{printed, printed_path}
-use Rattle.ul_marker_text.specs.Rows.{listed, disjuncts, conjuncts, IsNoRow, IsNoRows, placed, keyed, bounded, steps_of}
+use Rattle.ul_marker_text.specs.MarkerText.{printed_form, printed_path}
+use Rattle.ul_marker_text.specs.Rows.{formula_list, disjuncts, conjuncts, IsNoRow, IsNoRows, comparison_asked, has_key_comparison, bound_comparison, steps_of}
 use Rattle.ul_marker_text.specs.RowViews.{rows_view, NoPathIn}
-use Rattle.ul_marker_text.specs.StepViews.{said, asked, row_view, rows_steps}
+use Rattle.ul_marker_text.specs.StepViews.{said, plain_comparison, row_view, rows_steps}
 use Rattle.ul_marker_text.proofs.Goods.{Goods, Good}
 use Rattle.ul_marker_text.proofs.Placed.{GoodComparison, placed_back}
 use Rattle.ul_marker_text.proofs.StepsBack.{GoodRow, steps_back}
 
 -- ---- formulas that are joined
 
-pub listed_back : (fs : List Formula) → listed (formulas_of fs) ≡ fs
+pub listed_back : (fs : List Formula) → formula_list (formulas_of fs) ≡ fs
 listed_back [] = refl
 listed_back (f ∷ fs) = ap (λ z. f ∷ z) (listed_back fs)
 
@@ -116,16 +116,16 @@ is_lower other = false
 
 -- what a formula asks, where it is a printed comparison
 asks : Formula → Plain.Comparison
-asks (extra literal equal) = keyed equal extra_level literal
+asks (extra literal equal) = has_key_comparison equal extra_level literal
 asks (python full clause) =
-    bounded (is_lower clause.op) (numbered (get_or clause.version.release 0 0) (get_or clause.version.release 1 0) (get_or clause.version.release 2 0))
+    bound_comparison (is_lower clause.op) (packed_number (get_or clause.version.release 0 0) (get_or clause.version.release 1 0) (get_or clause.version.release 2 0))
 asks (python_list full versions within) = Plain.at_least 0
-asks (text variable literal equal) = keyed equal (text_level variable) literal
-asks (opaque atom positive) = keyed positive (atom_level atom) (1 ∷ [])
+asks (text variable literal equal) = has_key_comparison equal (text_level variable) literal
+asks (opaque atom positive) = has_key_comparison positive (atom_level atom) (1 ∷ [])
 asks (all fs) = Plain.at_least 0
 asks (any fs) = Plain.at_least 0
 
-asks_placed : (c : Printed.Comparison) → asks (comparison_formula c) ≡ placed c
+asks_placed : (c : Printed.Comparison) → asks (comparison_formula c) ≡ comparison_asked c
 unfolding asks is_lower
 asks_placed (Printed.bound true major minor patch) = refl
 asks_placed (Printed.bound false major minor patch) = refl
@@ -133,22 +133,22 @@ asks_placed (Printed.extra_is literal equal) = refl
 asks_placed (Printed.text_is variable literal equal) = refl
 asks_placed (Printed.atom_is atom holds) = refl
 
-asked_is : (x : Comparison) (c : Plain.Comparison) → GoodComparison c → said x ≡ comparison_formula (printed c) → asked x ≡ c
-asked_is x c g e = sym (asks_placed _) ∙ ap asks e ∙ asks_placed (printed c) ∙ placed_back c g
+asked_is : (x : Comparison) (c : Plain.Comparison) → GoodComparison c → said x ≡ comparison_formula (printed_form c) → plain_comparison x ≡ c
+asked_is x c g e = sym (asks_placed _) ∙ ap asks e ∙ asks_placed (printed_form c) ∙ placed_back c g
 
-asked_row : (xs : List Comparison) (cs : List Plain.Comparison) → Each GoodComparison cs → map said xs ≡ map comparison_formula (map printed cs) → row_view xs ≡ cs
+asked_row : (xs : List Comparison) (cs : List Plain.Comparison) → Each GoodComparison cs → map said xs ≡ map comparison_formula (map printed_form cs) → row_view xs ≡ cs
 asked_row [] [] g e = refl
 asked_row [] (c ∷ cs) g e = absurd cc
 asked_row (x ∷ xs) [] g e = absurd cc
 asked_row (x ∷ xs) (c ∷ cs) g e =
-    let first : said x ≡ comparison_formula (printed c) = cc in
-    let rest : map said xs ≡ map comparison_formula (map printed cs) = cc in
+    let first : said x ≡ comparison_formula (printed_form c) = cc in
+    let rest : map said xs ≡ map comparison_formula (map printed_form cs) = cc in
     ap (λ z. z ∷ row_view xs) (asked_is x c g.0 first) ∙ ap (λ z. c ∷ z) (asked_row xs cs g.1 rest)
 
 row_steps : (xs : List Comparison) (p : List Step) → Good [] p → Each GoodComparison (path_comparisons p) → map said xs ≡ map comparison_formula (printed_path p) → steps_of (length xs) (row_view xs) ≡ p
 row_steps xs p h g e =
     let same = asked_row xs (path_comparisons p) g e in
-    let count : length (path_comparisons p) ≡ length xs = ap length (sym same) ∙ length-map xs asked in
+    let count : length (path_comparisons p) ≡ length xs = ap length (sym same) ∙ length-map xs plain_comparison in
     ap (steps_of (length xs)) same ∙ steps_back p [] (length xs) h (omega (arith, count))
 
 -- the steps of the code's rows are the paths that they were printed of

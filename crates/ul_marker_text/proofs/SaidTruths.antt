@@ -10,7 +10,7 @@ use Rattle.std.proofs.lemmas.Map.Text.{is_eq-slice_cmp}
 use Rattle.ul_base.specs.Names.{is_name}
 use Rattle.ul_base.proofs.ForCallers.{name-is_name}
 use Rattle.ul_version.specs.Fields.{plain}
-use Rattle.ul_version.specs.Order.{padded, release_cmp, version_cmp}
+use Rattle.ul_version.specs.Order.{padded_release, release_cmp, version_cmp}
 use Rattle.ul_specifier.specs.Meaning.{meets_clause}
 use Rattle.ul_marker.specs.Atoms.{has_atom}
 use Rattle.ul_marker.specs.Formulas.{formulas_of}
@@ -24,14 +24,14 @@ use Rattle.ul_tree.specs.Comparisons.{Comparison, at_least, below, equals, diffe
 use Rattle.ul_tree.specs.Levels.{IsKey, IsExtra, IsAtomLevel}
 use Rattle.ul_tree.specs.PathList.{Step, paths_to_true}
 use Rattle.ul_tree.specs.PathTruth.{is_before, comparison_holds, path_holds, some_path_holds}
-use Rattle.ul_tree.specs.Pieces.{numbered, major_of, minor_of, patch_of}
+use Rattle.ul_tree.specs.Pieces.{packed_number, major_of, minor_of, patch_of}
 use Rattle.ul_tree.specs.Plain.{Plain, truth, node, Branches, text_cmp, carries}
 use Rattle.ul_tree.specs.Reduced.{IsReduced}
 use Rattle.ul_tree.specs.Sample.{atom_of}
 use Rattle.ul_tree.specs.Values.{value_of, number_of, has_level, mark_of}
 use Rattle.ul_tree.proofs.ForCallers.{Each, number_back, level_back, turned, mark_eq, cmp_less, cmp_more, paths_truth}
 use Rattle.ul_marker_text.specs.Headline.{IsNoTruth, ReadsAs}
-use Rattle.ul_marker_text.specs.MarkerText.{marker_text, key_comparison, printed, printed_path, printed_paths}
+use Rattle.ul_marker_text.specs.MarkerText.{marker_text, key_comparison, printed_form, printed_path, printed_paths}
 use Rattle.ul_marker_text.proofs.Placed.{GoodComparison, variable_place}
 use Rattle.ul_marker_text.proofs.StepsBack.{GoodRow}
 use Rattle.ul_marker_text.proofs.TreeTexts.{node_paths, printed_all, paths_some}
@@ -49,32 +49,32 @@ plain_cmp xs ys = go (release_cmp xs ys)
     go Greater = refl
 
 numbers_order : (a b c d e f : ℕ) → b < 2 ^ 32 → c < 2 ^ 32 → e < 2 ^ 32 → f < 2 ^ 32
-    → ordering_then (nat_cmp a d) (ordering_then (nat_cmp b e) (ordering_then (nat_cmp c f) Equal)) ≡ nat_cmp (numbered a b c) (numbered d e f)
+    → ordering_then (nat_cmp a d) (ordering_then (nat_cmp b e) (ordering_then (nat_cmp c f) Equal)) ≡ nat_cmp (packed_number a b c) (packed_number d e f)
 numbers_order a b c d e f hb hc he hf = elim (cases_order a d) [
-  | inl p ↦ subst (λ (z : ℕ). ordering_then (nat_cmp a z) (ordering_then (nat_cmp b e) (ordering_then (nat_cmp c f) Equal)) ≡ nat_cmp (numbered a b c) (numbered z e f)) p
+  | inl p ↦ subst (λ (z : ℕ). ordering_then (nat_cmp a z) (ordering_then (nat_cmp b e) (ordering_then (nat_cmp c f) Equal)) ≡ nat_cmp (packed_number a b c) (packed_number z e f)) p
       (ap (λ o. ordering_then o (ordering_then (nat_cmp b e) (ordering_then (nat_cmp c f) Equal))) (tied_itself nat_cmp_total a) ∙ second)
-  | inr (inl p) ↦ ap (λ o. ordering_then o (ordering_then (nat_cmp b e) (ordering_then (nat_cmp c f) Equal))) (cmp_less a d p) ∙ sym (cmp_less (numbered a b c) (numbered d e f) (omega arith))
-  | inr (inr p) ↦ ap (λ o. ordering_then o (ordering_then (nat_cmp b e) (ordering_then (nat_cmp c f) Equal))) (cmp_more a d p) ∙ sym (cmp_more (numbered a b c) (numbered d e f) (omega arith))
+  | inr (inl p) ↦ ap (λ o. ordering_then o (ordering_then (nat_cmp b e) (ordering_then (nat_cmp c f) Equal))) (cmp_less a d p) ∙ sym (cmp_less (packed_number a b c) (packed_number d e f) (omega arith))
+  | inr (inr p) ↦ ap (λ o. ordering_then o (ordering_then (nat_cmp b e) (ordering_then (nat_cmp c f) Equal))) (cmp_more a d p) ∙ sym (cmp_more (packed_number a b c) (packed_number d e f) (omega arith))
 ]
   where
-    third : ordering_then (nat_cmp c f) Equal ≡ nat_cmp (numbered a b c) (numbered a b f)
+    third : ordering_then (nat_cmp c f) Equal ≡ nat_cmp (packed_number a b c) (packed_number a b f)
     third = elim (cases_order c f) [
-      | inl p ↦ subst (λ (z : ℕ). ordering_then (nat_cmp c z) Equal ≡ nat_cmp (numbered a b c) (numbered a b z)) p
-          (ap (λ o. ordering_then o Equal) (tied_itself nat_cmp_total c) ∙ sym (tied_itself nat_cmp_total (numbered a b c)))
-      | inr (inl p) ↦ ap (λ o. ordering_then o Equal) (cmp_less c f p) ∙ sym (cmp_less (numbered a b c) (numbered a b f) (omega arith))
-      | inr (inr p) ↦ ap (λ o. ordering_then o Equal) (cmp_more c f p) ∙ sym (cmp_more (numbered a b c) (numbered a b f) (omega arith))
+      | inl p ↦ subst (λ (z : ℕ). ordering_then (nat_cmp c z) Equal ≡ nat_cmp (packed_number a b c) (packed_number a b z)) p
+          (ap (λ o. ordering_then o Equal) (tied_itself nat_cmp_total c) ∙ sym (tied_itself nat_cmp_total (packed_number a b c)))
+      | inr (inl p) ↦ ap (λ o. ordering_then o Equal) (cmp_less c f p) ∙ sym (cmp_less (packed_number a b c) (packed_number a b f) (omega arith))
+      | inr (inr p) ↦ ap (λ o. ordering_then o Equal) (cmp_more c f p) ∙ sym (cmp_more (packed_number a b c) (packed_number a b f) (omega arith))
     ]
 
-    second : ordering_then (nat_cmp b e) (ordering_then (nat_cmp c f) Equal) ≡ nat_cmp (numbered a b c) (numbered a e f)
+    second : ordering_then (nat_cmp b e) (ordering_then (nat_cmp c f) Equal) ≡ nat_cmp (packed_number a b c) (packed_number a e f)
     second = elim (cases_order b e) [
-      | inl p ↦ subst (λ (z : ℕ). ordering_then (nat_cmp b z) (ordering_then (nat_cmp c f) Equal) ≡ nat_cmp (numbered a b c) (numbered a z f)) p
+      | inl p ↦ subst (λ (z : ℕ). ordering_then (nat_cmp b z) (ordering_then (nat_cmp c f) Equal) ≡ nat_cmp (packed_number a b c) (packed_number a z f)) p
           (ap (λ o. ordering_then o (ordering_then (nat_cmp c f) Equal)) (tied_itself nat_cmp_total b) ∙ third)
-      | inr (inl p) ↦ ap (λ o. ordering_then o (ordering_then (nat_cmp c f) Equal)) (cmp_less b e p) ∙ sym (cmp_less (numbered a b c) (numbered a e f) (omega arith))
-      | inr (inr p) ↦ ap (λ o. ordering_then o (ordering_then (nat_cmp c f) Equal)) (cmp_more b e p) ∙ sym (cmp_more (numbered a b c) (numbered a e f) (omega arith))
+      | inr (inl p) ↦ ap (λ o. ordering_then o (ordering_then (nat_cmp c f) Equal)) (cmp_less b e p) ∙ sym (cmp_less (packed_number a b c) (packed_number a e f) (omega arith))
+      | inr (inr p) ↦ ap (λ o. ordering_then o (ordering_then (nat_cmp c f) Equal)) (cmp_more b e p) ∙ sym (cmp_more (packed_number a b c) (packed_number a e f) (omega arith))
     ]
 
-three_cmp : (a b c d e f : ℕ) → b < 2 ^ 32 → c < 2 ^ 32 → e < 2 ^ 32 → f < 2 ^ 32 → release_cmp (a ∷ b ∷ c ∷ []) (d ∷ e ∷ f ∷ []) ≡ nat_cmp (numbered a b c) (numbered d e f)
-unfolding release_cmp padded
+three_cmp : (a b c d e f : ℕ) → b < 2 ^ 32 → c < 2 ^ 32 → e < 2 ^ 32 → f < 2 ^ 32 → release_cmp (a ∷ b ∷ c ∷ []) (d ∷ e ∷ f ∷ []) ≡ nat_cmp (packed_number a b c) (packed_number d e f)
+unfolding release_cmp padded_release
 three_cmp a b c d e f hb hc he hf = numbers_order a b c d e f hb hc he hf
 
 before_lt : (o : Ordering) → is_before (ordering_then o Equal) ≡ is_lt o
@@ -96,11 +96,11 @@ python_before w n h low =
     ap is_lt (plain_cmp _ _ ∙ three_cmp w.major w.minor w.patch (major_of n) (minor_of n) (patch_of n) h.minor h.patch (omega arith) (omega arith) ∙ ap (nat_cmp (number_of w)) (number_back n low))
     ∙ sym (before_lt (nat_cmp (number_of w) n))
 
-lower_said : (w : WorldFields) (x : List ℕ) (n : ℕ) → IsWorld w → n < 2 ^ 96 → marker_holds (comparison_formula (printed (at_least n))) w x ≡ comparison_holds (value_of w x) (at_least n)
+lower_said : (w : WorldFields) (x : List ℕ) (n : ℕ) → IsWorld w → n < 2 ^ 96 → marker_holds (comparison_formula (printed_form (at_least n))) w x ≡ comparison_holds (value_of w x) (at_least n)
 unfolding meets_clause
 lower_said w x n h low = ap not (python_before w n h low)
 
-upper_said : (w : WorldFields) (x : List ℕ) (n : ℕ) → IsWorld w → n < 2 ^ 96 → marker_holds (comparison_formula (printed (below n))) w x ≡ comparison_holds (value_of w x) (below n)
+upper_said : (w : WorldFields) (x : List ℕ) (n : ℕ) → IsWorld w → n < 2 ^ 96 → marker_holds (comparison_formula (printed_form (below n))) w x ≡ comparison_holds (value_of w x) (below n)
 unfolding meets_clause
 upper_said w x n h low = and_true _ ∙ python_before w n h low
 
@@ -131,7 +131,7 @@ key_truth w x (a ∷ b ∷ rest) k equal m h =
     ap (as_asked equal) (atom_said w (a ∷ b ∷ rest) h.0 ∙ ap (bytes_eq (mark_of (has_level w.truths (a ∷ b ∷ rest)))) (sym h.1))
 
 -- what a printed comparison says holds where the comparison does
-pub said_truth : (w : WorldFields) (x : List ℕ) (c : Comparison) → IsWorld w → GoodComparison c → marker_holds (comparison_formula (printed c)) w x ≡ comparison_holds (value_of w x) c
+pub said_truth : (w : WorldFields) (x : List ℕ) (c : Comparison) → IsWorld w → GoodComparison c → marker_holds (comparison_formula (printed_form c)) w x ≡ comparison_holds (value_of w x) c
 said_truth w x (at_least n) h g = lower_said w x n h g.1
 said_truth w x (below n) h g = upper_said w x n h g.1
 said_truth w x (equals l k) h g = key_truth w x l k true g.0 g.1
@@ -139,13 +139,13 @@ said_truth w x (differs l k) h g = key_truth w x l k false g.0 g.1
 
 -- ---- paths
 
-row_all : (w : WorldFields) (x : List ℕ) (cs : List Comparison) → IsWorld w → Each GoodComparison cs → all_hold (formulas_of (map comparison_formula (map printed cs))) w x ≡ list_all (comparison_holds (value_of w x)) cs
+row_all : (w : WorldFields) (x : List ℕ) (cs : List Comparison) → IsWorld w → Each GoodComparison cs → all_hold (formulas_of (map comparison_formula (map printed_form cs))) w x ≡ list_all (comparison_holds (value_of w x)) cs
 row_all w x [] h g = refl
 row_all w x (c ∷ cs) h g =
-    ap (λ b. b && all_hold (formulas_of (map comparison_formula (map printed cs))) w x) (said_truth w x c h g.0)
+    ap (λ b. b && all_hold (formulas_of (map comparison_formula (map printed_form cs))) w x) (said_truth w x c h g.0)
     ∙ ap (λ b. comparison_holds (value_of w x) c && b) (row_all w x cs h g.1)
 
-row_truth : (w : WorldFields) (x : List ℕ) (cs : List Comparison) → IsWorld w → Each GoodComparison cs → marker_holds (path_formula (map printed cs)) w x ≡ list_all (comparison_holds (value_of w x)) cs
+row_truth : (w : WorldFields) (x : List ℕ) (cs : List Comparison) → IsWorld w → Each GoodComparison cs → marker_holds (path_formula (map printed_form cs)) w x ≡ list_all (comparison_holds (value_of w x)) cs
 row_truth w x [] h g = refl
 row_truth w x (c ∷ []) h g = said_truth w x c h g.0 ∙ sym (and_true (comparison_holds (value_of w x) c))
 row_truth w x (c ∷ d ∷ cs) h g = row_all w x (c ∷ d ∷ cs) h g

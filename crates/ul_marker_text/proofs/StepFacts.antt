@@ -6,13 +6,13 @@ use Rattle.ul_marker.specs.declared.printed.Comparison.TheVariants.{Bound, Extra
 use Rattle.ul_tree.specs.Comparisons as Plain
 use Rattle.ul_tree.specs.PathList as PathList
 use Rattle.ul_marker_text.specs.Rows.{is_other, front_keys, after_keys, interval_from, front_step, steps_with, steps_of}
-use Rattle.ul_marker_text.specs.StepViews.{asked, comparison_key, comparison_level, row_view, step_view}
+use Rattle.ul_marker_text.specs.StepViews.{plain_comparison, comparison_key, comparison_level, row_view, step_view}
 use Rattle.ul_marker_text.specs.declared.steps.Step.{Step}
 
 -- ---- keys in front
 
-pub front_more : (l : List ℕ) (x : Comparison) (cs : List Plain.Comparison) → is_other l (asked x) ≡ true
-    → (front_keys l (asked x ∷ cs) ≡ comparison_key x ∷ front_keys l cs) × (after_keys l (asked x ∷ cs) ≡ after_keys l cs)
+pub front_more : (l : List ℕ) (x : Comparison) (cs : List Plain.Comparison) → is_other l (plain_comparison x) ≡ true
+    → (front_keys l (plain_comparison x ∷ cs) ≡ comparison_key x ∷ front_keys l cs) × (after_keys l (plain_comparison x ∷ cs) ≡ after_keys l cs)
 front_more l (Bound true python) cs e = absurd cc
 front_more l (Bound false python) cs e = absurd cc
 front_more l (Extra literal true) cs e = absurd cc
@@ -22,8 +22,8 @@ front_more l (Text variable literal false) cs e = rw e (refl, refl)
 front_more l (Opaque atom true) cs e = absurd cc
 front_more l (Opaque atom false) cs e = rw e (refl, refl)
 
-pub front_stop : (l : List ℕ) (x : Comparison) (cs : List Plain.Comparison) → is_other l (asked x) ≡ false
-    → (front_keys l (asked x ∷ cs) ≡ []) × (after_keys l (asked x ∷ cs) ≡ asked x ∷ cs)
+pub front_stop : (l : List ℕ) (x : Comparison) (cs : List Plain.Comparison) → is_other l (plain_comparison x) ≡ false
+    → (front_keys l (plain_comparison x ∷ cs) ≡ []) × (after_keys l (plain_comparison x ∷ cs) ≡ plain_comparison x ∷ cs)
 front_stop l (Bound true python) cs e = (refl, refl)
 front_stop l (Bound false python) cs e = (refl, refl)
 front_stop l (Extra literal true) cs e = (refl, refl)
@@ -38,7 +38,7 @@ pub record Counted (l : List ℕ) (row : List Comparison) (i : ℕ) : Type 0 whe
   pub keys : map comparison_key (take i row) ++ front_keys l (row_view (drop i row)) ≡ front_keys l (row_view row)
   pub rest : after_keys l (row_view (drop i row)) ≡ after_keys l (row_view row)
 
-pub counted_more : (l : List ℕ) (row : List Comparison) (i : ℕ) (d : Comparison) → i < length row → is_other l (asked (get_or row i d)) ≡ true → Counted l row i → Counted l row (i + 1)
+pub counted_more : (l : List ℕ) (row : List Comparison) (i : ℕ) (d : Comparison) → i < length row → is_other l (plain_comparison (get_or row i d)) ≡ true → Counted l row i → Counted l row (i + 1)
 counted_more l row i d h e k =
     let x = get_or row i d in
     let more = front_more l x (row_view (drop (i + 1) row)) e in
@@ -52,7 +52,7 @@ counted_more l row i d h e k =
       rest = sym more.1 ∙ ap (λ z. after_keys l (row_view z)) (sym cut) ∙ k.rest;
     }
 
-pub counted_stop : (l : List ℕ) (row : List Comparison) (i : ℕ) (d : Comparison) → i < length row → is_other l (asked (get_or row i d)) ≡ false → Counted l row i
+pub counted_stop : (l : List ℕ) (row : List Comparison) (i : ℕ) (d : Comparison) → i < length row → is_other l (plain_comparison (get_or row i d)) ≡ false → Counted l row i
     → (map comparison_key (take i row) ≡ front_keys l (row_view row)) × (row_view (drop i row) ≡ after_keys l (row_view row))
 counted_stop l row i d h e k =
     let x = get_or row i d in
@@ -90,7 +90,7 @@ steps_end found row n all e h = sym (append-nil (map step_view found)) ∙ ap (�
 
 -- ---- the step in front
 
-pub lower_front : (row rest : List Comparison) (x : Comparison) (n k : ℕ) (s : PathList.Step) → row ≡ x ∷ rest → Plain.at_least n ≡ asked x → Some (s, row_view (drop k rest)) ≡ interval_from n (row_view rest)
+pub lower_front : (row rest : List Comparison) (x : Comparison) (n k : ℕ) (s : PathList.Step) → row ≡ x ∷ rest → Plain.at_least n ≡ plain_comparison x → Some (s, row_view (drop k rest)) ≡ interval_from n (row_view rest)
     → Some (s, row_view (drop (k + 1) row)) ≡ front_step (row_view row)
 lower_front row rest x n k s e a h =
     ap (λ z. Some (s, row_view (drop (k + 1) z))) e
@@ -99,16 +99,16 @@ lower_front row rest x n k s e a h =
     ∙ ap (λ c. front_step (c ∷ row_view rest)) a
     ∙ ap (λ z. front_step (row_view z)) (sym e)
 
-pub upper_front : (row rest : List Comparison) (x : Comparison) (n : ℕ) → row ≡ x ∷ rest → Plain.below n ≡ asked x → Some (PathList.interval 0 n, row_view (drop 1 row)) ≡ front_step (row_view row)
+pub upper_front : (row rest : List Comparison) (x : Comparison) (n : ℕ) → row ≡ x ∷ rest → Plain.below n ≡ plain_comparison x → Some (PathList.interval 0 n, row_view (drop 1 row)) ≡ front_step (row_view row)
 upper_front row rest x n e a =
     ap (λ z. Some (PathList.interval 0 n, row_view (drop 1 z))) e ∙ ap (λ c. front_step (c ∷ row_view rest)) a ∙ ap (λ z. front_step (row_view z)) (sym e)
 
-pub point_front : (row rest : List Comparison) (x : Comparison) → row ≡ x ∷ rest → Plain.equals (comparison_level x) (comparison_key x) ≡ asked x
+pub point_front : (row rest : List Comparison) (x : Comparison) → row ≡ x ∷ rest → Plain.equals (comparison_level x) (comparison_key x) ≡ plain_comparison x
     → Some (PathList.point (comparison_level x) (comparison_key x), row_view (drop 1 row)) ≡ front_step (row_view row)
 point_front row rest x e a =
     ap (λ z. Some (PathList.point (comparison_level x) (comparison_key x), row_view (drop 1 z))) e ∙ ap (λ c. front_step (c ∷ row_view rest)) a ∙ ap (λ z. front_step (row_view z)) (sym e)
 
-pub others_front : (row rest : List Comparison) (x : Comparison) (k : ℕ) (ks : List (List ℕ)) → row ≡ x ∷ rest → Plain.differs (comparison_level x) (comparison_key x) ≡ asked x
+pub others_front : (row rest : List Comparison) (x : Comparison) (k : ℕ) (ks : List (List ℕ)) → row ≡ x ∷ rest → Plain.differs (comparison_level x) (comparison_key x) ≡ plain_comparison x
     → ks ≡ front_keys (comparison_level x) (row_view rest) → row_view (drop k rest) ≡ after_keys (comparison_level x) (row_view rest)
     → Some (PathList.others (comparison_level x) (comparison_key x ∷ ks), row_view (drop (k + 1) row)) ≡ front_step (row_view row)
 others_front row rest x k ks e a f g =

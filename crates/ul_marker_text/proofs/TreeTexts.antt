@@ -10,14 +10,14 @@ use Rattle.ul_marker.specs.declared.variable.AtomKind.{AtomKind}
 use Rattle.ul_marker.specs.declared.variable.AtomKind.TheVariants.{Contains, Within, Below, AtMost, Same}
 use Rattle.ul_marker.specs.declared.variable.Variable.{Variable}
 use Rattle.ul_marker.specs.declared.variable.Variable.TheVariants.{OsName, SysPlatform, PlatformMachine, PlatformPythonImplementation, PlatformRelease, PlatformSystem, PlatformVersion, PythonVersion, PythonFullVersion, ImplementationName, ImplementationVersion}
-use Rattle.ul_tree.specs.Apply.{keys, known}
+use Rattle.ul_tree.specs.Apply.{keys, leaf_truth}
 use Rattle.ul_tree.specs.Comparisons.{Comparison, path_comparisons}
 use Rattle.ul_tree.specs.Fans.{fan_of, tree_of}
-use Rattle.ul_tree.specs.PathList.{Step, interval, point, others, start_of, led, paths_to_true, paths_from, paths_at}
+use Rattle.ul_tree.specs.PathList.{Step, interval, point, others, start_of, longer_paths, paths_to_true, paths_from, paths_at}
 use Rattle.ul_tree.specs.Plain.{Plain, truth, node, Branches, done, branch, carries}
 use Rattle.ul_tree.specs.Reduced.{IsReduced}
 use Rattle.ul_tree.proofs.ForCallers.{Each, tree_back}
-use Rattle.ul_marker_text.specs.MarkerText.{marker_text, printed, printed_path, printed_paths}
+use Rattle.ul_marker_text.specs.MarkerText.{marker_text, printed_form, printed_path, printed_paths}
 use Rattle.ul_marker_text.specs.Printing.{joined_onto, and_joined, path_behind, paths_behind}
 use Rattle.ul_marker_text.proofs.Goods.{Goods, tree_good}
 use Rattle.ul_marker_text.proofs.Placed.{GoodComparison, printed_is}
@@ -64,24 +64,24 @@ joined_spaced separator (b ∷ bs) [] h = sym (append-nil (b ∷ bs))
 joined_spaced separator (b ∷ bs) (t ∷ ts) h =
     joined_spaced separator (b ∷ (bs ++ (separator ++ t))) ts tt ∙ append_assoc (b ∷ bs) (separator ++ t) (spaced separator ts)
 
-path_spaced : (c : Comparison) (cs : List Comparison) → path_text (map printed (c ∷ cs)) ≡ comparison_text (printed c) ++ spaced (codes " and ") (map (λ d. comparison_text (printed d)) cs)
-path_spaced c [] = sym (append-nil (comparison_text (printed c)))
+path_spaced : (c : Comparison) (cs : List Comparison) → path_text (map printed_form (c ∷ cs)) ≡ comparison_text (printed_form c) ++ spaced (codes " and ") (map (λ d. comparison_text (printed_form d)) cs)
+path_spaced c [] = sym (append-nil (comparison_text (printed_form c)))
 path_spaced c (d ∷ cs) =
-    ap (λ z. comparison_text (printed c) ++ (codes " and " ++ z)) (path_spaced d cs)
-    ∙ ap (λ z. comparison_text (printed c) ++ z) (sym (append_assoc (codes " and ") (comparison_text (printed d)) (spaced (codes " and ") (map (λ d. comparison_text (printed d)) cs))))
+    ap (λ z. comparison_text (printed_form c) ++ (codes " and " ++ z)) (path_spaced d cs)
+    ∙ ap (λ z. comparison_text (printed_form c) ++ z) (sym (append_assoc (codes " and ") (comparison_text (printed_form d)) (spaced (codes " and ") (map (λ d. comparison_text (printed_form d)) cs))))
 
 -- comparisons joined, as they are printed
-row_text : (cs : List Comparison) → and_joined [] cs ≡ path_text (map printed cs)
+row_text : (cs : List Comparison) → and_joined [] cs ≡ path_text (map printed_form cs)
 row_text [] = refl
-row_text (c ∷ cs) = joined_spaced (codes " and ") (comparison_text (printed c)) (map (λ d. comparison_text (printed d)) cs) (text_filled (printed c)) ∙ sym (path_spaced c cs)
+row_text (c ∷ cs) = joined_spaced (codes " and ") (comparison_text (printed_form c)) (map (λ d. comparison_text (printed_form d)) cs) (text_filled (printed_form c)) ∙ sym (path_spaced c cs)
 
 append_filled : (xs ys : List ℕ) → Filled xs → Filled (xs ++ ys)
 append_filled [] ys h = absurd h
 append_filled (x ∷ xs) ys h = tt
 
-row_filled : (cs : List Comparison) → Filled cs → Filled (path_text (map printed cs))
+row_filled : (cs : List Comparison) → Filled cs → Filled (path_text (map printed_form cs))
 row_filled [] h = absurd h
-row_filled (c ∷ cs) h = subst (λ (z : List ℕ). Filled z) (sym (path_spaced c cs)) (append_filled (comparison_text (printed c)) (spaced (codes " and ") (map (λ d. comparison_text (printed d)) cs)) (text_filled (printed c)))
+row_filled (c ∷ cs) h = subst (λ (z : List ℕ). Filled z) (sym (path_spaced c cs)) (append_filled (comparison_text (printed_form c)) (spaced (codes " and ") (map (λ d. comparison_text (printed_form d)) cs)) (text_filled (printed_form c)))
 
 paths_spaced : (p : List Step) (ps : List (List Step)) → paths_text (map printed_path (p ∷ ps)) ≡ path_text (printed_path p) ++ spaced (codes " or ") (map (path_behind []) ps)
 paths_spaced p [] = sym (append-nil (path_text (printed_path p)))
@@ -108,25 +108,25 @@ walked_append : (ps qs : List (List Step)) → Walked ps → Walked qs → Walke
 walked_append [] qs x y = y
 walked_append (p ∷ ps) qs x y = (x.0, walked_append ps qs x.1 y)
 
-walked_led : (s : Step) (ps : List (List Step)) → Walked (led s ps)
+walked_led : (s : Step) (ps : List (List Step)) → Walked (longer_paths s ps)
 walked_led s [] = tt
 walked_led s (p ∷ ps) = (tt, walked_led s ps)
 
 walked_from : (bs : Branches) (start : ℕ) (ps : List (List Step)) → Walked (paths_from start ps bs)
 walked_from done start ps = walked_led (interval start (2 ^ 96)) ps
 walked_from (branch k c rest) start ps =
-    walked_append (led (interval start (start_of k)) ps) (paths_from (start_of k) (paths_to_true c) rest) (walked_led (interval start (start_of k)) ps) (walked_from rest (start_of k) (paths_to_true c))
+    walked_append (longer_paths (interval start (start_of k)) ps) (paths_from (start_of k) (paths_to_true c) rest) (walked_led (interval start (start_of k)) ps) (walked_from rest (start_of k) (paths_to_true c))
 
 walked_at : (bs : Branches) (l : List ℕ) → Walked (paths_at l bs)
 walked_at done l = tt
-walked_at (branch k c rest) l = walked_append (led (point l k) (paths_to_true c)) (paths_at l rest) (walked_led (point l k) (paths_to_true c)) (walked_at rest l)
+walked_at (branch k c rest) l = walked_append (longer_paths (point l k) (paths_to_true c)) (paths_at l rest) (walked_led (point l k) (paths_to_true c)) (walked_at rest l)
 
 walked_node : (l : List ℕ) (d : Plain) (bs : Branches) → Walked (paths_to_true (node l d bs))
 walked_node l d bs = go (carries l)
   where
-    go : (m : Bool) → Walked (if m then paths_from 0 (paths_to_true d) bs else paths_at l bs ++ led (others l (keys bs)) (paths_to_true d))
+    go : (m : Bool) → Walked (if m then paths_from 0 (paths_to_true d) bs else paths_at l bs ++ longer_paths (others l (keys bs)) (paths_to_true d))
     go true = walked_from bs 0 (paths_to_true d)
-    go false = walked_append (paths_at l bs) (led (others l (keys bs)) (paths_to_true d)) (walked_at bs l) (walked_led (others l (keys bs)) (paths_to_true d))
+    go false = walked_append (paths_at l bs) (longer_paths (others l (keys bs)) (paths_to_true d)) (walked_at bs l) (walked_led (others l (keys bs)) (paths_to_true d))
 
 -- the comparisons of each path are good
 pub good_rows : (ps : List (List Step)) (l : List ℕ) → Goods l ps → Walked ps → Each (λ p. GoodRow (path_comparisons p)) ps
@@ -156,12 +156,12 @@ behind_text (p ∷ ps) h = rows_text p ps (h.0).0
 
 -- ---- the whole text
 
-pub star_text : (t : Plain) → known t ≡ true → codes "*" ≡ marker_text t
+pub star_text : (t : Plain) → leaf_truth t ≡ true → codes "*" ≡ marker_text t
 unfolding marker_text
 star_text t h = sym (ap (λ b. if b then codes "*" else paths_text (printed_paths t)) h)
 
 -- what is printed of a reduced tree that isn't true is its text
-pub printed_text : (t : Plain) (out : List ℕ) → IsReduced t → known t ≡ false → out ≡ paths_behind [] [] (paths_to_true t) → out ≡ marker_text t
+pub printed_text : (t : Plain) (out : List ℕ) → IsReduced t → leaf_truth t ≡ false → out ≡ paths_behind [] [] (paths_to_true t) → out ≡ marker_text t
 unfolding marker_text paths_behind
 printed_text (truth true) out r h e = absurd cc
 printed_text (truth false) out r h e = e
@@ -169,11 +169,11 @@ printed_text (node l d bs) out r h e = e ∙ behind_text (paths_to_true (node l 
 
 -- ---- paths as they are printed
 
-printed_each : (cs : List Comparison) → Each GoodComparison cs → All IsComparison (map printed cs)
+printed_each : (cs : List Comparison) → Each GoodComparison cs → All IsComparison (map printed_form cs)
 printed_each [] h = All-nil IsComparison
-printed_each (c ∷ cs) h = All-cons IsComparison (printed c) (map printed cs) (printed_is c h.0) (printed_each cs h.1)
+printed_each (c ∷ cs) h = All-cons IsComparison (printed_form c) (map printed_form cs) (printed_is c h.0) (printed_each cs h.1)
 
-printed_some : (cs : List Comparison) → Filled cs → 0 < length (map printed cs)
+printed_some : (cs : List Comparison) → Filled cs → 0 < length (map printed_form cs)
 printed_some [] h = absurd h
 printed_some (c ∷ cs) h = omega arith
 

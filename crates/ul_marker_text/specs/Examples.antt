@@ -5,12 +5,12 @@ use Rattle.ul_marker.specs.declared.variable.AtomKind.TheVariants.{Contains, Bel
 use Rattle.ul_marker.specs.declared.variable.Variable.TheVariants.{OsName, SysPlatform, PlatformRelease, PythonVersion, ImplementationVersion}
 use Rattle.ul_tree.specs.Plain.{Plain, truth, node, done, branch}
 use Rattle.ul_tree.specs.Levels.{extra_level, python_level, text_level, atom_level}
-use Rattle.ul_tree.specs.Pieces.{numbered}
+use Rattle.ul_tree.specs.Pieces.{packed_number}
 use Rattle.ul_marker_text.specs.MarkerText.{marker_text}
 
 -- the key of an interpreter
 abbrev pub at : ℕ → ℕ → ℕ → List ℕ
-at major minor patch = numbered major minor patch ∷ []
+at major minor patch = packed_number major minor patch ∷ []
 
 -- from one interpreter on
 abbrev pub from_3_8 : Plain

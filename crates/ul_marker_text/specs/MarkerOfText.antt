@@ -10,9 +10,9 @@ use Rattle.ul_marker.specs.Formulas.{Formula, Formulas, extra, python, python_li
 use Rattle.ul_marker.specs.Reading.{marker_of}
 use Rattle.ul_marker.specs.Truth.{is_empty}
 use Rattle.ul_tree.specs.Laws.{and_of, or_of}
-use Rattle.ul_tree.specs.Leaves.{pointed}
+use Rattle.ul_tree.specs.Leaves.{point_tree}
 use Rattle.ul_tree.specs.Levels.{extra_level, python_level, text_level, atom_level}
-use Rattle.ul_tree.specs.Pieces.{numbered}
+use Rattle.ul_tree.specs.Pieces.{packed_number}
 use Rattle.ul_tree.specs.Plain.{Plain, truth, node}
 use Rattle.ul_tree.specs.Sample.{asks_extra}
 use Rattle.ul_marker_text.specs.MarkerText.{marker_text}
@@ -20,17 +20,17 @@ use Rattle.ul_marker_text.specs.MarkerText.{marker_text}
 -- the interpreters from a number on, or those below it
 abbrev pub bound_tree : Bool → ℕ → Plain
 bound_tree lower number =
-    if number == 0 then truth lower else (if nat_lt number (2 ^ 96) then pointed python_level (number ∷ []) lower else truth (not lower))
+    if number == 0 then truth lower else (if nat_lt number (2 ^ 96) then point_tree python_level (number ∷ []) lower else truth (not lower))
 
 -- the interpreters that meet a clause of three numbers, by `>=` or by `<`; no text of a tree has another clause
 abbrev pub clause_tree : Op → List ℕ → Plain
-clause_tree AtLeast release = bound_tree true (numbered (slice_index release 0) (slice_index release 1) (slice_index release 2))
-clause_tree Less release = bound_tree false (numbered (slice_index release 0) (slice_index release 1) (slice_index release 2))
+clause_tree AtLeast release = bound_tree true (packed_number (slice_index release 0) (slice_index release 1) (slice_index release 2))
+clause_tree Less release = bound_tree false (packed_number (slice_index release 0) (slice_index release 1) (slice_index release 2))
 clause_tree other release = truth false
 
 -- the extras that equal a literal, or don't: a literal that is neither empty nor a name equals none
 abbrev pub extra_tree : List ℕ → Bool → Plain
-extra_tree literal equal = if is_empty literal || is_name literal then pointed extra_level literal equal else truth (not equal)
+extra_tree literal equal = if is_empty literal || is_name literal then point_tree extra_level literal equal else truth (not equal)
 
 -- the tree of a marker with such clauses; no text of a tree has a list of versions
 abbrev mutual
@@ -38,8 +38,8 @@ abbrev mutual
   formula_tree (extra literal equal) = extra_tree literal equal
   formula_tree (python full clause) = clause_tree clause.op clause.version.release
   formula_tree (python_list full versions within) = truth false
-  formula_tree (text variable literal equal) = pointed (text_level variable) literal equal
-  formula_tree (opaque atom positive) = pointed (atom_level atom) (1 ∷ []) positive
+  formula_tree (text variable literal equal) = point_tree (text_level variable) literal equal
+  formula_tree (opaque atom positive) = point_tree (atom_level atom) (1 ∷ []) positive
   formula_tree (all fs) = tree_of_all fs
   formula_tree (any fs) = tree_of_any fs
 

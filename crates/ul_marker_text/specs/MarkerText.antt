@@ -6,7 +6,7 @@ use Rattle.ul_marker.specs.Printed.{bound, extra_is, text_is, atom_is}
 use Rattle.ul_marker.specs.PrintedPaths.{paths_text}
 use Rattle.ul_marker.specs.declared.variable.Variable.{Variable}
 use Rattle.ul_marker.specs.declared.variable.Variable.TheVariants.{OsName, SysPlatform, PlatformMachine, PlatformPythonImplementation, PlatformRelease, PlatformSystem, PlatformVersion, ImplementationName}
-use Rattle.ul_tree.specs.Apply.{known}
+use Rattle.ul_tree.specs.Apply.{leaf_truth}
 use Rattle.ul_tree.specs.Comparisons.{Comparison, at_least, below, equals, differs, path_comparisons}
 use Rattle.ul_tree.specs.PathList.{Step, paths_to_true}
 use Rattle.ul_tree.specs.Pieces.{major_of, minor_of, patch_of}
@@ -34,15 +34,15 @@ key_comparison equal (suc zero ∷ []) key = extra_is key equal
 key_comparison equal (a ∷ b ∷ rest) key = atom_is (atom_of (a ∷ b ∷ rest)) equal
 
 -- the comparison that is printed for one of a path
-abbrev pub printed : Comparison → Printed.Comparison
-printed (at_least number) = bound true (major_of number) (minor_of number) (patch_of number)
-printed (below number) = bound false (major_of number) (minor_of number) (patch_of number)
-printed (equals level key) = key_comparison true level key
-printed (differs level key) = key_comparison false level key
+abbrev pub printed_form : Comparison → Printed.Comparison
+printed_form (at_least number) = bound true (major_of number) (minor_of number) (patch_of number)
+printed_form (below number) = bound false (major_of number) (minor_of number) (patch_of number)
+printed_form (equals level key) = key_comparison true level key
+printed_form (differs level key) = key_comparison false level key
 
 -- the comparisons that are printed for a path
 abbrev pub printed_path : List Step → List Printed.Comparison
-printed_path path = map printed (path_comparisons path)
+printed_path path = map printed_form (path_comparisons path)
 
 -- those of a tree's paths to true
 abbrev pub printed_paths : Plain → List (List Printed.Comparison)
@@ -51,7 +51,7 @@ printed_paths t = map printed_path (paths_to_true t)
 -- the text of a tree: `*` where it is true everywhere; else its paths to true, joined by ` or `, each the comparisons
 -- on it, joined by ` and `. The tree that is false everywhere has no text.
 unfoldable pub marker_text : Plain → List ℕ
-marker_text t = if known t then codes "*" else paths_text (printed_paths t)
+marker_text t = if leaf_truth t then codes "*" else paths_text (printed_paths t)
 
 -- whether a byte stands in a text
 abbrev pub has : ℕ → List ℕ → Bool

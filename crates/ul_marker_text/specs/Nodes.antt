@@ -7,7 +7,7 @@ use Rattle.ul_tree.specs.Fans.{same_step}
 use Rattle.ul_tree.specs.Levels.{IsKey}
 use Rattle.ul_tree.specs.PathList as PathList
 use Rattle.ul_tree.specs.PathList.{interval, point, others}
-use Rattle.ul_tree.specs.Plain.{Plain, truth, Branches, done, branch, text_cmp, carried}
+use Rattle.ul_tree.specs.Plain.{Plain, truth, Branches, done, branch, text_cmp, carried_part}
 use Rattle.ul_tree.specs.Reduced.{Fits}
 use Rattle.ul_tree.specs.Views.{tree_view}
 use Rattle.ul_tree.specs.declared.tree.Tree.{Tree}
@@ -91,7 +91,7 @@ is_after (Some j) k = is_lt (text_cmp j k)
 -- whether keys increase after another, and each part differs from the one that stands before it
 abbrev pub are_apart : Option (List ℕ) → Bool → Plain → Branches → Bool
 are_apart last m d done = true
-are_apart last m d (branch k c rest) = is_after last k && (not (same c d) && are_apart (Some k) m (carried m c d) rest)
+are_apart last m d (branch k c rest) = is_after last k && (not (same c d) && are_apart (Some k) m (carried_part m c d) rest)
 
 -- whether there is a branch
 abbrev pub has_branch : Branches → Bool

@@ -4,21 +4,21 @@ use Rattle.ul_marker.specs.Printed as Printed
 use Rattle.ul_marker.specs.Printed.{comparison_text}
 use Rattle.ul_tree.specs.Comparisons.{Comparison, differs, path_comparisons}
 use Rattle.ul_tree.specs.PathList.{Step}
-use Rattle.ul_marker_text.specs.MarkerText.{printed}
+use Rattle.ul_marker_text.specs.MarkerText.{printed_form}
 
 -- a text behind others, with the separator between where others stand
-abbrev pub added : List ℕ → List ℕ → List ℕ → List ℕ
-added separator [] text = text
-added separator (b ∷ bs) text = (b ∷ bs) ++ (separator ++ text)
+abbrev pub separated_text : List ℕ → List ℕ → List ℕ → List ℕ
+separated_text separator [] text = text
+separated_text separator (b ∷ bs) text = (b ∷ bs) ++ (separator ++ text)
 
 -- texts behind others, with the separator between each two
 abbrev pub joined_onto : List ℕ → List ℕ → List (List ℕ) → List ℕ
 joined_onto separator before [] = before
-joined_onto separator before (text ∷ texts) = joined_onto separator (added separator before text) texts
+joined_onto separator before (text ∷ texts) = joined_onto separator (separated_text separator before text) texts
 
 -- comparisons behind others of their path
 abbrev pub and_joined : List ℕ → List Comparison → List ℕ
-and_joined before cs = joined_onto (codes " and ") before (map (λ c. comparison_text (printed c)) cs)
+and_joined before cs = joined_onto (codes " and ") before (map (λ c. comparison_text (printed_form c)) cs)
 
 -- a path whose first comparisons stand already
 abbrev pub path_behind : List ℕ → List Step → List ℕ
@@ -30,7 +30,7 @@ paths_behind before prefix paths = joined_onto (codes " or ") before (map (path_
 
 -- a comparison is written behind others of its path
 abbrev pub IsAdded : List ℕ → Printed.Comparison → List ℕ → Type 0
-IsAdded before c after = after ≡ added (codes " and ") before (comparison_text c)
+IsAdded before c after = after ≡ separated_text (codes " and ") before (comparison_text c)
 
 -- keys that a level has not, behind other comparisons
 abbrev pub others_joined : List ℕ → List ℕ → List (List ℕ) → List ℕ

@@ -8,14 +8,14 @@ use Rattle.ul_marker.specs.PrintedPaths.{IsPath, path_formula, paths_formula}
 use Rattle.ul_tree.specs.Comparisons.{Comparison, at_least, below, equals, differs}
 use Rattle.ul_tree.specs.Levels.{extra_level, text_level, atom_level}
 use Rattle.ul_tree.specs.PathList.{Step, interval, point, others}
-use Rattle.ul_tree.specs.Pieces.{numbered}
+use Rattle.ul_tree.specs.Pieces.{packed_number}
 
 -- ---- rows of comparisons
 
 -- formulas in a row
-abbrev pub listed : Formulas → List Formula
-listed none = []
-listed (more f fs) = f ∷ listed fs
+abbrev pub formula_list : Formulas → List Formula
+formula_list none = []
+formula_list (more f fs) = f ∷ formula_list fs
 
 -- the formulas that are joined by `or`, or one alone
 abbrev pub disjuncts : Formula → List Formula
@@ -25,7 +25,7 @@ disjuncts (python_list full versions within) = python_list full versions within 
 disjuncts (text variable literal equal) = text variable literal equal ∷ []
 disjuncts (opaque atom positive) = opaque atom positive ∷ []
 disjuncts (all fs) = all fs ∷ []
-disjuncts (any fs) = listed fs
+disjuncts (any fs) = formula_list fs
 
 -- the formulas that are joined by `and`, or one alone
 abbrev pub conjuncts : Formula → List Formula
@@ -34,7 +34,7 @@ conjuncts (python full clause) = python full clause ∷ []
 conjuncts (python_list full versions within) = python_list full versions within ∷ []
 conjuncts (text variable literal equal) = text variable literal equal ∷ []
 conjuncts (opaque atom positive) = opaque atom positive ∷ []
-conjuncts (all fs) = listed fs
+conjuncts (all fs) = formula_list fs
 conjuncts (any fs) = any fs ∷ []
 
 -- a formula isn't joined by `or`
@@ -56,21 +56,21 @@ IsNoPath f = (path : List Printed.Comparison) → IsPath path → path_formula p
 -- ---- what a printed comparison asks of a level
 
 -- that a level has a key, or another
-abbrev pub keyed : Bool → List ℕ → List ℕ → Comparison
-keyed true level key = equals level key
-keyed false level key = differs level key
+abbrev pub has_key_comparison : Bool → List ℕ → List ℕ → Comparison
+has_key_comparison true level key = equals level key
+has_key_comparison false level key = differs level key
 
 -- the interpreter is at least a number, or below it
-abbrev pub bounded : Bool → ℕ → Comparison
-bounded true number = at_least number
-bounded false number = below number
+abbrev pub bound_comparison : Bool → ℕ → Comparison
+bound_comparison true number = at_least number
+bound_comparison false number = below number
 
 -- what a printed comparison asks
-abbrev pub placed : Printed.Comparison → Comparison
-placed (bound lower major minor patch) = bounded lower (numbered major minor patch)
-placed (extra_is literal equal) = keyed equal extra_level literal
-placed (text_is variable literal equal) = keyed equal (text_level variable) literal
-placed (atom_is atom holds) = keyed holds (atom_level atom) (1 ∷ [])
+abbrev pub comparison_asked : Printed.Comparison → Comparison
+comparison_asked (bound lower major minor patch) = bound_comparison lower (packed_number major minor patch)
+comparison_asked (extra_is literal equal) = has_key_comparison equal extra_level literal
+comparison_asked (text_is variable literal equal) = has_key_comparison equal (text_level variable) literal
+comparison_asked (atom_is atom holds) = has_key_comparison holds (atom_level atom) (1 ∷ [])
 
 -- ---- steps
 

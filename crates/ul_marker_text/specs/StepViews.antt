@@ -13,7 +13,7 @@ use Rattle.ul_tree.specs.Levels.{extra_level, text_level, atom_level}
 use Rattle.ul_tree.specs.PathList as PathList
 use Rattle.ul_tree.specs.Plain as Trees
 use Rattle.ul_tree.specs.declared.level.Level.{Level}
-use Rattle.ul_marker_text.specs.Rows.{placed, Front, steps_of}
+use Rattle.ul_marker_text.specs.Rows.{comparison_asked, Front, steps_of}
 use Rattle.ul_marker_text.specs.declared.steps.Step.{Step}
 use Rattle.ul_marker_text.specs.declared.steps.Step.TheVariants.{Interval, Point, Others}
 use Rattle.ul_marker_text.specs.declared.steps.Asked.{Asked}
@@ -24,8 +24,8 @@ abbrev pub said : Comparison → Formula
 said c = comparison_formula (comparison_view c)
 
 -- what a comparison asks
-abbrev pub asked : Comparison → Plain.Comparison
-asked c = placed (comparison_view c)
+abbrev pub plain_comparison : Comparison → Plain.Comparison
+plain_comparison c = comparison_asked (comparison_view c)
 
 -- the level that a comparison asks for, and the key; a bound of the interpreter has none
 abbrev pub comparison_level : Comparison → List ℕ
@@ -55,7 +55,7 @@ step_view (Others c cs) = PathList.others (comparison_level c) (comparison_key c
 
 -- what comparisons ask
 abbrev pub row_view : List Comparison → List Plain.Comparison
-row_view cs = map asked cs
+row_view cs = map plain_comparison cs
 
 -- a step of comparisons, by how many they are, and the comparisons after it
 abbrev pub front_view : List Comparison → Option (Step × ℕ) → Front

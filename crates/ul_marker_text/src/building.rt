@@ -55,7 +55,8 @@ fn parts<'r, 'm>(
     level: Level<'m>,
     room: usize,
 ) -> Result<VecDeque<(Step<'r, 'm>, Tree)>, AllocError>
-    ensures { IfOk result (λ q. KeepParts (level_view level.entry) (parts_of (fan_from at paths.now)) (parts_view q.items)) }
+    ensures { IfOk result (λ q. KeepParts (level_view level.entry) (parts_of (fan_from at paths.now))
+        (parts_view q.items)) }
 {
     let mut made = VecDeque::new(alloc);
     let mut from = 0;

@@ -2,7 +2,7 @@
 ghost use Rattle.std.specs.Prelude.{◌≡◌, ◌∷◌, ◌↔◌, ℕ, List, [], IfOk, IsTrue, OnOk, Some, All, map, true, false, option_map};
 ghost use Rattle.std.specs.Ordering.{is_lt};
 ghost use Rattle.ul_marker.specs.Atoms.{IsAtom};
-ghost use Rattle.ul_tree.specs.Fans.{filled_points, listed_points, node_of as node_of_parts, opened, other_part, pieces_from, pointed_at};
+ghost use Rattle.ul_tree.specs.Fans.{filled_points, listed_points, node_of as node_of_parts, opening_node, other_part, pieces_from, pointed_at};
 ghost use Rattle.ul_tree.specs.Joins.{trees_made};
 ghost use Rattle.ul_tree.specs.Keys.{level_view, key_view, then_branches, KeysOf};
 ghost use Rattle.ul_tree.specs.Levels.{IsExtra, python_level};
@@ -208,7 +208,8 @@ fn closed_if_reduced(
     requires keys { AreKeys (level_view level) (trees_made made.items) }
     requires parts { BranchesFit (level_view level) (trees_made made.items) }
     requires other { Fits (tree_view other) (level_view level) }
-    ensures { IfOk result (λ t. Keeps (above_view above.entry) (node (level_view level.entry) (tree_view other) (trees_made made.entry.items)) (tree_view t)) }
+    ensures { IfOk result (λ t. Keeps (above_view above.entry) (node (level_view level.entry)
+        (tree_view other) (trees_made made.entry.items)) (tree_view t)) }
 {
     if made.is_empty() {
         return Ok(Tree::Truth(false));
@@ -227,7 +228,8 @@ fn closed_if_reduced(
 
 // A false piece from one number up to another, unless they are equal.
 fn close_gap(made: &mut Vec<(u128, Tree)>, next: u128, start: u128) -> Result<(), AllocError>
-    ensures { OnOk result (number_branches made.new.items ≡ then_branches (number_branches made.old.items) (gap next start)) }
+    ensures { OnOk result (number_branches made.new.items
+        ≡ then_branches (number_branches made.old.items) (gap next start)) }
 {
     if next == start {
         return Ok(());
@@ -267,7 +269,8 @@ fn pieces_node(
     parts: VecDeque<(Step<'_, '_>, Tree)>,
 ) -> Result<Tree, AllocError>
     requires { PartsFit python_level (parts_view parts.items) }
-    ensures { IfOk result (λ t. Keeps (above_view above.entry) (opened (pieces_from 0 (parts_view parts.entry.items))) (tree_view t)) }
+    ensures { IfOk result (λ t. Keeps (above_view above.entry) (opening_node (pieces_from 0
+        (parts_view parts.entry.items))) (tree_view t)) }
 {
     let mut pieces = pieces(alloc, parts)?;
     if pieces.is_empty() {
@@ -303,7 +306,8 @@ fn other_keys<'r, 'm>(
 
 // The other part, after the points.
 fn take_other(mut parts: VecDeque<(Step<'_, '_>, Tree)>) -> Tree
-    ensures { (keys : List (List ℕ)) (p : Plain) → other_part (parts_view parts.entry.items) ≡ Some (keys, p) → tree_view result ≡ p }
+    ensures { (keys : List (List ℕ)) (p : Plain) → other_part (parts_view parts.entry.items) ≡ Some (keys, p)
+        → tree_view result ≡ p }
 {
     while let Some((step, tree)) = parts.pop_front() {
         match step {
@@ -331,7 +335,8 @@ fn has_point(parts: &VecDeque<(Step<'_, '_>, Tree)>, key: Comparison<'_>) -> boo
 
 // The part of a key: false where it isn't listed.
 fn take_point(parts: &mut VecDeque<(Step<'_, '_>, Tree)>, key: Comparison<'_>) -> Tree
-    ensures branch { (keys : List (List ℕ)) → filled_points (comparison_key key.entry ∷ keys) (parts_view parts.old.items)
+    ensures branch { (keys : List (List ℕ))
+        → filled_points (comparison_key key.entry ∷ keys) (parts_view parts.old.items)
         ≡ branch (comparison_key key.entry) (tree_view result) (filled_points keys (parts_view parts.new.items)) }
     ensures other { other_part (parts_view parts.new.items) ≡ other_part (parts_view parts.old.items) }
 {
@@ -351,8 +356,10 @@ fn filled<'m>(
     first: Comparison<'m>,
     row: &[Comparison<'m>],
 ) -> Result<Vec<(Comparison<'m>, Tree)>, AllocError>
-    ensures branches { IfOk result (λ v. key_branches v.items ≡ filled_points (comparison_key first.entry ∷ map comparison_key row.now) (parts_view parts.old.items)) }
-    ensures other { IfOk result (λ v. other_part (parts_view parts.new.items) ≡ other_part (parts_view parts.old.items)) }
+    ensures branches { IfOk result (λ v. key_branches v.items
+        ≡ filled_points (comparison_key first.entry ∷ map comparison_key row.now) (parts_view parts.old.items)) }
+    ensures other { IfOk result (λ v. other_part (parts_view parts.new.items)
+        ≡ other_part (parts_view parts.old.items)) }
 {
     let mut made = Vec::new(alloc);
     made.push((first, take_point(parts, first)))?;
@@ -391,7 +398,8 @@ fn points_closed(
     requires level { carries (level_view level) ≡ false }
     requires parts { BranchesFit (level_view level) (key_branches points.items) }
     requires other { Fits (tree_view other) (level_view level) }
-    ensures { IfOk result (λ t. Keeps (above_view above.entry) (node (level_view level.entry) (tree_view other) (key_branches points.entry.items)) (tree_view t)) }
+    ensures { IfOk result (λ t. Keeps (above_view above.entry) (node (level_view level.entry)
+        (tree_view other) (key_branches points.entry.items)) (tree_view t)) }
 {
     match point_keys(alloc, level, points)? {
         None => Ok(Tree::Truth(false)),
@@ -411,7 +419,8 @@ fn points_node(
 ) -> Result<Tree, AllocError>
     requires level { carries (level_view level) ≡ false }
     requires parts { PartsFit (level_view level) (parts_view parts.items) }
-    ensures { IfOk result (λ t. Keeps (above_view above.entry) (pointed_at (level_view level.entry) (parts_view parts.entry.items) (other_part (parts_view parts.entry.items))) (tree_view t)) }
+    ensures { IfOk result (λ t. Keeps (above_view above.entry) (pointed_at (level_view level.entry)
+        (parts_view parts.entry.items) (other_part (parts_view parts.entry.items))) (tree_view t)) }
 {
     match other_keys(&parts) {
         None => {
@@ -451,7 +460,8 @@ pub fn node_of(
 ) -> Result<Tree, AllocError>
     requires level { first_level (parts_view parts.items) ≡ Some (level_view level) }
     requires parts { PartsFit (level_view level) (parts_view parts.items) }
-    ensures { IfOk result (λ t. Keeps (above_view above.entry) (node_of_parts (parts_view parts.entry.items)) (tree_view t)) }
+    ensures { IfOk result (λ t. Keeps (above_view above.entry) (node_of_parts (parts_view parts.entry.items))
+        (tree_view t)) }
 {
     if has_interval(&parts) {
         let tree = pieces_node(alloc, above, parts)?;

@@ -6,14 +6,14 @@ ghost use Rattle.ul_tree.specs.Apply.{keys};
 ghost use Rattle.ul_tree.specs.Comparisons.{lower, upper};
 ghost use Rattle.ul_tree.specs.Keys.{level_view, key_view, has_kind, is_number_key, top_of, branches_of};
 ghost use Rattle.ul_tree.specs.Levels.{python_level};
-ghost use Rattle.ul_tree.specs.PathList.{interval, point, led, paths_to_true};
+ghost use Rattle.ul_tree.specs.PathList.{interval, point, longer_paths, paths_to_true};
 ghost use Rattle.ul_tree.specs.Pieces.{major_of, minor_of, patch_of};
 ghost use Rattle.ul_tree.specs.Plain.{carries};
 ghost use Rattle.ul_tree.specs.TreeFacts.{IsTree};
 ghost use Rattle.ul_tree.specs.Views.{tree_view};
 ghost use Rattle.ul_marker_text.specs.MarkerText as spec;
 ghost use Rattle.ul_marker_text.specs.MarkerText.{key_comparison};
-ghost use Rattle.ul_marker_text.specs.Printing.{added, and_joined, others_joined, paths_behind, IsAdded};
+ghost use Rattle.ul_marker_text.specs.Printing.{separated_text, and_joined, others_joined, paths_behind, IsAdded};
 
 use std::alloc::{AllocError, Global};
 use ul_marker::Variable;
@@ -30,7 +30,7 @@ pub const END: u128 = 1 << 96;
 
 // A text behind others, with the separator between where others stand.
 fn push_joined(out: &mut String, separator: &str, text: &str) -> Result<(), AllocError>
-    ensures { OnOk result (string_bytes out.new ≡ added separator.now (string_bytes out.old) text.now) }
+    ensures { OnOk result (string_bytes out.new ≡ separated_text separator.now (string_bytes out.old) text.now) }
 {
     if out.is_empty() {
         out.push_str(text)?;
@@ -77,7 +77,8 @@ fn text_variable(variable: Variable) -> Variable
 fn push_key(out: &mut String, level: Level<'_>, key: Key<'_>, equal: bool) -> Result<(), AllocError>
     requires kind { has_kind (level_view level) key ≡ true }
     requires points { carries (level_view level) ≡ false }
-    ensures { OnOk result (IsWritten (string_bytes out.old) (key_comparison equal (level_view level.entry) (key_view key.entry)) (string_bytes out.new)) }
+    ensures { OnOk result (IsWritten (string_bytes out.old) (key_comparison equal (level_view level.entry)
+        (key_view key.entry)) (string_bytes out.new)) }
 {
     match level {
         Level::Extra => match key {
@@ -99,7 +100,8 @@ fn push_key(out: &mut String, level: Level<'_>, key: Key<'_>, equal: bool) -> Re
 fn add_key(out: &mut String, level: Level<'_>, key: Key<'_>, equal: bool) -> Result<(), AllocError>
     requires kind { has_kind (level_view level) key ≡ true }
     requires points { carries (level_view level) ≡ false }
-    ensures { OnOk result (IsAdded (string_bytes out.old) (key_comparison equal (level_view level.entry) (key_view key.entry)) (string_bytes out.new)) }
+    ensures { OnOk result (IsAdded (string_bytes out.old) (key_comparison equal (level_view level.entry)
+        (key_view key.entry)) (string_bytes out.new)) }
 {
     if out.is_empty() {
         push_key(out, level, key, equal)?;
@@ -112,7 +114,8 @@ fn add_key(out: &mut String, level: Level<'_>, key: Key<'_>, equal: bool) -> Res
 
 // That the interpreter is at least a number, or below it, behind the comparisons that stand already.
 fn add_bound(out: &mut String, at_least: bool, number: u128) -> Result<(), AllocError>
-    ensures { OnOk result (IsAdded (string_bytes out.old) (bound at_least (major_of number) (minor_of number) (patch_of number)) (string_bytes out.new)) }
+    ensures { OnOk result (IsAdded (string_bytes out.old) (bound at_least (major_of number) (minor_of number)
+        (patch_of number)) (string_bytes out.new)) }
 {
     let python = interpreter(number);
     if out.is_empty() {
@@ -157,7 +160,8 @@ fn print_piece(
     part: &Tree,
 ) -> Result<(), AllocError>
     requires { IsTree part.now }
-    ensures { OnOk result (string_bytes out.new ≡ paths_behind (string_bytes out.old) prefix.now (led (interval start end) (paths_to_true (tree_view part.now)))) }
+    ensures { OnOk result (string_bytes out.new
+        ≡ paths_behind (string_bytes out.old) prefix.now (longer_paths (interval start end) (paths_to_true (tree_view part.now)))) }
 {
     if is_false(part) {
         return Ok(());
@@ -182,7 +186,8 @@ fn print_point(
     requires kind { has_kind (level_view level) key ≡ true }
     requires points { carries (level_view level) ≡ false }
     requires reduced { IsTree part.now }
-    ensures { OnOk result (string_bytes out.new ≡ paths_behind (string_bytes out.old) prefix.now (led (point (level_view level.entry) (key_view key.entry)) (paths_to_true (tree_view part.now)))) }
+    ensures { OnOk result (string_bytes out.new
+        ≡ paths_behind (string_bytes out.old) prefix.now (longer_paths (point (level_view level.entry) (key_view key.entry)) (paths_to_true (tree_view part.now)))) }
 {
     if is_false(part) {
         return Ok(());
@@ -203,7 +208,8 @@ fn other_prefix(
     requires top { top_of (tree_view tree.now) ≡ Some (level_view level) }
     requires points { carries (level_view level) ≡ false }
     requires reduced { IsTree tree.now }
-    ensures { IfOk result (λ s. string_bytes s ≡ others_joined (level_view level.entry) prefix.now (keys (branches_of (tree_view tree.now)))) }
+    ensures { IfOk result (λ s. string_bytes s
+        ≡ others_joined (level_view level.entry) prefix.now (keys (branches_of (tree_view tree.now)))) }
 {
     let mut next = String::from_str(alloc, prefix)?;
     for index in 0..branch_count(tree) {
@@ -224,7 +230,8 @@ fn print_points(
     requires top { top_of (tree_view tree.now) ≡ Some (level_view level) }
     requires points { carries (level_view level) ≡ false }
     requires reduced { IsTree tree.now }
-    ensures { OnOk result (string_bytes out.new ≡ paths_behind (string_bytes out.old) prefix.now (paths_to_true (tree_view tree.now))) }
+    ensures { OnOk result (string_bytes out.new
+        ≡ paths_behind (string_bytes out.old) prefix.now (paths_to_true (tree_view tree.now))) }
 {
     for index in 0..branch_count(tree) {
         let branch = branch_at(tree, index);
@@ -261,7 +268,8 @@ fn print_pieces(
 ) -> Result<(), AllocError>
     requires top { top_of (tree_view tree.now) ≡ Some python_level }
     requires reduced { IsTree tree.now }
-    ensures { OnOk result (string_bytes out.new ≡ paths_behind (string_bytes out.old) prefix.now (paths_to_true (tree_view tree.now))) }
+    ensures { OnOk result (string_bytes out.new
+        ≡ paths_behind (string_bytes out.old) prefix.now (paths_to_true (tree_view tree.now))) }
 {
     let mut start = 0u128;
     let mut part = rest_of(tree);
@@ -280,7 +288,8 @@ fn print_pieces(
 #[cycle(print)]
 pub fn print(alloc: Global, out: &mut String, prefix: &str, tree: &Tree) -> Result<(), AllocError>
     requires { IsTree tree.now }
-    ensures { OnOk result (string_bytes out.new ≡ paths_behind (string_bytes out.old) prefix.now (paths_to_true (tree_view tree.now))) }
+    ensures { OnOk result (string_bytes out.new
+        ≡ paths_behind (string_bytes out.old) prefix.now (paths_to_true (tree_view tree.now))) }
 {
     match level_of(tree) {
         None => {

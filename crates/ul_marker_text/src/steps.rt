@@ -3,12 +3,12 @@ ghost use Rattle.std.specs.Prelude.{◌≡◌, ◌≤◌, IfOk, IfSome, Some, ma
 ghost use Rattle.ul_tree.specs.Fans.{same_keys as same_plain_keys, same_step as same_plain_step};
 ghost use Rattle.ul_tree.specs.Keys.{level_view, key_view};
 ghost use Rattle.ul_tree.specs.PathLaws as PathLaws;
-ghost use Rattle.ul_tree.specs.Pieces.{numbered};
+ghost use Rattle.ul_tree.specs.Pieces.{packed_number};
 ghost use Rattle.ul_tree.specs.Plain.{carries};
 ghost use Rattle.std.specs.Str.{bytes_eq};
 ghost use Rattle.ul_marker_text.specs.Rows as Rows;
 ghost use Rattle.ul_marker_text.specs.Rows.{after_keys, front_keys, steps_of};
-ghost use Rattle.ul_marker_text.specs.StepViews.{asked, asked_view, comparison_key, comparison_level, front_view, row_view, step_view};
+ghost use Rattle.ul_marker_text.specs.StepViews.{plain_comparison, asked_view, comparison_key, comparison_level, front_view, row_view, step_view};
 
 use crate::printing::END;
 use std::alloc::{AllocError, Global};
@@ -41,7 +41,7 @@ pub enum Asked {
 
 // An interpreter as one number.
 fn number_of(python: (u32, u32, u32)) -> u128
-    ensures { result ≡ numbered python.0 python.1 python.2 }
+    ensures { result ≡ packed_number python.0 python.1 python.2 }
 {
     let (major, minor, patch) = python;
     (u128::from(major) << 64) + (u128::from(minor) << 32) + u128::from(patch)
@@ -49,7 +49,7 @@ fn number_of(python: (u32, u32, u32)) -> u128
 
 /// What a comparison asks.
 pub fn asked_by(comparison: Comparison<'_>) -> Asked
-    ensures { asked_view result comparison.entry ≡ asked comparison.entry }
+    ensures { asked_view result comparison.entry ≡ plain_comparison comparison.entry }
 {
     match comparison {
         Comparison::Bound { lower, python } => {
@@ -120,7 +120,7 @@ pub fn has_key(comparison: Comparison<'_>, other: Comparison<'_>) -> bool
 
 // Whether a comparison says that the level of another hasn't a key.
 fn is_other_of(first: Comparison<'_>, comparison: Comparison<'_>) -> bool
-    ensures { result ≡ Rows.is_other (comparison_level first.entry) (asked comparison.entry) }
+    ensures { result ≡ Rows.is_other (comparison_level first.entry) (plain_comparison comparison.entry) }
 {
     match asked_by(comparison) {
         Asked::Lower(_) => false,
@@ -133,7 +133,8 @@ fn is_other_of(first: Comparison<'_>, comparison: Comparison<'_>) -> bool
 // How many comparisons at the front say that the level of another hasn't a key.
 fn other_count(first: Comparison<'_>, row: &[Comparison<'_>]) -> usize
     ensures within { result ≤ length row.now }
-    ensures keys { map comparison_key (take result row.now) ≡ front_keys (comparison_level first.entry) (row_view row.now) }
+    ensures keys { map comparison_key (take result row.now)
+        ≡ front_keys (comparison_level first.entry) (row_view row.now) }
     ensures rest { row_view (drop result row.now) ≡ after_keys (comparison_level first.entry) (row_view row.now) }
 {
     for index in 0..row.len() {
@@ -146,7 +147,8 @@ fn other_count(first: Comparison<'_>, row: &[Comparison<'_>]) -> usize
 
 // The interval that starts at a number, and how many comparisons of it follow.
 fn interval_from<'r, 'm>(start: u128, row: &'r [Comparison<'m>]) -> (Step<'r, 'm>, usize)
-    ensures front { Some (step_view result.0, row_view (drop result.1 row.now)) ≡ Rows.interval_from start (row_view row.now) }
+    ensures front { Some (step_view result.0, row_view (drop result.1 row.now))
+        ≡ Rows.interval_from start (row_view row.now) }
     ensures within { result.1 ≤ length row.now }
 {
     let [next, ..] = row else {

@@ -123,7 +123,8 @@ pub fn read(alloc: Global, text: &str) -> Result<Tree, MarkerFault>
     ensures reduced { IfOk result (λ t. IsReduced (tree_view t)) }
     ensures not_false { IfOk result (λ t. tree_view t ≢ truth false) }
     ensures text { IfOk result (λ t. marker_text (tree_view t) ≡ text.now) }
-    ensures refused { result ≡ Err NoReading → (t : Plain) → IsReduced t → t ≢ truth false → marker_text t ≡ text.now → ⊥ }
+    ensures refused { result ≡ Err NoReading → (t : Plain) → IsReduced t → t ≢ truth false
+        → marker_text t ≡ text.now → ⊥ }
 {
     if text == "*" {
         return Ok(Tree::Truth(true));

@@ -6,7 +6,7 @@ ghost use Rattle.std.proofs.Common.{refl};
 ghost use Rattle.ul_version.specs.Fields.{Fields};
 ghost use Rattle.ul_version.specs.Order.{version_cmp};
 ghost use Rattle.ul_pin_forms.specs.Seen.{was_seen};
-ghost use Rattle.ul_version.proofs.OrderLaws.{version_total};
+ghost use Rattle.ul_version.proofs.ForCallers.{version_total};
 
 use std::alloc::{AllocError, Global};
 use std::cmp::Ordering;

@@ -3,7 +3,7 @@ use Rattle.std.proofs.Common.{◌≡◌, ℕ, ◌<◌, arith, List, [], ◌∷�
 use Rattle.std.specs.Prelude.{All, Any, codes, slice_index, slice_index_or}
 use Rattle.std.proofs.lemmas.List.Elements.{All-nil, All-cons, All-head, All-tail}
 use Rattle.std.specs.declared.cmp.Ordering.TheVariants.{Less, Equal, Greater}
-use Rattle.ul_version.specs.Order.{version_cmp, release_cmp, padded}
+use Rattle.ul_version.specs.Order.{version_cmp, release_cmp, padded_release}
 use Rattle.ul_pin_lock.specs.declared.parts.Edge.{Edge}
 use Rattle.ul_pin_lock.specs.declared.parts.Locked.{Locked}
 use Rattle.ul_pin_lock.specs.declared.parts.Lock.{Lock}
@@ -24,7 +24,7 @@ pub wrong_order_is_not : IsWellFormed wrong_order → ⊥
 wrong_order_is_not w = not_less w.increasing.0
 
 pub equal_versions_are_not : IsWellFormed equal_versions → ⊥
-unfolding version_cmp release_cmp padded
+unfolding version_cmp release_cmp padded_release
 equal_versions_are_not w = equal_not_less w.increasing.0
 
 pub no_root_is_not : IsWellFormed no_root → ⊥

@@ -3,7 +3,7 @@ use Rattle.std.proofs.Common.{◌≡◌, ◌≢◌, List, [], ◌∷◌, inl, in
 use Rattle.std.specs.declared.cmp.Ordering.TheVariants.{Equal}
 use Rattle.std.proofs.lemmas.Option.{same_Some}
 use Rattle.ul_version.specs.Fields.{Fields, plain}
-use Rattle.ul_version.specs.Order.{padded, release_cmp, version_cmp}
+use Rattle.ul_version.specs.Order.{padded_release, release_cmp, version_cmp}
 use Rattle.ul_pins.specs.Samples.{pin_to, release_at, package_of, project_pinning, astray, torn}
 use Rattle.ul_pins.specs.Serving.{IsOneOf, Selection, Serves, HasNone, IsMet, releases_of}
 use Rattle.ul_pins.specs.declared.catalog.Pin.{Pin}
@@ -27,7 +27,7 @@ astray_none σ s =
     (s.within (codes "a") w.0 w.1).1.0
 
 one_and_two : version_cmp (plain (1 ∷ [])) (plain (2 ∷ [])) ≢ Equal
-unfolding version_cmp release_cmp padded
+unfolding version_cmp release_cmp padded_release
 one_and_two e = cc
 
 pub torn_none : HasNone torn

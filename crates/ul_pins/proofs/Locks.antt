@@ -31,7 +31,7 @@ use Rattle.ul_pins.specs.declared.walk.Decision.{Decision}
 use Rattle.ul_pins.proofs.Bests.{one_decision, pick_of, version_kept, version_last}
 use Rattle.ul_pins.proofs.Maps.{take_one}
 use Rattle.ul_pins.proofs.Members.{one_left, one_right, one_cases, one_map, map_one, place_of}
-use Rattle.ul_version.proofs.OrderLaws.{version_total}
+use Rattle.ul_version.proofs.ForCallers.{version_total}
 
 -- lists in strict order with the same elements are one
 after_first : {A : Type 0} {R : A → A → Ordering} → IsTotalOrder R → (x : A) (xs : List A) (y : A) → IsIncreasing R (x ∷ xs) → IsOneOf y xs → R x y ≡ Less

@@ -11,7 +11,7 @@ use Rattle.ul_problem.proofs.Decided.{best_list_once, first_taken_once, agreed_v
 use Rattle.ul_problem.proofs.Members.{at_head, in_rest, head_or_rest, in_none, one_left, one_right, one_cases}
 use Rattle.ul_problem.proofs.Rules.{some_root, root_base, need_base}
 use Rattle.ul_problem.specs.declared.problem.Need.{Need}
-use Rattle.ul_problem.specs.Best.{Picks, is_decided, first_open, targets, wanted, next_of, Agrees, Extends, IsFirst, IsBestFrom, IsBest, version_in, IsTrailed, IsChain}
+use Rattle.ul_problem.specs.Best.{Picks, is_decided, first_open, targets, joined_needs, next_of, Agrees, Extends, IsFirst, IsBestFrom, IsBest, version_in, IsTrailed, IsChain}
 
 pub best_one_from : (p : Plain) (d xs ys : Picks) → IsBestFrom p d xs → IsBestFrom p d ys → xs ≡ ys
 best_one_from p d xs ys a b =
@@ -74,44 +74,44 @@ need_of (x ∷ needs) m h = elim (head_or_rest x.node (targets needs) m h) [
   | inr i ↦ (let r = need_of needs m i in (r.0, in_rest x needs r.0 r.1, r.2))
 ]
 
-pub wanted_one : (p : Plain) (d : Picks) (n v : ℕ) (need : Need) → Contains d (n, v) → Contains (needs_of p n v) need → Contains (wanted p d) need.node
+pub wanted_one : (p : Plain) (d : Picks) (n v : ℕ) (need : Need) → Contains d (n, v) → Contains (needs_of p n v) need → Contains (joined_needs p d) need.node
 wanted_one p [] n v need h i = absurd (in_none (n, v) h)
 wanted_one p (e ∷ d) n v need h i = elim (head_or_rest e d (n, v) h) [
   | inl f ↦ (
       let j : Contains (needs_of p e.0 e.1) need = subst (λ (x : ℕ × ℕ). Contains (needs_of p x.0 x.1) need) (sym f) i in
-      one_left need.node (targets (needs_of p e.0 e.1)) (wanted p d) (target_of (needs_of p e.0 e.1) need j))
-  | inr r ↦ one_right need.node (targets (needs_of p e.0 e.1)) (wanted p d) (wanted_one p d n v need r i)
+      one_left need.node (targets (needs_of p e.0 e.1)) (joined_needs p d) (target_of (needs_of p e.0 e.1) need j))
+  | inr r ↦ one_right need.node (targets (needs_of p e.0 e.1)) (joined_needs p d) (wanted_one p d n v need r i)
 ]
 
-wanted_from : (p : Plain) (d : Picks) (m : ℕ) → Contains (wanted p d) m → (e : ℕ × ℕ) × Contains d e × Contains (targets (needs_of p e.0 e.1)) m
+wanted_from : (p : Plain) (d : Picks) (m : ℕ) → Contains (joined_needs p d) m → (e : ℕ × ℕ) × Contains d e × Contains (targets (needs_of p e.0 e.1)) m
 wanted_from p [] m h = absurd (in_none m h)
-wanted_from p (e ∷ d) m h = elim (one_cases m (targets (needs_of p e.0 e.1)) (wanted p d) h) [
+wanted_from p (e ∷ d) m h = elim (one_cases m (targets (needs_of p e.0 e.1)) (joined_needs p d) h) [
   | inl i ↦ (e, at_head e d e refl, i)
   | inr i ↦ (let r = wanted_from p d m i in (r.0, in_rest e d r.0 r.1, r.2))
 ]
 
 -- the base of a node that is asked for is asked for
 abbrev pub IsAsked : Plain → Picks → ℕ → Type 0
-IsAsked p d n = Contains (p.roots ++ wanted p d) n
+IsAsked p d n = Contains (p.roots ++ joined_needs p d) n
 
 pub asked_base : (p : Plain) (d : Picks) (n b : ℕ) → IsWellFormed p → IsAsked p d n → base_of p n ≡ Some b → IsAsked p d b
-asked_base p d n b wf h e = elim (one_cases n p.roots (wanted p d) h) [
-  | inl i ↦ one_left b p.roots (wanted p d) (root_base p n b wf i e)
+asked_base p d n b wf h e = elim (one_cases n p.roots (joined_needs p d) h) [
+  | inl i ↦ one_left b p.roots (joined_needs p d) (root_base p n b wf i e)
   | inr i ↦ (let w = wanted_from p d n i in
       let r = need_of (needs_of p w.0.0 w.0.1) n w.2 in
       let eb : base_of p r.0.node ≡ Some b = ap (λ (k : ℕ). base_of p k) r.2 ∙ e in
       let o = need_base p w.0.0 w.0.1 b r.0 wf r.1 eb in
-      one_right b p.roots (wanted p d) (subst (λ (k : ℕ). Contains (wanted p d) k) o.2 (wanted_one p d w.0.0 w.0.1 o.0 w.1 o.1)))
+      one_right b p.roots (joined_needs p d) (subst (λ (k : ℕ). Contains (joined_needs p d) k) o.2 (wanted_one p d w.0.0 w.0.1 o.0 w.1 o.1)))
 ]
 
-wanted_append : (p : Plain) (xs ys : Picks) → wanted p (xs ++ ys) ≡ wanted p xs ++ wanted p ys
+wanted_append : (p : Plain) (xs ys : Picks) → joined_needs p (xs ++ ys) ≡ joined_needs p xs ++ joined_needs p ys
 wanted_append p [] ys = refl
-wanted_append p (e ∷ xs) ys = ap (λ (l : List ℕ). targets (needs_of p e.0 e.1) ++ l) (wanted_append p xs ys) ∙ sym (append_assoc (targets (needs_of p e.0 e.1)) (wanted p xs) (wanted p ys))
+wanted_append p (e ∷ xs) ys = ap (λ (l : List ℕ). targets (needs_of p e.0 e.1) ++ l) (wanted_append p xs ys) ∙ sym (append_assoc (targets (needs_of p e.0 e.1)) (joined_needs p xs) (joined_needs p ys))
 
 asked_more : (p : Plain) (xs ys : Picks) (n : ℕ) → IsAsked p xs n → IsAsked p (xs ++ ys) n
-asked_more p xs ys n h = elim (one_cases n p.roots (wanted p xs) h) [
-  | inl i ↦ one_left n p.roots (wanted p (xs ++ ys)) i
-  | inr i ↦ one_right n p.roots (wanted p (xs ++ ys)) (subst (λ (l : List ℕ). Contains l n) (sym (wanted_append p xs ys)) (one_left n (wanted p xs) (wanted p ys) i))
+asked_more p xs ys n h = elim (one_cases n p.roots (joined_needs p xs) h) [
+  | inl i ↦ one_left n p.roots (joined_needs p (xs ++ ys)) i
+  | inr i ↦ one_right n p.roots (joined_needs p (xs ++ ys)) (subst (λ (l : List ℕ). Contains l n) (sym (wanted_append p xs ys)) (one_left n (joined_needs p xs) (joined_needs p ys) i))
 ]
 
 open_which : (d : Picks) (ns : List ℕ) (m n : ℕ) (b : Bool) → (first_open d ns ≡ Some n → Contains ns n) → cond b (first_open d ns) (Some m) ≡ Some n → Contains (m ∷ ns) n
@@ -128,7 +128,7 @@ asked_all p d [] n v b h = absurd (in_none (n, v) h)
 asked_all p d (e ∷ rest) n v b h = elim (head_or_rest e rest (n, v) h) [
   | inl f ↦ (
       let o : next_of p d ≡ Some n = subst (λ (x : ℕ × ℕ). next_of p d ≡ Some x.0) f b.0 in
-      asked_more p d (e ∷ rest) n (open_one d (p.roots ++ wanted p d) n o))
+      asked_more p d (e ∷ rest) n (open_one d (p.roots ++ joined_needs p d) n o))
   | inr i ↦ (
       let r = asked_all p (d ++ e ∷ []) rest n v b.1 i in
       subst (λ (l : Picks). IsAsked p l n) (append_assoc d (e ∷ []) rest) r)
@@ -149,15 +149,15 @@ extends_all p d e (f ∷ rest) b = subst (λ (l : Picks). Extends p l) (append_a
 
 map_serves : (p : Plain) (d : Picks) → IsWellFormed p → IsBest p d → Extends p d → Serves p (version_in d)
 map_serves p d wf b (σ, s, a) =
-    let done : (n : ℕ) → IsAsked p d n → is_decided n d ≡ true = λ n h. none_open d (p.roots ++ wanted p d) n (end_of p [] d b) h in
+    let done : (n : ℕ) → IsAsked p d n → is_decided n d ≡ true = λ n h. none_open d (p.roots ++ joined_needs p d) n (end_of p [] d b) h in
     let has : (n v : ℕ) → version_in d n ≡ Some v → σ n ≡ Some v = λ n v h. agree_at σ d n v a h in
     let same : (n v : ℕ) → IsAsked p d n → σ n ≡ Some v → version_in d n ≡ Some v = λ n v h e. (let r = decided_version d n (done n h) in r.1 ∙ (sym (has n r.0 r.1) ∙ e)) in
     record {
       within = λ n v h. s.within n v (has n v h);
-      rooted = λ n h. decided_version d n (done n (one_left n p.roots (wanted p d) h));
+      rooted = λ n h. decided_version d n (done n (one_left n p.roots (joined_needs p d) h));
       fit = λ n v h. s.fit n v (has n v h);
       based = λ n v b' h e. same b' v (asked_base p d n b' wf (asked_all p [] d n v (chain_best p [] d b) (pick_of d n v h)) e) (s.based n v b' (has n v h) e);
-      met = λ n v h need i. (let r = decided_version d need.node (done need.node (one_right need.node p.roots (wanted p d) (wanted_one p d n v need (pick_of d n v h) i))) in
+      met = λ n v h need i. (let r = decided_version d need.node (done need.node (one_right need.node p.roots (joined_needs p d) (wanted_one p d n v need (pick_of d n v h) i))) in
           let both : version_in d need.node ≡ σ need.node = r.1 ∙ sym (has need.node r.0 r.1) in
           ap (λ (o : Option ℕ). is_among o need.permitted) both ∙ s.met n v (has n v h) need i);
     }
@@ -176,7 +176,7 @@ open_not d [] n h = cc
 open_not d (m ∷ ns) n h = open_which_not d ns m n (is_decided m d) refl (open_not d ns n) h
 
 pub not_decided : (p : Plain) (d : Picks) (n : ℕ) → next_of p d ≡ Some n → is_decided n d ≡ false
-not_decided p d n h = open_not d (p.roots ++ wanted p d) n h
+not_decided p d n h = open_not d (p.roots ++ joined_needs p d) n h
 
 -- a further pick of an undecided node leaves the others
 version_kept : (xs : Picks) (e : ℕ × ℕ) (n v : ℕ) → version_in xs n ≡ Some v → version_in (xs ++ e ∷ []) n ≡ Some v

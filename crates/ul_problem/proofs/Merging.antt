@@ -7,7 +7,7 @@ use Rattle.std.specs.Prelude.{slice_get, IsTrue, ◌↔◌}
 use Rattle.std.specs.Option.{option_to_list}
 use Rattle.ul_ranges.specs.Flags.{is_blank}
 use Rattle.ul_problem.specs.Terms.{node_of, meet_of, join_of, term_on, IsOrdered, IsOrderedFrom}
-use Rattle.ul_problem.specs.Steps.{written, met_terms, joined_terms, resolved, IsResolvent}
+use Rattle.ul_problem.specs.Steps.{term_to_say, met_terms, joined_terms, resolvent_term, IsResolvent}
 use Rattle.ul_problem.specs.Turns.{lone_of, turn_of, left_turn, right_turn, both_turn}
 use Rattle.ul_problem.specs.declared.term.Term.{Term}
 use Rattle.ul_problem.specs.declared.term.Term.TheVariants.{In, NotIn}
@@ -42,7 +42,7 @@ pub record IsMerging (m : ℕ) (left right out l r : List Term) : Type 0 where
   pub ordered : IsOrdered out
   pub on_left : IsOrderedAt low l
   pub on_right : IsOrderedAt low r
-  pub each : (k : ℕ) → resolved m k (term_on k left) (term_on k right) ≡ or_else (term_on k out) (resolved m k (term_on k l) (term_on k r))
+  pub each : (k : ℕ) → resolvent_term m k (term_on k left) (term_on k right) ≡ or_else (term_on k out) (resolvent_term m k (term_on k l) (term_on k r))
 
 -- the term on a node
 term_on-append : (k : ℕ) (xs ys : List Term) → term_on k (xs ++ ys) ≡ or_else (term_on k xs) (term_on k ys)
@@ -71,7 +71,7 @@ one_off : (n k : ℕ) (x : Option Term) → IsOn n x → (n ≡ k → ⊥) → t
 one_off n k None h i = refl
 one_off n k (Some t) h i = on_past t k [] (λ e. i (sym h ∙ e))
 
-none_resolved : (m k : ℕ) → resolved m k None None ≡ None
+none_resolved : (m k : ℕ) → resolvent_term m k None None ≡ None
 none_resolved m k = which (nat_eq k m)
   where
     which : (b : Bool) → cond b (joined_terms None None) (met_terms None None) ≡ None
@@ -104,7 +104,7 @@ from_above low n (t ∷ ts) h i = (omega (arith, h.0), h.1)
 
 -- one turn that takes the terms on a node
 step : (m n : ℕ) (left right out l r l' r' : List Term) (x : Option Term) → (s : IsMerging m left right out l r) → s.low ≤ n
-    → IsOrderedFrom n l' → IsOrderedFrom n r' → IsOn n x → x ≡ resolved m n (term_on n l) (term_on n r)
+    → IsOrderedFrom n l' → IsOrderedFrom n r' → IsOn n x → x ≡ resolvent_term m n (term_on n l) (term_on n r)
     → ((k : ℕ) → (n ≡ k → ⊥) → term_on k l ≡ term_on k l') → ((k : ℕ) → (n ≡ k → ⊥) → term_on k r ≡ term_on k r')
     → IsMerging m left right (out ++ option_to_list x) l' r'
 step m n left right out l r l' r' x s i ol or on is sl sr = record {
@@ -116,29 +116,29 @@ step m n left right out l r l' r' x s i ol or on is sl sr = record {
   each = λ k. elim (cases_order n k) [ inl e ↦ here k e | inr h ↦ there k (λ e. elim h [ inl a ↦ omega arith | inr b ↦ omega arith ]) ];
 }
   where
-    last : (k : ℕ) → or_else (term_on k (out ++ option_to_list x)) (resolved m k (term_on k l') (term_on k r')) ≡ or_else (or_else (term_on k out) (term_on k (option_to_list x))) (resolved m k (term_on k l') (term_on k r'))
-    last k = ap (λ (o : Option Term). or_else o (resolved m k (term_on k l') (term_on k r'))) (term_on-append k out (option_to_list x))
+    last : (k : ℕ) → or_else (term_on k (out ++ option_to_list x)) (resolvent_term m k (term_on k l') (term_on k r')) ≡ or_else (or_else (term_on k out) (term_on k (option_to_list x))) (resolvent_term m k (term_on k l') (term_on k r'))
+    last k = ap (λ (o : Option Term). or_else o (resolvent_term m k (term_on k l') (term_on k r'))) (term_on-append k out (option_to_list x))
 
-    at_n : resolved m n (term_on n left) (term_on n right) ≡ or_else (term_on n (out ++ option_to_list x)) (resolved m n (term_on n l') (term_on n r'))
+    at_n : resolvent_term m n (term_on n left) (term_on n right) ≡ or_else (term_on n (out ++ option_to_list x)) (resolvent_term m n (term_on n l') (term_on n r'))
     at_n =
         let e : term_on n out ≡ None = below_none s.low n out s.below i in
-        let a : resolved m n (term_on n left) (term_on n right) ≡ x = s.each n ∙ (ap (λ (o : Option Term). or_else o (resolved m n (term_on n l) (term_on n r))) e ∙ sym is) in
+        let a : resolvent_term m n (term_on n left) (term_on n right) ≡ x = s.each n ∙ (ap (λ (o : Option Term). or_else o (resolvent_term m n (term_on n l) (term_on n r))) e ∙ sym is) in
         let fl : term_on n l' ≡ None = term_on-before l' n n ol (omega arith) in
         let fr : term_on n r' ≡ None = term_on-before r' n n or (omega arith) in
         let b : or_else (term_on n out) (term_on n (option_to_list x)) ≡ x = ap (λ (o : Option Term). or_else o (term_on n (option_to_list x))) e ∙ one_on n x on in
-        let c : resolved m n (term_on n l') (term_on n r') ≡ None = ap (λ (o : Option Term). resolved m n o (term_on n r')) fl ∙ (ap (λ (o : Option Term). resolved m n None o) fr ∙ none_resolved m n) in
-        let d : or_else (or_else (term_on n out) (term_on n (option_to_list x))) (resolved m n (term_on n l') (term_on n r')) ≡ x = ap (λ (o : Option Term). or_else o (resolved m n (term_on n l') (term_on n r'))) b ∙ (ap (λ (o : Option Term). or_else x o) c ∙ or_none x) in
+        let c : resolvent_term m n (term_on n l') (term_on n r') ≡ None = ap (λ (o : Option Term). resolvent_term m n o (term_on n r')) fl ∙ (ap (λ (o : Option Term). resolvent_term m n None o) fr ∙ none_resolved m n) in
+        let d : or_else (or_else (term_on n out) (term_on n (option_to_list x))) (resolvent_term m n (term_on n l') (term_on n r')) ≡ x = ap (λ (o : Option Term). or_else o (resolvent_term m n (term_on n l') (term_on n r'))) b ∙ (ap (λ (o : Option Term). or_else x o) c ∙ or_none x) in
         a ∙ sym (last n ∙ d)
 
-    here : (k : ℕ) → n ≡ k → resolved m k (term_on k left) (term_on k right) ≡ or_else (term_on k (out ++ option_to_list x)) (resolved m k (term_on k l') (term_on k r'))
-    here k e = subst (λ (j : ℕ). resolved m j (term_on j left) (term_on j right) ≡ or_else (term_on j (out ++ option_to_list x)) (resolved m j (term_on j l') (term_on j r'))) e at_n
+    here : (k : ℕ) → n ≡ k → resolvent_term m k (term_on k left) (term_on k right) ≡ or_else (term_on k (out ++ option_to_list x)) (resolvent_term m k (term_on k l') (term_on k r'))
+    here k e = subst (λ (j : ℕ). resolvent_term m j (term_on j left) (term_on j right) ≡ or_else (term_on j (out ++ option_to_list x)) (resolvent_term m j (term_on j l') (term_on j r'))) e at_n
 
-    there : (k : ℕ) → (n ≡ k → ⊥) → resolved m k (term_on k left) (term_on k right) ≡ or_else (term_on k (out ++ option_to_list x)) (resolved m k (term_on k l') (term_on k r'))
+    there : (k : ℕ) → (n ≡ k → ⊥) → resolvent_term m k (term_on k left) (term_on k right) ≡ or_else (term_on k (out ++ option_to_list x)) (resolvent_term m k (term_on k l') (term_on k r'))
     there k ne =
         let e : term_on k (option_to_list x) ≡ None = one_off n k x on ne in
         let b : or_else (term_on k out) (term_on k (option_to_list x)) ≡ term_on k out = ap (λ (o : Option Term). or_else (term_on k out) o) e ∙ or_none (term_on k out) in
-        let c : resolved m k (term_on k l) (term_on k r) ≡ resolved m k (term_on k l') (term_on k r') = ap (λ (o : Option Term). resolved m k o (term_on k r)) (sl k ne) ∙ ap (λ (o : Option Term). resolved m k (term_on k l') o) (sr k ne) in
-        s.each k ∙ (ap (λ (o : Option Term). or_else (term_on k out) o) c ∙ sym (last k ∙ ap (λ (o : Option Term). or_else o (resolved m k (term_on k l') (term_on k r'))) b))
+        let c : resolvent_term m k (term_on k l) (term_on k r) ≡ resolvent_term m k (term_on k l') (term_on k r') = ap (λ (o : Option Term). resolvent_term m k o (term_on k r)) (sl k ne) ∙ ap (λ (o : Option Term). resolvent_term m k (term_on k l') o) (sr k ne) in
+        s.each k ∙ (ap (λ (o : Option Term). or_else (term_on k out) o) c ∙ sym (last k ∙ ap (λ (o : Option Term). or_else o (resolvent_term m k (term_on k l') (term_on k r'))) b))
 
 -- the three turns
 lone_on : (m : ℕ) (t : Term) → IsOn (node_of t) (lone_of m t)
@@ -148,21 +148,21 @@ lone_on m t = which (nat_eq (node_of t) m)
     which true = tt
     which false = refl
 
-lone_left : (m : ℕ) (t : Term) → lone_of m t ≡ resolved m (node_of t) (Some t) None
+lone_left : (m : ℕ) (t : Term) → lone_of m t ≡ resolvent_term m (node_of t) (Some t) None
 lone_left m t = which (nat_eq (node_of t) m)
   where
     which : (b : Bool) → cond b None (Some t) ≡ cond b (joined_terms (Some t) None) (met_terms (Some t) None)
     which true = refl
     which false = refl
 
-lone_right : (m : ℕ) (t : Term) → lone_of m t ≡ resolved m (node_of t) None (Some t)
+lone_right : (m : ℕ) (t : Term) → lone_of m t ≡ resolvent_term m (node_of t) None (Some t)
 lone_right m t = which (nat_eq (node_of t) m)
   where
     which : (b : Bool) → cond b None (Some t) ≡ cond b (joined_terms None (Some t)) (met_terms None (Some t))
     which true = refl
     which false = refl
 
-written_on : (t : Term) → IsOn (node_of t) (written t)
+written_on : (t : Term) → IsOn (node_of t) (term_to_say t)
 written_on (In n s) = refl
 written_on (NotIn n s) = which (is_blank s)
   where
@@ -182,33 +182,33 @@ join_node (In n s) (NotIn m t) = refl
 join_node (NotIn n s) (In m t) = refl
 join_node (NotIn n s) (NotIn m t) = refl
 
-both_on : (m : ℕ) (t u : Term) → IsOn (node_of t) (resolved m (node_of t) (Some t) (Some u))
+both_on : (m : ℕ) (t u : Term) → IsOn (node_of t) (resolvent_term m (node_of t) (Some t) (Some u))
 both_on m t u = which (nat_eq (node_of t) m)
   where
-    which : (b : Bool) → IsOn (node_of t) (cond b (written (join_of t u)) (written (meet_of t u)))
-    which true = subst (λ (n : ℕ). IsOn n (written (join_of t u))) (join_node t u) (written_on (join_of t u))
-    which false = subst (λ (n : ℕ). IsOn n (written (meet_of t u))) (meet_node t u) (written_on (meet_of t u))
+    which : (b : Bool) → IsOn (node_of t) (cond b (term_to_say (join_of t u)) (term_to_say (meet_of t u)))
+    which true = subst (λ (n : ℕ). IsOn n (term_to_say (join_of t u))) (join_node t u) (written_on (join_of t u))
+    which false = subst (λ (n : ℕ). IsOn n (term_to_say (meet_of t u))) (meet_node t u) (written_on (meet_of t u))
 
 left_step : (m : ℕ) (left right out l' r : List Term) (t : Term) → IsMerging m left right out (t ∷ l') r → IsOrderedFrom (node_of t) r
     → IsMerging m left right (out ++ option_to_list (lone_of m t)) l' r
 left_step m left right out l' r t s above = step m (node_of t) left right out (t ∷ l') r l' r (lone_of m t) s s.on_left.0 s.on_left.1 above (lone_on m t)
-    (lone_left m t ∙ sym (ap (λ (o : Option Term). resolved m (node_of t) o (term_on (node_of t) r)) (on_here t (node_of t) l' refl)
-    ∙ ap (λ (o : Option Term). resolved m (node_of t) (Some t) o) (term_on-before r (node_of t) (node_of t) above (omega arith))))
+    (lone_left m t ∙ sym (ap (λ (o : Option Term). resolvent_term m (node_of t) o (term_on (node_of t) r)) (on_here t (node_of t) l' refl)
+    ∙ ap (λ (o : Option Term). resolvent_term m (node_of t) (Some t) o) (term_on-before r (node_of t) (node_of t) above (omega arith))))
     (λ k n. on_past t k l' n) (λ k n. refl)
 
 right_step : (m : ℕ) (left right out l r' : List Term) (u : Term) → IsMerging m left right out l (u ∷ r') → IsOrderedFrom (node_of u) l
     → IsMerging m left right (out ++ option_to_list (lone_of m u)) l r'
 right_step m left right out l r' u s above = step m (node_of u) left right out l (u ∷ r') l r' (lone_of m u) s s.on_right.0 above s.on_right.1 (lone_on m u)
-    (lone_right m u ∙ sym (ap (λ (o : Option Term). resolved m (node_of u) o (term_on (node_of u) (u ∷ r'))) (term_on-before l (node_of u) (node_of u) above (omega arith))
-    ∙ ap (λ (o : Option Term). resolved m (node_of u) None o) (on_here u (node_of u) r' refl)))
+    (lone_right m u ∙ sym (ap (λ (o : Option Term). resolvent_term m (node_of u) o (term_on (node_of u) (u ∷ r'))) (term_on-before l (node_of u) (node_of u) above (omega arith))
+    ∙ ap (λ (o : Option Term). resolvent_term m (node_of u) None o) (on_here u (node_of u) r' refl)))
     (λ k n. refl) (λ k n. on_past u k r' n)
 
 both_step : (m : ℕ) (left right out l' r' : List Term) (t u : Term) → IsMerging m left right out (t ∷ l') (u ∷ r') → node_of t ≡ node_of u
-    → IsMerging m left right (out ++ option_to_list (resolved m (node_of t) (Some t) (Some u))) l' r'
-both_step m left right out l' r' t u s e = step m (node_of t) left right out (t ∷ l') (u ∷ r') l' r' (resolved m (node_of t) (Some t) (Some u)) s s.on_left.0 s.on_left.1
+    → IsMerging m left right (out ++ option_to_list (resolvent_term m (node_of t) (Some t) (Some u))) l' r'
+both_step m left right out l' r' t u s e = step m (node_of t) left right out (t ∷ l') (u ∷ r') l' r' (resolvent_term m (node_of t) (Some t) (Some u)) s s.on_left.0 s.on_left.1
     (subst (λ (n : ℕ). IsOrderedFrom n r') (sym e) s.on_right.1) (both_on m t u)
-    (sym (ap (λ (o : Option Term). resolved m (node_of t) o (term_on (node_of t) (u ∷ r'))) (on_here t (node_of t) l' refl)
-    ∙ ap (λ (o : Option Term). resolved m (node_of t) (Some t) o) (on_here u (node_of t) r' (sym e))))
+    (sym (ap (λ (o : Option Term). resolvent_term m (node_of t) o (term_on (node_of t) (u ∷ r'))) (on_here t (node_of t) l' refl)
+    ∙ ap (λ (o : Option Term). resolvent_term m (node_of t) (Some t) o) (on_here u (node_of t) r' (sym e))))
     (λ k n. on_past t k l' n) (λ k n. on_past u k r' (λ f. n (e ∙ f)))
 
 abbrev pub head_of : List Term → Option Term

@@ -9,7 +9,7 @@ use Rattle.ul_problem.specs.Plain.{Plain, size_of, base_of, barred_of, needs_of}
 use Rattle.ul_problem.specs.Serving.{Serves, Forbids, HasNone}
 use Rattle.ul_problem.specs.Problems.{IsWellFormed}
 use Rattle.ul_problem.proofs.Rules.{root_single}
-use Rattle.ul_problem.specs.Steps.{written, with_term, pair_of, base_or, says, step_of, met_terms, joined_terms, resolved, IsResolvent, HasNeed, IsRight, AreRightAfter, IsRootTerm, AreRootTerms, ClosesWith, Accepts}
+use Rattle.ul_problem.specs.Steps.{term_to_say, with_term, pair_of, base_or, says, step_of, met_terms, joined_terms, resolvent_term, IsResolvent, HasNeed, IsRight, AreRightAfter, IsRootTerm, AreRootTerms, ClosesWith, Accepts}
 use Rattle.ul_problem.specs.declared.term.Term.{Term}
 use Rattle.ul_problem.specs.declared.term.Term.TheVariants.{In, NotIn}
 use Rattle.ul_problem.specs.declared.step.Step.{Step}
@@ -49,7 +49,7 @@ right_of σ m k ts us (inr e) h = e.1
 -- where a resolvent's terms hold, all of the left list hold or all of the right
 pub resolvent_holds : (σ : Selection) (m : ℕ) (left right ts : List Term) → IsOrdered left → IsOrdered right → IsResolvent m left right ts → all_hold σ ts ≡ true → (all_hold σ left ≡ true) ⊎ (all_hold σ right ≡ true)
 resolvent_holds σ m left right ts ol or r h =
-    let at : (k : ℕ) → may_hold (resolved m k (term_on k left) (term_on k right)) (σ k) ≡ true = λ k. subst (λ (t : Option Term). may_hold t (σ k) ≡ true) (r.each k) (all_at σ ts h k) in
+    let at : (k : ℕ) → may_hold (resolvent_term m k (term_on k left) (term_on k right)) (σ k) ≡ true = λ k. subst (λ (t : Option Term). may_hold t (σ k) ≡ true) (r.each k) (all_at σ ts h k) in
     let apart : (k : ℕ) → (k ≡ m) ⊎ ((may_hold (term_on k left) (σ k) ≡ true) × (may_hold (term_on k right) (σ k) ≡ true)) = λ k. off_cut m k (term_on k left) (term_on k right) (σ k) (nat_eq k m) refl (at k) in
     elim (on_cut m (term_on m left) (term_on m right) (σ m) (nat_eq m m) (eq-eqb m m refl) (at m)) [
       | inl e ↦ inl (all_from σ left ol (λ k. left_of σ m k left right (apart k) e))
@@ -65,11 +65,11 @@ with_not : (σ : Selection) (n : ℕ) (s : List Bool) (ts : List Term) (b : Bool
 with_not σ n s ts false e = refl
 with_not σ n s ts true e = let h : holds σ (NotIn n s) ≡ true = sym (may_hold-written (NotIn n s) (σ n)) ∙ ap (λ (b : Bool). may_hold (cond b None (Some (NotIn n s))) (σ n)) e in rw h refl
 
-with_holds : (σ : Selection) (t : Term) (ts : List Term) → all_hold σ (with_term (written t) ts) ≡ cond (holds σ t) (all_hold σ ts) false
+with_holds : (σ : Selection) (t : Term) (ts : List Term) → all_hold σ (with_term (term_to_say t) ts) ≡ cond (holds σ t) (all_hold σ ts) false
 with_holds σ (In n s) ts = refl
 with_holds σ (NotIn n s) ts = with_not σ n s ts (is_blank s) refl
 
-parts_of : (σ : Selection) (t : Term) (ts : List Term) → all_hold σ (with_term (written t) ts) ≡ true → (holds σ t ≡ true) × (all_hold σ ts ≡ true)
+parts_of : (σ : Selection) (t : Term) (ts : List Term) → all_hold σ (with_term (term_to_say t) ts) ≡ true → (holds σ t ≡ true) × (all_hold σ ts ≡ true)
 parts_of σ t ts h = let e : cond (holds σ t) (all_hold σ ts) false ≡ true = sym (with_holds σ t ts) ∙ h in (and_left' (holds σ t) (all_hold σ ts) e, and_right' (holds σ t) (all_hold σ ts) e)
 
 node_of-meet : (t u : Term) → node_of (meet_of t u) ≡ node_of t
@@ -79,10 +79,10 @@ node_of-meet (NotIn n s) (In m t) = refl
 node_of-meet (NotIn n s) (NotIn m t) = refl
 
 pair_holds' : (σ : Selection) (t u : Term) (b c : Bool) → nat_lt (node_of t) (node_of u) ≡ b → nat_lt (node_of u) (node_of t) ≡ c
-    → all_hold σ (cond b (with_term (written t) (with_term (written u) [])) (cond c (with_term (written u) (with_term (written t) [])) (with_term (written (meet_of t u)) []))) ≡ true
+    → all_hold σ (cond b (with_term (term_to_say t) (with_term (term_to_say u) [])) (cond c (with_term (term_to_say u) (with_term (term_to_say t) [])) (with_term (term_to_say (meet_of t u)) []))) ≡ true
     → (holds σ t ≡ true) × (holds σ u ≡ true)
-pair_holds' σ t u true c e f h = let x = parts_of σ t (with_term (written u) []) h in let y = parts_of σ u [] x.1 in (x.0, y.0)
-pair_holds' σ t u false true e f h = let x = parts_of σ u (with_term (written t) []) h in let y = parts_of σ t [] x.1 in (y.0, x.0)
+pair_holds' σ t u true c e f h = let x = parts_of σ t (with_term (term_to_say u) []) h in let y = parts_of σ u [] x.1 in (x.0, y.0)
+pair_holds' σ t u false true e f h = let x = parts_of σ u (with_term (term_to_say t) []) h in let y = parts_of σ t [] x.1 in (y.0, x.0)
 pair_holds' σ t u false false e f h =
     let low : node_of u ≤ node_of t = ltb-false (node_of t) (node_of u) e in
     let high : node_of t ≤ node_of u = ltb-false (node_of u) (node_of t) f in
@@ -98,11 +98,11 @@ pub pair_holds : (σ : Selection) (t u : Term) → all_hold σ (pair_of t u) ≡
 pair_holds σ t u h = pair_holds' σ t u (nat_lt (node_of t) (node_of u)) (nat_lt (node_of u) (node_of t)) refl refl h
 
 -- a pair is in order
-written_node : (t : Term) (b : Bool) → (written t ≡ None) ⊎ (written t ≡ Some t)
+written_node : (t : Term) (b : Bool) → (term_to_say t ≡ None) ⊎ (term_to_say t ≡ Some t)
 written_node (In n s) b = inr refl
 written_node (NotIn n s) b = blank_or (is_blank s) refl
   where
-    blank_or : (c : Bool) → is_blank s ≡ c → (written (NotIn n s) ≡ None) ⊎ (written (NotIn n s) ≡ Some (NotIn n s))
+    blank_or : (c : Bool) → is_blank s ≡ c → (term_to_say (NotIn n s) ≡ None) ⊎ (term_to_say (NotIn n s) ≡ Some (NotIn n s))
     blank_or true e = inl (ap (λ (d : Bool). cond d None (Some (NotIn n s))) e)
     blank_or false e = inr (ap (λ (d : Bool). cond d None (Some (NotIn n s))) e)
 
@@ -116,10 +116,10 @@ two_ordered t u a b (inr e) (inl f) h = rw (e, f) tt
 two_ordered t u a b (inr e) (inr f) h = rw (e, f) (h, tt)
 
 pair_ordered' : (t u : Term) (b c : Bool) → nat_lt (node_of t) (node_of u) ≡ b → nat_lt (node_of u) (node_of t) ≡ c
-    → IsOrdered (cond b (with_term (written t) (with_term (written u) [])) (cond c (with_term (written u) (with_term (written t) [])) (with_term (written (meet_of t u)) [])))
-pair_ordered' t u true c e f = two_ordered t u (written t) (written u) (written_node t true) (written_node u true) (ltb-true (node_of t) (node_of u) e)
-pair_ordered' t u false true e f = two_ordered u t (written u) (written t) (written_node u true) (written_node t true) (ltb-true (node_of u) (node_of t) f)
-pair_ordered' t u false false e f = one_ordered (written (meet_of t u))
+    → IsOrdered (cond b (with_term (term_to_say t) (with_term (term_to_say u) [])) (cond c (with_term (term_to_say u) (with_term (term_to_say t) [])) (with_term (term_to_say (meet_of t u)) [])))
+pair_ordered' t u true c e f = two_ordered t u (term_to_say t) (term_to_say u) (written_node t true) (written_node u true) (ltb-true (node_of t) (node_of u) e)
+pair_ordered' t u false true e f = two_ordered u t (term_to_say u) (term_to_say t) (written_node u true) (written_node t true) (ltb-true (node_of u) (node_of t) f)
+pair_ordered' t u false false e f = one_ordered (term_to_say (meet_of t u))
 
 pub pair_ordered : (t u : Term) → IsOrdered (pair_of t u)
 pair_ordered t u = pair_ordered' t u (nat_lt (node_of t) (node_of u)) (nat_lt (node_of u) (node_of t)) refl refl

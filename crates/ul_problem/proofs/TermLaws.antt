@@ -4,7 +4,7 @@ use Rattle.std.proofs.lemmas.Bool.{eqb-true}
 use Rattle.ul_ranges.specs.Flags.{has, is_blank}
 use Rattle.ul_ranges.proofs.ForCallers.{has-both, has-either, has-less, blank_none}
 use Rattle.ul_problem.specs.Terms.{Selection, is_among, node_of, allows, holds, all_hold, meet_of, join_of, negation, term_on, may_hold, IsOrdered, IsOrderedFrom}
-use Rattle.ul_problem.specs.Steps.{written, met_terms}
+use Rattle.ul_problem.specs.Steps.{term_to_say, met_terms}
 use Rattle.ul_problem.specs.declared.term.Term.{Term}
 use Rattle.ul_problem.specs.declared.term.Term.TheVariants.{In, NotIn}
 
@@ -81,7 +81,7 @@ written_not n s o false e = refl
 written_not n s None true e = refl
 written_not n s (Some v) true e = sym (ap not (blank_none s e v))
 
-pub may_hold-written : (t : Term) (o : Option ℕ) → may_hold (written t) o ≡ allows t o
+pub may_hold-written : (t : Term) (o : Option ℕ) → may_hold (term_to_say t) o ≡ allows t o
 may_hold-written (In n s) o = refl
 may_hold-written (NotIn n s) o = written_not n s o (is_blank s) refl
 

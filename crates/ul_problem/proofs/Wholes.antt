@@ -9,7 +9,7 @@ use Rattle.ul_problem.specs.Terms.{node_of, set_of, meet_of, join_of, term_on, I
 use Rattle.ul_problem.specs.Plain.{Plain, size_of, base_of}
 use Rattle.ul_problem.specs.Problems.{IsWellFormed}
 use Rattle.std.specs.List.{Contains}
-use Rattle.ul_problem.specs.Steps.{IsTermOf, AreTermsOf, AreOfOne, written, AreWritten, IsIncompat, with_term, pair_of, base_or, says, step_of, met_terms, joined_terms, IsResolvent, IsStepWithin, IsRight, AreRightAfter}
+use Rattle.ul_problem.specs.Steps.{IsTermOf, AreTermsOf, AreOfOne, term_to_say, AreWritten, IsIncompat, with_term, pair_of, base_or, says, step_of, met_terms, joined_terms, IsResolvent, IsStepWithin, IsRight, AreRightAfter}
 use Rattle.ul_problem.specs.Turns.{AreLevel}
 use Rattle.ul_problem.specs.declared.term.Term.{Term}
 use Rattle.ul_problem.specs.declared.term.Term.TheVariants.{In, NotIn}
@@ -20,18 +20,18 @@ use Rattle.ul_problem.proofs.Soundness.{pair_ordered, step_place}
 use Rattle.ul_problem.proofs.Merging.{meet_node, join_node, on_here, on_past}
 
 -- a term that is written is written as it is
-written_again : (x t : Term) → written x ≡ Some t → written t ≡ Some t
-written_again x t e = let f : x ≡ t = same x e in subst (λ (y : Term). written y ≡ Some t) f e
+written_again : (x t : Term) → term_to_say x ≡ Some t → term_to_say t ≡ Some t
+written_again x t e = let f : x ≡ t = same x e in subst (λ (y : Term). term_to_say y ≡ Some t) f e
   where
     blank : (n : ℕ) (s : List Bool) (b : Bool) → cond b None (Some (NotIn n s)) ≡ Some t → NotIn n s ≡ t
     blank n s true g = absurd (none-some t g)
     blank n s false g = same_Some (NotIn n s) t g
 
-    same : (y : Term) → written y ≡ Some t → y ≡ t
+    same : (y : Term) → term_to_say y ≡ Some t → y ≡ t
     same (In n s) g = same_Some (In n s) t g
     same (NotIn n s) g = blank n s (is_blank s) g
 
-written_same : (x t : Term) → written x ≡ Some t → x ≡ t
+written_same : (x t : Term) → term_to_say x ≡ Some t → x ≡ t
 written_same (In n s) t e = same_Some (In n s) t e
 written_same (NotIn n s) t e = which (is_blank s) e
   where
@@ -64,7 +64,7 @@ join_fits p t u a b e = let n = join_node t u in
     (subst (λ (k : ℕ). k < length p.nodes) (sym n) a.0, join_size t u (sizes_agree p t u a b e) ∙ (a.1 ∙ ap (λ (k : ℕ). size_of p k) (sym n)))
 
 -- pairs
-one_written : (t : Term) (ts : List Term) → AreWritten ts → AreWritten (with_term (written t) ts)
+one_written : (t : Term) (ts : List Term) → AreWritten ts → AreWritten (with_term (term_to_say t) ts)
 one_written (In n s) ts h = (refl, h)
 one_written (NotIn n s) ts h = which (is_blank s) refl
   where
@@ -72,7 +72,7 @@ one_written (NotIn n s) ts h = which (is_blank s) refl
     which true e = h
     which false e = (ap (λ (b : Bool). cond b None (Some (NotIn n s))) e, h)
 
-one_fits : (p : Plain) (t : Term) (ts : List Term) → IsTermOf p t → AreTermsOf p ts → AreTermsOf p (with_term (written t) ts)
+one_fits : (p : Plain) (t : Term) (ts : List Term) → IsTermOf p t → AreTermsOf p ts → AreTermsOf p (with_term (term_to_say t) ts)
 one_fits p (In n s) ts i h = (i, h)
 one_fits p (NotIn n s) ts i h = which (is_blank s)
   where
@@ -83,18 +83,18 @@ one_fits p (NotIn n s) ts i h = which (is_blank s)
 pair_written : (t u : Term) → AreWritten (pair_of t u)
 pair_written t u = which (nat_lt (node_of t) (node_of u)) (nat_lt (node_of u) (node_of t))
   where
-    which : (b c : Bool) → AreWritten (cond b (with_term (written t) (with_term (written u) [])) (cond c (with_term (written u) (with_term (written t) [])) (with_term (written (meet_of t u)) [])))
-    which true c = one_written t (with_term (written u) []) (one_written u [] tt)
-    which false true = one_written u (with_term (written t) []) (one_written t [] tt)
+    which : (b c : Bool) → AreWritten (cond b (with_term (term_to_say t) (with_term (term_to_say u) [])) (cond c (with_term (term_to_say u) (with_term (term_to_say t) [])) (with_term (term_to_say (meet_of t u)) [])))
+    which true c = one_written t (with_term (term_to_say u) []) (one_written u [] tt)
+    which false true = one_written u (with_term (term_to_say t) []) (one_written t [] tt)
     which false false = one_written (meet_of t u) [] tt
 
 pair_fits : (p : Plain) (t u : Term) → IsTermOf p t → IsTermOf p u → AreTermsOf p (pair_of t u)
 pair_fits p t u a b = which (nat_lt (node_of t) (node_of u)) (nat_lt (node_of u) (node_of t)) refl refl
   where
     which : (x y : Bool) → nat_lt (node_of t) (node_of u) ≡ x → nat_lt (node_of u) (node_of t) ≡ y
-        → AreTermsOf p (cond x (with_term (written t) (with_term (written u) [])) (cond y (with_term (written u) (with_term (written t) [])) (with_term (written (meet_of t u)) [])))
-    which true y e f = one_fits p t (with_term (written u) []) a (one_fits p u [] b tt)
-    which false true e f = one_fits p u (with_term (written t) []) b (one_fits p t [] a tt)
+        → AreTermsOf p (cond x (with_term (term_to_say t) (with_term (term_to_say u) [])) (cond y (with_term (term_to_say u) (with_term (term_to_say t) [])) (with_term (term_to_say (meet_of t u)) [])))
+    which true y e f = one_fits p t (with_term (term_to_say u) []) a (one_fits p u [] b tt)
+    which false true e f = one_fits p u (with_term (term_to_say t) []) b (one_fits p t [] a tt)
     which false false e f =
         let low : node_of u ≤ node_of t = ltb-false (node_of t) (node_of u) e in
         let high : node_of t ≤ node_of u = ltb-false (node_of u) (node_of t) f in
@@ -147,10 +147,10 @@ one_term (u ∷ us) t h i = elim (head_or_rest u us t i) [
     more [] g = tt
     more (v ∷ vs) g = g.1
 
-written_at : (ts : List Term) (t : Term) → AreWritten ts → Contains ts t → written t ≡ Some t
+written_at : (ts : List Term) (t : Term) → AreWritten ts → Contains ts t → term_to_say t ≡ Some t
 written_at [] t h i = absurd (in_none t i)
 written_at (u ∷ us) t h i = elim (head_or_rest u us t i) [
-  | inl e ↦ subst (λ (x : Term). written x ≡ Some x) e h.0
+  | inl e ↦ subst (λ (x : Term). term_to_say x ≡ Some x) e h.0
   | inr r ↦ written_at us t h.1 r
 ]
 
@@ -161,7 +161,7 @@ fits_at p (u ∷ us) t h i = elim (head_or_rest u us t i) [
   | inr r ↦ fits_at p us t h.1 r
 ]
 
-all_written : (ts : List Term) → ((t : Term) → Contains ts t → written t ≡ Some t) → AreWritten ts
+all_written : (ts : List Term) → ((t : Term) → Contains ts t → term_to_say t ≡ Some t) → AreWritten ts
 all_written [] h = tt
 all_written (t ∷ ts) h = (h t (at_head t ts t refl), all_written ts (λ u i. h u (in_rest t ts u i)))
 
@@ -171,7 +171,7 @@ all_fit p (t ∷ ts) h = (h t (at_head t ts t refl), all_fit p ts (λ u i. h u (
 
 -- where a resolvent's term comes from
 abbrev IsFrom : Option Term → Option Term → Term → Type 0
-IsFrom a b t = (a ≡ Some t) ⊎ ((b ≡ Some t) ⊎ ((x : Term) × (y : Term) × (a ≡ Some x) × (b ≡ Some y) × ((written (meet_of x y) ≡ Some t) ⊎ (written (join_of x y) ≡ Some t))))
+IsFrom a b t = (a ≡ Some t) ⊎ ((b ≡ Some t) ⊎ ((x : Term) × (y : Term) × (a ≡ Some x) × (b ≡ Some y) × ((term_to_say (meet_of x y) ≡ Some t) ⊎ (term_to_say (join_of x y) ≡ Some t))))
 
 comes : (a b : Option Term) (t : Term) (c : Bool) → cond c (joined_terms a b) (met_terms a b) ≡ Some t → IsFrom a b t
 comes None b t true e = absurd (none-some t e)
@@ -187,7 +187,7 @@ source m left right ts t r i = comes (term_on (node_of t) left) (term_on (node_o
 pub resolvent_whole : (m : ℕ) (left right ts : List Term) → IsIncompat left → IsIncompat right → IsResolvent m left right ts → IsIncompat ts
 resolvent_whole m left right ts a b r = (r.ordered, all_written ts (λ t i. from t (source m left right ts t r i)))
   where
-    from : (t : Term) → IsFrom (term_on (node_of t) left) (term_on (node_of t) right) t → written t ≡ Some t
+    from : (t : Term) → IsFrom (term_on (node_of t) left) (term_on (node_of t) right) t → term_to_say t ≡ Some t
     from t (inl e) = written_at left t a.1 ((term_one (node_of t) left t e).0)
     from t (inr (inl e)) = written_at right t b.1 ((term_one (node_of t) right t e).0)
     from t (inr (inr (x, y, e, f, inl g))) = written_again (meet_of x y) t g

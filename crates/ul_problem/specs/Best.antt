@@ -26,13 +26,13 @@ targets [] = []
 targets (need ∷ needs) = need.node ∷ targets needs
 
 -- the joined needs of the decided nodes, in the order of decision
-abbrev pub wanted : Plain → Picks → List ℕ
-wanted p [] = []
-wanted p (e ∷ d) = targets (needs_of p e.0 e.1) ++ wanted p d
+abbrev pub joined_needs : Plain → Picks → List ℕ
+joined_needs p [] = []
+joined_needs p (e ∷ d) = targets (needs_of p e.0 e.1) ++ joined_needs p d
 
 -- the next undecided node: the roots first, then the joined needs
 abbrev pub next_of : Plain → Picks → Option ℕ
-next_of p d = first_open d (p.roots ++ wanted p d)
+next_of p d = first_open d (p.roots ++ joined_needs p d)
 
 -- the selection has every decided version
 abbrev pub Agrees : Selection → Picks → Type 0

@@ -21,14 +21,14 @@ AreTermsOf p [] = Unit {0}
 AreTermsOf p (t ∷ ts) = IsTermOf p t × AreTermsOf p ts
 
 -- `not n {}` always holds and is left out
-abbrev pub written : Term → Option Term
-written (In n s) = Some (In n s)
-written (NotIn n s) = cond (is_blank s) None (Some (NotIn n s))
+abbrev pub term_to_say : Term → Option Term
+term_to_say (In n s) = Some (In n s)
+term_to_say (NotIn n s) = cond (is_blank s) None (Some (NotIn n s))
 
 -- none of the terms is one that is left out
 abbrev pub AreWritten : List Term → Type 0
 AreWritten [] = Unit {0}
-AreWritten (t ∷ ts) = (written t ≡ Some t) × AreWritten ts
+AreWritten (t ∷ ts) = (term_to_say t ≡ Some t) × AreWritten ts
 
 -- an incompatibility: at most one term on a node, in the order of nodes, and none that always holds
 abbrev pub IsIncompat : List Term → Type 0
@@ -43,10 +43,10 @@ with_term (Some t) ts = t ∷ ts
 abbrev pub pair_of : Term → Term → List Term
 pair_of t u =
     cond (nat_lt (node_of t) (node_of u))
-    (with_term (written t) (with_term (written u) []))
+    (with_term (term_to_say t) (with_term (term_to_say u) []))
     (cond (nat_lt (node_of u) (node_of t))
-    (with_term (written u) (with_term (written t) []))
-    (with_term (written (meet_of t u)) []))
+    (with_term (term_to_say u) (with_term (term_to_say t) []))
+    (with_term (term_to_say (meet_of t u)) []))
 
 -- the base of a node, or the node where it has none
 abbrev pub base_or : Option ℕ → ℕ → ℕ
@@ -76,22 +76,22 @@ IsStepWithin p (Cut i j m ts) = AreTermsOf p ts × IsIncompat ts
 abbrev pub met_terms : Option Term → Option Term → Option Term
 met_terms None u = u
 met_terms (Some t) None = Some t
-met_terms (Some t) (Some u) = written (meet_of t u)
+met_terms (Some t) (Some u) = term_to_say (meet_of t u)
 
 -- two terms on the node of a cut, each of which may be missing, joined
 abbrev pub joined_terms : Option Term → Option Term → Option Term
 joined_terms None u = None
 joined_terms (Some t) None = None
-joined_terms (Some t) (Some u) = written (join_of t u)
+joined_terms (Some t) (Some u) = term_to_say (join_of t u)
 
 -- the resolvent's term on a node k, for a cut on the node m
-abbrev pub resolved : ℕ → ℕ → Option Term → Option Term → Option Term
-resolved m k t u = cond (nat_eq k m) (joined_terms t u) (met_terms t u)
+abbrev pub resolvent_term : ℕ → ℕ → Option Term → Option Term → Option Term
+resolvent_term m k t u = cond (nat_eq k m) (joined_terms t u) (met_terms t u)
 
 -- the terms are the resolvent of two lists on a node
 pub record IsResolvent (m : ℕ) (left right ts : List Term) : Type 0 where
   pub ordered : IsOrdered ts
-  pub each : (k : ℕ) → term_on k ts ≡ resolved m k (term_on k left) (term_on k right)
+  pub each : (k : ℕ) → term_on k ts ≡ resolvent_term m k (term_on k left) (term_on k right)
 
 -- among the needs of a version is one of this target, whose permitted versions are all in the set
 abbrev pub HasNeed : List Need → ℕ → List Bool → Type 0

@@ -2,7 +2,7 @@
 use Rattle.std.specs.Prelude.{◌≡◌, ℕ, ◌≤◌, ◌++◌, List, take, cond, Option, Some, None, length, nat_eq, nat_lt}
 use Rattle.std.specs.Option.{option_to_list}
 use Rattle.ul_problem.specs.Terms.{node_of, set_of}
-use Rattle.ul_problem.specs.Steps.{resolved}
+use Rattle.ul_problem.specs.Steps.{resolvent_term}
 use Rattle.ul_problem.specs.declared.term.Term.{Term}
 use Rattle.ul_problem.specs.declared.resolving.Turn.{Turn}
 
@@ -26,7 +26,7 @@ right_turn m u = record { left = 0; right = 1; term = lone_of m u }
 
 -- the first terms of both sides are taken, on one node
 abbrev pub both_turn : ℕ → Term → Term → Turn
-both_turn m t u = record { left = 1; right = 1; term = resolved m (node_of t) (Some t) (Some u) }
+both_turn m t u = record { left = 1; right = 1; term = resolvent_term m (node_of t) (Some t) (Some u) }
 
 -- a turn takes the first term of the side whose node is earlier, or of both where the node is one
 abbrev pub turn_of : ℕ → Option Term → Option Term → Turn

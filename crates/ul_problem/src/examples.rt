@@ -2,7 +2,7 @@
 ghost use Rattle.std.specs.Prelude.{◌≡◌, [], ◌∷◌, true, false, Some, None};
 ghost use Rattle.ul_problem.specs.Examples.{all_three, first_alone, first_and_third, first_two, last_two, second_alone, third_alone};
 ghost use Rattle.ul_problem.specs.Terms.{allows, meet_of, join_of, relation_of};
-ghost use Rattle.ul_problem.specs.Steps.{pair_of, resolved};
+ghost use Rattle.ul_problem.specs.Steps.{pair_of, resolvent_term};
 ghost use Rattle.ul_problem.specs.Best.{first_open, version_in};
 ghost use Rattle.ul_problem.specs.declared.term.Term.TheVariants.{In, NotIn};
 ghost use Rattle.ul_problem.specs.declared.term.Relation.TheVariants.{Holds, Fails, Unknown};
@@ -36,9 +36,9 @@ pub fn pairs()
     ensures behind { pair_of (In 3 (true ∷ [])) (NotIn 1 (true ∷ [])) ≡ NotIn 1 (true ∷ []) ∷ In 3 (true ∷ []) ∷ [] }
     ensures dropped { pair_of (In 0 (true ∷ [])) (NotIn 1 (false ∷ false ∷ [])) ≡ In 0 (true ∷ []) ∷ [] }
     ensures met { pair_of (In 2 (true ∷ true ∷ [])) (NotIn 2 (true ∷ false ∷ [])) ≡ In 2 (false ∷ true ∷ []) ∷ [] }
-    ensures cut { resolved 1 1 (Some (In 1 (true ∷ []))) (Some (NotIn 1 (true ∷ []))) ≡ None }
-    ensures uncut { resolved 1 2 None (Some (In 2 (true ∷ []))) ≡ Some (In 2 (true ∷ [])) }
-    ensures lone { resolved 1 1 None (Some (In 1 (true ∷ []))) ≡ None }
+    ensures cut { resolvent_term 1 1 (Some (In 1 (true ∷ []))) (Some (NotIn 1 (true ∷ []))) ≡ None }
+    ensures uncut { resolvent_term 1 2 None (Some (In 2 (true ∷ []))) ≡ Some (In 2 (true ∷ [])) }
+    ensures lone { resolvent_term 1 1 None (Some (In 1 (true ∷ []))) ≡ None }
 {}
 
 /// The next node is the first that isn't decided, and a decision is read off its list.

@@ -3,7 +3,7 @@ ghost use Rattle.std.specs.Prelude.{◌≡◌, ◌≤◌, ◌↔◌, ◌++◌, O
 ghost use Rattle.std.specs.Option.{option_copied, option_to_list};
 ghost use Rattle.ul_problem.specs.Terms.{node_of, set_of, IsOrdered};
 ghost use Rattle.ul_problem.specs.Plain.{Plain};
-ghost use Rattle.ul_problem.specs.Steps.{AreOfOne, AreTermsOf, IsResolvent, resolved};
+ghost use Rattle.ul_problem.specs.Steps.{AreOfOne, AreTermsOf, IsResolvent, resolvent_term};
 ghost use Rattle.ul_problem.specs.Turns.{turn_of, lone_of, AreLevel, IsPassed};
 
 use crate::incompat::Incompat;
@@ -195,7 +195,7 @@ fn both_terms(
 ) -> Result<Option<Term>, AllocError>
     requires nodes { node_of left.now ≡ node_of right.now }
     requires sizes { length (set_of left.now) ≡ length (set_of right.now) }
-    ensures { IfOk result (λ t. t ≡ resolved node (node_of left.now) (Some left.now) (Some right.now)) }
+    ensures { IfOk result (λ t. t ≡ resolvent_term node (node_of left.now) (Some left.now) (Some right.now)) }
 {
     let term = if left.node() == node {
         left.join(alloc, right)?

@@ -2,7 +2,7 @@
 ghost use Rattle.std.specs.Prelude.{◌≡◌, ◌∷◌, [], length, slice_get, IfOk};
 ghost use Rattle.ul_problem.specs.Plain.{base_in};
 ghost use Rattle.ul_problem.specs.Terms.{node_of, set_of};
-ghost use Rattle.ul_problem.specs.Steps.{AreTermsOf, IsStepWithin, base_or, says, pair_of, with_term, written};
+ghost use Rattle.ul_problem.specs.Steps.{AreTermsOf, IsStepWithin, base_or, says, pair_of, with_term, term_to_say};
 
 use crate::incompat::Incompat;
 use crate::problem::{NodeFacts, Problem};
@@ -55,7 +55,7 @@ fn base_or_node(nodes: &[NodeFacts], node: u64) -> u64
 
 // The term, or none where it always holds.
 fn written(term: Term) -> Option<Term>
-    ensures { result ≡ written term }
+    ensures { result ≡ term_to_say term }
 {
     if term.always_holds() {
         None

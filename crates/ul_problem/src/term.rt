@@ -1,6 +1,6 @@
 //! Terms on a node.
 ghost use Rattle.std.specs.Prelude.{◌≡◌, length, option_map, IfOk, IsTrue, ◌↔◌};
-ghost use Rattle.ul_problem.specs.Steps.{written};
+ghost use Rattle.ul_problem.specs.Steps.{term_to_say};
 ghost use Rattle.ul_problem.specs.Terms.{node_of, set_of, meet_of, join_of, negation, relation_of, relation_from_of, term_on};
 
 use std::alloc::{AllocError, Global};
@@ -126,7 +126,7 @@ impl Term {
 
     /// Whether it is `NotIn` of the empty set, and so holds of each selection.
     pub fn always_holds(&self) -> bool
-        ensures { IsTrue result ↔ (written self.now ≡ None) }
+        ensures { IsTrue result ↔ (term_to_say self.now ≡ None) }
     {
         match self {
             Term::In(_, _) => false,

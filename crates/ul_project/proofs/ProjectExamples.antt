@@ -3,12 +3,12 @@ use Rattle.std.proofs.Common.{refl}
 use Rattle.std.specs.Str.{is_utf8, chars}
 use Rattle.toml.proofs.OnLiterals.{toml_on_literals}
 use Rattle.ul_base.specs.Names.{is_name, normal_form, name_of}
-use Rattle.ul_version.specs.Order.{padded, release_cmp, has_release_front, version_cmp}
-use Rattle.ul_version.specs.Reading.{after_word, digits, after_digits, value_after, number, needed, marked, epoch, points, release, pre, post, dev, segment, segments, local, fields_of, version_of, after_white, before_white}
+use Rattle.ul_version.specs.Order.{padded_release, release_cmp, has_release_front, version_cmp}
+use Rattle.ul_version.specs.Reading.{after_word, digits, after_digits, value_after, number, required_number, marked_digits, epoch, points, release, pre, post, dev, segment, segments, local, fields_of, version_of, after_white, before_white}
 use Rattle.ul_specifier.specs.Meaning.{meets_clause}
-use Rattle.ul_specifier.specs.Reading.{operator, starred, unstarred, clause_after, clause_of, clauses_of, clause_with, specifiers_of}
-use Rattle.ul_marker.specs.Comparisons.{comparison_of, contained, extra_literal, signed, versions_of, within}
-use Rattle.ul_marker.specs.Reading.{atom_at, before_close, chain_at, chain_with, each, enclosed, marker_of, part_at, pieces_from}
+use Rattle.ul_specifier.specs.Reading.{operator, star_clause, plain_clause, clause_after, clause_of, clauses_of, clause_with, specifiers_of}
+use Rattle.ul_marker.specs.Comparisons.{comparison_of, containment, extra_literal, sign_formula, versions_of, within}
+use Rattle.ul_marker.specs.Reading.{atom_at, before_close, chain_at, chain_with, each, inner_tokens, marker_of, part_at, pieces_from}
 use Rattle.ul_marker.specs.Words.{front_literal, front_sign, front_token, front_word, tokens_in, tokens_of, word_token}
 use Rattle.ul_requirement.specs.Reading.{names_of, extras_in, extras_front, front_of, specifiers_in, marker_in, tail_of, reading_of}
 use Rattle.ul_project.specs.Extras.{extras_at}
@@ -23,7 +23,7 @@ use Rattle.ul_project.specs.Toml.{toml_of}
 use Rattle.ul_project.specs.Vectors.{FirstFaults, LaterFaults, SaidFiles, SupportedWorlds}
 
 pub said_files : SaidFiles
-unfolding is_name normal_form name_of after_word digits after_digits value_after number needed marked epoch points release pre post dev segment segments local fields_of version_of after_white before_white operator starred unstarred clause_after clause_of clauses_of clause_with specifiers_of comparison_of contained extra_literal signed versions_of within atom_at before_close chain_at chain_with each enclosed marker_of part_at pieces_from front_literal front_sign front_token front_word tokens_in tokens_of word_token names_of extras_in extras_front front_of specifiers_in marker_in tail_of reading_of is_utf8 chars toml_on_literals extras_at group_entries_at group_entry_at group_lists_at groups_at dynamic_at head_in name_at python_at version_at lists_in file_in file_of bound_at bounds_at requirement_at requirements_at each_from all_silent environment_at environments_at mode_at prerelease_at settings_in strategy_at uv_at toml_of
+unfolding is_name normal_form name_of after_word digits after_digits value_after number required_number marked_digits epoch points release pre post dev segment segments local fields_of version_of after_white before_white operator star_clause plain_clause clause_after clause_of clauses_of clause_with specifiers_of comparison_of containment extra_literal sign_formula versions_of within atom_at before_close chain_at chain_with each inner_tokens marker_of part_at pieces_from front_literal front_sign front_token front_word tokens_in tokens_of word_token names_of extras_in extras_front front_of specifiers_in marker_in tail_of reading_of is_utf8 chars toml_on_literals extras_at group_entries_at group_entry_at group_lists_at groups_at dynamic_at head_in name_at python_at version_at lists_in file_in file_of bound_at bounds_at requirement_at requirements_at each_from all_silent environment_at environments_at mode_at prerelease_at settings_in strategy_at uv_at toml_of
 said_files = record {
   smallest = refl;
   extras_in_order = refl;
@@ -32,7 +32,7 @@ said_files = record {
 }
 
 pub first_faults : FirstFaults
-unfolding is_name normal_form name_of after_word digits after_digits value_after number needed marked epoch points release pre post dev segment segments local fields_of version_of after_white before_white operator starred unstarred clause_after clause_of clauses_of clause_with specifiers_of comparison_of contained extra_literal signed versions_of within atom_at before_close chain_at chain_with each enclosed marker_of part_at pieces_from front_literal front_sign front_token front_word tokens_in tokens_of word_token names_of extras_in extras_front front_of specifiers_in marker_in tail_of reading_of is_utf8 chars toml_on_literals extras_at group_entries_at group_entry_at group_lists_at groups_at dynamic_at head_in name_at python_at version_at lists_in file_in file_of bound_at bounds_at requirement_at requirements_at each_from all_silent environment_at environments_at mode_at prerelease_at settings_in strategy_at uv_at toml_of
+unfolding is_name normal_form name_of after_word digits after_digits value_after number required_number marked_digits epoch points release pre post dev segment segments local fields_of version_of after_white before_white operator star_clause plain_clause clause_after clause_of clauses_of clause_with specifiers_of comparison_of containment extra_literal sign_formula versions_of within atom_at before_close chain_at chain_with each inner_tokens marker_of part_at pieces_from front_literal front_sign front_token front_word tokens_in tokens_of word_token names_of extras_in extras_front front_of specifiers_in marker_in tail_of reading_of is_utf8 chars toml_on_literals extras_at group_entries_at group_entry_at group_lists_at groups_at dynamic_at head_in name_at python_at version_at lists_in file_in file_of bound_at bounds_at requirement_at requirements_at each_from all_silent environment_at environments_at mode_at prerelease_at settings_in strategy_at uv_at toml_of
 first_faults = record {
   no_toml = refl;
   project_first = refl;
@@ -48,7 +48,7 @@ first_faults = record {
 }
 
 pub later_faults : LaterFaults
-unfolding is_name normal_form name_of after_word digits after_digits value_after number needed marked epoch points release pre post dev segment segments local fields_of version_of after_white before_white operator starred unstarred clause_after clause_of clauses_of clause_with specifiers_of comparison_of contained extra_literal signed versions_of within atom_at before_close chain_at chain_with each enclosed marker_of part_at pieces_from front_literal front_sign front_token front_word tokens_in tokens_of word_token names_of extras_in extras_front front_of specifiers_in marker_in tail_of reading_of is_utf8 chars toml_on_literals extras_at group_entries_at group_entry_at group_lists_at groups_at dynamic_at head_in name_at python_at version_at lists_in file_in file_of bound_at bounds_at requirement_at requirements_at each_from all_silent environment_at environments_at mode_at prerelease_at settings_in strategy_at uv_at toml_of
+unfolding is_name normal_form name_of after_word digits after_digits value_after number required_number marked_digits epoch points release pre post dev segment segments local fields_of version_of after_white before_white operator star_clause plain_clause clause_after clause_of clauses_of clause_with specifiers_of comparison_of containment extra_literal sign_formula versions_of within atom_at before_close chain_at chain_with each inner_tokens marker_of part_at pieces_from front_literal front_sign front_token front_word tokens_in tokens_of word_token names_of extras_in extras_front front_of specifiers_in marker_in tail_of reading_of is_utf8 chars toml_on_literals extras_at group_entries_at group_entry_at group_lists_at groups_at dynamic_at head_in name_at python_at version_at lists_in file_in file_of bound_at bounds_at requirement_at requirements_at each_from all_silent environment_at environments_at mode_at prerelease_at settings_in strategy_at uv_at toml_of
 later_faults = record {
   group_keys_first = refl;
   groups_first = refl;
@@ -63,7 +63,7 @@ later_faults = record {
 }
 
 pub supported_worlds : SupportedWorlds
-unfolding meets_clause padded release_cmp has_release_front version_cmp
+unfolding meets_clause padded_release release_cmp has_release_front version_cmp
 supported_worlds = record {
   everywhere = refl;
   too_old = refl;

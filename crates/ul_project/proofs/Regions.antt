@@ -18,7 +18,7 @@ use Rattle.ul_tree.specs.Values.{tree_holds}
 use Rattle.ul_tree.specs.Views.{tree_view}
 use Rattle.ul_tree.specs.declared.tree.Tree.{Tree}
 use Rattle.ul_project.proofs.Values.{not_empty}
-use Rattle.ul_project.specs.Region.{holds_bare, in_environments, meets_python, some_holds, supported}
+use Rattle.ul_project.specs.Region.{holds_bare, in_environments, meets_python, some_holds, is_supported}
 
 -- some of the truths of environments
 pub any_holds : (ms : List Marker) (w : WorldFields) → list_any (λ b. b) (map (λ m. holds_bare w (marker_view m)) ms) ≡ some_holds (map marker_view ms) w
@@ -43,7 +43,7 @@ is_some (m ∷ ms) e w = refl
 
 -- without environments the region is that of the interpreters
 pub region_of_python : (python : List ClauseFields) (ms : List Marker) (t : Tree) → (length ms == 0) ≡ true → IsReduced (tree_view t)
-    → ((w : WorldFields) (x : List ℕ) → IsWorld w → tree_holds (tree_view t) w x ≡ meets_python python w) → HasTruth (tree_view t) (supported python (map marker_view ms))
+    → ((w : WorldFields) (x : List ℕ) → IsWorld w → tree_holds (tree_view t) w x ≡ meets_python python w) → HasTruth (tree_view t) (is_supported python (map marker_view ms))
 region_of_python python ms t e reduced truth = record {
   reduced = reduced;
   truth = λ w x is. truth w x is ∙ and_true (meets_python python w) ∙ ap (λ b. meets_python python w && b) (sym (is_nothing ms e w));
@@ -54,7 +54,7 @@ pub region_of_both : (python : List ClauseFields) (ms : List Marker) (a b t : Tr
     → ((w : WorldFields) (x : List ℕ) → IsWorld w → tree_holds (tree_view a) w x ≡ meets_python python w)
     → ((w : WorldFields) (x : List ℕ) → IsWorld w → tree_holds (tree_view b) w x ≡ some_holds (map marker_view ms) w)
     → ((w : WorldFields) (x : List ℕ) → tree_holds (tree_view t) w x ≡ both (tree_holds (tree_view a) w x) (tree_holds (tree_view b) w x))
-    → HasTruth (tree_view t) (supported python (map marker_view ms))
+    → HasTruth (tree_view t) (is_supported python (map marker_view ms))
 region_of_both python ms a b t e reduced f g h = record {
   reduced = reduced;
   truth = λ w x is. h w x ∙ ap₂ both (f w x is) (g w x is) ∙ both_and (meets_python python w) (some_holds (map marker_view ms) w)

@@ -24,12 +24,12 @@ name_in (Some (string text)) = name_of text
 name_in other = None
 
 -- the group that a table includes: its one key is `include-group`, whose text is a name
-abbrev pub included : Members → Option (List ℕ)
-included ms = if member_count ms == 1 then name_in (get_member (codes "include-group") ms) else None
+abbrev pub included_group : Members → Option (List ℕ)
+included_group ms = if member_count ms == 1 then name_in (get_member (codes "include-group") ms) else None
 
 -- an entry of a group: a table that includes a group, or a requirement
 unfoldable pub group_entry_at : List ℕ → ℕ → Data → Reading GroupEntry
-group_entry_at group i (table ms) = or_fault (shape (Entry (place.Group group) i)) (included ms) >>= λ name. Ok (Include name)
+group_entry_at group i (table ms) = or_fault (shape (Entry (place.Group group) i)) (included_group ms) >>= λ name. Ok (Include name)
 group_entry_at group i value = requirement_at (place.Group group) i value >>= λ q. Ok (Needs q)
 
 -- the entries of a group: an array; the first entry that is refused answers

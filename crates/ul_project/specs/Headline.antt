@@ -5,14 +5,14 @@ use Rattle.ul_marker.specs.Worlds.{WorldFields, IsWorld}
 use Rattle.ul_tree.specs.Regions.{HasTruth}
 use Rattle.ul_project.specs.Fields.{ProjectFields}
 use Rattle.ul_project.specs.ProjectFile.{FileFields, file_of, project_with}
-use Rattle.ul_project.specs.Region.{supported}
+use Rattle.ul_project.specs.Region.{is_supported}
 use Rattle.ul_project.specs.Shapes.{not_toml, requirement_fault, shape, unsupported}
 use Rattle.ul_project.specs.declared.fault.ProjectFault.{ProjectFault}
 use Rattle.ul_project.specs.declared.fault.ProjectFault.TheVariants.{NotToml, Shape, Requirement, Unsupported, EmptyRegion, NoMemory}
 
 -- the worlds that the project of a file supports
 abbrev pub supported_by : FileFields → WorldFields → Bool
-supported_by file = supported file.head.python file.settings.environments
+supported_by file = is_supported file.head.python file.settings.environments
 
 -- the project is that of a file: its region has the truth that the file supports, and holds at some world
 pub record IsOf (file : FileFields) (p : ProjectFields) : Type 0 where

@@ -26,5 +26,5 @@ in_environments [] w = true
 in_environments (m ∷ ms) w = some_holds (m ∷ ms) w
 
 -- the project supports the world: its interpreter meets `requires-python`, and some environment holds
-abbrev pub supported : List ClauseFields → List Formula → WorldFields → Bool
-supported python environments w = meets_python python w && in_environments environments w
+abbrev pub is_supported : List ClauseFields → List Formula → WorldFields → Bool
+is_supported python environments w = meets_python python w && in_environments environments w

@@ -10,7 +10,7 @@ use Rattle.ul_requirement.specs.Fields.{RequirementFields}
 use Rattle.ul_requirement.specs.declared.wish.Mode.TheVariants.{Highest, Lowest}
 use Rattle.ul_requirement.specs.declared.wish.Strategy.TheVariants.{Fewest, Deep}
 use Rattle.ul_project.specs.ProjectFile.{FileFields, file_of}
-use Rattle.ul_project.specs.Region.{supported}
+use Rattle.ul_project.specs.Region.{is_supported}
 use Rattle.ul_project.specs.Settings.{SettingsFields}
 use Rattle.ul_project.specs.Shapes.{at_key, not_toml, requirement_fault, shape, unsupported}
 use Rattle.ul_project.specs.declared.group.GroupEntry.TheVariants.{Needs, Include}
@@ -25,8 +25,8 @@ abbrev pub plain_settings : SettingsFields
 plain_settings = record { constraints = []; overrides = []; environments = []; mode = Highest; strategy = Fewest }
 
 -- a requirement of a name, with a marker
-abbrev pub named : List ℕ → Option Formula → RequirementFields
-named name marker = record { name = name; extras = []; specifiers = []; marker = marker }
+abbrev pub named_requirement : List ℕ → Option Formula → RequirementFields
+named_requirement name marker = record { name = name; extras = []; specifiers = []; marker = marker }
 
 pub record SaidFiles : Type 0 where
   pub smallest : file_of (codes "[project]\nname = 'A.B'\n")
@@ -34,9 +34,9 @@ pub record SaidFiles : Type 0 where
   pub extras_in_order : file_of (codes "[project]\nname = 'a'\nversion = '1'\ndependencies = ['b']\n[project.optional-dependencies]\nZ = ['c']\ny = [\"d; os_name == 'nt'\"]\n")
       ≡ Ok (record {
         head = record { name = codes "a"; version = plain (1 ∷ []); python = [] };
-        requirements = named (codes "b") None
-            ∷ named (codes "d") (Some (all (more (text OsName (codes "nt") true) (more (extra (codes "y") true) none))))
-            ∷ named (codes "c") (Some (extra (codes "z") true)) ∷ [];
+        requirements = named_requirement (codes "b") None
+            ∷ named_requirement (codes "d") (Some (all (more (text OsName (codes "nt") true) (more (extra (codes "y") true) none))))
+            ∷ named_requirement (codes "c") (Some (extra (codes "z") true)) ∷ [];
         extras = codes "y" ∷ codes "z" ∷ [];
         sizes = 1 ∷ 1 ∷ [];
         groups = [];
@@ -48,7 +48,7 @@ pub record SaidFiles : Type 0 where
         requirements = [];
         extras = [];
         sizes = [];
-        groups = record { name = codes "all"; entries = Include (codes "t") ∷ [] } ∷ record { name = codes "t"; entries = Needs (named (codes "t") None) ∷ [] } ∷ [];
+        groups = record { name = codes "all"; entries = Include (codes "t") ∷ [] } ∷ record { name = codes "t"; entries = Needs (named_requirement (codes "t") None) ∷ [] } ∷ [];
         settings = plain_settings;
       })
   pub settings : file_of (codes "[project]\nname = 'a'\n[tool.uv]\nsources = {}\nenvironments = []\nresolution = 'lowest'\nfork-strategy = 'deep'\nconstraint-dependencies = ['c']\n")
@@ -58,7 +58,7 @@ pub record SaidFiles : Type 0 where
         extras = [];
         sizes = [];
         groups = [];
-        settings = record { constraints = named (codes "c") None ∷ []; overrides = []; environments = []; mode = Lowest; strategy = Deep };
+        settings = record { constraints = named_requirement (codes "c") None ∷ []; overrides = []; environments = []; mode = Lowest; strategy = Deep };
       })
 
 -- ---- the first of two faults
@@ -103,9 +103,9 @@ abbrev pub on : List ℕ → Formula
 on name = text OsName name true
 
 pub record SupportedWorlds : Type 0 where
-  pub everywhere : supported [] [] (world 2 7 []) ≡ true
-  pub too_old : supported from_nine [] (world 3 8 []) ≡ false
-  pub at_least : supported from_nine [] (world 3 9 []) ≡ true
-  pub in_one : supported from_nine (on (codes "nt") ∷ on (codes "posix") ∷ []) (world 3 9 (codes "posix")) ≡ true
-  pub in_none : supported from_nine (on (codes "nt") ∷ on (codes "posix") ∷ []) (world 3 9 (codes "java")) ≡ false
-  pub old_in_one : supported from_nine (on (codes "nt") ∷ []) (world 3 8 (codes "nt")) ≡ false
+  pub everywhere : is_supported [] [] (world 2 7 []) ≡ true
+  pub too_old : is_supported from_nine [] (world 3 8 []) ≡ false
+  pub at_least : is_supported from_nine [] (world 3 9 []) ≡ true
+  pub in_one : is_supported from_nine (on (codes "nt") ∷ on (codes "posix") ∷ []) (world 3 9 (codes "posix")) ≡ true
+  pub in_none : is_supported from_nine (on (codes "nt") ∷ on (codes "posix") ∷ []) (world 3 9 (codes "java")) ≡ false
+  pub old_in_one : is_supported from_nine (on (codes "nt") ∷ []) (world 3 8 (codes "nt")) ≡ false

@@ -75,7 +75,8 @@ pub(crate) fn extras_at(
 
 // Two markers joined.
 fn all_of(alloc: Global, left: Marker, right: Marker) -> Result<Marker, AllocError>
-    ensures { IfOk result (λ m. Some (marker_view m) ≡ Extras.joined_markers (Some (marker_view left)) (Some (marker_view right))) }
+    ensures { IfOk result (λ m. Some (marker_view m)
+        ≡ Extras.joined_markers (Some (marker_view left)) (Some (marker_view right))) }
 {
     let mut parts = Vec::new(alloc);
     parts.push(left)?;
@@ -89,7 +90,8 @@ pub fn joined_markers(
     left: Option<Marker>,
     right: Option<Marker>,
 ) -> Result<Option<Marker>, AllocError>
-    ensures { IfOk result (λ m. option_map marker_view m ≡ Extras.joined_markers (option_map marker_view left) (option_map marker_view right)) }
+    ensures { IfOk result (λ m. option_map marker_view m
+        ≡ Extras.joined_markers (option_map marker_view left) (option_map marker_view right)) }
 {
     let Some(left) = left else {
         return Ok(right);
@@ -155,7 +157,8 @@ fn add_list(
     name: &Name,
     list: Vec<Requirement>,
 ) -> Result<(), AllocError>
-    ensures { OnOk result (requirements.new.items ≡ requirements.old.items ++ map (Extras.of_extra name.now) list.items) }
+    ensures { OnOk result (requirements.new.items
+        ≡ requirements.old.items ++ map (Extras.of_extra name.now) list.items) }
 {
     for requirement in list {
         requirements.push(of_extra(alloc, name, requirement)?)?;
@@ -169,7 +172,8 @@ pub(crate) fn add_lists(
     requirements: &mut Vec<Requirement>,
     lists: BTreeMap<Name, Requirements>,
 ) -> Result<Vec<Name>, AllocError>
-    ensures requirements { OnOk result (requirements.new.items ≡ requirements.old.items ++ Extras.extra_requirements lists.entries) }
+    ensures requirements { OnOk result (requirements.new.items
+        ≡ requirements.old.items ++ Extras.extra_requirements lists.entries) }
     ensures extras { IfOk result (λ v. v.items ≡ names_of lists.entries) }
     ensures rises { IfOk result (λ v. IsStrictlySortedBy name_cmp v.items) }
 {

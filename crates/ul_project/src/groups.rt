@@ -64,7 +64,7 @@ fn is_single(table: &Table) -> bool
 
 // The group that a table includes.
 fn included(alloc: Global, table: &Table) -> Result<Option<Name>, AllocError>
-    ensures { IfOk result (λ n. n ≡ GroupLists.included (table_view table.now)) }
+    ensures { IfOk result (λ n. n ≡ GroupLists.included_group (table_view table.now)) }
 {
     if !is_single(table) {
         return Ok(None);
@@ -75,7 +75,8 @@ fn included(alloc: Global, table: &Table) -> Result<Option<Name>, AllocError>
 
 // The group that an entry includes.
 fn include_at(alloc: Global, group: &Name, entry: u64, table: &Table) -> Result<Name, ProjectFault>
-    ensures { Gives (λ n. n) result (or_fault (shape (ProjectPath.Entry (Place.Group group.now) entry)) (GroupLists.included (table_view table.now))) }
+    ensures { Gives (λ n. n) result
+        (or_fault (shape (ProjectPath.Entry (Place.Group group.now) entry)) (GroupLists.included_group (table_view table.now))) }
 {
     match included(alloc, table)? {
         Some(name) => Ok(name),
@@ -115,7 +116,8 @@ fn group_entries(
     group: &Name,
     items: &[Value],
 ) -> Result<Vec<GroupEntry>, ProjectFault>
-    ensures { Gives list_view result (each_from (GroupLists.group_entry_at group.now) 0 (items_list (items_view items.now))) }
+    ensures { Gives list_view result
+        (each_from (GroupLists.group_entry_at group.now) 0 (items_list (items_view items.now))) }
 {
     let mut list = Vec::new(alloc);
     let mut number: u64 = 0;
@@ -148,7 +150,8 @@ fn group_lists_at(
     extras: &BTreeMap<Name, Requirements>,
     value: Option<&Value>,
 ) -> Result<BTreeMap<Name, Entries>, ProjectFault>
-    ensures { Gives (λ m. m.entries) result (GroupLists.group_lists_at (names_of extras.now.entries) (value_view value.entry)) }
+    ensures { Gives (λ m. m.entries) result
+        (GroupLists.group_lists_at (names_of extras.now.entries) (value_view value.entry)) }
 {
     let Some(table) = optional_table_at(ProjectKey::DependencyGroups, value)? else {
         return Ok(BTreeMap::new(alloc));
@@ -183,7 +186,8 @@ pub(crate) fn groups_at(
     extras: &BTreeMap<Name, Requirements>,
     value: Option<&Value>,
 ) -> Result<Vec<Group>, ProjectFault>
-    ensures groups { Gives list_view result (GroupLists.groups_at (names_of extras.now.entries) (value_view value.entry)) }
+    ensures groups { Gives list_view result
+        (GroupLists.groups_at (names_of extras.now.entries) (value_view value.entry)) }
     ensures rises { IfOk result (λ v. IsStrictlySortedBy name_cmp (map (λ g. g.name) v.items)) }
 {
     let lists = group_lists_at(alloc, extras, value)?;

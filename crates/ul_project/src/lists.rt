@@ -69,8 +69,10 @@ fn add_key<L: Drop>(
     earlier: &mut BTreeSet<Name>,
     key: &str,
 ) -> Result<bool, AllocError>
-    ensures new { IfOk result (λ b. b ≡ Lists.is_new (Lists.names_of extras.now.entries) earlier.old.keys (name_of key.now)) }
-    ensures noted { IfOk result (λ b. b ≡ true → earlier.new.keys ≡ Lists.with_name earlier.old.keys (name_of key.now)) }
+    ensures new { IfOk result (λ b. b
+        ≡ Lists.is_new (Lists.names_of extras.now.entries) earlier.old.keys (name_of key.now)) }
+    ensures noted { IfOk result (λ b. b ≡ true
+        → earlier.new.keys ≡ Lists.with_name earlier.old.keys (name_of key.now)) }
 {
     let Some(name) = key_name(alloc, key)? else {
         return Ok(false);
@@ -134,7 +136,8 @@ pub(crate) fn ordered_lists<L: NamedList>(
     place: ProjectKey,
     table: &Table,
 ) -> Result<BTreeMap<Name, L>, ProjectFault>
-    ensures { Gives (λ m. m.entries) result (Lists.ordered_lists (shape (at_key place)) L.list_at (table_view table.now)) }
+    ensures { Gives (λ m. m.entries) result
+        (Lists.ordered_lists (shape (at_key place)) L.list_at (table_view table.now)) }
 {
     let mut lists = BTreeMap::new(alloc);
     for (key, value) in table.iter() {

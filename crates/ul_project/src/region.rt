@@ -6,7 +6,7 @@ ghost use Rattle.ul_marker.specs.Views.{marker_view, markers_view};
 ghost use Rattle.ul_tree.specs.Regions.{HasTruth};
 ghost use Rattle.ul_tree.specs.TreeFacts.{HoldsAtWorlds, IsTree};
 ghost use Rattle.ul_tree.specs.Views.{tree_view};
-ghost use Rattle.ul_project.specs.Region.{holds_bare, some_holds, supported};
+ghost use Rattle.ul_project.specs.Region.{holds_bare, some_holds, is_supported};
 ghost use Rattle.ul_project.specs.Answers.{HoldAsEnvironments};
 
 use std::alloc::{AllocError, Global};
@@ -58,7 +58,7 @@ pub(crate) fn region(
     environments: &[Marker],
 ) -> Result<Tree, AllocError>
     requires { AreFormulas (markers_view environments.now) }
-    ensures { IfOk result (λ t. HasTruth (tree_view t) (supported python.now (map marker_view environments.now))) }
+    ensures { IfOk result (λ t. HasTruth (tree_view t) (is_supported python.now (map marker_view environments.now))) }
 {
     let python = of_python(alloc, python)?;
     if environments.is_empty() {

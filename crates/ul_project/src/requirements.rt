@@ -46,7 +46,8 @@ fn requirements(
     place: &Place,
     items: &[Value],
 ) -> Result<Vec<Requirement>, ProjectFault>
-    ensures { Gives list_view result (each_from (Requirements.requirement_at place.now) 0 (items_list (items_view items.now))) }
+    ensures { Gives list_view result
+        (each_from (Requirements.requirement_at place.now) 0 (items_list (items_view items.now))) }
 {
     let mut list = Vec::new(alloc);
     let mut number: u64 = 0;
@@ -110,7 +111,8 @@ fn bound_at(
 
 // The constraints, or the overrides, of the values of an array at a place.
 fn bounds(alloc: Global, place: &Place, items: &[Value]) -> Result<Vec<Requirement>, ProjectFault>
-    ensures { Gives list_view result (each_from (Requirements.bound_at place.now) 0 (items_list (items_view items.now))) }
+    ensures { Gives list_view result
+        (each_from (Requirements.bound_at place.now) 0 (items_list (items_view items.now))) }
 {
     let mut list = Vec::new(alloc);
     let mut number: u64 = 0;

@@ -150,7 +150,8 @@ pub(crate) fn optional_items_at<'a>(
     place: &Place,
     value: Option<&'a Value>,
 ) -> Result<&'a [Value], ProjectFault>
-    ensures { Gives values_view result (Shapes.optional_items_at (ProjectPath.Whole place.now) (value_view value.entry)) }
+    ensures { Gives values_view result
+        (Shapes.optional_items_at (ProjectPath.Whole place.now) (value_view value.entry)) }
 {
     match value {
         None => Ok(&[]),

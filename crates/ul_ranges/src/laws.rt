@@ -40,7 +40,8 @@ pub fn listed()
 pub fn firsts()
     ensures none { (s : List Bool) (order : List ℕ) → (first_in order s ≡ None) ↔ All (λ k. has k s ≡ false) order }
     ensures some { (s : List Bool) (order : List ℕ) (v : ℕ) → first_in order s ≡ Some v
-        → (front : List ℕ) × (back : List ℕ) × (order ≡ front ++ v ∷ back) × IsTrue (has v s) × All (λ k. has k s ≡ false) front }
+        → (front : List ℕ) × (back : List ℕ) × (order ≡ front ++ v ∷ back)
+        × IsTrue (has v s) × All (λ k. has k s ≡ false) front }
 {}
 
 /// Each number below 2^96 has exactly one piece.

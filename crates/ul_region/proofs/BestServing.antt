@@ -8,7 +8,7 @@ use Rattle.ul_requirement.specs.Truth.{base, base_of, with_extra, targets}
 use Rattle.ul_index.specs.Regions.{Region}
 use Rattle.ul_index.specs.Catalogs.{Packages, requirements}
 use Rattle.ul_index.specs.Applied.{IsFirm}
-use Rattle.ul_index.specs.Serves.{Selection, Serves, IsMet, chosen}
+use Rattle.ul_index.specs.Serves.{Selection, Serves, IsMet, choice_of}
 use Rattle.ul_index.specs.Preference.{preference}
 use Rattle.ul_base.proofs.ForCallers.{contains_first, contains_later, contains_map, none_in, some_is, only_one}
 use Rattle.ul_base.proofs.ForCallers.{contains_cases, contains_from_map, contains_flat, contains_from_flat, kept_has, kept_from, found_in, none_found}
@@ -74,7 +74,7 @@ module _ (c : Packages) (starts : List Node) (wish : WishFields) (R : Region) wh
   next_seen : (done : Selection) (ts : List Need) (n : Node) → AreJoined c R done ts → next starts done ts ≡ Some n → Contains starts n ⊎ InSight c R done n
   next_seen done ts n j e = ⊎_elim inl
       (λ m. let t : (t : Need) × Contains ts t × (n ≡ t.node) = contains_from_map (λ t. t.node) ts n m in inr (subst (InSight c R done) (sym t.2) (joined_from c R done ts j t.0 t.1)))
-      (Contains-append_cases starts (map (λ t. t.node) ts) n (found_in (λ m. not (is_some (chosen done m))) (starts ++ map (λ t. t.node) ts) n e))
+      (Contains-append_cases starts (map (λ t. t.node) ts) n (found_in (λ m. not (is_some (choice_of done m))) (starts ++ map (λ t. t.node) ts) n e))
 
   abbrev AllSeen : Selection → Type 0
   AllSeen ds = (n : Node) (v : Fields) → Contains ds (n, v) → Contains starts n ⊎ InSight c R ds n
@@ -100,9 +100,9 @@ module _ (c : Packages) (starts : List Node) (wish : WishFields) (R : Region) wh
       (first_holds (λ v. CanServe c starts wish R (done ++ (d.0, v) ∷ [])) (preference c wish d.0.name) d.1 h.version) h.more)
 
   module _ (based : (n : Node) → Contains starts n → Contains starts (base_of n)) (ds : Selection) (end : Ended ds) where
-    decided : (n : Node) → Contains starts n ⊎ InSight c R ds n → (v : Fields) × (chosen ds n ≡ Some v)
+    decided : (n : Node) → Contains starts n ⊎ InSight c R ds n → (v : Fields) × (choice_of ds n ≡ Some v)
     unfolding need_at
-    decided n h = decided_is (chosen ds n) (none_found (λ m. not (is_some (chosen ds m))) (starts ++ map (λ t. t.node) end.needs) n end.last (⊎_elim
+    decided n h = decided_is (choice_of ds n) (none_found (λ m. not (is_some (choice_of ds m))) (starts ++ map (λ t. t.node) end.needs) n end.last (⊎_elim
         (Contains-append_left starts (map (λ t. t.node) end.needs) n)
         (λ s. Contains-append_right starts (map (λ t. t.node) end.needs) n (contains_map (λ t. t.node) end.needs (need_at s.requirement n) (joined_to c R ds end.needs end.of_needs s.node s.version s.requirement n s.decided s.firm s.aimed))) h))
 
@@ -116,14 +116,14 @@ module _ (c : Packages) (starts : List Node) (wish : WishFields) (R : Region) wh
       aimed = subst (Contains (targets s.requirement)) (sym (target_named s.requirement n s.aimed)) (contains_first _ _);
     })) h
 
-    base_too : (n : Node) (v : Fields) → chosen ds n ≡ Some v → chosen ds (base_of n) ≡ Some v
+    base_too : (n : Node) (v : Fields) → choice_of ds n ≡ Some v → choice_of ds (base_of n) ≡ Some v
     base_too n v e =
-        let found : (u : Fields) × (chosen ds (base_of n) ≡ Some u) = decided (base_of n) (sight_base n (end.seen n v (chosen_in ds n v e))) in
+        let found : (u : Fields) × (choice_of ds (base_of n) ≡ Some u) = decided (base_of n) (sight_base n (end.seen n v (chosen_in ds n v e))) in
         found.1 ∙ ap Some (some_is (end.can.agrees (base_of n) found.0 (chosen_in ds (base_of n) found.0 found.1)) (end.can.serves.base_in n v (end.can.agrees n v (chosen_in ds n v e))))
 
-    need_too : (n : Node) (v : Fields) (q : RequirementFields) (t : Node) → chosen ds n ≡ Some v → IsFirm (requirements c n.name v) R n q → Contains (targets q) t → IsMet ds q t
+    need_too : (n : Node) (v : Fields) (q : RequirementFields) (t : Node) → choice_of ds n ≡ Some v → IsFirm (requirements c n.name v) R n q → Contains (targets q) t → IsMet ds q t
     need_too n v q t e f a =
-        let found : (u : Fields) × (chosen ds t ≡ Some u) = decided t (inr (record { node = n; version = v; requirement = q; decided = chosen_in ds n v e; firm = f; aimed = a })) in
+        let found : (u : Fields) × (choice_of ds t ≡ Some u) = decided t (inr (record { node = n; version = v; requirement = q; decided = chosen_in ds n v e; firm = f; aimed = a })) in
         let met : IsMet end.can.selection q t = end.can.serves.needs_in n v q t (end.can.agrees n v (chosen_in ds n v e)) f a in
         (met.0, found.1 ∙ ap Some (some_is (end.can.agrees t found.0 (chosen_in ds t found.0 found.1)) met.1), met.2)
 
@@ -145,8 +145,8 @@ based_roots p n h = by_case (contains_cases (base p.0) (map (with_extra p.0) p.1
 
 -- the first node is undecided at the start
 not_at_once : (p : List ℕ × List (List ℕ)) (ts : List Need) → next (roots p.0 p.1) [] ts ≡ None → ⊥
-not_at_once p ts e = let now = none_found (λ m. not (is_some (chosen [] m))) (roots p.0 p.1 ++ map (λ t. t.node) ts) (base p.0) e (contains_first _ _) in
-    let told : not (is_some (chosen [] (base p.0))) ≡ true = ap (λ (o : Option Fields). not (is_some o)) (none_chosen (base p.0)) in cc
+not_at_once p ts e = let now = none_found (λ m. not (is_some (choice_of [] m))) (roots p.0 p.1 ++ map (λ t. t.node) ts) (base p.0) e (contains_first _ _) in
+    let told : not (is_some (choice_of [] (base p.0))) ≡ true = ap (λ (o : Option Fields). not (is_some o)) (none_chosen (base p.0)) in cc
 
 pub best_serves : BestServes
 best_serves p c wish R [] h = absurd (not_at_once p h.needs h.last)

@@ -12,14 +12,14 @@ use Rattle.ul_version.specs.Fields.{Fields}
 use Rattle.ul_problem.specs.Terms.{Selection as Places}
 use Rattle.ul_problem.specs.Plain.{Plain, node_at, needs_in, order_in}
 use Rattle.ul_problem.specs.Problems.{IsWellFormed, NodeBefore}
-use Rattle.ul_problem.specs.Best.{is_decided, first_open, targets as place_targets, wanted, next_of, Agrees, Extends, IsFirst as IsFirstPlace, IsBestFrom as IsBestPlacesFrom}
+use Rattle.ul_problem.specs.Best.{is_decided, first_open, targets as place_targets, joined_needs, next_of, Agrees, Extends, IsFirst as IsFirstPlace, IsBestFrom as IsBestPlacesFrom}
 use Rattle.ul_problem.specs.declared.problem.Need.{Need as PlaceNeed}
 use Rattle.ul_problem.specs.declared.problem.NodeFacts.{NodeFacts}
 use Rattle.ul_requirement.specs.Fields.{WishFields}
 use Rattle.ul_base.specs.Kept.{IsFirst}
 use Rattle.ul_index.specs.Regions.{Region}
 use Rattle.ul_index.specs.Catalogs.{Packages}
-use Rattle.ul_index.specs.Serves.{Selection, chosen}
+use Rattle.ul_index.specs.Serves.{Selection, choice_of}
 use Rattle.ul_index.specs.Preference.{preference}
 use Rattle.ul_base.proofs.ForCallers.{contains_first, contains_later, none_in}
 use Rattle.ul_base.proofs.ForCallers.{contains_cases}
@@ -59,12 +59,12 @@ module _ (p : Plain) (wf : IsWellFormed p) where
   decided_head false true x o v e h = cc
   decided_head false false x o v e h = h
 
-  decided_alike : (d : List (ℕ × ℕ)) (ds : Selection) → AreNamed p d ds → (k : ℕ) (f : NodeFacts) → node_at p k ≡ Some f → is_decided k d ≡ is_some (chosen ds f.node)
-  unfolding chosen
+  decided_alike : (d : List (ℕ × ℕ)) (ds : Selection) → AreNamed p d ds → (k : ℕ) (f : NodeFacts) → node_at p k ≡ Some f → is_decided k d ≡ is_some (choice_of ds f.node)
+  unfolding choice_of
   decided_alike [] [] h k f at = refl
   decided_alike [] (x ∷ xs) h k f at = absurd h
   decided_alike (e ∷ d) [] h k f at = absurd h
-  decided_alike (e ∷ d) (x ∷ xs) h k f at = decided_head (nat_eq e.0 k) (node_eq x.0 f.node) (is_decided k d) (chosen xs f.node) x.1 (place_tests e x k f h.0 at) (decided_alike d xs h.1 k f at)
+  decided_alike (e ∷ d) (x ∷ xs) h k f at = decided_head (nat_eq e.0 k) (node_eq x.0 f.node) (is_decided k d) (choice_of xs f.node) x.1 (place_tests e x k f h.0 at) (decided_alike d xs h.1 k f at)
 
   -- the first open place and the first undecided node
   abbrev OpenAlike : Option ℕ → Option Node → Type 0
@@ -79,12 +79,12 @@ module _ (p : Plain) (wf : IsWellFormed p) where
   open_head false true k n o q e at h = cc
   open_head false false k n o q e at h = at
 
-  open_alike : (d : List (ℕ × ℕ)) (ds : Selection) → AreNamed p d ds → (ks : List ℕ) (ns : List Node) → AreAt p ks ns → OpenAlike (first_open d ks) (find (λ n. not (is_some (chosen ds n))) ns)
+  open_alike : (d : List (ℕ × ℕ)) (ds : Selection) → AreNamed p d ds → (ks : List ℕ) (ns : List Node) → AreAt p ks ns → OpenAlike (first_open d ks) (find (λ n. not (is_some (choice_of ds n))) ns)
   open_alike d ds h [] [] a = tt
   open_alike d ds h [] (n ∷ ns) a = absurd a
   open_alike d ds h (k ∷ ks) [] a = absurd a
-  open_alike d ds h (k ∷ ks) (n ∷ ns) a = open_head (is_decided k d) (is_some (chosen ds n)) k n (first_open d ks) (find (λ n. not (is_some (chosen ds n))) ns)
-      (decided_alike d ds h k a.0.0 a.0.1 ∙ ap (λ (m : Node). is_some (chosen ds m)) a.0.2) a.0 (open_alike d ds h ks ns a.1)
+  open_alike d ds h (k ∷ ks) (n ∷ ns) a = open_head (is_decided k d) (is_some (choice_of ds n)) k n (first_open d ks) (find (λ n. not (is_some (choice_of ds n))) ns)
+      (decided_alike d ds h k a.0.0 a.0.1 ∙ ap (λ (m : Node). is_some (choice_of ds m)) a.0.2) a.0 (open_alike d ds h ks ns a.1)
 
   none_open : (o : Option ℕ) (q : Option Node) → OpenAlike o q → o ≡ None → q ≡ None
   none_open None None h e = refl
@@ -135,7 +135,7 @@ module _ (c : Packages) (starts : List Node) (wish : WishFields) (R : Region) (p
   record Joined (d : List (ℕ × ℕ)) (ds : Selection) : Type 0 where
     needs : List Need
     are : AreJoined c R ds needs
-    at : AreAt p (wanted p d) (map (λ t. t.node) needs)
+    at : AreAt p (joined_needs p d) (map (λ t. t.node) needs)
 
   own_needs : (e : ℕ × ℕ) (x : Node × Fields) (h : IsNamed p e x) → HasNeedsAt c R p x.0 x.1 (needs_in (node_at p e.0) e.1)
   own_needs e x h = subst (λ (o : Option NodeFacts). HasNeedsAt c R p x.0 x.1 (needs_in o e.1)) (sym h.at)
@@ -145,8 +145,8 @@ module _ (c : Packages) (starts : List Node) (wish : WishFields) (R : Region) (p
   joined_more e x d ds own rest = record {
     needs = own.needs ++ rest.needs;
     are = record { own = own.needs; rest = rest.needs; of_own = own.are; of_rest = rest.are; joined = refl };
-    at = subst (λ l. AreAt p (place_targets (needs_in (node_at p e.0) e.1) ++ wanted p d) l) (sym (map_joined own.needs rest.needs))
-        (at_joined p (place_targets (needs_in (node_at p e.0) e.1)) (wanted p d) (map (λ t. t.node) own.needs) (map (λ t. t.node) rest.needs) (targets_at p (needs_in (node_at p e.0) e.1) own.needs own.at) rest.at);
+    at = subst (λ l. AreAt p (place_targets (needs_in (node_at p e.0) e.1) ++ joined_needs p d) l) (sym (map_joined own.needs rest.needs))
+        (at_joined p (place_targets (needs_in (node_at p e.0) e.1)) (joined_needs p d) (map (λ t. t.node) own.needs) (map (λ t. t.node) rest.needs) (targets_at p (needs_in (node_at p e.0) e.1) own.needs own.at) rest.at);
   }
 
   joined : (d : List (ℕ × ℕ)) (ds : Selection) → AreNamed p d ds → Joined d ds
@@ -156,35 +156,35 @@ module _ (c : Packages) (starts : List Node) (wish : WishFields) (R : Region) (p
   joined (e ∷ d) (x ∷ xs) h = joined_more e x d xs (own_needs e x h.0) (joined d xs h.1)
 
   next_alike : (d : List (ℕ × ℕ)) (ds : Selection) → AreNamed p d ds → (j : Joined d ds) → OpenAlike p is.well_formed (next_of p d) (next starts ds j.needs)
-  next_alike d ds h j = open_alike p is.well_formed d ds h (p.roots ++ wanted p d) (starts ++ map (λ t. t.node) j.needs) (at_joined p p.roots (wanted p d) starts (map (λ t. t.node) j.needs) is.roots j.at)
+  next_alike d ds h j = open_alike p is.well_formed d ds h (p.roots ++ joined_needs p d) (starts ++ map (λ t. t.node) j.needs) (at_joined p p.roots (joined_needs p d) starts (map (λ t. t.node) j.needs) is.roots j.at)
 
   -- ---- what can be extended
-  pick_named : (σ : Places) (s : Selection) → Matches p σ s → (e : ℕ × ℕ) (x : Node × Fields) (h : IsNamed p e x) → σ e.0 ≡ Some e.1 → Picked h.facts (σ e.0) (chosen s h.facts.node) → chosen s x.0 ≡ Some x.1
+  pick_named : (σ : Places) (s : Selection) → Matches p σ s → (e : ℕ × ℕ) (x : Node × Fields) (h : IsNamed p e x) → σ e.0 ≡ Some e.1 → Picked h.facts (σ e.0) (choice_of s h.facts.node) → choice_of s x.0 ≡ Some x.1
   pick_named σ s m e x h a t =
       let place : t.v ≡ e.1 = same_Some t.v e.1 (sym t.placed ∙ a) in
       let here : slice_get h.facts.versions e.1 ≡ Some t.x = subst (λ (v : ℕ). slice_get h.facts.versions v ≡ Some t.x) place t.stands in
-      ap (chosen s) (sym h.node) ∙ (t.named ∙ ap Some (same_Some t.x x.1 (sym here ∙ h.version)))
+      ap (choice_of s) (sym h.node) ∙ (t.named ∙ ap Some (same_Some t.x x.1 (sym here ∙ h.version)))
 
-  agrees_names : (σ : Places) (s : Selection) → Matches p σ s → (d : List (ℕ × ℕ)) (ds : Selection) → AreNamed p d ds → Agrees σ d → (x : Node × Fields) → Contains ds x → chosen s x.0 ≡ Some x.1
+  agrees_names : (σ : Places) (s : Selection) → Matches p σ s → (d : List (ℕ × ℕ)) (ds : Selection) → AreNamed p d ds → Agrees σ d → (x : Node × Fields) → Contains ds x → choice_of s x.0 ≡ Some x.1
   agrees_names σ s m [] [] h a x i = absurd (none_in x i)
   agrees_names σ s m [] (y ∷ ys) h a x i = absurd h
   agrees_names σ s m (e ∷ d) [] h a x i = absurd h
   agrees_names σ s m (e ∷ d) (y ∷ ys) h a x i = ⊎_elim
-      (λ q. subst (λ (z : Node × Fields). chosen s z.0 ≡ Some z.1) (sym q) (pick_named σ s m e y h.0 a.0 (picked_at c starts wish R p σ s is m e.0 e.1 h.0.facts h.0.at a.0)))
+      (λ q. subst (λ (z : Node × Fields). choice_of s z.0 ≡ Some z.1) (sym q) (pick_named σ s m e y h.0 a.0 (picked_at c starts wish R p σ s is m e.0 e.1 h.0.facts h.0.at a.0)))
       (λ r. agrees_names σ s m d ys h.1 a.1 x r) (contains_cases y ys x i)
 
-  place_named : (σ : Places) (s : Selection) (e : ℕ × ℕ) (x : Node × Fields) (h : IsNamed p e x) → chosen s h.facts.node ≡ Some x.1 → Picked h.facts (σ e.0) (chosen s h.facts.node) → σ e.0 ≡ Some e.1
+  place_named : (σ : Places) (s : Selection) (e : ℕ × ℕ) (x : Node × Fields) (h : IsNamed p e x) → choice_of s h.facts.node ≡ Some x.1 → Picked h.facts (σ e.0) (choice_of s h.facts.node) → σ e.0 ≡ Some e.1
   place_named σ s e x h a t =
       let version : t.x ≡ x.1 = same_Some t.x x.1 (sym t.named ∙ a) in
       let here : slice_get h.facts.versions t.v ≡ Some x.1 = subst (λ (y : Fields). slice_get h.facts.versions t.v ≡ Some y) version t.stands in
       t.placed ∙ ap Some (version_place h.facts.versions t.v e.1 x.1 (node_whole p e.0 h.facts is.well_formed h.at).increasing here h.version)
 
-  agrees_places : (σ : Places) (s : Selection) → Matches p σ s → (d : List (ℕ × ℕ)) (ds : Selection) → AreNamed p d ds → ((x : Node × Fields) → Contains ds x → chosen s x.0 ≡ Some x.1) → Agrees σ d
+  agrees_places : (σ : Places) (s : Selection) → Matches p σ s → (d : List (ℕ × ℕ)) (ds : Selection) → AreNamed p d ds → ((x : Node × Fields) → Contains ds x → choice_of s x.0 ≡ Some x.1) → Agrees σ d
   agrees_places σ s m [] [] h a = tt
   agrees_places σ s m [] (y ∷ ys) h a = absurd h
   agrees_places σ s m (e ∷ d) [] h a = absurd h
   agrees_places σ s m (e ∷ d) (y ∷ ys) h a =
-      let named : chosen s h.0.facts.node ≡ Some y.1 = ap (chosen s) h.0.node ∙ a y (contains_first y ys) in (
+      let named : choice_of s h.0.facts.node ≡ Some y.1 = ap (choice_of s) h.0.node ∙ a y (contains_first y ys) in (
         place_named σ s e y h.0 named (named_at c starts wish R p σ s is m e.0 h.0.facts y.1 h.0.at named),
         agrees_places σ s m d ys h.1 (λ x i. a x (contains_later y ys x i)),
       )

@@ -11,7 +11,7 @@ use Rattle.ul_index.specs.Regions.{Region}
 use Rattle.ul_index.specs.Catalogs.{Packages, requirements}
 use Rattle.ul_index.specs.Eligible.{eligible}
 use Rattle.ul_index.specs.Applied.{IsFirm}
-use Rattle.ul_index.specs.Serves.{Selection, Serves, chosen}
+use Rattle.ul_index.specs.Serves.{Selection, Serves, choice_of}
 use Rattle.ul_index.specs.Preference.{preference}
 
 -- a target, and what its versions have to meet
@@ -20,8 +20,8 @@ pub record Need : Type 0 where
   pub specifiers : List ClauseFields
 
 -- the eligible versions that meet a need
-abbrev pub permitted : Packages → Need → List Fields
-permitted c t = filter (meets_list t.specifiers) (eligible c t.node.name)
+abbrev pub permitted_versions : Packages → Need → List Fields
+permitted_versions c t = filter (meets_list t.specifiers) (eligible c t.node.name)
 
 -- the needs of a requirement: its targets, in order
 abbrev pub needs_of : RequirementFields → List Need
@@ -46,13 +46,13 @@ AreJoined c R (d ∷ ds) ts = record {
 
 -- the first undecided node: of those that it starts from, then of the needs
 abbrev pub next : List Node → Selection → List Need → Option Node
-next starts done ts = find (λ n. not (is_some (chosen done n))) (starts ++ map (λ t. t.node) ts)
+next starts done ts = find (λ n. not (is_some (choice_of done n))) (starts ++ map (λ t. t.node) ts)
 
 -- some serving selection has every decision
 pub record CanServe (c : Packages) (starts : List Node) (wish : WishFields) (R : Region) (done : Selection) : Type 0 where
   pub selection : Selection
   pub serves : Serves wish.strategy c starts R selection
-  pub agrees : (n : Node) (v : Fields) → Contains done (n, v) → chosen selection n ≡ Some v
+  pub agrees : (n : Node) (v : Fields) → Contains done (n, v) → choice_of selection n ≡ Some v
 
 -- the decisions that follow those that are done
 abbrev pub IsBestFrom : Packages → List Node → WishFields → Region → Selection → Selection → Type 0

@@ -53,7 +53,8 @@ impl<'a> InRegion<'a> {
     /// Where in the region the truth at a place holds.
     pub fn holds_at(&self, place: usize) -> &Diagram
         requires { place < length self.now.within.items }
-        ensures { (h : PassView) → IsInRegion h self.now → HoldsWithin h self.now.region.now self.now.truths.now place result.now }
+        ensures { (h : PassView) → IsInRegion h self.now
+            → HoldsWithin h self.now.region.now self.now.truths.now place result.now }
     {
         let within: &[Diagram] = self.within.as_slice();
         &within[place]

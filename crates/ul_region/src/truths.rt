@@ -81,7 +81,8 @@ fn extra_diagram<R: Wait>(
     requires { IsDiagram algebra.old whole.now }
     ensures knows { Knows algebra.old algebra.new }
     ensures diagram { IfOk result (λ d. IsDiagram algebra.new d) }
-    ensures tree { IfOk result (λ d. tree_of d ≡ and_of (at_extra_of (tree_of whole.now) extra.now) (not_of (at_extra_of (tree_of whole.now) []))) }
+    ensures tree { IfOk result (λ d. tree_of d
+        ≡ and_of (at_extra_of (tree_of whole.now) extra.now) (not_of (at_extra_of (tree_of whole.now) []))) }
 {
     let with = algebra.at_extra(whole, extra)?;
     let without = algebra.at_extra(whole, "")?;

@@ -10,7 +10,7 @@ use Rattle.ul_problem.specs.Terms.{Selection, is_among}
 use Rattle.ul_problem.specs.Plain.{Plain, size_of, size_in, base_of, barred_of, needs_of, order_of, order_in}
 use Rattle.ul_problem.specs.Serving.{Serves}
 use Rattle.ul_problem.specs.Problems.{IsWellFormed}
-use Rattle.ul_problem.specs.Best.{Picks, next_of, wanted, Agrees, Extends, IsFirst, IsBestFrom, IsBest, IsChain}
+use Rattle.ul_problem.specs.Best.{Picks, next_of, joined_needs, Agrees, Extends, IsFirst, IsBestFrom, IsBest, IsChain}
 use Rattle.ul_problem.specs.declared.problem.Need.{Need}
 use Rattle.ul_problem.proofs.ForCallers.{at_node, node_whole, open_one, at_head, in_rest, head_or_rest, in_none, one_cases}
 use Rattle.ul_trail.specs.Counts.{sizes_of}
@@ -239,7 +239,7 @@ agreed σ (x ∷ d) e a h = elim (head_or_rest x d e h) [
 ]
 
 next_picked : (p : Plain) (d : Picks) (n : ℕ) (σ : Selection) → Serves p σ → Agrees σ d → next_of p d ≡ Some n → (v : ℕ) × (σ n ≡ Some v)
-next_picked p d n σ s a e = elim (one_cases n p.roots (wanted p d) (open_one d (p.roots ++ wanted p d) n e)) [
+next_picked p d n σ s a e = elim (one_cases n p.roots (joined_needs p d) (open_one d (p.roots ++ joined_needs p d) n e)) [
   | inl i ↦ s.rooted n i
   | inr i ↦ (let w = asked_by p d n i in
       let m = s.met w.0.0 w.0.1 (agreed σ d w.0 a w.1) w.2.0 w.2.1 in

@@ -7,8 +7,8 @@ use Rattle.ul_ranges.proofs.ForCallers.{blank_none, first_none}
 use Rattle.ul_problem.specs.Terms.{node_of, allows, meet_of}
 use Rattle.ul_problem.specs.Plain.{Plain, size_of, size_in, needs_of, order_of, order_in}
 use Rattle.ul_problem.specs.Problems.{IsWellFormed}
-use Rattle.ul_problem.specs.Steps.{pair_of, written, with_term}
-use Rattle.ul_problem.specs.Best.{Picks, next_of, wanted, targets}
+use Rattle.ul_problem.specs.Steps.{pair_of, term_to_say, with_term}
+use Rattle.ul_problem.specs.Best.{Picks, next_of, joined_needs, targets}
 use Rattle.ul_problem.specs.declared.term.Term.{Term}
 use Rattle.ul_problem.specs.declared.term.Term.TheVariants.{In, NotIn}
 use Rattle.ul_problem.specs.declared.problem.Need.{Need}
@@ -31,20 +31,20 @@ target_need (x ∷ xs) n h = elim (head_or_rest x.node (targets xs) n h) [
   | inr i ↦ (let r = target_need xs n i in (r.0, in_rest x xs r.0 r.1, r.2))
 ]
 
-pub asked_by : (p : Plain) (d : Picks) (n : ℕ) → Contains (wanted p d) n → (e : ℕ × ℕ) × Contains d e × ((need : Need) × Contains (needs_of p e.0 e.1) need × (need.node ≡ n))
+pub asked_by : (p : Plain) (d : Picks) (n : ℕ) → Contains (joined_needs p d) n → (e : ℕ × ℕ) × Contains d e × ((need : Need) × Contains (needs_of p e.0 e.1) need × (need.node ≡ n))
 asked_by p [] n h = absurd (in_none n h)
-asked_by p (e ∷ d) n h = elim (one_cases n (targets (needs_of p e.0 e.1)) (wanted p d) h) [
+asked_by p (e ∷ d) n h = elim (one_cases n (targets (needs_of p e.0 e.1)) (joined_needs p d) h) [
   | inl i ↦ (e, at_head e d e refl, target_need (needs_of p e.0 e.1) n i)
   | inr i ↦ (let r = asked_by p d n i in (r.0, in_rest e d r.0 r.1, r.2))
 ]
 
-but_pair : (facts : List Fact) (t u : Term) → (node_of t ≡ node_of u → ⊥) → IsHeld facts t → written t ≡ Some t → written u ≡ Some u → AreHeldBut facts u (pair_of t u)
+but_pair : (facts : List Fact) (t u : Term) → (node_of t ≡ node_of u → ⊥) → IsHeld facts t → term_to_say t ≡ Some t → term_to_say u ≡ Some u → AreHeldBut facts u (pair_of t u)
 but_pair facts t u n h wt wu = which (nat_lt (node_of t) (node_of u)) (nat_lt (node_of u) (node_of t)) refl refl
   where
     which : (b c : Bool) → nat_lt (node_of t) (node_of u) ≡ b → nat_lt (node_of u) (node_of t) ≡ c
-        → AreHeldBut facts u (cond b (with_term (written t) (with_term (written u) [])) (cond c (with_term (written u) (with_term (written t) [])) (with_term (written (meet_of t u)) [])))
-    which true c e f = subst (λ (o : Option Term). AreHeldBut facts u (with_term o (with_term (written u) []))) (sym wt) (subst (λ (o : Option Term). AreHeldBut facts u (t ∷ with_term o [])) (sym wu) (inr (h, inl (refl, tt))))
-    which false true e f = subst (λ (o : Option Term). AreHeldBut facts u (with_term (written u) (with_term o []))) (sym wt) (subst (λ (o : Option Term). AreHeldBut facts u (with_term o (t ∷ []))) (sym wu) (inl (refl, (h, tt))))
+        → AreHeldBut facts u (cond b (with_term (term_to_say t) (with_term (term_to_say u) [])) (cond c (with_term (term_to_say u) (with_term (term_to_say t) [])) (with_term (term_to_say (meet_of t u)) [])))
+    which true c e f = subst (λ (o : Option Term). AreHeldBut facts u (with_term o (with_term (term_to_say u) []))) (sym wt) (subst (λ (o : Option Term). AreHeldBut facts u (t ∷ with_term o [])) (sym wu) (inr (h, inl (refl, tt))))
+    which false true e f = subst (λ (o : Option Term). AreHeldBut facts u (with_term (term_to_say u) (with_term o []))) (sym wt) (subst (λ (o : Option Term). AreHeldBut facts u (with_term o (t ∷ []))) (sym wu) (inl (refl, (h, tt))))
     which false false e f = absurd (let a = ltb-false (node_of t) (node_of u) e in let b = ltb-false (node_of u) (node_of t) f in n (omega arith))
 
 in_set : (o : Option ℕ) (n : ℕ) (w : List Bool) → allows (NotIn n w) o ≡ false → (v : ℕ) × (o ≡ Some v) × (has v w ≡ true)
@@ -106,7 +106,7 @@ root_version p t n wf st i =
     record { version = 0; there = z; is = subst (λ (o : Option ℕ). is_open t.facts n o ≡ true) e al.1 }
 
 pub next_version : (p : Plain) (t : Track) (n : ℕ) → IsWellFormed p → IsState p t → IsQuiet p t → next_of p (picks_of t.facts) ≡ Some n → HasVersion p t.facts n
-next_version p t n wf st quiet next = elim (one_cases n p.roots (wanted p (picks_of t.facts)) (open_one (picks_of t.facts) (p.roots ++ wanted p (picks_of t.facts)) n next)) [
+next_version p t n wf st quiet next = elim (one_cases n p.roots (joined_needs p (picks_of t.facts)) (open_one (picks_of t.facts) (p.roots ++ joined_needs p (picks_of t.facts)) n next)) [
   | inl i ↦ root_version p t n wf st i
   | inr i ↦ (let a = asked_by p (picks_of t.facts) n i in
       let k = one_place (picks_of t.facts) a.0 a.1 in

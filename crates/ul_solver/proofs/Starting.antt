@@ -4,7 +4,7 @@ use Rattle.std.proofs.lemmas.Option.{none-some, same_Some, slice_get-get_or}
 use Rattle.ul_problem.specs.Plain.{Plain, size_of, size_in, needs_of, order_of, order_in}
 use Rattle.std.specs.List.{Contains}
 use Rattle.ul_problem.specs.Problems.{IsWellFormed}
-use Rattle.ul_problem.specs.Best.{Picks, next_of, first_open, is_decided, wanted, targets}
+use Rattle.ul_problem.specs.Best.{Picks, next_of, first_open, is_decided, joined_needs, targets}
 use Rattle.ul_problem.specs.declared.problem.Need.{Need}
 use Rattle.ul_problem.proofs.ForCallers.{need_fits, root_single, at_node, node_whole, place_one, one_place, open_one, at_head, in_rest, head_or_rest, in_none, one_left, one_cases}
 use Rattle.ul_trail.specs.Track.{Track}
@@ -25,15 +25,15 @@ targets_within p (x ∷ xs) n h i = elim (head_or_rest x.node (targets xs) n i) 
   | inr r ↦ targets_within p xs n (λ need j. h need (in_rest x xs need j)) r
 ]
 
-wanted_within : (p : Plain) (d : Picks) (n : ℕ) → IsWellFormed p → Contains (wanted p d) n → n < length p.nodes
+wanted_within : (p : Plain) (d : Picks) (n : ℕ) → IsWellFormed p → Contains (joined_needs p d) n → n < length p.nodes
 wanted_within p [] n wf h = absurd (in_none n h)
-wanted_within p (e ∷ d) n wf h = elim (one_cases n (targets (needs_of p e.0 e.1)) (wanted p d) h) [
+wanted_within p (e ∷ d) n wf h = elim (one_cases n (targets (needs_of p e.0 e.1)) (joined_needs p d) h) [
   | inl i ↦ targets_within p (needs_of p e.0 e.1) n (λ need j. (need_fits p e.0 e.1 need wf j).0) i
   | inr i ↦ wanted_within p d n wf i
 ]
 
 pub next_within : (p : Plain) (d : Picks) (n : ℕ) → IsWellFormed p → next_of p d ≡ Some n → n < length p.nodes
-next_within p d n wf e = elim (one_cases n p.roots (wanted p d) (open_one d (p.roots ++ wanted p d) n e)) [
+next_within p d n wf e = elim (one_cases n p.roots (joined_needs p d) (open_one d (p.roots ++ joined_needs p d) n e)) [
   | inl i ↦ (let k = one_place p.roots n i in (root_there p k.0 n wf k.1).0)
   | inr i ↦ wanted_within p d n wf i
 ]
@@ -94,12 +94,12 @@ roots_steered p front (n ∷ rest) wf e =
     let d : picks_of (root_facts p front) ≡ root_picks front = roots_picks p front single in
     let tf : take (length front) p.roots ≡ front = ap (take (length front)) e ∙ (take_front front (n ∷ rest) (length front) (omega arith) ∙ take_whole front) in
     let not' : is_decided n (root_picks front) ≡ false = subst (λ (x : List ℕ). is_decided n (root_picks x) ≡ false) tf (root_undecided p.roots (length front) n wf.roots_increase at) in
-    let queue : List ℕ = p.roots ++ wanted p (root_picks front) in
-    let eq : p.roots ++ wanted p (root_picks front) ≡ front ++ n ∷ (rest ++ wanted p (root_picks front)) = ap (λ (x : List ℕ). x ++ wanted p (root_picks front)) e ∙ append_assoc front (n ∷ rest) (wanted p (root_picks front)) in
-    let there : slice_get (front ++ n ∷ (rest ++ wanted p (root_picks front))) (length front) ≡ Some n = get_at front (rest ++ wanted p (root_picks front)) n in
-    let first : slice_get (front ++ n ∷ (rest ++ wanted p (root_picks front))) (length front) ≡ first_open (root_picks front) (front ++ n ∷ (rest ++ wanted p (root_picks front))) =
-    first_is (front ++ n ∷ (rest ++ wanted p (root_picks front))) (root_picks front) (length front)
-    (λ i m h g. place_decided m (root_picks front) i (m, 0) (picks_at front i m (get_front front (n ∷ (rest ++ wanted p (root_picks front))) i m h g)) refl)
+    let queue : List ℕ = p.roots ++ joined_needs p (root_picks front) in
+    let eq : p.roots ++ joined_needs p (root_picks front) ≡ front ++ n ∷ (rest ++ joined_needs p (root_picks front)) = ap (λ (x : List ℕ). x ++ joined_needs p (root_picks front)) e ∙ append_assoc front (n ∷ rest) (joined_needs p (root_picks front)) in
+    let there : slice_get (front ++ n ∷ (rest ++ joined_needs p (root_picks front))) (length front) ≡ Some n = get_at front (rest ++ joined_needs p (root_picks front)) n in
+    let first : slice_get (front ++ n ∷ (rest ++ joined_needs p (root_picks front))) (length front) ≡ first_open (root_picks front) (front ++ n ∷ (rest ++ joined_needs p (root_picks front))) =
+    first_is (front ++ n ∷ (rest ++ joined_needs p (root_picks front))) (root_picks front) (length front)
+    (λ i m h g. place_decided m (root_picks front) i (m, 0) (picks_at front i m (get_front front (n ∷ (rest ++ joined_needs p (root_picks front))) i m h g)) refl)
     (λ m g. subst (λ (k : ℕ). is_decided k (root_picks front) ≡ false) (same_Some n m (sym there ∙ g)) not') in
     let next : next_of p (picks_of (root_facts p front)) ≡ Some n = ap (next_of p) d ∙ (ap (first_open (root_picks front)) eq ∙ (sym first ∙ there)) in
     let size = root_single p n wf one in

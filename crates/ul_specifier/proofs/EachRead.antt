@@ -12,7 +12,7 @@ use Rattle.ul_version.specs.Texts.{is_text_byte, version_text}
 use Rattle.ul_version.proofs.ForCallers.{plain, version-read}
 use Rattle.ul_specifier.specs.Clauses.{ClauseFields, IsClause, has_local, is_bare, is_compatible, is_equality}
 use Rattle.ul_specifier.specs.Grammar.{AreClauses, EndsInStar, IsOperand, IsPiece, IsRunOperand, operator_text}
-use Rattle.ul_specifier.specs.Reading.{clause_with, is_blank, is_version_byte, may_stand, specifiers_of, star_of, stripped}
+use Rattle.ul_specifier.specs.Reading.{clause_with, is_blank, is_version_byte, may_stand, specifiers_of, star_of, trimmed_text}
 use Rattle.ul_specifier.specs.declared.clause.Op.{Op}
 use Rattle.ul_specifier.specs.declared.clause.Op.TheVariants.{Equal, Unequal, AtLeast, AtMost, More, Less, Compatible}
 use Rattle.ul_specifier.proofs.Spelled.{all-joined, all-weaker, nothing-dropped, read, with-read}
@@ -88,7 +88,7 @@ clause-run c is = (operand-run c.prefix c.version is.version, operand-is c.op c.
 pub clause-read : (c : ClauseFields) → IsClause c → clause_with c.op (clause_operand c) ≡ Some c
 clause-read c is =
     let run = clause-run c is in
-    let same : stripped is_white (clause_operand c) ≡ clause_operand c =
+    let same : trimmed_text is_white (clause_operand c) ≡ clause_operand c =
     nothing-dropped is_white (clause_operand c) (all-weaker is_version_byte (λ b. not (is_white b)) (clause_operand c) version-white run.0) in
     with-read c.op (clause_operand c) c (subst (λ t. IsRunOperand c.op t c) (sym same) run)
 
@@ -151,5 +151,5 @@ clauses-are (c ∷ d ∷ cs) all =
 -- each list of clauses is read from its text
 pub clauses-read : (cs : List ClauseFields) → All IsClause cs → specifiers_of (clauses_text cs) ≡ Some cs
 clauses-read cs all =
-    let same : stripped is_white (clauses_text cs) ≡ clauses_text cs = nothing-dropped is_white (clauses_text cs) (clauses-white cs all) in
+    let same : trimmed_text is_white (clauses_text cs) ≡ clauses_text cs = nothing-dropped is_white (clauses_text cs) (clauses-white cs all) in
     read (clauses_text cs) cs (subst (λ t. AreClauses t cs) (sym same) (clauses-are cs all))

@@ -1,13 +1,13 @@
 -- The worked examples, by computation.
 use Rattle.std.proofs.Common.{refl}
-use Rattle.ul_version.specs.Order.{padded, release_cmp, has_release_front, version_cmp}
-use Rattle.ul_version.specs.Reading.{after_white, before_white, after_word, digits, after_digits, value_after, number, needed, marked, epoch, points, release, pre, post, dev, segment, segments, local, fields_of, version_of}
+use Rattle.ul_version.specs.Order.{padded_release, release_cmp, has_release_front, version_cmp}
+use Rattle.ul_version.specs.Reading.{after_white, before_white, after_word, digits, after_digits, value_after, number, required_number, marked_digits, epoch, points, release, pre, post, dev, segment, segments, local, fields_of, version_of}
 use Rattle.ul_specifier.specs.Meaning.{meets_clause}
-use Rattle.ul_specifier.specs.Reading.{after_all, before_all, operator, starred, unstarred, clause_after, clause_with, clause_of, clauses_of, specifiers_of}
+use Rattle.ul_specifier.specs.Reading.{after_all, before_all, operator, star_clause, plain_clause, clause_after, clause_with, clause_of, clauses_of, specifiers_of}
 use Rattle.ul_specifier.specs.Vectors.{Meetings, NoReadings, Readings, Summaries, is_met, lower_of, names_pre_in, pins_in}
 
 pub meetings : Meetings
-unfolding after_white before_white after_word digits after_digits value_after number needed marked epoch points release pre post dev segment segments local fields_of version_of operator starred unstarred clause_after clause_with clause_of clauses_of specifiers_of padded release_cmp has_release_front version_cmp meets_clause is_met lower_of names_pre_in pins_in
+unfolding after_white before_white after_word digits after_digits value_after number required_number marked_digits epoch points release pre post dev segment segments local fields_of version_of operator star_clause plain_clause clause_after clause_with clause_of clauses_of specifiers_of padded_release release_cmp has_release_front version_cmp meets_clause is_met lower_of names_pre_in pins_in
 meetings = record {
   local_of_equal = refl;
   local_of_unequal = refl;
@@ -31,7 +31,7 @@ meetings = record {
 }
 
 pub readings : Readings
-unfolding after_white before_white after_word digits after_digits value_after number needed marked epoch points release pre post dev segment segments local fields_of version_of operator starred unstarred clause_after clause_with clause_of clauses_of specifiers_of
+unfolding after_white before_white after_word digits after_digits value_after number required_number marked_digits epoch points release pre post dev segment segments local fields_of version_of operator star_clause plain_clause clause_after clause_with clause_of clauses_of specifiers_of
 readings = record {
   empty = refl;
   two = refl;
@@ -43,7 +43,7 @@ readings = record {
 }
 
 pub no_readings : NoReadings
-unfolding after_white before_white after_word digits after_digits value_after number needed marked epoch points release pre post dev segment segments local fields_of version_of operator starred unstarred clause_after clause_with clause_of clauses_of specifiers_of
+unfolding after_white before_white after_word digits after_digits value_after number required_number marked_digits epoch points release pre post dev segment segments local fields_of version_of operator star_clause plain_clause clause_after clause_with clause_of clauses_of specifiers_of
 no_readings = record {
   three_signs = refl;
   one_number = refl;
@@ -68,7 +68,7 @@ no_readings = record {
 }
 
 pub summaries : Summaries
-unfolding after_white before_white after_word digits after_digits value_after number needed marked epoch points release pre post dev segment segments local fields_of version_of operator starred unstarred clause_after clause_with clause_of clauses_of specifiers_of padded release_cmp has_release_front version_cmp meets_clause is_met lower_of names_pre_in pins_in
+unfolding after_white before_white after_word digits after_digits value_after number required_number marked_digits epoch points release pre post dev segment segments local fields_of version_of operator star_clause plain_clause clause_after clause_with clause_of clauses_of specifiers_of padded_release release_cmp has_release_front version_cmp meets_clause is_met lower_of names_pre_in pins_in
 summaries = record {
   bounds = refl;
   no_bounds = refl;

@@ -10,7 +10,7 @@ use Rattle.std.proofs.lemmas.List.{get_or_past}
 use Rattle.std.specs.declared.cmp.Ordering.{Ordering}
 use Rattle.std.specs.declared.cmp.Ordering.TheVariants as Answer
 use Rattle.ul_version.specs.Fields.{Fields, is_pre_of, is_post_of, plain, without_local}
-use Rattle.ul_version.specs.Order.{has_release_front, numbers_cmp, padded, release_cmp, version_cmp}
+use Rattle.ul_version.specs.Order.{has_release_front, numbers_cmp, padded_release, release_cmp, version_cmp}
 use Rattle.ul_version.specs.declared.fields.Pre.{Pre}
 use Rattle.ul_version.specs.declared.fields.Segment.{Segment}
 use Rattle.ul_version.proofs.ForCallers.{front-differs, get_or-padded, length-padded}
@@ -86,7 +86,7 @@ front-release : (front release : List ℕ) → has_release_front front release �
 unfolding release_cmp
 front-release front release h =
     let size = max (length release) (length front) in
-    nowhere-below (padded size release) (padded size front) (omega (arith, length-padded size release, length-padded size front))
+    nowhere-below (padded_release size release) (padded_release size front) (omega (arith, length-padded size release, length-padded size front))
     (λ k. rw (get_or-padded size release k, get_or-padded size front k) (at_most k))
   where
     at_most : (k : ℕ) → get_or front k 0 ≤ get_or release k 0

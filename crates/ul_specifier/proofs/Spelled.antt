@@ -16,7 +16,7 @@ use Rattle.ul_version.specs.Reading.{◌>>=◌, begins, is_white, or_else, versi
 use Rattle.ul_version.proofs.ForCallers.{bind_some, cond_some}
 use Rattle.ul_specifier.specs.Clauses.{ClauseFields, is_bare}
 use Rattle.ul_specifier.specs.Grammar.{AreClauses, EndsInStar, IsOneClause, IsOperand, IsPiece, IsRunOperand, operator_text, Spells, SpellsClause}
-use Rattle.ul_specifier.specs.Reading.{after_all, after_front, after_operator, before_all, before_end, clause_after, clause_of, clause_with, clauses_of, is_blank, is_comma, is_version_byte, listed, may_stand, operator, specifiers_of, star_of, starred, stripped, unless_last, unstarred, version_clause}
+use Rattle.ul_specifier.specs.Reading.{after_all, after_front, after_operator, before_all, before_end, clause_after, clause_of, clause_with, clauses_of, is_blank, is_comma, is_version_byte, list_pieces, may_stand, operator, specifiers_of, star_of, star_clause, trimmed_text, unless_last, plain_clause, version_clause}
 use Rattle.ul_specifier.specs.declared.clause.Op.{Op}
 use Rattle.ul_specifier.specs.declared.clause.Op.TheVariants.{Equal, Unequal, AtLeast, AtMost, More, Less, Compatible}
 use Rattle.ul_specifier.proofs.Texts.{list_of, listed_last, listed_more}
@@ -75,7 +75,7 @@ end-dropped test (b ∷ text) =
     (here.0, here.1, ap (λ t. b ∷ t) more.2 ∙ here.2)
 
 -- a text that has none of these bytes is left as it is
-pub nothing-dropped : (test : ℕ → Bool) (text : List ℕ) → list_all (λ b. not (test b)) text ≡ true → stripped test text ≡ text
+pub nothing-dropped : (test : ℕ → Bool) (text : List ℕ) → list_all (λ b. not (test b)) text ≡ true → trimmed_text test text ≡ text
 nothing-dropped test text h = ap (before_all test) (front-kept test text h) ∙ end-kept test text h
   where
     fails : (b : Bool) → not b ≡ true → b ≡ false
@@ -148,14 +148,14 @@ no-cut word text never = elim (cases_Bool (ends_with nat_eq text word)) [
 inside : {X : Type 0} (x y : X) → Some x ≡ Some y → x ≡ y
 inside x y e = cc e
 
-unstarred-spelled : (op : Op) (text : List ℕ) (V : Fields) (c : ClauseFields) → (EndsInStar text → ⊥) → version_of text ≡ Some V → unstarred op V ≡ Some c → IsOperand op text c
-unfolding unstarred
+unstarred-spelled : (op : Op) (text : List ℕ) (V : Fields) (c : ClauseFields) → (EndsInStar text → ⊥) → version_of text ≡ Some V → plain_clause op V ≡ Some c → IsOperand op text c
+unfolding plain_clause
 unstarred-spelled op text V c never is e =
     let stands = cond_some (may_stand op V) (Some (record { op = op; version = V; prefix = false })) c e in
     IsOperand.version_alone V never is stands.0 (sym (inside _ c stands.1))
 
-starred-spelled : (op : Op) (text front : List ℕ) (V : Fields) (c : ClauseFields) → text ≡ front ++ codes ".*" → version_of front ≡ Some V → starred op V ≡ Some c → IsOperand op text c
-unfolding starred
+starred-spelled : (op : Op) (text front : List ℕ) (V : Fields) (c : ClauseFields) → text ≡ front ++ codes ".*" → version_of front ≡ Some V → star_clause op V ≡ Some c → IsOperand op text c
+unfolding star_clause
 starred-spelled op text front V c ends is e =
     let star = bind_some (star_of op) _ c e in
     let stands = cond_some (is_bare V) (Some (record { op = op; version = V; prefix = star.0 })) c star.2 in
@@ -174,7 +174,7 @@ after-spelled op text c e =
 
 -- an operand is read after its operator
 pub after-read : (op : Op) (text : List ℕ) (c : ClauseFields) → list_all is_version_byte text ≡ true → IsOperand op text c → clause_after op text ≡ Some c
-unfolding clause_after unstarred starred
+unfolding clause_after plain_clause star_clause
 after-read op text c run (IsOperand.version_alone V never is stands so) = rw (run, no-cut (codes ".*") text never, is, stands) (ap Some (sym so))
 after-read op text c run (IsOperand.version_and_star front V prefix ends is bare star so) =
     let cut : before_end (codes ".*") text ≡ Some front = ap (before_end (codes ".*")) ends ∙ end-kept front (codes ".*") in
@@ -261,13 +261,13 @@ no-equals (b ∷ blanks) operand h run = blank-not-equals b (and_parts (is_blank
 clause-spelled : (text : List ℕ) (c : ClauseFields) → clause_of text ≡ Some c → IsPiece text c
 unfolding clause_of
 clause-spelled text c e =
-    let found = bind_some (operator (stripped is_blank text)) _ c e in
+    let found = bind_some (operator (trimmed_text is_blank text)) _ c e in
     let op = found.0.0 in
     let rest = found.0.1 in
     let blanks = front-dropped is_blank rest in
     let operand = after-spelled op (after_all is_blank rest) c found.2 in
     let same : c.op ≡ op = operand-op op (after_all is_blank rest) c operand.1 in
-    let whole : stripped is_blank text ≡ operator_text op ++ rest = operator-found (stripped is_blank text) found.0 found.1 in (
+    let whole : trimmed_text is_blank text ≡ operator_text op ++ rest = operator-found (trimmed_text is_blank text) found.0 found.1 in (
       blanks.0,
       after_all is_blank rest,
       blanks.1,
@@ -278,7 +278,7 @@ clause-spelled text c e =
 one-read : (text : List ℕ) (c : ClauseFields) → IsPiece text c → clause_of text ≡ Some c
 unfolding clause_of
 one-read text c (blanks, operand, h, (run, is), whole) =
-    let found : operator (stripped is_blank text) ≡ Some (c.op, blanks ++ operand) =
+    let found : operator (trimmed_text is_blank text) ≡ Some (c.op, blanks ++ operand) =
     ap operator whole ∙ operator-read c.op (blanks ++ operand) (no-equals blanks operand h run) in
     rw (found, blanks-skipped is_blank blanks operand h (begins-other is_blank operand not-blank run)) (after-read c.op operand c run is)
 
@@ -303,12 +303,12 @@ piece-no-comma : (text : List ℕ) (c : ClauseFields) → IsPiece text c → lis
 piece-no-comma text c (blanks, operand, h, (run, is), whole) =
     let front = front-dropped is_blank text in
     let end = end-dropped is_blank (after_all is_blank text) in
-    let inner : list_all no_comma (stripped is_blank text) ≡ true =
+    let inner : list_all no_comma (trimmed_text is_blank text) ≡ true =
     ap (list_all no_comma) whole
     ∙ all-joined no_comma (operator_text c.op) (blanks ++ operand) (operator-no-comma c.op)
     (all-joined no_comma blanks operand (all-weaker is_blank no_comma blanks blank-no-comma h) (all-weaker is_version_byte no_comma operand version-no-comma run)) in
     let back : list_all no_comma (after_all is_blank text) ≡ true =
-    ap (list_all no_comma) end.2 ∙ all-joined no_comma (stripped is_blank text) end.0 inner (all-weaker is_blank no_comma end.0 blank-no-comma end.1) in
+    ap (list_all no_comma) end.2 ∙ all-joined no_comma (trimmed_text is_blank text) end.0 inner (all-weaker is_blank no_comma end.0 blank-no-comma end.1) in
     ap (list_all no_comma) front.2 ∙ all-joined no_comma front.0 (after_all is_blank text) (all-weaker is_blank no_comma front.0 blank-no-comma front.1) back
 
 -- a clause's text isn't empty
@@ -340,7 +340,7 @@ clauses-first piece rest c [] cs is none so =
     subst (AreClauses (piece ++ (44 ∷ rest))) so (inr (piece, is, ap (λ t. piece ++ (44 ∷ t)) empty))
 clauses-first piece rest c (d ∷ ds) cs is more so = subst (AreClauses (piece ++ (44 ∷ rest))) so (piece, rest, is, more, refl)
 
-list-spelled : (pieces : List (List ℕ)) (cs : List ClauseFields) → clauses_of (listed pieces) ≡ Some cs → AreClauses (join_with_byte 44 pieces) cs
+list-spelled : (pieces : List (List ℕ)) (cs : List ClauseFields) → clauses_of (list_pieces pieces) ≡ Some cs → AreClauses (join_with_byte 44 pieces) cs
 unfolding clauses_of
 list-spelled [] cs e = clauses-nil cs e
 list-spelled ([] ∷ []) cs e = clauses-nil cs e
@@ -349,7 +349,7 @@ list-spelled ((b ∷ piece) ∷ []) cs e =
     subst (AreClauses (b ∷ piece)) (inside (first.0 ∷ []) cs first.2) (inl (clause-spelled (b ∷ piece) first.0 first.1))
 list-spelled (piece ∷ next ∷ pieces) cs e =
     let first = bind_some (clause_of piece) _ cs (ap clauses_of (sym (listed_more piece (next ∷ pieces) (omega arith))) ∙ e) in
-    let others = bind_some (clauses_of (listed (next ∷ pieces))) _ cs first.2 in
+    let others = bind_some (clauses_of (list_pieces (next ∷ pieces))) _ cs first.2 in
     clauses-first piece (join_with_byte 44 (next ∷ pieces)) first.0 others.0 cs (clause-spelled piece first.0 first.1)
     (list-spelled (next ∷ pieces) others.0 others.1) (inside (first.0 ∷ others.0) cs others.2)
 
@@ -364,7 +364,7 @@ list-read text (c ∷ []) (inl is) =
     rw (slice_split_none is_comma text (none-pass text (piece-no-comma text c is)), listed_last text (piece-filled text c is), one-read text c is) refl
 list-read text (c ∷ []) (inr (piece, is, whole)) =
     ap list_of whole
-    ∙ ap (λ pieces. clauses_of (listed pieces)) (slice_split_at is_comma piece 44 [] (none-pass piece (piece-no-comma piece c is)) refl)
+    ∙ ap (λ pieces. clauses_of (list_pieces pieces)) (slice_split_at is_comma piece 44 [] (none-pass piece (piece-no-comma piece c is)) refl)
     ∙ ap clauses_of (listed_more piece ([] ∷ []) (omega arith))
     ∙ one-clause piece c (one-read piece c is)
 list-read text (c ∷ d ∷ cs) (piece, rest, is, more, whole) =
@@ -382,19 +382,19 @@ list-read text (c ∷ d ∷ cs) (piece, rest, is, more, whole) =
 pub spelled : (text : List ℕ) (cs : List ClauseFields) → specifiers_of text ≡ Some cs → Spells text cs
 unfolding specifiers_of
 spelled text cs e =
-    subst (λ t. AreClauses t cs) (join_with_byte-slice_split 44 (stripped is_white text)) (list-spelled (slice_split is_comma (stripped is_white text)) cs e)
+    subst (λ t. AreClauses t cs) (join_with_byte-slice_split 44 (trimmed_text is_white text)) (list-spelled (slice_split is_comma (trimmed_text is_white text)) cs e)
 
 pub read : (text : List ℕ) (cs : List ClauseFields) → Spells text cs → specifiers_of text ≡ Some cs
 unfolding specifiers_of
-read text cs h = list-read (stripped is_white text) cs h
+read text cs h = list-read (trimmed_text is_white text) cs h
 
 pub one-spelled : (op : Op) (text : List ℕ) (c : ClauseFields) → clause_with op text ≡ Some c → SpellsClause op text c
 unfolding clause_with
-one-spelled op text c e = after-spelled op (stripped is_white text) c e
+one-spelled op text c e = after-spelled op (trimmed_text is_white text) c e
 
 pub with-read : (op : Op) (text : List ℕ) (c : ClauseFields) → SpellsClause op text c → clause_with op text ≡ Some c
 unfolding clause_with
-with-read op text c h = after-read op (stripped is_white text) c h.0 h.1
+with-read op text c h = after-read op (trimmed_text is_white text) c h.0 h.1
 
 -- what is read in two ways is one
 pub one_of : {X : Type 0} {x y : X} → Some x ≡ Some y → x ≡ y

@@ -15,7 +15,7 @@ use Rattle.ul_version.specs.Fields.{Fields, IsVersion}
 use Rattle.ul_version.specs.Reading.{◌>>=◌, version_of}
 use Rattle.ul_version.proofs.ForCallers.{bind_some, cond_some, versions}
 use Rattle.ul_specifier.specs.Clauses.{ClauseFields, IsClause, has_local, is_bare, is_compatible, is_equality}
-use Rattle.ul_specifier.specs.Reading.{after_all, before_all, unless_last, is_version_byte, is_comma, listed, clause_of, clauses_of, clause_after, clause_with, version_clause, before_end, starred, unstarred, star_of, may_stand, operator, specifiers_of}
+use Rattle.ul_specifier.specs.Reading.{after_all, before_all, unless_last, is_version_byte, is_comma, list_pieces, clause_of, clauses_of, clause_after, clause_with, version_clause, before_end, star_clause, plain_clause, star_of, may_stand, operator, specifiers_of}
 use Rattle.ul_specifier.specs.declared.clause.Op.{Op}
 use Rattle.ul_specifier.specs.declared.clause.Op.TheVariants.{Equal, Unequal, AtLeast, AtMost, More, Less, Compatible}
 use Rattle.ul_specifier.proofs.Public.{bare_no_local}
@@ -84,15 +84,15 @@ standing-clause op V h v = record {
 inside : (x y : ClauseFields) → Some x ≡ Some y → x ≡ y
 inside x y e = cc e
 
-starred-clause : (op : Op) (V : Fields) (c : ClauseFields) → IsVersion V → starred op V ≡ Some c → IsClause c
-unfolding starred
+starred-clause : (op : Op) (V : Fields) (c : ClauseFields) → IsVersion V → star_clause op V ≡ Some c → IsClause c
+unfolding star_clause
 starred-clause op V c v e =
     let (prefix, star, same) = bind_some (star_of op) _ _ e in
     let (bare, some) = cond_some (is_bare V) _ _ same in
     subst (λ (x : ClauseFields). IsClause x) (inside _ c some) (bare-clause op V prefix star bare v)
 
-unstarred-clause : (op : Op) (V : Fields) (c : ClauseFields) → IsVersion V → unstarred op V ≡ Some c → IsClause c
-unfolding unstarred
+unstarred-clause : (op : Op) (V : Fields) (c : ClauseFields) → IsVersion V → plain_clause op V ≡ Some c → IsClause c
+unfolding plain_clause
 unstarred-clause op V c v e =
     let (stands, some) = cond_some (may_stand op V) _ _ e in
     subst (λ (x : ClauseFields). IsClause x) (inside _ c some) (standing-clause op V stands v)
@@ -132,19 +132,19 @@ specifiers-clauses text cs e = clauses_of-clauses _ cs e
 -- ---- lists
 
 -- a piece before others counts
-pub listed_more : (piece : List ℕ) (pieces : List (List ℕ)) → 0 < length pieces → listed (piece ∷ pieces) ≡ piece ∷ listed pieces
+pub listed_more : (piece : List ℕ) (pieces : List (List ℕ)) → 0 < length pieces → list_pieces (piece ∷ pieces) ≡ piece ∷ list_pieces pieces
 listed_more piece [] h = absurd (omega arith)
 listed_more [] (next ∷ pieces) h = refl
 listed_more (b ∷ piece) (next ∷ pieces) h = refl
 
 -- a last piece that isn't empty counts
-pub listed_last : (piece : List ℕ) → 0 < length piece → listed (piece ∷ []) ≡ piece ∷ []
+pub listed_last : (piece : List ℕ) → 0 < length piece → list_pieces (piece ∷ []) ≡ piece ∷ []
 listed_last [] h = absurd (omega arith)
 listed_last (b ∷ piece) h = refl
 
 -- the clauses of the list that a text is
 abbrev pub list_of : List ℕ → Option (List ClauseFields)
-list_of text = clauses_of (listed (slice_split is_comma text))
+list_of text = clauses_of (list_pieces (slice_split is_comma text))
 
 -- clauses before those of a part
 abbrev pub joined : List ClauseFields → Option (List ClauseFields) → Option (List ClauseFields)
@@ -171,12 +171,12 @@ pub list-none : (text piece rest : List ℕ) (cs : List ClauseFields) → slice_
     → joined cs (list_of text) ≡ None
 list-none text piece rest cs e none =
     let filled : 0 < length (slice_split is_comma rest) = omega (arith, length-slice_split is_comma rest) in
-    first-none (listed (slice_split is_comma text)) _ piece cs (ap (λ (l : List (List ℕ)). listed l) e ∙ listed_more piece (slice_split is_comma rest) filled) none
+    first-none (list_pieces (slice_split is_comma text)) _ piece cs (ap (λ (l : List (List ℕ)). list_pieces l) e ∙ listed_more piece (slice_split is_comma rest) filled) none
 
 pub list-last_none : (text : List ℕ) (cs : List ClauseFields) → 0 < length text → slice_split is_comma text ≡ text ∷ [] → clause_of text ≡ None
     → joined cs (list_of text) ≡ None
 list-last_none text cs h e none =
-    first-none (listed (slice_split is_comma text)) [] text cs (ap (λ (l : List (List ℕ)). listed l) e ∙ listed_last text h) none
+    first-none (list_pieces (slice_split is_comma text)) [] text cs (ap (λ (l : List (List ℕ)). list_pieces l) e ∙ listed_last text h) none
 
 pub list-last : (text : List ℕ) (cs ds : List ClauseFields) (c : ClauseFields) → 0 < length text → slice_split is_comma text ≡ text ∷ [] → clause_of text ≡ Some c
     → ds ≡ cs ++ c ∷ [] → joined cs (list_of text) ≡ Some ds

@@ -5,7 +5,7 @@ use Rattle.std.specs.List.{list_all}
 use Rattle.ul_version.specs.Fields.{Fields}
 use Rattle.ul_version.specs.Reading.{is_white, version_of}
 use Rattle.ul_specifier.specs.Clauses.{ClauseFields, is_bare}
-use Rattle.ul_specifier.specs.Reading.{is_blank, is_version_byte, may_stand, star_of, stripped}
+use Rattle.ul_specifier.specs.Reading.{is_blank, is_version_byte, may_stand, star_of, trimmed_text}
 use Rattle.ul_specifier.specs.declared.clause.Op.{Op}
 use Rattle.ul_specifier.specs.declared.clause.Op.TheVariants.{Equal, Unequal, AtLeast, AtMost, More, Less, Compatible}
 
@@ -41,7 +41,7 @@ IsOneClause text c =
 
 -- a clause with blanks around it
 abbrev pub IsPiece : List ℕ → ClauseFields → Type 0
-IsPiece text c = IsOneClause (stripped is_blank text) c
+IsPiece text c = IsOneClause (trimmed_text is_blank text) c
 
 -- list = [clause *("," clause) [","]]
 abbrev pub AreClauses : List ℕ → List ClauseFields → Type 0
@@ -51,8 +51,8 @@ AreClauses text (c ∷ d ∷ cs) = (piece rest : List ℕ) × IsPiece piece c ×
 
 -- a text spells clauses
 abbrev pub Spells : List ℕ → List ClauseFields → Type 0
-Spells text cs = AreClauses (stripped is_white text) cs
+Spells text cs = AreClauses (trimmed_text is_white text) cs
 
 -- a text spells a clause after an operator
 abbrev pub SpellsClause : Op → List ℕ → ClauseFields → Type 0
-SpellsClause op text c = IsRunOperand op (stripped is_white text) c
+SpellsClause op text c = IsRunOperand op (trimmed_text is_white text) c

@@ -17,8 +17,8 @@ use Rattle.ul_specifier.specs.declared.clause.Op.TheVariants.{Equal, Unequal, At
 -- ---- white space
 
 -- a text without the bytes at both ends that pass the test
-abbrev pub stripped : (ℕ → Bool) → List ℕ → List ℕ
-stripped test text = text_between test text
+abbrev pub trimmed_text : (ℕ → Bool) → List ℕ → List ℕ
+trimmed_text test text = text_between test text
 
 -- ---- operators
 
@@ -55,21 +55,21 @@ star_of Less = Some false
 star_of Compatible = None
 
 -- a version before `.*`, which has an epoch and a release alone
-unfoldable pub starred : Op → Fields → Option ClauseFields
-starred op V = star_of op >>= λ prefix. if is_bare V then Some (record { op = op; version = V; prefix = prefix }) else None
+unfoldable pub star_clause : Op → Fields → Option ClauseFields
+star_clause op V = star_of op >>= λ prefix. if is_bare V then Some (record { op = op; version = V; prefix = prefix }) else None
 
 -- a version with a local part stands with `==` and `!=` alone, and `~=` needs two release numbers
 abbrev pub may_stand : Op → Fields → Bool
 may_stand op V = (is_equality op || not (has_local V)) && (not (is_compatible op) || nat_lt 1 (length V.release))
 
 -- a version without `.*`
-unfoldable pub unstarred : Op → Fields → Option ClauseFields
-unstarred op V = if may_stand op V then Some (record { op = op; version = V; prefix = false }) else None
+unfoldable pub plain_clause : Op → Fields → Option ClauseFields
+plain_clause op V = if may_stand op V then Some (record { op = op; version = V; prefix = false }) else None
 
 -- the clause of a text, or of the text before `.*`
 abbrev pub version_clause : Op → List ℕ → Option (List ℕ) → Option ClauseFields
-version_clause op text None = version_of text >>= unstarred op
-version_clause op text (Some front) = version_of front >>= starred op
+version_clause op text None = version_of text >>= plain_clause op
+version_clause op text (Some front) = version_of front >>= star_clause op
 
 -- the clause of an operator and the text after it, which is a run of bytes of a version's text
 unfoldable pub clause_after : Op → List ℕ → Option ClauseFields
@@ -77,13 +77,13 @@ clause_after op text = if list_all is_version_byte text then version_clause op t
 
 -- the clause of an operator and a text, which may have white space at its ends
 unfoldable pub clause_with : Op → List ℕ → Option ClauseFields
-clause_with op text = clause_after op (stripped is_white text)
+clause_with op text = clause_after op (trimmed_text is_white text)
 
 -- ---- lists
 
 -- one clause of a list
 unfoldable pub clause_of : List ℕ → Option ClauseFields
-clause_of text = operator (stripped is_blank text) >>= λ o. clause_after o.0 (after_all is_blank o.1)
+clause_of text = operator (trimmed_text is_blank text) >>= λ o. clause_after o.0 (after_all is_blank o.1)
 
 -- the clauses of the pieces of a list
 unfoldable pub clauses_of : List (List ℕ) → Option (List ClauseFields)
@@ -95,12 +95,12 @@ abbrev pub is_comma : ℕ → Bool
 is_comma b = b == 44
 
 -- the pieces of a list between its commas, of which the last counts only if it isn't empty
-abbrev pub listed : List (List ℕ) → List (List ℕ)
-listed [] = []
-listed ([] ∷ []) = []
-listed ((b ∷ piece) ∷ []) = (b ∷ piece) ∷ []
-listed (piece ∷ next ∷ pieces) = piece ∷ listed (next ∷ pieces)
+abbrev pub list_pieces : List (List ℕ) → List (List ℕ)
+list_pieces [] = []
+list_pieces ([] ∷ []) = []
+list_pieces ((b ∷ piece) ∷ []) = (b ∷ piece) ∷ []
+list_pieces (piece ∷ next ∷ pieces) = piece ∷ list_pieces (next ∷ pieces)
 
 -- the clauses that a text spells; the empty list is one without clauses
 unfoldable pub specifiers_of : List ℕ → Option (List ClauseFields)
-specifiers_of text = clauses_of (listed (slice_split is_comma (stripped is_white text)))
+specifiers_of text = clauses_of (list_pieces (slice_split is_comma (trimmed_text is_white text)))

@@ -116,7 +116,7 @@ fn star_of(op: Op) -> Option<bool>
 // The clause of a version before `.*`.
 #[tactic(auto, unfolding(crate::specs::Reading::starred))]
 fn starred(op: Op, version: Version) -> Result<Clause, SpecFault>
-    ensures { Reads (λ c. c) result (spec.starred op version) }
+    ensures { Reads (λ c. c) result (spec.star_clause op version) }
 {
     let Some(prefix) = star_of(op) else {
         return Err(SpecFault::NoReading);
@@ -134,7 +134,7 @@ fn starred(op: Op, version: Version) -> Result<Clause, SpecFault>
 // The clause of a version without `.*`.
 #[tactic(auto, unfolding(crate::specs::Reading::unstarred))]
 fn unstarred(op: Op, version: Version) -> Result<Clause, SpecFault>
-    ensures { Reads (λ c. c) result (spec.unstarred op version) }
+    ensures { Reads (λ c. c) result (spec.plain_clause op version) }
 {
     if !may_stand(op, &version) {
         return Err(SpecFault::NoReading);
@@ -192,7 +192,7 @@ fn clause(alloc: Global, text: &[u8]) -> Result<Clause, SpecFault>
 
 // The clauses of a list, between its commas.
 fn clauses(alloc: Global, input: &[u8]) -> Result<Vec<Clause>, SpecFault>
-    ensures { Reads clauses_view result (spec.clauses_of (spec.listed (slice_split spec.is_comma input.now))) }
+    ensures { Reads clauses_view result (spec.clauses_of (spec.list_pieces (slice_split spec.is_comma input.now))) }
 {
     let mut list = Vec::new(alloc);
     let mut rest = input;

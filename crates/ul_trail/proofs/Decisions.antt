@@ -6,7 +6,7 @@ use Rattle.std.proofs.lemmas.Grind.{get_or-set_at}
 use Rattle.std.proofs.lemmas.Option.{slice_get_within}
 use Rattle.ul_problem.specs.Terms.{node_of, set_of, allows}
 use Rattle.ul_problem.specs.Plain.{Plain, size_of, needs_of}
-use Rattle.ul_problem.specs.Best.{Picks, is_decided, wanted, targets}
+use Rattle.ul_problem.specs.Best.{Picks, is_decided, joined_needs, targets}
 use Rattle.ul_problem.specs.declared.term.Term.{Term}
 use Rattle.ul_problem.specs.declared.term.Term.TheVariants.{In}
 use Rattle.ul_trail.specs.Track.{Track}
@@ -134,9 +134,9 @@ marks_push terms facts f picks ps queue qs marks m d e lf h ms = record {
 }
 
 -- the trail
-wanted_push : (p : Plain) (d : Picks) (n v : ℕ) → wanted p (d ++ (n, v) ∷ []) ≡ wanted p d ++ targets (needs_of p n v)
+wanted_push : (p : Plain) (d : Picks) (n v : ℕ) → joined_needs p (d ++ (n, v) ∷ []) ≡ joined_needs p d ++ targets (needs_of p n v)
 wanted_push p [] n v = append-nil (targets (needs_of p n v))
-wanted_push p (e ∷ d) n v = ap (λ (l : List ℕ). targets (needs_of p e.0 e.1) ++ l) (wanted_push p d n v) ∙ sym (append_assoc (targets (needs_of p e.0 e.1)) (wanted p d) (targets (needs_of p n v)))
+wanted_push p (e ∷ d) n v = ap (λ (l : List ℕ). targets (needs_of p e.0 e.1) ++ l) (wanted_push p d n v) ∙ sym (append_assoc (targets (needs_of p e.0 e.1)) (joined_needs p d) (targets (needs_of p n v)))
 
 pub turns_push : (marks : List Mark) (m : Mark) → turns_of (marks ++ m ∷ []) ≡ turns_of marks ++ m.queue ∷ []
 turns_push [] m = refl
@@ -172,14 +172,14 @@ trail_decided p t n v q w h o eq =
       said = w.said;
       sizes = w.sizes;
       width = w.width;
-      queue = ap (λ (l : List ℕ). l ++ targets (needs_of p n v)) w.queue ∙ (append_assoc p.roots (wanted p (picks_of t.facts)) (targets (needs_of p n v)) ∙ ap (λ (l : List ℕ). p.roots ++ l) (sym (ap (wanted p) one ∙ wanted_push p (picks_of t.facts) n v)));
+      queue = ap (λ (l : List ℕ). l ++ targets (needs_of p n v)) w.queue ∙ (append_assoc p.roots (joined_needs p (picks_of t.facts)) (targets (needs_of p n v)) ∙ ap (λ (l : List ℕ). p.roots ++ l) (sym (ap (joined_needs p) one ∙ wanted_push p (picks_of t.facts) n v)));
       turns = λ l x g. elim (last_cases t.turns q x l g) [
         | inl y ↦ (let z = w.turns l x y.1 in let a = length-append t.queue (targets (needs_of p n v)) in let b = z.0 in
-            (omega arith, take_front t.queue (targets (needs_of p n v)) x b ∙ (z.1 ∙ ap (λ (s : List Fact). p.roots ++ wanted p (picks_of s)) (sym (up_push t.facts f l lf (let c = y.0 in omega arith))))))
+            (omega arith, take_front t.queue (targets (needs_of p n v)) x b ∙ (z.1 ∙ ap (λ (s : List Fact). p.roots ++ joined_needs p (picks_of s)) (sym (up_push t.facts f l lf (let c = y.0 in omega arith))))))
         | inr y ↦ (let a = length-append t.queue (targets (needs_of p n v)) in let b = y.1 in let c = y.0 in (
           omega arith,
           ap (λ (k : ℕ). take k (t.queue ++ targets (needs_of p n v))) (y.1 ∙ eq) ∙ (take_front t.queue (targets (needs_of p n v)) (length t.queue) (omega arith) ∙ (take_whole t.queue ∙ (w.queue
-              ∙ ap (λ (s : List Fact). p.roots ++ wanted p (picks_of s)) (sym (up_push t.facts f l lf (omega arith) ∙ up_to-all l t.facts (omega arith)))))),
+              ∙ ap (λ (s : List Fact). p.roots ++ joined_needs p (picks_of s)) (sym (up_push t.facts f l lf (omega arith) ∙ up_to-all l t.facts (omega arith)))))),
         ))
       ];
       levels = length-append t.turns (q ∷ []) ∙ (let z = level_push t.facts f lf in omega arith);

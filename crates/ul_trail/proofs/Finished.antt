@@ -7,8 +7,8 @@ use Rattle.ul_problem.specs.Terms.{node_of, set_of, allows, is_among, meet_of}
 use Rattle.ul_problem.specs.Plain.{Plain, size_of, barred_of}
 use Rattle.ul_problem.specs.Serving.{Serves}
 use Rattle.ul_problem.specs.Problems.{IsWellFormed}
-use Rattle.ul_problem.specs.Steps.{says, pair_of, written, with_term, base_or}
-use Rattle.ul_problem.specs.Best.{Picks, next_of, version_in, IsChain, wanted}
+use Rattle.ul_problem.specs.Steps.{says, pair_of, term_to_say, with_term, base_or}
+use Rattle.ul_problem.specs.Best.{Picks, next_of, version_in, IsChain, joined_needs}
 use Rattle.ul_problem.specs.declared.term.Term.{Term}
 use Rattle.ul_problem.specs.declared.term.Term.TheVariants.{In, NotIn}
 use Rattle.ul_problem.specs.declared.step.Step.{Step}
@@ -88,7 +88,7 @@ held_not : (p : Plain) (facts : List Fact) (n v : ℕ) (s : List Bool) → HasFa
 held_not p facts n v s h k o i = ap (λ (q : Option ℕ). not (is_among q s)) (open_one_version p facts n v o h i) ∙ ap not k
 
 -- a pair of held terms is held
-with_held : (facts : List Fact) (t : Term) (ts : List Term) → IsHeld facts t → AreHeld facts ts → AreHeld facts (with_term (written t) ts)
+with_held : (facts : List Fact) (t : Term) (ts : List Term) → IsHeld facts t → AreHeld facts ts → AreHeld facts (with_term (term_to_say t) ts)
 with_held facts (In n s) ts h i = (h, i)
 with_held facts (NotIn n s) ts h i = which (is_blank s)
   where
@@ -109,9 +109,9 @@ meet_held facts t u e h i o k =
     allows-meet t u o ∙ and_both (allows t o) (allows u o) (h o at) (i o bt)
 
 pair_held' : (facts : List Fact) (t u : Term) (b c : Bool) → nat_lt (node_of t) (node_of u) ≡ b → nat_lt (node_of u) (node_of t) ≡ c → IsHeld facts t → IsHeld facts u
-    → AreHeld facts (cond b (with_term (written t) (with_term (written u) [])) (cond c (with_term (written u) (with_term (written t) [])) (with_term (written (meet_of t u)) [])))
-pair_held' facts t u true c e f h i = with_held facts t (with_term (written u) []) h (with_held facts u [] i tt)
-pair_held' facts t u false true e f h i = with_held facts u (with_term (written t) []) i (with_held facts t [] h tt)
+    → AreHeld facts (cond b (with_term (term_to_say t) (with_term (term_to_say u) [])) (cond c (with_term (term_to_say u) (with_term (term_to_say t) [])) (with_term (term_to_say (meet_of t u)) [])))
+pair_held' facts t u true c e f h i = with_held facts t (with_term (term_to_say u) []) h (with_held facts u [] i tt)
+pair_held' facts t u false true e f h i = with_held facts u (with_term (term_to_say t) []) i (with_held facts t [] h tt)
 pair_held' facts t u false false e f h i =
     let low : node_of u ≤ node_of t = ltb-false (node_of t) (node_of u) e in
     let high : node_of t ≤ node_of u = ltb-false (node_of u) (node_of t) f in
@@ -136,10 +136,10 @@ pub finished_serves : (p : Plain) (t : Track) → IsWellFormed p → IsTrailOf p
 finished_serves p t wf w steps none chain end =
     let d : Picks = picks_of t.facts in
     let fact : (n v : ℕ) → version_in d n ≡ Some v → HasFact p t.facts n v = λ n v h. pick_fact p t.steps [] t.facts n v w.follow.derived (pick_of d n v h) in
-    let done : (n : ℕ) → IsAsked p d n → (v : ℕ) × (version_in d n ≡ Some v) = λ n h. decided_version d n (none_open d (p.roots ++ wanted p d) n end h) in
+    let done : (n : ℕ) → IsAsked p d n → (v : ℕ) × (version_in d n ≡ Some v) = λ n h. decided_version d n (none_open d (p.roots ++ joined_needs p d) n end h) in
     record {
       within = λ n v h. (fact n v h).0;
-      rooted = λ n h. done n (one_left n p.roots (wanted p d) h);
+      rooted = λ n h. done n (one_left n p.roots (joined_needs p d) h);
       fit = λ n v h. false_unless (has v (barred_of p n)) (λ e. clash p t (Python n (barred_of p n)) none (steps.pythons n v e) (held_in p t.facts n v (barred_of p n) (fact n v h) e, tt));
       based = λ n v b h e.
           (let u = done b (asked_base p d n b wf (asked_all p [] d n v chain (pick_of d n v h)) e) in
@@ -150,7 +150,7 @@ finished_serves p t wf w steps none chain end =
           let is : has u.0 (one_of (size_of p n) v) ≡ true = true_unless (has u.0 (one_of (size_of p n) v)) (λ k. says' (pair_held t.facts (In n (one_of (size_of p n) v)) (NotIn b (one_of (size_of p n) v)) in' (held_not p t.facts b u.0 (one_of (size_of p n) v) (fact b u.0 u.1) k))) in
           u.1 ∙ ap Some (one_only (size_of p n) v u.0 is));
       met = λ n v h need i.
-          (let u = done need.node (one_right need.node p.roots (wanted p d) (wanted_one p d n v need (pick_of d n v h) i)) in
+          (let u = done need.node (one_right need.node p.roots (joined_needs p d) (wanted_one p d n v need (pick_of d n v h) i)) in
           let below : v < size_of p n = (fact n v h).0 in
           let in' : IsHeld t.facts (In n (one_of (size_of p n) v)) = held_in p t.facts n v (one_of (size_of p n) v) (fact n v h) (one_has (size_of p n) v below) in
           let is : has u.0 need.permitted ≡ true = true_unless (has u.0 need.permitted) (λ k. clash p t (NeedStep n (one_of (size_of p n) v) need.node need.permitted) none (steps.needs n v need below i) (pair_held t.facts (In n (one_of (size_of p n) v)) (NotIn need.node need.permitted) in' (held_not p t.facts need.node u.0 need.permitted (fact need.node u.0 u.1) k))) in

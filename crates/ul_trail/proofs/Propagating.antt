@@ -6,7 +6,7 @@ use Rattle.ul_problem.proofs.ForCallers.{said_place, said_of}
 use Rattle.ul_problem.specs.Terms.{node_of, allows, negation}
 use Rattle.ul_problem.specs.Plain.{Plain, size_of, size_in}
 use Rattle.ul_problem.specs.Steps.{says, said_by}
-use Rattle.ul_problem.specs.Best.{Picks, wanted}
+use Rattle.ul_problem.specs.Best.{Picks, joined_needs}
 use Rattle.ul_problem.specs.declared.term.Term.{Term}
 use Rattle.ul_problem.specs.declared.step.Step.{Step}
 use Rattle.ul_problem.specs.declared.problem.NodeFacts.{NodeFacts}
@@ -164,8 +164,8 @@ trail_grown p t now w g =
       said = w.said;
       sizes = w.sizes;
       width = w.width;
-      queue = w.queue ∙ ap (λ (d : Picks). p.roots ++ wanted p d) (sym (forced_picks t.sizes t.terms level t.facts now g));
-      turns = λ l q e. ((w.turns l q e).0, (w.turns l q e).1 ∙ ap (λ (x : List Fact). p.roots ++ wanted p (picks_of x)) (sym (forced_up_to t.sizes t.terms level l t.facts now g (let a = slice_get_within t.turns l q e in let b = w.levels in omega arith))));
+      queue = w.queue ∙ ap (λ (d : Picks). p.roots ++ joined_needs p d) (sym (forced_picks t.sizes t.terms level t.facts now g));
+      turns = λ l q e. ((w.turns l q e).0, (w.turns l q e).1 ∙ ap (λ (x : List Fact). p.roots ++ joined_needs p (picks_of x)) (sym (forced_up_to t.sizes t.terms level l t.facts now g (let a = slice_get_within t.turns l q e in let b = w.levels in omega arith))));
       levels = w.levels ∙ sym (forced_level t.sizes t.terms level t.facts now g refl);
       raised = subst AreRaised (sym g.is) (forced_raised t.sizes t.terms level t.facts g.more g.forced w.raised);
       alive = subst IsAlive (sym g.is) (forced_alive t.sizes t.terms level t.facts g.more g.forced w.alive);

@@ -5,7 +5,7 @@ use Rattle.std.proofs.lemmas.Option.{none-some, same_Some, slice_get_within}
 use Rattle.ul_problem.specs.Terms.{node_of, IsOrdered}
 use Rattle.ul_problem.specs.Plain.{Plain}
 use Rattle.ul_problem.specs.Problems.{IsWellFormed}
-use Rattle.ul_problem.specs.Best.{Picks, wanted}
+use Rattle.ul_problem.specs.Best.{Picks, joined_needs}
 use Rattle.ul_problem.specs.Steps.{says, AreRightAfter, IsStepWithin, AreTermsOf, said_by}
 use Rattle.ul_problem.specs.declared.term.Term.{Term}
 use Rattle.ul_problem.specs.declared.step.Step.{Step}
@@ -133,12 +133,12 @@ trail_back_to p t l m q turns_rise w e lv g =
       said = w.said;
       sizes = w.sizes;
       width = w.width;
-      queue = z.1 ∙ ap (λ (x : List Fact). p.roots ++ wanted p (picks_of x)) (sym e);
+      queue = z.1 ∙ ap (λ (x : List Fact). p.roots ++ joined_needs p (picks_of x)) (sym e);
       turns = λ k r y. (let s = take_get t.turns l k r y in let a = s.0 in
           let u = w.turns k r s.1 in
           let n : r ≤ q = turns_rise k r s.0 s.1 in
           let len = take_length t.queue q z.0 in
-          (omega arith, take_less t.queue r q n ∙ (u.1 ∙ ap (λ (x : List Fact). p.roots ++ wanted p (picks_of x)) (sym (up_to-up_to k l t.facts (omega arith)) ∙ ap (up_to k) (sym e)))));
+          (omega arith, take_less t.queue r q n ∙ (u.1 ∙ ap (λ (x : List Fact). p.roots ++ joined_needs p (picks_of x)) (sym (up_to-up_to k l t.facts (omega arith)) ∙ ap (up_to k) (sym e)))));
       levels = tl ∙ sym lv;
       raised = raised_take t.facts m w.raised;
       alive = record { at = λ n. ((w.alive.at n).0, front_open t.facts n m (w.alive.at n).0 (w.alive.at n).1) };

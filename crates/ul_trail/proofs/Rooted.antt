@@ -8,7 +8,7 @@ use Rattle.ul_problem.specs.Terms.{allows}
 use Rattle.ul_problem.specs.Plain.{Plain, size_of, needs_of}
 use Rattle.std.specs.List.{Contains}
 use Rattle.ul_problem.specs.Problems.{IsWellFormed, Increases, IncreasesFrom, PlaceBefore}
-use Rattle.ul_problem.specs.Best.{Picks, is_decided, wanted, targets}
+use Rattle.ul_problem.specs.Best.{Picks, is_decided, joined_needs, targets}
 use Rattle.ul_problem.specs.declared.term.Term.{Term}
 use Rattle.ul_problem.specs.declared.term.Term.TheVariants.{In, NotIn}
 use Rattle.ul_problem.specs.declared.problem.NodeFacts.{NodeFacts}
@@ -120,9 +120,9 @@ pub picks_snoc : (ns : List ℕ) (n : ℕ) → root_picks (ns ++ n ∷ []) ≡ r
 picks_snoc [] n = refl
 picks_snoc (x ∷ ns) n = ap (λ (l : Picks). (x, 0) ∷ l) (picks_snoc ns n)
 
-wanted_snoc : (p : Plain) (d : Picks) (n v : ℕ) → wanted p (d ++ (n, v) ∷ []) ≡ wanted p d ++ targets (needs_of p n v)
+wanted_snoc : (p : Plain) (d : Picks) (n v : ℕ) → joined_needs p (d ++ (n, v) ∷ []) ≡ joined_needs p d ++ targets (needs_of p n v)
 wanted_snoc p [] n v = append-nil (targets (needs_of p n v))
-wanted_snoc p (e ∷ d) n v = ap (λ (l : List ℕ). targets (needs_of p e.0 e.1) ++ l) (wanted_snoc p d n v) ∙ sym (append_assoc (targets (needs_of p e.0 e.1)) (wanted p d) (targets (needs_of p n v)))
+wanted_snoc p (e ∷ d) n v = ap (λ (l : List ℕ). targets (needs_of p e.0 e.1) ++ l) (wanted_snoc p d n v) ∙ sym (append_assoc (targets (needs_of p e.0 e.1)) (joined_needs p d) (targets (needs_of p n v)))
 
 pub facts_next : (p : Plain) (roots : List ℕ) (k r : ℕ) (facts now : List Fact) → slice_get roots k ≡ Some r → facts ≡ root_facts p (take k roots) → now ≡ facts ++ root_fact p r ∷ [] → now ≡ root_facts p (take (k + 1) roots)
 facts_next p roots k r facts now e f n = n ∙ (ap (λ (x : List Fact). x ++ root_fact p r ∷ []) f ∙ sym (ap (root_facts p) (take_next roots r k e) ∙ facts_snoc p (take k roots) r))
@@ -130,10 +130,10 @@ facts_next p roots k r facts now e f n = n ∙ (ap (λ (x : List Fact). x ++ roo
 pub picks_next : (roots : List ℕ) (k r : ℕ) (picks now : Picks) → slice_get roots k ≡ Some r → picks ≡ root_picks (take k roots) → now ≡ picks ++ (r, 0) ∷ [] → now ≡ root_picks (take (k + 1) roots)
 picks_next roots k r picks now e f n = n ∙ (ap (λ (x : Picks). x ++ (r, 0) ∷ []) f ∙ sym (ap root_picks (take_next roots r k e) ∙ picks_snoc (take k roots) r))
 
-pub queue_next : (p : Plain) (roots : List ℕ) (k r : ℕ) (queue now : List ℕ) → slice_get roots k ≡ Some r → queue ≡ p.roots ++ wanted p (root_picks (take k roots)) → now ≡ queue ++ targets (needs_of p r 0) → now ≡ p.roots ++ wanted p (root_picks (take (k + 1) roots))
+pub queue_next : (p : Plain) (roots : List ℕ) (k r : ℕ) (queue now : List ℕ) → slice_get roots k ≡ Some r → queue ≡ p.roots ++ joined_needs p (root_picks (take k roots)) → now ≡ queue ++ targets (needs_of p r 0) → now ≡ p.roots ++ joined_needs p (root_picks (take (k + 1) roots))
 queue_next p roots k r queue now e f n =
-    n ∙ (ap (λ (x : List ℕ). x ++ targets (needs_of p r 0)) f ∙ (append_assoc p.roots (wanted p (root_picks (take k roots))) (targets (needs_of p r 0))
-    ∙ ap (λ (x : List ℕ). p.roots ++ x) (sym (ap (λ (d : Picks). wanted p d) (ap root_picks (take_next roots r k e) ∙ picks_snoc (take k roots) r) ∙ wanted_snoc p (root_picks (take k roots)) r 0))))
+    n ∙ (ap (λ (x : List ℕ). x ++ targets (needs_of p r 0)) f ∙ (append_assoc p.roots (joined_needs p (root_picks (take k roots))) (targets (needs_of p r 0))
+    ∙ ap (λ (x : List ℕ). p.roots ++ x) (sym (ap (λ (d : Picks). joined_needs p d) (ap root_picks (take_next roots r k e) ∙ picks_snoc (take k roots) r) ∙ wanted_snoc p (root_picks (take k roots)) r 0))))
 
 -- the trail
 has_one : (k : ℕ) (ns : List ℕ) → Contains ns k ⊎ (Contains ns k → ⊥)
@@ -189,7 +189,7 @@ roots_picks p (n ∷ ns) h =
     let s = h n (at_head n ns n refl) in
     ap (λ (v : ℕ). (n, v) ∷ picks_of (root_facts p ns)) (one_first (size_of p n) 0 (omega arith)) ∙ ap (λ (l : Picks). (n, 0) ∷ l) (roots_picks p ns (λ m i. h m (in_rest n ns m i)))
 
-pub rooted_trail : (p : Plain) → IsWellFormed p → IsTrailOf p (record { steps = []; terms = []; facts = root_facts p p.roots; sizes = sizes_of p; width = length p.nodes; queue = p.roots ++ wanted p (root_picks p.roots); turns = []; whole = true })
+pub rooted_trail : (p : Plain) → IsWellFormed p → IsTrailOf p (record { steps = []; terms = []; facts = root_facts p p.roots; sizes = sizes_of p; width = length p.nodes; queue = p.roots ++ joined_needs p (root_picks p.roots); turns = []; whole = true })
 rooted_trail p wf =
     let single : (n : ℕ) → Contains p.roots n → size_of p n ≡ 1 = (λ n i. root_single p n wf i) in
     record {
@@ -198,7 +198,7 @@ rooted_trail p wf =
       said = refl;
       sizes = refl;
       width = refl;
-      queue = ap (λ (d : Picks). p.roots ++ wanted p d) (sym (roots_picks p p.roots single));
+      queue = ap (λ (d : Picks). p.roots ++ joined_needs p d) (sym (roots_picks p p.roots single));
       turns = λ l q e. absurd (none-some q e);
       levels = sym (roots_level p p.roots);
       raised = record { at = λ i f e c l. absurd (let z = root_level p p.roots i f e in omega arith) };

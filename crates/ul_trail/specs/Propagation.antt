@@ -13,7 +13,7 @@ use Rattle.ul_trail.specs.declared.fact.Progress.TheVariants.{Quiet, Conflict}
 use Rattle.ul_trail.specs.declared.fact.Fact.{Fact}
 use Rattle.ul_trail.specs.Facts.{is_open, IsFailed, AreHeld, AreHeldBut, one_of, picks_of, level_of, up_to}
 use Rattle.ul_trail.specs.Counts.{sizes_of}
-use Rattle.ul_problem.specs.Best.{wanted, Agrees}
+use Rattle.ul_problem.specs.Best.{joined_needs, Agrees}
 
 -- A fact is right after the facts before it: a root's or a decision at one version of its node, or the one way out of a held step.
 abbrev pub IsDerived : Plain → List Step → List Fact → Term → Option ℕ → Type 0
@@ -83,8 +83,8 @@ pub record IsTrailOf (p : Plain) (t : Track) : Type 0 where
   pub said : t.terms ≡ said_by p t.steps
   pub sizes : t.sizes ≡ sizes_of p
   pub width : t.width ≡ length p.nodes
-  pub queue : t.queue ≡ p.roots ++ wanted p (picks_of t.facts)
-  pub turns : (l q : ℕ) → slice_get t.turns l ≡ Some q → (q ≤ length t.queue) × (take q t.queue ≡ p.roots ++ wanted p (picks_of (up_to l t.facts)))
+  pub queue : t.queue ≡ p.roots ++ joined_needs p (picks_of t.facts)
+  pub turns : (l q : ℕ) → slice_get t.turns l ≡ Some q → (q ≤ length t.queue) × (take q t.queue ≡ p.roots ++ joined_needs p (picks_of (up_to l t.facts)))
   pub levels : length t.turns ≡ level_of t.facts
   pub raised : AreRaised t.facts
   pub alive : IsAlive t.facts

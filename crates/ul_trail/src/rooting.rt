@@ -1,7 +1,7 @@
 //! The roots' facts.
 ghost use Rattle.std.specs.Prelude.{◌≡◌, ◌<◌, ◌++◌, ◌∷◌, [], length, false, IfOk};
 ghost use Rattle.ul_problem.specs.Plain.{size_of, needs_of};
-ghost use Rattle.ul_problem.specs.Best.{is_decided, targets, wanted};
+ghost use Rattle.ul_problem.specs.Best.{is_decided, targets, joined_needs};
 ghost use Rattle.ul_trail.specs.Counts.{sizes_of};
 ghost use Rattle.ul_trail.specs.Propagation.{root_fact, root_facts};
 ghost use Rattle.ul_trail.specs.Standing.{IsStanding};
@@ -123,7 +123,7 @@ pub fn plant(
     ensures indexed { IfOk result (λ _. IsIndexed asked.new.picks.items asked.new.positions.items) }
     ensures positions { IfOk result (λ _. length asked.new.positions.items ≡ length problem.now.nodes) }
     ensures queue { IfOk result (λ _. asked.new.queue.items
-        ≡ problem.now.roots ++ wanted problem.now (root_picks problem.now.roots)) }
+        ≡ problem.now.roots ++ joined_needs problem.now (root_picks problem.now.roots)) }
 {
     let roots = problem.roots();
     for place in 0..roots.len() {

@@ -2,7 +2,7 @@
 use Rattle.std.proofs.Common.{◌≡◌, ◌≢◌, ℕ, suc, zero, ◌+◌, ◌≤◌, ◌<◌, List, Bool, refl, ap, sym, ◌∙◌, subst, arith, Less, Equal, Greater, Ordering, Some, None}
 use Rattle.ul_tree.specs.Plain.{Plain, truth, node, Branches, done, text_cmp, carries, by_order, pick, holds_of, holds_in}
 use Rattle.ul_tree.specs.Reduced.{Fits, FitsAll}
-use Rattle.ul_tree.specs.Apply.{outs, keys, merged, rest_at, branches_at, part_at, apply_at, apply}
+use Rattle.ul_tree.specs.Apply.{outs, keys, key_union, rest_at, branches_at, part_at, apply_at, apply}
 use Rattle.ul_tree.proofs.Order.{cmp_itself, cmp_equal, cmp_over}
 use Rattle.ul_tree.specs.Apply.{size, sizes}
 use Rattle.ul_tree.proofs.Picks.{holds_pick, size_pick, fits_pick}
@@ -66,12 +66,12 @@ joined op rec l a b e n after sa sb small ih = (
     m = carries l
 
     ks : List (List ℕ)
-    ks = merged (keys (branches_at l a)) (keys (branches_at l b))
+    ks = key_union (keys (branches_at l a)) (keys (branches_at l b))
 
     g : List ℕ → Plain
     g v = rec (part_at l v a) (part_at l v b)
 
-    rise : Rise l None (merged (keys (branches_at l a)) (keys (branches_at l b)))
+    rise : Rise l None (key_union (keys (branches_at l a)) (keys (branches_at l b)))
     rise = rise_merged l (keys (branches_at l a)) None (rise_keys (branches_at l a) l None (rest_at l a) sa.branches (from_nothing (branches_at l a)))
         (keys (branches_at l b)) (rise_keys (branches_at l b) l None (rest_at l b) sb.branches (from_nothing (branches_at l b)))
 

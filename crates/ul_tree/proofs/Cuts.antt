@@ -5,7 +5,7 @@ use Rattle.std.specs.Ordering.{nat_cmp}
 use Rattle.std.proofs.lemmas.Bool.{cases_lt}
 use Rattle.ul_specifier.specs.Clauses.{ClauseFields}
 use Rattle.ul_marker.specs.Truth.{python_numbers}
-use Rattle.ul_tree.specs.Pieces.{numbered, major_of, minor_of, patch_of, meets_at, digit, capped, cuts_at, cuts_of}
+use Rattle.ul_tree.specs.Pieces.{packed_number, major_of, minor_of, patch_of, meets_at, digit, capped_number, cuts_at, cuts_of}
 use Rattle.ul_tree.proofs.Order.{cmp_less, cmp_more}
 use Rattle.ul_tree.proofs.Digits.{Alike, alike_meets, cmp_equal}
 
@@ -30,9 +30,9 @@ digit_cmp x y r h fits a b = elim (cases_lt r (2 ^ 32)) [
   | inr large ↦ cmp_less x r (omega arith) ∙ sym (cmp_less y r (omega arith))
 ]
 
-uncapped : (x y c : ℕ) → y < 2 ^ 96 → Apart x y (capped c) → Apart x y c
+uncapped : (x y c : ℕ) → y < 2 ^ 96 → Apart x y (capped_number c) → Apart x y c
 uncapped x y c fits h = elim (cases_lt c (2 ^ 96)) [
-  | inl small ↦ let e : capped c ≡ c = omega arith in rw e at h
+  | inl small ↦ let e : capped_number c ≡ c = omega arith in rw e at h
   | inr large ↦ inr (omega arith)
 ]
 
@@ -45,47 +45,47 @@ record Two (a b c i j k : ℕ) : Type 0 where
   i_fits : i < 2 ^ 32
   j_fits : j < 2 ^ 32
   k_fits : k < 2 ^ 32
-  ordered : numbered a b c ≤ numbered i j k
+  ordered : packed_number a b c ≤ packed_number i j k
 
 major_le : (a b c i j k : ℕ) → Two a b c i j k → a ≤ i
 major_le a b c i j k t = omega arith
 
-major_at : (a b c i j k d : ℕ) → Two a b c i j k → Apart (numbered a b c) (numbered i j k) (numbered d 0 0) → Apart a i d
+major_at : (a b c i j k d : ℕ) → Two a b c i j k → Apart (packed_number a b c) (packed_number i j k) (packed_number d 0 0) → Apart a i d
 major_at a b c i j k d t (inl at) = inl (omega arith)
 major_at a b c i j k d t (inr below) = inr (omega arith)
 
-major_after : (a b c i j k d : ℕ) → Two a b c i j k → Apart (numbered a b c) (numbered i j k) (capped (numbered d 0 0 + 2 ^ 64)) → Apart a i (d + 1)
-major_after a b c i j k d t h = go (uncapped (numbered a b c) (numbered i j k) (numbered d 0 0 + 2 ^ 64) (omega arith) h)
+major_after : (a b c i j k d : ℕ) → Two a b c i j k → Apart (packed_number a b c) (packed_number i j k) (capped_number (packed_number d 0 0 + 2 ^ 64)) → Apart a i (d + 1)
+major_after a b c i j k d t h = go (uncapped (packed_number a b c) (packed_number i j k) (packed_number d 0 0 + 2 ^ 64) (omega arith) h)
   where
-    go : Apart (numbered a b c) (numbered i j k) (numbered d 0 0 + 2 ^ 64) → Apart a i (d + 1)
+    go : Apart (packed_number a b c) (packed_number i j k) (packed_number d 0 0 + 2 ^ 64) → Apart a i (d + 1)
     go (inl at) = inl (omega arith)
     go (inr below) = inr (omega arith)
 
 minor_le : (a b c i j k d : ℕ) → Two a b c i j k → a ≡ d → i ≡ d → b ≤ j
 minor_le a b c i j k d t p q = omega arith
 
-minor_at : (a b c i j k d e : ℕ) → Two a b c i j k → a ≡ d → i ≡ d → Apart (numbered a b c) (numbered i j k) (numbered d e 0) → Apart b j e
+minor_at : (a b c i j k d e : ℕ) → Two a b c i j k → a ≡ d → i ≡ d → Apart (packed_number a b c) (packed_number i j k) (packed_number d e 0) → Apart b j e
 minor_at a b c i j k d e t p q (inl at) = inl (omega arith)
 minor_at a b c i j k d e t p q (inr below) = inr (omega arith)
 
-minor_after : (a b c i j k d e : ℕ) → Two a b c i j k → a ≡ d → i ≡ d → Apart (numbered a b c) (numbered i j k) (capped (numbered d e 0 + 2 ^ 32)) → Apart b j (e + 1)
-minor_after a b c i j k d e t p q h = go (uncapped (numbered a b c) (numbered i j k) (numbered d e 0 + 2 ^ 32) (omega arith) h)
+minor_after : (a b c i j k d e : ℕ) → Two a b c i j k → a ≡ d → i ≡ d → Apart (packed_number a b c) (packed_number i j k) (capped_number (packed_number d e 0 + 2 ^ 32)) → Apart b j (e + 1)
+minor_after a b c i j k d e t p q h = go (uncapped (packed_number a b c) (packed_number i j k) (packed_number d e 0 + 2 ^ 32) (omega arith) h)
   where
-    go : Apart (numbered a b c) (numbered i j k) (numbered d e 0 + 2 ^ 32) → Apart b j (e + 1)
+    go : Apart (packed_number a b c) (packed_number i j k) (packed_number d e 0 + 2 ^ 32) → Apart b j (e + 1)
     go (inl at) = inl (omega arith)
     go (inr below) = inr (omega arith)
 
 patch_le : (a b c i j k d e : ℕ) → Two a b c i j k → a ≡ d → i ≡ d → b ≡ e → j ≡ e → c ≤ k
 patch_le a b c i j k d e t p q r s = omega arith
 
-patch_at : (a b c i j k d e g : ℕ) → Two a b c i j k → a ≡ d → i ≡ d → b ≡ e → j ≡ e → Apart (numbered a b c) (numbered i j k) (numbered d e g) → Apart c k g
+patch_at : (a b c i j k d e g : ℕ) → Two a b c i j k → a ≡ d → i ≡ d → b ≡ e → j ≡ e → Apart (packed_number a b c) (packed_number i j k) (packed_number d e g) → Apart c k g
 patch_at a b c i j k d e g t p q r s (inl at) = inl (omega arith)
 patch_at a b c i j k d e g t p q r s (inr below) = inr (omega arith)
 
-patch_after : (a b c i j k d e g : ℕ) → Two a b c i j k → a ≡ d → i ≡ d → b ≡ e → j ≡ e → Apart (numbered a b c) (numbered i j k) (capped (numbered d e g + 1)) → Apart c k (g + 1)
-patch_after a b c i j k d e g t p q r s h = go (uncapped (numbered a b c) (numbered i j k) (numbered d e g + 1) (omega arith) h)
+patch_after : (a b c i j k d e g : ℕ) → Two a b c i j k → a ≡ d → i ≡ d → b ≡ e → j ≡ e → Apart (packed_number a b c) (packed_number i j k) (capped_number (packed_number d e g + 1)) → Apart c k (g + 1)
+patch_after a b c i j k d e g t p q r s h = go (uncapped (packed_number a b c) (packed_number i j k) (packed_number d e g + 1) (omega arith) h)
   where
-    go : Apart (numbered a b c) (numbered i j k) (numbered d e g + 1) → Apart c k (g + 1)
+    go : Apart (packed_number a b c) (packed_number i j k) (packed_number d e g + 1) → Apart c k (g + 1)
     go (inl at) = inl (omega arith)
     go (inr below) = inr (omega arith)
 
@@ -103,7 +103,7 @@ record AlikeThree (r s u a b c i j k : ℕ) : Type 0 where
 low_is : (x r : ℕ) → x < 2 ^ 32 → x ≡ r → x ≡ low r
 low_is x r h e = omega arith
 
-alike_three : (r s u a b c i j k : ℕ) → Two a b c i j k → a < 2 ^ 32 → EachApart (numbered a b c) (numbered i j k) (cuts_at (low r) (low s) (low u)) → AlikeThree r s u a b c i j k
+alike_three : (r s u a b c i j k : ℕ) → Two a b c i j k → a < 2 ^ 32 → EachApart (packed_number a b c) (packed_number i j k) (cuts_at (low r) (low s) (low u)) → AlikeThree r s u a b c i j k
 alike_three r s u a b c i j k t fits h = record { first = one; second = two; third = three }
   where
     one : nat_cmp a r ≡ nat_cmp i r
@@ -140,7 +140,7 @@ alike_release (r ∷ s ∷ u ∷ rest) true a b c i j k h = (h.first, λ e. (h.s
 alike_release (r ∷ s ∷ u ∷ rest) false a b c i j k h = (h.first, λ e. (h.second e, λ f. tt))
 
 -- the number of an interpreter is that of its three numbers
-pub number_back : (n : ℕ) → n < 2 ^ 96 → numbered (major_of n) (minor_of n) (patch_of n) ≡ n
+pub number_back : (n : ℕ) → n < 2 ^ 96 → packed_number (major_of n) (minor_of n) (patch_of n) ≡ n
 number_back n h = omega arith
 
 pub meets_steady : (s : ClauseFields) (full : Bool) (x y : ℕ) → x ≤ y → y < 2 ^ 96 → EachApart x y (cuts_of s.version.release) → meets_at s full x ≡ meets_at s full y
@@ -157,6 +157,6 @@ meets_steady s full x y ordered fits h =
       k_fits = omega arith;
       ordered = rw (ex, ey) ordered;
     } in
-    let apart : EachApart (numbered (major_of x) (minor_of x) (patch_of x)) (numbered (major_of y) (minor_of y) (patch_of y)) (cuts_at (digit R 0) (digit R 1) (digit R 2)) = rw (ex, ey) h in
+    let apart : EachApart (packed_number (major_of x) (minor_of x) (patch_of x)) (packed_number (major_of y) (minor_of y) (patch_of y)) (cuts_at (digit R 0) (digit R 1) (digit R 2)) = rw (ex, ey) h in
     alike_meets s _ _ (alike_release R full _ _ _ _ _ _
     (alike_three (slice_index R 0) (slice_index R 1) (slice_index R 2) (major_of x) (minor_of x) (patch_of x) (major_of y) (minor_of y) (patch_of y) t (omega arith) apart))

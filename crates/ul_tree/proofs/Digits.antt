@@ -11,7 +11,7 @@ use Rattle.std.proofs.lemmas.List.{append-nil, take-append-drop}
 use Rattle.std.specs.declared.cmp.Ordering.{Ordering}
 use Rattle.std.specs.declared.cmp.Ordering.TheVariants as Answer
 use Rattle.ul_version.specs.Fields.{Fields, plain}
-use Rattle.ul_version.specs.Order.{padded, release_cmp, has_release_front, version_cmp}
+use Rattle.ul_version.specs.Order.{padded_release, release_cmp, has_release_front, version_cmp}
 use Rattle.ul_specifier.specs.Clauses.{ClauseFields}
 use Rattle.ul_specifier.specs.Meaning.{meets_clause, meets_op}
 use Rattle.ul_specifier.specs.declared.clause.Op.{Op}
@@ -35,12 +35,12 @@ Alike R (x ∷ xs) (y ∷ ys) =
     (nat_cmp x (first_of_release R) ≡ nat_cmp y (first_of_release R))
     × (nat_cmp x (first_of_release R) ≡ Answer.Equal → Alike (later_of_release R) xs ys)
 
-padded_next : (size : ℕ) (x : ℕ) (xs : List ℕ) → padded (suc size) (x ∷ xs) ≡ x ∷ padded size xs
-unfolding padded
+padded_next : (size : ℕ) (x : ℕ) (xs : List ℕ) → padded_release (suc size) (x ∷ xs) ≡ x ∷ padded_release size xs
+unfolding padded_release
 padded_next size x xs = let e : suc size - length (x ∷ xs) ≡ size - length xs = omega arith in rw e refl
 
-padded_none : (size : ℕ) → padded (suc size) [] ≡ 0 ∷ padded size []
-unfolding padded
+padded_none : (size : ℕ) → padded_release (suc size) [] ≡ 0 ∷ padded_release size []
+unfolding padded_release
 padded_none size = let e : suc size - 0 ≡ suc (size - 0) = omega arith in rw e refl
 
 release_next : (x : ℕ) (xs R : List ℕ) → release_cmp (x ∷ xs) R ≡ ordering_then (nat_cmp x (first_of_release R)) (release_cmp xs (later_of_release R))

@@ -1,11 +1,11 @@
 -- Each tree has a simpler one under each region that isn't false.
 use Rattle.std.proofs.Common.{◌≡◌, ◌≢◌, ℕ, suc, zero, ◌+◌, ◌≤◌, ◌<◌, List, [], ◌∷◌, Bool, true, false, refl, ap, sym, ◌∙◌, subst, arith, Less, Equal, Greater, Ordering, Option, Some, None, ◌⊎◌, inl, inr, cond}
-use Rattle.ul_tree.specs.Plain.{Plain, truth, node, Branches, done, branch, text_cmp, carries, carried, by_order, pick, holds_of}
+use Rattle.ul_tree.specs.Plain.{Plain, truth, node, Branches, done, branch, text_cmp, carries, carried_part, by_order, pick, holds_of}
 use Rattle.ul_tree.specs.Reduced.{IsReduced, Fits}
-use Rattle.ul_tree.specs.Apply.{size, same, outs, close, keys, merged, rest_at, branches_at, part_at, apply_at, apply, either}
+use Rattle.ul_tree.specs.Apply.{size, same, outs, close, keys, key_union, rest_at, branches_at, part_at, apply_at, apply, either}
 use Rattle.ul_tree.specs.Laws.{or_of}
 use Rattle.ul_tree.specs.Values.{value_of}
-use Rattle.ul_tree.specs.Simplify.{Simplifies, Pieces, Piece, at_truth, anywhere, above, by_pieces, no_piece, piece, outside, inside, Results, union_in, settled}
+use Rattle.ul_tree.specs.Simplify.{Simplifies, Pieces, Piece, at_truth, anywhere, above, by_pieces, no_piece, piece, outside, inside, Results, union_in, settled_level}
 use Rattle.ul_tree.specs.SimplifyLaws.{SimplifyLaws}
 use Rattle.ul_tree.proofs.Order.{cmp_itself, cmp_trans}
 use Rattle.ul_tree.proofs.Picks.{size_pick}
@@ -97,13 +97,13 @@ among_chosen Less ls a b c x y z = x
 among_chosen Equal ls a b c x y z = y
 among_chosen Greater ls a b c x y z = z
 
-among_carried : (m : Bool) (ls : List (List ℕ)) (a b : Plain) → Among ls a → Among ls b → Among ls (carried m a b)
+among_carried : (m : Bool) (ls : List (List ℕ)) (a b : Plain) → Among ls a → Among ls b → Among ls (carried_part m a b)
 among_carried true ls a b x y = x
 among_carried false ls a b x y = y
 
 among_pick : (bs : Branches) (ls : List (List ℕ)) (m : Bool) (v : List ℕ) (d : Plain) → AmongAll ls bs → Among ls d → Among ls (pick bs m v d)
 among_pick done ls m v d x y = y
-among_pick (branch k c rest) ls m v d x y = among_chosen (text_cmp v k) ls d c (pick rest m v (carried m c d)) y x.0 (among_pick rest ls m v (carried m c d) x.1 (among_carried m ls c d x.0 y))
+among_pick (branch k c rest) ls m v d x y = among_chosen (text_cmp v k) ls d c (pick rest m v (carried_part m c d)) y x.0 (among_pick rest ls m v (carried_part m c d) x.1 (among_carried m ls c d x.0 y))
 
 among_rest : (l : List ℕ) (ls : List (List ℕ)) (t : Plain) → Among ls t → Among ls (rest_at l t)
 among_rest l ls (truth b) h = tt
@@ -123,9 +123,9 @@ among_part l v ls t h = among_pick (branches_at l t) ls (carries l) v (rest_at l
 
 among_outs : (g : List ℕ → Plain) (m : Bool) (ks : List (List ℕ)) (ls : List (List ℕ)) (d : Plain) → ((k : List ℕ) → Among ls (g k)) → AmongAll ls (outs g m ks d)
 among_outs g m [] ls d h = tt
-among_outs g m (k ∷ ks) ls d h = go (same (g k) d) (among_outs g m ks ls d h) (among_outs g m ks ls (carried m (g k) d) h)
+among_outs g m (k ∷ ks) ls d h = go (same (g k) d) (among_outs g m ks ls d h) (among_outs g m ks ls (carried_part m (g k) d) h)
   where
-    go : (b : Bool) → AmongAll ls (outs g m ks d) → AmongAll ls (outs g m ks (carried m (g k) d)) → AmongAll ls (cond b (outs g m ks d) (branch k (g k) (outs g m ks (carried m (g k) d))))
+    go : (b : Bool) → AmongAll ls (outs g m ks d) → AmongAll ls (outs g m ks (carried_part m (g k) d)) → AmongAll ls (cond b (outs g m ks d) (branch k (g k) (outs g m ks (carried_part m (g k) d))))
     go true x y = x
     go false x y = (h k, y)
 
@@ -137,7 +137,7 @@ among_at : (op : Bool → Bool → Bool) (n : ℕ) (ls : List (List ℕ)) (l : L
     → ((x y : Plain) → Among ls x → Among ls y → Among ls (apply op n x y)) → Among ls (apply_at op (apply op n) (Some l) a b)
 among_at op n ls l a b i x y ih =
     among_close l ls (apply op n (rest_at l a) (rest_at l b)) _ i (ih (rest_at l a) (rest_at l b) (among_rest l ls a x) (among_rest l ls b y))
-    (among_outs (λ v. apply op n (part_at l v a) (part_at l v b)) (carries l) (merged (keys (branches_at l a)) (keys (branches_at l b))) ls (apply op n (rest_at l a) (rest_at l b))
+    (among_outs (λ v. apply op n (part_at l v a) (part_at l v b)) (carries l) (key_union (keys (branches_at l a)) (keys (branches_at l b))) ls (apply op n (rest_at l a) (rest_at l b))
     (λ v. ih (part_at l v a) (part_at l v b) (among_part l v ls a x) (among_part l v ls b y)))
 
 among_apply : (op : Bool → Bool → Bool) (n : ℕ) (ls : List (List ℕ)) (a b : Plain) → Among ls a → Among ls b → Among ls (apply op n a b)
@@ -246,13 +246,13 @@ level_result n l d bs (node k e cs) small x z f a ih =
     let c = seen_below l k e cs [] z a in
     let h = seen_here l d bs [] x in
     let top = top_smaller l d bs in
-    let ps = pieces_result l (node l d bs) (node k e cs) (merged (keys bs) (keys (branches_at l (node k e cs))))
+    let ps = pieces_result l (node l d bs) (node k e cs) (key_union (keys bs) (keys (branches_at l (node k e cs))))
     (λ v. piece_result (part_at l v (node l d bs)) (part_at l v (node k e cs)) (λ g.
     let p = size_pick (branches_at l (node l d bs)) (carries l) v (rest_at l (node l d bs)) in
     ih (part_at l v (node l d bs)) (part_at l v (node k e cs)) (omega (arith, p, top)) (fits_reduced (part_at l v (node l d bs)) l (seen_part l v (node l d bs) h))
     (fits_reduced (part_at l v (node k e cs)) l (seen_part l v (node k e cs) c)) g)) in
     let o = piece_result d (rest_at l (node k e cs)) (λ g. ih d (rest_at l (node k e cs)) (omega arith) (fits_reduced d l x.2) (fits_reduced (rest_at l (node k e cs)) l c.rest) g) in
-    (settled l ps.0 o.0 d, by_pieces a ps.1 o.1)
+    (settled_level l ps.0 o.0 d, by_pieces a ps.1 o.1)
 
 some_result : (n : ℕ) (f c : Plain) → size f < n → IsReduced f → IsReduced c → c ≢ truth false → (t : Plain) × Simplifies f c t
 some_result zero f c small x y m = absurd (omega arith)

@@ -2,8 +2,8 @@
 use Rattle.std.proofs.Common.{◌≡◌, ◌<◌, ◌≢◌, ℕ, suc, zero, ◌+◌, ◌-◌, ◌≤◌, List, [], ◌∷◌, length, get_or, true, false, refl, ap, sym, ◌∙◌, subst, arith, Less, Equal, Greater, Ordering, ◌⊎◌, inl, inr}
 use Rattle.std.specs.List.{list_all}
 use Rattle.std.specs.Str.{str_to_ascii_lowercase}
-use Rattle.ul_base.proofs.Names.{name_reads}
-use Rattle.ul_base.specs.Names.{normal_form, collapsed, has_ends, is_name_byte}
+use Rattle.ul_base.proofs.ForCallers.{name_reads}
+use Rattle.ul_base.specs.Names.{normal_form, single_hyphens, has_ends, is_name_byte}
 use Rattle.ul_marker.specs.Worlds.{WorldFields}
 use Rattle.ul_tree.specs.Apply.{branches_at, rest_at}
 use Rattle.ul_tree.specs.Laws.{OneTruthOneTree}
@@ -71,7 +71,7 @@ zs_bytes : (n : ℕ) → list_all is_name_byte (zs n) ≡ true
 zs_bytes zero = refl
 zs_bytes (suc n) = zs_bytes n
 
-zs_form : (n : ℕ) → str_to_ascii_lowercase (collapsed (zs n)) ≡ zs n
+zs_form : (n : ℕ) → str_to_ascii_lowercase (single_hyphens (zs n)) ≡ zs n
 zs_form zero = refl
 zs_form (suc n) = ap (λ t. 122 ∷ t) (zs_form n)
 

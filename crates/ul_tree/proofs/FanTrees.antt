@@ -2,13 +2,13 @@
 use Rattle.std.proofs.Common.{◌≡◌, ◌≢◌, ℕ, zero, suc, ◌<◌, ◌^◌, List, [], ◌∷◌, ◌++◌, Bool, true, false, refl, ap, sym, ◌∙◌, subst, arith, Less, Some, None, if◌then◌else◌, Equal, Greater}
 use Rattle.std.specs.Ordering.{nat_cmp, ordering_then}
 use Rattle.std.proofs.lemmas.Cmp.{ranked, by_ranked}
-use Rattle.ul_tree.specs.Plain.{Plain, truth, node, Branches, done, branch, text_cmp, carries, carried}
+use Rattle.ul_tree.specs.Plain.{Plain, truth, node, Branches, done, branch, text_cmp, carries, carried_part}
 use Rattle.ul_tree.specs.Apply.{keys}
 use Rattle.ul_tree.specs.Levels.{python_level}
 use Rattle.ul_tree.specs.Reduced.{Fits, FitsAll, StartsAfter}
 use Rattle.ul_tree.proofs.Order.{cmp_trans, cmp_less}
-use Rattle.ul_tree.specs.PathList.{Step, interval, point, others, start_of, led, paths_to_true, paths_from, paths_at}
-use Rattle.ul_tree.specs.Fans.{Fan, stop, end, edge, same_step, begins, put_path, put_paths, fan_of, inner_of, rest_of, pieces_from, opened, other_part, listed_points, filled_points, pointed_at, node_of, tree_of, parts_of}
+use Rattle.ul_tree.specs.PathList.{Step, interval, point, others, start_of, longer_paths, paths_to_true, paths_from, paths_at}
+use Rattle.ul_tree.specs.Fans.{Fan, stop, end, edge, same_step, begins, put_path, put_paths, fan_of, inner_of, rest_of, pieces_from, opening_node, other_part, listed_points, filled_points, pointed_at, node_of, tree_of, parts_of}
 use Rattle.ul_tree.proofs.Tools.{eqb_self, eqb_less, bytes_self, less_differs, step_self}
 
 -- ---- paths under one step
@@ -23,7 +23,7 @@ put_append : (ps qs : List (List Step)) (fan : Fan) → put_paths (ps ++ qs) fan
 put_append [] qs fan = refl
 put_append (p ∷ ps) qs fan = ap (put_path p) (put_append ps qs fan)
 
-put_led : (s : Step) (p : List Step) (ps : List (List Step)) (fan : Fan) → begins s fan ≡ false → put_paths (led s (p ∷ ps)) fan ≡ edge s (fan_of (p ∷ ps)) fan
+put_led : (s : Step) (p : List Step) (ps : List (List Step)) (fan : Fan) → begins s fan ≡ false → put_paths (longer_paths s (p ∷ ps)) fan ≡ edge s (fan_of (p ∷ ps)) fan
 put_led s p [] fan b = rw b refl
 put_led s p (q ∷ qs) fan b = ap (put_path (s ∷ p)) (put_led s q qs fan b) ∙ rw (step_self s) refl
 
@@ -35,7 +35,7 @@ put_some (r ∷ p) fan rest s = go (begins r fan)
     go true = refl
     go false = refl
 
-put_all : (s : Step) (ps : List (List Step)) (fan : Fan) → begins s fan ≡ false → put_paths (led s ps) fan ≡ put_fan s (fan_of ps) fan
+put_all : (s : Step) (ps : List (List Step)) (fan : Fan) → begins s fan ≡ false → put_paths (longer_paths s ps) fan ≡ put_fan s (fan_of ps) fan
 put_all s [] fan b = refl
 put_all s (p ∷ ps) fan b = put_led s p ps fan b ∙ sym (put_some p (fan_of ps) fan s)
 
@@ -97,7 +97,7 @@ Rising start (branch k c rest) = (start < start_of k) × (k ≡ start_of k ∷ [
 -- each part differs from the one that stands before it
 abbrev pub Unlike : Bool → Plain → Branches → Type 0
 Unlike m d done = Unit {0}
-Unlike m d (branch k c rest) = (c ≢ d) × Unlike m (carried m c d) rest
+Unlike m d (branch k c rest) = (c ≢ d) × Unlike m (carried_part m c d) rest
 
 abbrev kept_from : ℕ → Plain → Branches → List (Step × Plain)
 kept_from start d done = kept (interval start (2 ^ 96)) d []
@@ -110,7 +110,7 @@ fan_from start d bs = put_paths (paths_from start (paths_to_true d) bs) stop
 from_shape : (k : List ℕ) (c : Plain) (rest : Branches) (d : Plain) (start : ℕ) → begins (interval start (start_of k)) (fan_from (start_of k) c rest) ≡ false
     → fan_from start d (branch k c rest) ≡ put_fan (interval start (start_of k)) (fan_of (paths_to_true d)) (fan_from (start_of k) c rest)
 from_shape k c rest d start b =
-    put_append (led (interval start (start_of k)) (paths_to_true d)) (paths_from (start_of k) (paths_to_true c) rest) stop
+    put_append (longer_paths (interval start (start_of k)) (paths_to_true d)) (paths_from (start_of k) (paths_to_true c) rest) stop
     ∙ put_all (interval start (start_of k)) (paths_to_true d) (fan_from (start_of k) c rest) b
 
 last_shape : (d : Plain) (start : ℕ) → fan_from start d done ≡ put_fan (interval start (2 ^ 96)) (fan_of (paths_to_true d)) stop
@@ -178,14 +178,14 @@ pieces_back (branch k c rest) (truth true) start h u =
 pieces_back (branch k c rest) (node l d bs) start h u =
     rw (eqb_self start) (ap (λ z. branch (start ∷ []) (node l d bs) z) (pieces_back rest c (start_of k) h.2 u.1 ∙ ap (λ z. branch z c rest) (sym h.1)))
 
-node_kept : (a b : ℕ) (c : Plain) (more : List (Step × Plain)) → c ≢ truth false → node_of (kept (interval a b) c more) ≡ opened (pieces_from 0 (kept (interval a b) c more))
+node_kept : (a b : ℕ) (c : Plain) (more : List (Step × Plain)) → c ≢ truth false → node_of (kept (interval a b) c more) ≡ opening_node (pieces_from 0 (kept (interval a b) c more))
 node_kept a b (truth false) more n = absurd (n refl)
 node_kept a b (truth true) more n = refl
 node_kept a b (node l d bs) more n = refl
 
 -- a node of the interpreter opens with its pieces
 node_opens : (k : List ℕ) (c : Plain) (rest : Branches) (d : Plain) → Unlike true d (branch k c rest)
-    → node_of (kept_from 0 d (branch k c rest)) ≡ opened (pieces_from 0 (kept_from 0 d (branch k c rest)))
+    → node_of (kept_from 0 d (branch k c rest)) ≡ opening_node (pieces_from 0 (kept_from 0 d (branch k c rest)))
 node_opens k c done (truth false) u = node_kept (start_of k) (2 ^ 96) c [] u.0
 node_opens k c (branch j e rest) (truth false) u = node_kept (start_of k) (start_of j) c (kept_from (start_of j) e rest) u.0
 node_opens k c rest (truth true) u = refl
@@ -197,7 +197,7 @@ python_back k c rest d h u e es =
     tree_by_parts (fan_from 0 d (branch k c rest)) (from_not_end (branch k c rest) d 0 h)
     ∙ ap node_of (from_parts (branch k c rest) d 0 h e es)
     ∙ node_opens k c rest d u
-    ∙ ap opened (pieces_back (branch k c rest) d 0 h u)
+    ∙ ap opening_node (pieces_back (branch k c rest) d 0 h u)
 
 -- ---- points
 
@@ -219,7 +219,7 @@ NoPoint l fan = (k : List ℕ) → begins (point l k) fan ≡ false
 
 at_shape : (l k : List ℕ) (c : Plain) (rest : Branches) (fan : Fan) → begins (point l k) (fan_at l rest fan) ≡ false
     → fan_at l (branch k c rest) fan ≡ put_fan (point l k) (fan_of (paths_to_true c)) (fan_at l rest fan)
-at_shape l k c rest fan b = put_append (led (point l k) (paths_to_true c)) (paths_at l rest) fan ∙ put_all (point l k) (paths_to_true c) (fan_at l rest fan) b
+at_shape l k c rest fan b = put_append (longer_paths (point l k) (paths_to_true c)) (paths_at l rest) fan ∙ put_all (point l k) (paths_to_true c) (fan_at l rest fan) b
 
 pub starts_after : (k j : List ℕ) (bs : Branches) → text_cmp k j ≡ Less → StartsAfter (Some j) bs → StartsAfter (Some k) bs
 starts_after k j done e h = tt
@@ -315,13 +315,13 @@ no_point_others : (l : List ℕ) (ks : List (List ℕ)) (inner : Fan) → NoPoin
 no_point_others l ks inner k = begins_put (point l k) (others l ks) inner stop refl refl
 
 points_back : (k : List ℕ) (c : Plain) (rest : Branches) (l : List ℕ) (d : Plain) → Increasing (branch k c rest) → Unlike false d (branch k c rest) → Back d → Backs (branch k c rest)
-    → tree_of (put_paths (paths_at l (branch k c rest) ++ led (others l (keys (branch k c rest))) (paths_to_true d)) stop) ≡ node l d (branch k c rest)
+    → tree_of (put_paths (paths_at l (branch k c rest) ++ longer_paths (others l (keys (branch k c rest))) (paths_to_true d)) stop) ≡ node l d (branch k c rest)
 points_back k c rest l d h u e es =
     let bs = branch k c rest in
     let last = others l (keys bs) in
     let other = put_fan last (fan_of (paths_to_true d)) stop in
     let n : NoPoint l other = no_point_others l (keys bs) (fan_of (paths_to_true d)) in
-    ap tree_of (put_append (paths_at l bs) (led last (paths_to_true d)) stop ∙ ap (put_paths (paths_at l bs)) (put_all last (paths_to_true d) stop refl))
+    ap tree_of (put_append (paths_at l bs) (longer_paths last (paths_to_true d)) stop ∙ ap (put_paths (paths_at l bs)) (put_all last (paths_to_true d) stop refl))
     ∙ tree_by_parts (fan_at l bs other) (at_not_end bs l other h n (not_end_put last (fan_of (paths_to_true d)) stop refl))
     ∙ ap node_of (at_parts bs l other h n es ∙ ap (kept_points l bs) (parts_put last d stop e))
     ∙ points_node k c rest l d h u
@@ -330,11 +330,11 @@ points_back k c rest l d h u e es =
 
 unlike_fits : (bs : Branches) (l : List ℕ) (d : Plain) → FitsAll bs l d → Unlike (carries l) d bs
 unlike_fits done l d h = tt
-unlike_fits (branch k c rest) l d h = (h.3, unlike_fits rest l (carried (carries l) c d) h.4)
+unlike_fits (branch k c rest) l d h = (h.3, unlike_fits rest l (carried_part (carries l) c d) h.4)
 
 pub increasing_fits : (bs : Branches) (l : List ℕ) (d : Plain) → FitsAll bs l d → Increasing bs
 increasing_fits done l d h = tt
-increasing_fits (branch k c rest) l d h = (h.1, increasing_fits rest l (carried (carries l) c d) h.4)
+increasing_fits (branch k c rest) l d h = (h.1, increasing_fits rest l (carried_part (carries l) c d) h.4)
 
 number_less : (x y : ℕ) → text_cmp (x ∷ []) (y ∷ []) ≡ Less → x < y
 number_less x y h =
@@ -372,7 +372,7 @@ node_back l d k c rest h e es = go (carries l) refl
     bs = branch k c rest
 
     go : (m : Bool) → carries l ≡ m
-        → tree_of (fan_of (if m then paths_from 0 (paths_to_true d) bs else paths_at l bs ++ led (others l (keys bs)) (paths_to_true d))) ≡ node l d bs
+        → tree_of (fan_of (if m then paths_from 0 (paths_to_true d) bs else paths_at l bs ++ longer_paths (others l (keys bs)) (paths_to_true d))) ≡ node l d bs
     go true q =
         let p = is_python l q in
         let f = subst (λ (z : List ℕ). FitsAll bs z d) p h in
@@ -389,4 +389,4 @@ mutual
 
   pub parts_back : (bs : Branches) (l : List ℕ) (d : Plain) → FitsAll bs l d → Backs bs
   parts_back done l d h = tt
-  parts_back (branch k c rest) l d h = (tree_back c l h.2, parts_back rest l (carried (carries l) c d) h.4)
+  parts_back (branch k c rest) l d h = (tree_back c l h.2, parts_back rest l (carried_part (carries l) c d) h.4)

@@ -1,7 +1,7 @@
 -- A part found by halves: what one branch says of the part that a value takes.
 use Rattle.std.proofs.Common.{◌≡◌, ℕ, suc, zero, ◌≤◌, List, [], ◌∷◌, Bool, true, false, refl, ap, sym, ◌∙◌, subst, arith, Less, Equal, Greater, Ordering, Some}
 use Rattle.std.specs.Ordering.{is_eq}
-use Rattle.ul_tree.specs.Plain.{Plain, truth, node, Branches, done, branch, text_cmp, carries, carried, by_order, pick}
+use Rattle.ul_tree.specs.Plain.{Plain, truth, node, Branches, done, branch, text_cmp, carries, carried_part, by_order, pick}
 use Rattle.ul_tree.specs.Reduced.{Fits, FitsAll, IsReduced, StartsAfter}
 use Rattle.ul_tree.specs.Apply.{rest_at, branches_at, part_at}
 use Rattle.ul_tree.specs.Keys.{rest_of, branches_of, branch_count, branches_from, is_level}
@@ -28,7 +28,7 @@ pub part_fits : (bs : Branches) (l k : List ℕ) (c d : Plain) (r : Branches) (i
 part_fits done l k c d r zero h q = cc
 part_fits done l k c d r (suc i) h q = cc
 part_fits (branch j e rest) l k c d r zero h q = subst (λ (z : Plain). Fits z l) (first_is j k e c rest r q).1 h.2
-part_fits (branch j e rest) l k c d r (suc i) h q = part_fits rest l k c (carried (carries l) e d) r i h.4 q
+part_fits (branch j e rest) l k c d r (suc i) h q = part_fits rest l k c (carried_part (carries l) e d) r i h.4 q
 
 -- a level is no empty list
 below_all : (e l : List ℕ) → text_cmp e l ≡ Less → text_cmp [] l ≡ Less
@@ -55,23 +55,23 @@ later : (bs : Branches) (l b k : List ℕ) (c d : Plain) (r : Branches) (i : ℕ
 later done l b k c d r zero h s q = cc
 later done l b k c d r (suc i) h s q = cc
 later (branch j e rest) l b k c d r zero h s q = subst (λ (z : List ℕ). text_cmp b z ≡ Less) (first_is j k e c rest r q).0 s
-later (branch j e rest) l b k c d r (suc i) h s q = cmp_trans b j k s (later rest l j k c (carried (carries l) e d) r i h.4 h.1 q)
+later (branch j e rest) l b k c d r (suc i) h s q = cmp_trans b j k s (later rest l j k c (carried_part (carries l) e d) r i h.4 h.1 q)
 
-carried_twice : (m : Bool) (c e d : Plain) → carried m c (carried m e d) ≡ carried m c d
+carried_twice : (m : Bool) (c e d : Plain) → carried_part m c (carried_part m e d) ≡ carried_part m c d
 carried_twice true c e d = refl
 carried_twice false c e d = refl
 
 -- above the key, the branches after it decide
 pub pick_past : (bs : Branches) (l v k : List ℕ) (m : Bool) (c d f : Plain) (r : Branches) (i : ℕ) → FitsAll bs l f → branches_from i bs ≡ branch k c r → text_cmp v k ≡ Greater
-    → pick bs m v d ≡ pick r m v (carried m c d)
+    → pick bs m v d ≡ pick r m v (carried_part m c d)
 pick_past done l v k m c d f r zero h q o = cc
 pick_past done l v k m c d f r (suc i) h q o = cc
 pick_past (branch j e rest) l v k m c d f r zero h q o =
     let w = first_is j k e c rest r q in
-    past_key v j e d rest m (subst (λ (z : List ℕ). text_cmp z v ≡ Less) (sym w.0) (cmp_over v k o)) ∙ ap (λ z. pick rest m v (carried m z d)) w.1 ∙ ap (λ z. pick z m v (carried m c d)) w.2
+    past_key v j e d rest m (subst (λ (z : List ℕ). text_cmp z v ≡ Less) (sym w.0) (cmp_over v k o)) ∙ ap (λ z. pick rest m v (carried_part m z d)) w.1 ∙ ap (λ z. pick z m v (carried_part m c d)) w.2
 pick_past (branch j e rest) l v k m c d f r (suc i) h q o =
-    past_key v j e d rest m (cmp_trans j k v (later rest l j k c (carried (carries l) e f) r i h.4 h.1 q) (cmp_over v k o))
-    ∙ pick_past rest l v k m c (carried m e d) (carried (carries l) e f) r i h.4 q o ∙ ap (pick r m v) (carried_twice m c e d)
+    past_key v j e d rest m (cmp_trans j k v (later rest l j k c (carried_part (carries l) e f) r i h.4 h.1 q) (cmp_over v k o))
+    ∙ pick_past rest l v k m c (carried_part m e d) (carried_part (carries l) e f) r i h.4 q o ∙ ap (pick r m v) (carried_twice m c e d)
 
 -- at the key, its part is taken
 pub pick_at : (bs : Branches) (l v k : List ℕ) (m : Bool) (c d f : Plain) (r : Branches) (i : ℕ) → FitsAll bs l f → branches_from i bs ≡ branch k c r → text_cmp v k ≡ Equal → pick bs m v d ≡ c
@@ -81,8 +81,8 @@ pick_at (branch j e rest) l v k m c d f r zero h q o =
     let w = first_is j k e c rest r q in
     ap (λ z. pick (branch j e rest) m z d) (cmp_equal v k o ∙ sym w.0) ∙ at_key j e d rest m ∙ w.1
 pick_at (branch j e rest) l v k m c d f r (suc i) h q o =
-    past_key v j e d rest m (subst (λ (z : List ℕ). text_cmp j z ≡ Less) (sym (cmp_equal v k o)) (later rest l j k c (carried (carries l) e f) r i h.4 h.1 q))
-    ∙ pick_at rest l v k m c (carried m e d) (carried (carries l) e f) r i h.4 q o
+    past_key v j e d rest m (subst (λ (z : List ℕ). text_cmp j z ≡ Less) (sym (cmp_equal v k o)) (later rest l j k c (carried_part (carries l) e f) r i h.4 h.1 q))
+    ∙ pick_at rest l v k m c (carried_part m e d) (carried_part (carries l) e f) r i h.4 q o
 
 -- below the key, no branch from it on is taken
 pub starts_at : (bs : Branches) (v k : List ℕ) (c : Plain) (r : Branches) → bs ≡ branch k c r → text_cmp v k ≡ Less → StartsAfter (Some v) bs
@@ -95,7 +95,7 @@ pick_before (branch k c rest) v m d s = before_key v k c d rest m s
 -- ---- the same of a whole tree
 
 pub tree_past : (t : Plain) (v k : List ℕ) (m : Bool) (c d : Plain) (r : Branches) (i : ℕ) → IsReduced t → branches_from i (branches_of t) ≡ branch k c r → text_cmp v k ≡ Greater
-    → pick (branches_of t) m v d ≡ pick r m v (carried m c d)
+    → pick (branches_of t) m v d ≡ pick r m v (carried_part m c d)
 tree_past (truth b) v k m c d r i h q o = pick_past done [] v k m c d d r i tt q o
 tree_past (node l e bs) v k m c d r i h q o = pick_past bs l v k m c d e r i h.3 q o
 

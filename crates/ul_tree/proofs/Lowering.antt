@@ -1,7 +1,7 @@
 -- A region whose levels are taken away from the top.
 use Rattle.std.proofs.Common.{◌≡◌, ◌≢◌, ℕ, suc, zero, ◌-◌, ◌+◌, ◌≤◌, List, [], true, false, refl, ap, sym, ◌∙◌, subst, arith, add-one, Less, Equal, Greater, Ordering, Bool}
 use Rattle.std.specs.Ordering.{is_lt}
-use Rattle.ul_tree.specs.Plain.{Plain, truth, node, Branches, done, branch, text_cmp, carries, carried, holds_of}
+use Rattle.ul_tree.specs.Plain.{Plain, truth, node, Branches, done, branch, text_cmp, carries, carried_part, holds_of}
 use Rattle.ul_tree.specs.Reduced.{IsReduced, Fits, FitsAll}
 use Rattle.ul_tree.specs.Laws.{or_of}
 use Rattle.ul_tree.specs.Apply.{size, either}
@@ -62,7 +62,7 @@ pub union_truth : (bs : Branches) (e : List ℕ) (d t : Plain) (f : List ℕ →
     → holds_of (union_in bs t) f ≡ either (holds_of t f) (some_part_holds (branch_count bs) bs f)
 union_truth done e d t f h x = either_none (holds_of t f)
 union_truth (branch k c rest) e d t f h x =
-    union_truth rest e (carried (carries e) c d) (or_of t c) f h.4 (or_fits e t c x h.2)
+    union_truth rest e (carried_part (carries e) c d) (or_of t c) f h.4 (or_fits e t c x h.2)
     ∙ ap (λ z. either z (some_part_holds (branch_count rest) rest f)) (or_holds e t c f x h.2)
     ∙ either_both (holds_of t f) (holds_of c f) (some_part_holds (branch_count rest) rest f)
 

@@ -1,10 +1,10 @@
 -- The branches of a tree that is being made.
 use Rattle.std.proofs.Common.{arith, ◌≡◌, ℕ, suc, List, [], ◌∷◌, ◌++◌, length, Bool, true, false, refl, ap, sym, ◌∙◌, subst, Global, String, string_bytes}
 use Rattle.std.specs.List.{All}
-use Rattle.ul_tree.specs.Plain.{Plain, Branches, done, branch, carried}
+use Rattle.ul_tree.specs.Plain.{Plain, Branches, done, branch, carried_part}
 use Rattle.ul_tree.specs.Reduced.{IsReduced}
 use Rattle.ul_tree.specs.Keys.{key_view, then_branches}
-use Rattle.ul_tree.specs.Joins.{made_view, stands, added}
+use Rattle.ul_tree.specs.Joins.{made_view, stands, more_branches}
 use Rattle.ul_tree.specs.Views.{tree_view, points_view}
 use Rattle.ul_tree.specs.declared.level.Key.{Key}
 use Rattle.ul_tree.specs.declared.tree.Tree.{Tree}
@@ -14,17 +14,17 @@ pub made_push : {A : Type 0} (view : A → Plain) (xs : List (Key × A)) (e : Ke
 made_push view [] e rest = refl
 made_push view (d ∷ xs) e rest = ap (branch (key_view d.0) (view d.1)) (made_push view xs e rest)
 
-pub added_more : {A : Type 0} (view : A → Plain) (b : Bool) (xs : List (Key × A)) (k : Key) (t : A) → b ≡ false → made_view view (xs ++ (k, t) ∷ []) ≡ added b (made_view view xs) (key_view k) (view t)
+pub added_more : {A : Type 0} (view : A → Plain) (b : Bool) (xs : List (Key × A)) (k : Key) (t : A) → b ≡ false → made_view view (xs ++ (k, t) ∷ []) ≡ more_branches b (made_view view xs) (key_view k) (view t)
 added_more view b xs k t e =
-    sym (then_none (made_view view (xs ++ (k, t) ∷ []))) ∙ made_push view xs (k, t) done ∙ ap (λ b. added b (made_view view xs) (key_view k) (view t)) (sym e)
+    sym (then_none (made_view view (xs ++ (k, t) ∷ []))) ∙ made_push view xs (k, t) done ∙ ap (λ b. more_branches b (made_view view xs) (key_view k) (view t)) (sym e)
 
-pub stands_then : (m : Bool) (bs : Branches) (k : List ℕ) (x d : Plain) → stands m (then_branches bs (branch k x done)) d ≡ carried m x (stands m bs d)
+pub stands_then : (m : Bool) (bs : Branches) (k : List ℕ) (x d : Plain) → stands m (then_branches bs (branch k x done)) d ≡ carried_part m x (stands m bs d)
 stands_then true done k x d = refl
 stands_then false done k x d = refl
-stands_then m (branch j c rest) k x d = stands_then m rest k x (carried m c d)
+stands_then m (branch j c rest) k x d = stands_then m rest k x (carried_part m c d)
 
 -- what stands after a part was added
-pub stands_added : (b m : Bool) (bs : Branches) (k : List ℕ) (x d : Plain) → IsReduced x → IsReduced (stands m bs d) → IsReduced (stands m (added b bs k x) d)
+pub stands_added : (b m : Bool) (bs : Branches) (k : List ℕ) (x d : Plain) → IsReduced x → IsReduced (stands m bs d) → IsReduced (stands m (more_branches b bs k x) d)
 stands_added true m bs k x d h g = g
 stands_added false true bs k x d h g = subst (λ (z : Plain). IsReduced z) (sym (stands_then true bs k x d)) h
 stands_added false false bs k x d h g = subst (λ (z : Plain). IsReduced z) (sym (stands_then false bs k x d)) g
@@ -47,5 +47,5 @@ first_of P x left rest e h =
     let g = subst (λ (z : List (Key × _)). All P z) e h in
     (g 0 x (omega arith), λ k d m. g (suc k) d (omega arith))
 
-pub stands_kept : (b m : Bool) (bs cs : Branches) (k : List ℕ) (x d : Plain) → cs ≡ added b bs k x → IsReduced x → IsReduced (stands m bs d) → IsReduced (stands m cs d)
+pub stands_kept : (b m : Bool) (bs cs : Branches) (k : List ℕ) (x d : Plain) → cs ≡ more_branches b bs k x → IsReduced x → IsReduced (stands m bs d) → IsReduced (stands m cs d)
 stands_kept b m bs cs k x d e h g = subst (λ (z : Branches). IsReduced (stands m z d)) (sym e) (stands_added b m bs k x d h g)

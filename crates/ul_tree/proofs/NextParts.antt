@@ -6,9 +6,9 @@ use Rattle.ul_marker.specs.Worlds.{WorldFields}
 use Rattle.ul_tree.specs.Apply.{size, sizes}
 use Rattle.ul_tree.specs.FirstParts.{is_false, first_branch}
 use Rattle.ul_tree.specs.Levels.{python_level, atom_level}
-use Rattle.ul_tree.specs.Plain.{Plain, truth, node, Branches, done, branch, carries, carried}
+use Rattle.ul_tree.specs.Plain.{Plain, truth, node, Branches, done, branch, carries, carried_part}
 use Rattle.ul_tree.specs.Reduced.{Fits, FitsAll, HasBranch}
-use Rattle.ul_tree.specs.Sample.{Step, beside, or_else, stepped, first_path, first_in, with_level, with_path, sample_from}
+use Rattle.ul_tree.specs.Sample.{Step, beside, or_else, longer_path, first_path, first_in, with_level, with_path, sample_from}
 use Rattle.ul_tree.specs.Views.{tree_view, pieces_of, pieces_view, python_of}
 use Rattle.ul_tree.specs.declared.tree.Tree.{Tree}
 use Rattle.ul_tree.proofs.Leads.{Stands, stands}
@@ -29,11 +29,11 @@ pub record GoesOn (t : Plain) (l v : List ℕ) (c : Plain) : Type 0 where
   pub sample : (w : WorldFields) → sample_from w t ≡ sample_from (with_level l v w) c
 
 -- a path that stands is taken
-taken : (l v : List ℕ) (p q : Option (List Step)) (w : WorldFields) → Stands p → with_path w (or_else (stepped l v p) q) ≡ with_path (with_level l v w) p
+taken : (l v : List ℕ) (p q : Option (List Step)) (w : WorldFields) → Stands p → with_path w (or_else (longer_path l v p) q) ≡ with_path (with_level l v w) p
 taken l v None q w s = absurd s
 taken l v (Some steps) q w s = refl
 
-taken_last : (l v : List ℕ) (p : Option (List Step)) (w : WorldFields) → Stands p → with_path w (stepped l v p) ≡ with_path (with_level l v w) p
+taken_last : (l v : List ℕ) (p : Option (List Step)) (w : WorldFields) → Stands p → with_path w (longer_path l v p) ≡ with_path (with_level l v w) p
 taken_last l v None w s = absurd s
 taken_last l v (Some steps) w s = refl
 
@@ -45,9 +45,9 @@ Chosen l bs (Some p) =
 
 chosen_more : (l k : List ℕ) (c : Plain) (rest : Branches) (o : Option (List ℕ × Plain)) → c ≡ truth false → Chosen l rest o → Chosen l (branch k c rest) o
 chosen_more l k c rest None e h =
-    (ap (λ z. or_else (stepped l k (first_path z)) (first_in l rest)) e ∙ h.0, λ d b f q. f.3 (e ∙ sym q))
+    (ap (λ z. or_else (longer_path l k (first_path z)) (first_in l rest)) e ∙ h.0, λ d b f q. f.3 (e ∙ sym q))
 chosen_more l k c rest (Some p) e h =
-    (h.0, h.1, omega (arith, h.2), λ w q. ap (λ z. with_path w (or_else (or_else (stepped l k (first_path z)) (first_in l rest)) q)) e ∙ h.3 w q)
+    (h.0, h.1, omega (arith, h.2), λ w q. ap (λ z. with_path w (or_else (or_else (longer_path l k (first_path z)) (first_in l rest)) q)) e ∙ h.3 w q)
 
 or_or : (a b c : Option (List Step)) → or_else (or_else a b) c ≡ or_else a (or_else b c)
 or_or None b c = refl
@@ -55,7 +55,7 @@ or_or (Some x) b c = refl
 
 chosen : (l : List ℕ) (bs : Branches) (d : Plain) → FitsAll bs l d → Chosen l bs (first_branch bs)
 chosen l done d h = (refl, λ e b. absurd b)
-chosen l (branch k c rest) d h = go (is_false c) refl (chosen l rest (carried (carries l) c d) h.4)
+chosen l (branch k c rest) d h = go (is_false c) refl (chosen l rest (carried_part (carries l) c d) h.4)
   where
     go : (t : Bool) → is_false c ≡ t → Chosen l rest (first_branch rest) → Chosen l (branch k c rest) (cond t (first_branch rest) (Some (k, c)))
     go true e ih = chosen_more l k c rest (first_branch rest) (is_false_true c e) ih
@@ -63,13 +63,13 @@ chosen l (branch k c rest) d h = go (is_false c) refl (chosen l rest (carried (c
       h.2,
       is_false_false c e,
       omega arith,
-      λ w q. ap (with_path w) (or_or (stepped l k (first_path c)) (first_in l rest) q)
+      λ w q. ap (with_path w) (or_or (longer_path l k (first_path c)) (first_in l rest) q)
           ∙ taken l k (first_path c) (or_else (first_in l rest) q) w (stands c l h.2 (is_false_false c e)),
     )
 
 -- a level of points
-points_path : (l : List ℕ) (d : Plain) (bs : Branches) → carries l ≡ false → first_path (node l d bs) ≡ or_else (first_in l bs) (stepped l (beside l bs) (first_path d))
-points_path l d bs m = ap (λ t. cond t (or_else (stepped l (0 ∷ []) (first_path d)) (first_in l bs)) (or_else (first_in l bs) (stepped l (beside l bs) (first_path d)))) m
+points_path : (l : List ℕ) (d : Plain) (bs : Branches) → carries l ≡ false → first_path (node l d bs) ≡ or_else (first_in l bs) (longer_path l (beside l bs) (first_path d))
+points_path l d bs m = ap (λ t. cond t (or_else (longer_path l (0 ∷ []) (first_path d)) (first_in l bs)) (or_else (first_in l bs) (longer_path l (beside l bs) (first_path d)))) m
 
 pub point_goes_on : (l b : List ℕ) (d : Plain) (bs : Branches) → carries l ≡ false → Fits (node l d bs) b → (k : List ℕ) (c : Plain) → Some (k, c) ≡ first_branch bs → GoesOn (node l d bs) l k c
 point_goes_on l b d bs m h k c e =
@@ -78,7 +78,7 @@ point_goes_on l b d bs m h k c e =
       fits = p.0;
       not_false = p.1;
       smaller = omega (arith, p.2);
-      sample = λ w. ap (with_path w) (points_path l d bs m) ∙ p.3 w (stepped l (beside l bs) (first_path d));
+      sample = λ w. ap (with_path w) (points_path l d bs m) ∙ p.3 w (longer_path l (beside l bs) (first_path d));
     }
 
 pub other_goes_on : (l b : List ℕ) (d : Plain) (bs : Branches) → carries l ≡ false → Fits (node l d bs) b → None ≡ first_branch bs → GoesOn (node l d bs) l (beside l bs) d
@@ -89,7 +89,7 @@ other_goes_on l b d bs m h e =
       fits = h.2;
       not_false = n;
       smaller = omega arith;
-      sample = λ w. ap (with_path w) (points_path l d bs m ∙ ap (λ o. or_else o (stepped l (beside l bs) (first_path d))) p.0)
+      sample = λ w. ap (with_path w) (points_path l d bs m ∙ ap (λ o. or_else o (longer_path l (beside l bs) (first_path d))) p.0)
           ∙ taken_last l (beside l bs) (first_path d) w (stands d l h.2 n);
     }
 
@@ -104,7 +104,7 @@ later_piece b d bs (Some p) h e q = record {
   fits = q.0;
   not_false = q.1;
   smaller = omega (arith, q.2);
-  sample = λ w. ap (λ z. with_path w (or_else (stepped python_level (0 ∷ []) (first_path z)) (first_in python_level bs))) e
+  sample = λ w. ap (λ z. with_path w (or_else (longer_path python_level (0 ∷ []) (first_path z)) (first_in python_level bs))) e
       ∙ ap (with_path w) (sym (or_none (first_in python_level bs))) ∙ q.3 w None;
 }
   where
@@ -133,7 +133,7 @@ pieces_level : (ss : List ℕ) (ps : List Plain) (d : Plain) → FitsAll (pieces
 pieces_level [] [] d h = refl
 pieces_level [] (p ∷ ps) d h = let q : [] ≡ h.0.0 ∷ [] = h.0.1 in cc
 pieces_level (s ∷ ss) [] d h = let q : [] ≡ h.0.0 ∷ [] = h.0.1 in cc
-pieces_level (s ∷ ss) (p ∷ ps) d h = ap suc (pieces_level ss ps (carried (carries python_level) p d) h.4)
+pieces_level (s ∷ ss) (p ∷ ps) d h = ap suc (pieces_level ss ps (carried_part (carries python_level) p d) h.4)
 
 shaped : (starts : List ℕ) (parts : List Plain) (b : List ℕ) → Fits (python_of starts parts) b → IsShaped starts parts
 shaped [] ps b h = absurd h.1

@@ -5,12 +5,12 @@ use Rattle.std.specs.Option.{option_map}
 use Rattle.std.proofs.lemmas.List.{drop_all}
 use Rattle.std.proofs.Math.Seq.{drop-cons}
 use Rattle.std.proofs.lemmas.List.Elements.{All-push}
-use Rattle.ul_tree.specs.Plain.{Plain, Branches, done, branch, carries, carried}
+use Rattle.ul_tree.specs.Plain.{Plain, Branches, done, branch, carries, carried_part}
 use Rattle.ul_tree.specs.Reduced.{Fits, IsReduced}
 use Rattle.ul_tree.specs.Apply.{part_at, same, close}
 use Rattle.ul_tree.specs.Keys.{key_view, keys_view, has_kind, then_branches, KeysOf}
-use Rattle.ul_tree.specs.Joins.{stands, added}
-use Rattle.ul_tree.specs.Simplify.{Results, Pieces, Piece, own_or, filled, earliest, latest, reduced_branches, settled_from, settled}
+use Rattle.ul_tree.specs.Joins.{stands, more_branches}
+use Rattle.ul_tree.specs.Simplify.{Results, Pieces, Piece, own_or, filled_results, earliest, latest, reduced_branches, settled_from, settled_level}
 use Rattle.ul_tree.specs.SimplifyViews.{results_view, parts_view, last_part, PartsFit, ResultFits, ResultsFit}
 use Rattle.ul_tree.proofs.Rebuilt.{then_none, then_then}
 use Rattle.ul_tree.proofs.Made.{stands_then}
@@ -20,8 +20,8 @@ use Rattle.ul_tree.specs.declared.level.Key.{Key}
 
 -- one part more, with its piece's own result or the part before
 pub filled_step : {A : Type 0} (view : A → Plain) (ps : List (Key × A)) (p : Key × A) (o : Option Plain) (rs : Results) (z : Plain) → view p.1 ≡ own_or o (last_part (parts_view view ps) z)
-    → parts_view view (ps ++ p ∷ []) ++ filled rs (last_part (parts_view view (ps ++ p ∷ [])) z) ≡ parts_view view ps ++ filled ((key_view p.0, o) ∷ rs) (last_part (parts_view view ps) z)
-filled_step view [] p o rs z e = ap (λ t. (key_view p.0, t) ∷ filled rs t) e
+    → parts_view view (ps ++ p ∷ []) ++ filled_results rs (last_part (parts_view view (ps ++ p ∷ [])) z) ≡ parts_view view ps ++ filled_results ((key_view p.0, o) ∷ rs) (last_part (parts_view view ps) z)
+filled_step view [] p o rs z e = ap (λ t. (key_view p.0, t) ∷ filled_results rs t) e
 filled_step view (q ∷ ps) p o rs z e = ap (λ xs. (key_view q.0, view q.1) ∷ xs) (filled_step view ps p o rs (view q.1) e)
 
 -- pieces in a row, with one more
@@ -64,14 +64,14 @@ kinds_step l x y made next left rest e q h =
     (subst (λ (z : List (Key × _)). KeysOf l z) (sym q) (All-push (λ i. has_kind l i.0 ≡ true) made (x.0, y) h.0 n.0), n.1)
 
 branch_added : (m : Bool) (made : Branches) (k : List ℕ) (x d : Plain) (ps : List (List ℕ × Plain)) (b : Bool)
-    → then_branches (added b made k x) (reduced_branches m ps (stands m (added b made k x) d))
-    ≡ then_branches made (cond b (reduced_branches m ps (stands m made d)) (branch k x (reduced_branches m ps (carried m x (stands m made d)))))
+    → then_branches (more_branches b made k x) (reduced_branches m ps (stands m (more_branches b made k x) d))
+    ≡ then_branches made (cond b (reduced_branches m ps (stands m made d)) (branch k x (reduced_branches m ps (carried_part m x (stands m made d)))))
 branch_added m made k x d ps true = refl
 branch_added m made k x d ps false =
     then_then made k x (reduced_branches m ps (stands m (then_branches made (branch k x done)) d)) ∙ ap (λ z. then_branches made (branch k x (reduced_branches m ps z))) (stands_then m made k x d)
 
 -- one branch more
-pub branch_step : {A : Type 0} (view : A → Plain) (m : Bool) (made next whole : Branches) (p : Key × A) (left rest : List (Key × A)) (d : Plain) → left ≡ p ∷ rest → next ≡ added (same (view p.1) (stands m made d)) made (key_view p.0) (view p.1)
+pub branch_step : {A : Type 0} (view : A → Plain) (m : Bool) (made next whole : Branches) (p : Key × A) (left rest : List (Key × A)) (d : Plain) → left ≡ p ∷ rest → next ≡ more_branches (same (view p.1) (stands m made d)) made (key_view p.0) (view p.1)
     → then_branches made (reduced_branches m (parts_view view left) (stands m made d)) ≡ whole → then_branches next (reduced_branches m (parts_view view rest) (stands m next d)) ≡ whole
 branch_step view m made next whole p left rest d e q h =
     ap (λ z. then_branches z (reduced_branches m (parts_view view rest) (stands m z d))) q
@@ -85,7 +85,7 @@ branches_end view m made whole (p ∷ ps) d e h = absurd (omega arith)
 pub next_part : {A : Type 0} (view : A → Plain) (p : Key × A) (left rest : List (Key × A)) (l : List ℕ) → left ≡ p ∷ rest → PartsFit (parts_view view left) l → Fits (view p.1) l × PartsFit (parts_view view rest) l
 next_part view p left rest l e h = subst (λ (z : List (Key × _)). PartsFit (parts_view view z) l) e h
 
-pub parts_reduced : {A : Type 0} (view : A → Plain) (ps : List (Key × A)) (rs : Results) (z : Plain) (l : List ℕ) → parts_view view ps ≡ filled rs z → ResultsFit rs l → Fits z l → PartsFit (parts_view view ps) l
+pub parts_reduced : {A : Type 0} (view : A → Plain) (ps : List (Key × A)) (rs : Results) (z : Plain) (l : List ℕ) → parts_view view ps ≡ filled_results rs z → ResultsFit rs l → Fits z l → PartsFit (parts_view view ps) l
 parts_reduced view ps rs z l e h x = subst (λ (y : List (List ℕ × Plain)). PartsFit y l) (sym e) (filled_fit rs l z h x)
 
 pub first_reduced : {A : Type 0} (view : A → Plain) (m : Bool) (xs ys : List (Key × Option A)) (o : Option Plain) (d t : Plain) → t ≡ earliest m (results_view view xs) o d → xs ≡ ys → ResultsFit (results_view view ys) [] → ResultFits o [] → IsReduced d → IsReduced t
@@ -102,9 +102,9 @@ kind_step l items i d o made next h e ks ms = subst (λ (z : List (Key × Option
 
 -- a level put together is the one of the rule
 pub settled_is : (l : List ℕ) (m : Bool) (rs : Results) (o : Option Plain) (d z e : Plain) (ps : List (List ℕ × Plain)) (bs : Branches) → m ≡ carries l → z ≡ earliest m rs o d → e ≡ own_or o (latest m rs z)
-    → ps ≡ filled rs z → bs ≡ reduced_branches m ps e → close l e bs ≡ settled l rs o d
+    → ps ≡ filled_results rs z → bs ≡ reduced_branches m ps e → close l e bs ≡ settled_level l rs o d
 settled_is l m rs o d z e ps bs carry first other parts made =
     ap (close l e) (made ∙ ap (λ x. reduced_branches m x e) parts)
-    ∙ ap (λ k. close l e (reduced_branches k (filled rs z) e)) carry
-    ∙ ap (λ x. close l x (reduced_branches (carries l) (filled rs z) x)) (other ∙ ap (λ k. own_or o (latest k rs z)) carry)
+    ∙ ap (λ k. close l e (reduced_branches k (filled_results rs z) e)) carry
+    ∙ ap (λ x. close l x (reduced_branches (carries l) (filled_results rs z) x)) (other ∙ ap (λ k. own_or o (latest k rs z)) carry)
     ∙ ap (settled_from l rs o) (first ∙ ap (λ k. earliest k rs o d) carry)

@@ -3,7 +3,7 @@ use Rattle.std.proofs.Common.{◌≡◌, ℕ, suc, ◌+◌, ◌<◌, List, [], B
 use Rattle.ul_tree.specs.Plain.{Plain, truth, node}
 use Rattle.ul_tree.specs.Reduced.{IsReduced}
 use Rattle.ul_tree.specs.Values.{value_of, tree_holds}
-use Rattle.ul_tree.specs.Apply.{apply, apply_at, built, first_of, keys, merged, branches_at, rest_at, part_at, size, both, either, truth_value}
+use Rattle.ul_tree.specs.Apply.{apply, apply_at, built, first_of, keys, key_union, branches_at, rest_at, part_at, size, both, either, truth_value}
 use Rattle.ul_tree.specs.Laws.{joined_by, not_of}
 use Rattle.ul_tree.specs.JoinSteps.{HasJoinedTruth, JoinsTo, ApplySteps, JoinShortcuts, first_alone, Implies, ImpliesByJoin}
 use Rattle.ul_tree.specs.Joins.{past_truth}
@@ -22,9 +22,9 @@ enough op n a b x y h =
     one_truth_one_tree (apply op n a b) (joined_by op a b) p.0 q.0 (λ w e is ascii extra. p.1 (value_of w e) ∙ sym (q.1 (value_of w e)))
 
 at_level : (op : Bool → Bool → Bool) (l : List ℕ) (a b : Plain) → IsReduced a → IsReduced b → Some l ≡ first_of a b
-    → joined_by op a b ≡ built l (λ v. joined_by op (part_at l v a) (part_at l v b)) (joined_by op (rest_at l a) (rest_at l b)) (merged (keys (branches_at l a)) (keys (branches_at l b)))
+    → joined_by op a b ≡ built l (λ v. joined_by op (part_at l v a) (part_at l v b)) (joined_by op (rest_at l a) (rest_at l b)) (key_union (keys (branches_at l a)) (keys (branches_at l b)))
 at_level op l a b x y first =
-    let ks = merged (keys (branches_at l a)) (keys (branches_at l b)) in
+    let ks = key_union (keys (branches_at l a)) (keys (branches_at l b)) in
     let n = size a + size b in
     ap (λ z. apply_at op (apply op n) z a b) (sym first)
     ∙ (λ i. built l (λ v. enough op n (part_at l v a) (part_at l v b) (part_at_reduced l v a x) (part_at_reduced l v b y) (parts_smaller a b l v first) i)

@@ -3,7 +3,7 @@ use Rattle.std.proofs.Common.{◌≡◌, ◌≢◌, ℕ, List, ◌∷◌, refl, 
 use Rattle.ul_tree.specs.Plain.{Plain, node, Branches, text_cmp, carries, holds_of}
 use Rattle.ul_tree.specs.Reduced.{Fits}
 use Rattle.ul_tree.specs.Apply.{rest_at, branches_at, part_at}
-use Rattle.ul_tree.specs.Simplify.{Simplifies, Pieces, Piece, at_truth, anywhere, above, by_pieces, no_piece, piece, outside, inside, Results, settled}
+use Rattle.ul_tree.specs.Simplify.{Simplifies, Pieces, Piece, at_truth, anywhere, above, by_pieces, no_piece, piece, outside, inside, Results, settled_level}
 use Rattle.ul_tree.proofs.Order.{cmp_itself, cmp_over}
 use Rattle.ul_tree.proofs.Picks.{fits_pick}
 use Rattle.ul_tree.proofs.Applied.{Seen, seen_node}
@@ -55,7 +55,7 @@ mutual
   one (above w s) (by_pieces n ps p) = absurd (n w)
   one (by_pieces n ps p) (above w s) = absurd (n w)
   one (by_pieces {l = l} {d = d} {rs = rs} {o = o} n ps p) (by_pieces {rs = rs2} {o = o2} m qs q) =
-      ap (λ z. settled l z o d) (ones ps qs) ∙ ap (λ z. settled l rs2 z d) (one_piece p q)
+      ap (λ z. settled_level l z o d) (ones ps qs) ∙ ap (λ z. settled_level l rs2 z d) (one_piece p q)
 
   pub ones : {l : List ℕ} {f c : Plain} {ks : List (List ℕ)} {rs qs : Results} → Pieces l f c ks rs → Pieces l f c ks qs → rs ≡ qs
   ones no_piece no_piece = refl

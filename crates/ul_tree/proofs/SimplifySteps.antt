@@ -3,9 +3,9 @@ use Rattle.std.proofs.Common.{◌≡◌, ◌≢◌, ℕ, ◌<◌, List, [], ◌�
 use Rattle.std.specs.Ordering.{is_lt}
 use Rattle.ul_tree.specs.Plain.{Plain, truth, node, Branches, done, text_cmp, carries, by_order}
 use Rattle.ul_tree.specs.Reduced.{IsReduced}
-use Rattle.ul_tree.specs.Apply.{size, keys, merged, known, rest_at, branches_at, part_at}
+use Rattle.ul_tree.specs.Apply.{size, keys, key_union, leaf_truth, rest_at, branches_at, part_at}
 use Rattle.ul_tree.specs.Keys.{top_of}
-use Rattle.ul_tree.specs.Simplify.{Simplifies, Pieces, Piece, at_truth, anywhere, by_pieces, no_piece, piece, outside, inside, Results, settled}
+use Rattle.ul_tree.specs.Simplify.{Simplifies, Pieces, Piece, at_truth, anywhere, by_pieces, no_piece, piece, outside, inside, Results, settled_level}
 use Rattle.ul_tree.specs.FirstParts.{is_false}
 use Rattle.ul_tree.specs.SimplifyViews.{is_above, Lowered, ResultFits, ResultsFit}
 use Rattle.ul_tree.proofs.Order.{cmp_itself}
@@ -76,7 +76,7 @@ piece_outside f c e = subst (λ (z : Plain). Piece f z None) (sym (false_is c e)
 pub piece_inside : (f c t : Plain) → is_false c ≡ false → Simplifies f c t → Piece f c (Some t)
 piece_inside f c t e s = inside (not_false_is c e) s
 
-known_is : (c : Plain) → known c ≡ true → c ≡ truth true
+known_is : (c : Plain) → leaf_truth c ≡ true → c ≡ truth true
 known_is (truth true) e = refl
 known_is (truth false) e = cc
 known_is (node k d bs) e = cc
@@ -87,7 +87,7 @@ truth_done (truth b) c t e q = subst (λ (z : Plain). Simplifies (truth b) c z) 
 truth_done (node l d bs) c t e q = cc
 
 -- the region is everything
-pub all_done : (f r t : Plain) → known r ≡ true → t ≡ f → Simplifies f r t
+pub all_done : (f r t : Plain) → leaf_truth r ≡ true → t ≡ f → Simplifies f r t
 all_done f r t k q = subst (λ (z : Plain). Simplifies f r z) (sym q) (subst (λ (z : Plain). Simplifies f z f) (sym (known_is r k)) anywhere)
 
 -- upper levels of the region are taken away
@@ -97,26 +97,26 @@ lowered_done f c r t l e h s =
     subst (λ (z : Plain). Simplifies z c t) (sym n.is) (h.lowers.serves n.rest n.branches t (subst (λ (z : Plain). Simplifies z r t) n.is s))
 
 -- the pieces of a node and of a region that isn't above it
-pieces_done : (l : List ℕ) (d r : Plain) (bs : Branches) (rs : Results) (o : Option Plain) → is_above l r ≡ false → known r ≡ false → r ≢ truth false
-    → Pieces l (node l d bs) r (merged (keys (branches_at l (node l d bs))) (keys (branches_at l r))) rs → Piece (rest_at l (node l d bs)) (rest_at l r) o
-    → Simplifies (node l d bs) r (settled l rs o (rest_at l (node l d bs)))
+pieces_done : (l : List ℕ) (d r : Plain) (bs : Branches) (rs : Results) (o : Option Plain) → is_above l r ≡ false → leaf_truth r ≡ false → r ≢ truth false
+    → Pieces l (node l d bs) r (key_union (keys (branches_at l (node l d bs))) (keys (branches_at l r))) rs → Piece (rest_at l (node l d bs)) (rest_at l r) o
+    → Simplifies (node l d bs) r (settled_level l rs o (rest_at l (node l d bs)))
 pieces_done l d (truth true) bs rs o a k n ps p = cc
 pieces_done l d (truth false) bs rs o a k n ps p = absurd (n refl)
 pieces_done l d (node j e cs) bs rs o a k n ps p =
     let r = node j e cs in
     let here : rest_at l (node l d bs) ≡ d = ap (λ i. by_order i (node l d bs) d (node l d bs)) (cmp_itself l) in
     let at : branches_at l (node l d bs) ≡ bs = ap (λ i. by_order i done bs done) (cmp_itself l) in
-    subst (λ (z : Plain). Simplifies (node l d bs) r (settled l rs o z)) (sym here)
-    (by_pieces (not_less (text_cmp j l) a) (subst (λ (z : Branches). Pieces l (node l d bs) r (merged (keys z) (keys (branches_at l r))) rs) at ps) (subst (λ (z : Plain). Piece z (rest_at l r) o) here p))
+    subst (λ (z : Plain). Simplifies (node l d bs) r (settled_level l rs o z)) (sym here)
+    (by_pieces (not_less (text_cmp j l) a) (subst (λ (z : Branches). Pieces l (node l d bs) r (key_union (keys z) (keys (branches_at l r))) rs) at ps) (subst (λ (z : Plain). Piece z (rest_at l r) o) here p))
 
-pub level_done : (f r t : Plain) (l : List ℕ) (ks : List (List ℕ)) (rs : Results) (o : Option Plain) → Some l ≡ top_of f → is_above l r ≡ false → r ≢ truth false → known r ≡ false
-    → ks ≡ merged (keys (branches_at l f)) (keys (branches_at l r)) → Pieces l f r ks rs → Piece (rest_at l f) (rest_at l r) o → t ≡ settled l rs o (rest_at l f) → Simplifies f r t
+pub level_done : (f r t : Plain) (l : List ℕ) (ks : List (List ℕ)) (rs : Results) (o : Option Plain) → Some l ≡ top_of f → is_above l r ≡ false → r ≢ truth false → leaf_truth r ≡ false
+    → ks ≡ key_union (keys (branches_at l f)) (keys (branches_at l r)) → Pieces l f r ks rs → Piece (rest_at l f) (rest_at l r) o → t ≡ settled_level l rs o (rest_at l f) → Simplifies f r t
 level_done f r t l ks rs o e a m k w ps p q =
     let n = top_node f l e in
     subst (λ (z : Plain). Simplifies f r z) (sym q) (go n.rest n.branches n.is (subst (λ (z : List (List ℕ)). Pieces l f r z rs) w ps) p)
   where
-    go : (d : Plain) (bs : Branches) → f ≡ node l d bs → Pieces l f r (merged (keys (branches_at l f)) (keys (branches_at l r))) rs → Piece (rest_at l f) (rest_at l r) o → Simplifies f r (settled l rs o (rest_at l f))
-    go d bs is = subst (λ (z : Plain). Pieces l z r (merged (keys (branches_at l z)) (keys (branches_at l r))) rs → Piece (rest_at l z) (rest_at l r) o → Simplifies z r (settled l rs o (rest_at l z))) (sym is)
+    go : (d : Plain) (bs : Branches) → f ≡ node l d bs → Pieces l f r (key_union (keys (branches_at l f)) (keys (branches_at l r))) rs → Piece (rest_at l f) (rest_at l r) o → Simplifies f r (settled_level l rs o (rest_at l f))
+    go d bs is = subst (λ (z : Plain). Pieces l z r (key_union (keys (branches_at l z)) (keys (branches_at l r))) rs → Piece (rest_at l z) (rest_at l r) o → Simplifies z r (settled_level l rs o (rest_at l z))) (sym is)
         (pieces_done l d r bs rs o a k m)
 
 -- the pieces that are left, after one

@@ -1,11 +1,11 @@
 -- One turn of the loop over keys, and its end, over plain data.
 use Rattle.std.proofs.Common.{arith, ◌≡◌, ℕ, suc, ◌+◌, ◌<◌, List, [], ◌∷◌, length, drop, get_or, Bool, true, false, cond, refl, ap, sym, ◌∙◌, subst, Some, Less, Equal, Greater, Ordering}
 use Rattle.std.proofs.lemmas.List.{drop_more}
-use Rattle.ul_tree.specs.Plain.{Plain, truth, node, Branches, done, branch, text_cmp, carries, carried, by_order, pick, holds_of}
+use Rattle.ul_tree.specs.Plain.{Plain, truth, node, Branches, done, branch, text_cmp, carries, carried_part, by_order, pick, holds_of}
 use Rattle.ul_tree.specs.Reduced.{IsReduced, Fits, FitsAll}
-use Rattle.ul_tree.specs.Apply.{size, same, outs, close, keys, merged, rest_at, branches_at, part_at, first_of, apply_at, apply}
+use Rattle.ul_tree.specs.Apply.{size, same, outs, close, keys, key_union, rest_at, branches_at, part_at, first_of, apply_at, apply}
 use Rattle.ul_tree.specs.Keys.{key_view, keys_view, then_branches, top_of}
-use Rattle.ul_tree.specs.Joins.{stands, added}
+use Rattle.ul_tree.specs.Joins.{stands, more_branches}
 use Rattle.ul_tree.specs.declared.level.Key.{Key}
 use Rattle.ul_tree.specs.declared.level.Key.TheVariants.{Literal}
 use Rattle.ul_tree.proofs.Order.{cmp_equal, cmp_itself}
@@ -17,18 +17,18 @@ use Rattle.ul_tree.proofs.Rebuilt.{then_then}
 use Rattle.ul_tree.proofs.Made.{stands_then}
 
 next_added : (g : List ℕ → Plain) (m : Bool) (k : List ℕ) (ks : List (List ℕ)) (d : Plain) (bs : Branches) (b : Bool)
-    → then_branches (added b bs k (g k)) (outs g m ks (stands m (added b bs k (g k)) d)) ≡ then_branches bs (cond b (outs g m ks (stands m bs d)) (branch k (g k) (outs g m ks (carried m (g k) (stands m bs d)))))
+    → then_branches (more_branches b bs k (g k)) (outs g m ks (stands m (more_branches b bs k (g k)) d)) ≡ then_branches bs (cond b (outs g m ks (stands m bs d)) (branch k (g k) (outs g m ks (carried_part m (g k) (stands m bs d)))))
 next_added g m k ks d bs true = refl
 next_added g m k ks d bs false =
     ap (λ z. then_branches (then_branches bs (branch k (g k) done)) (outs g m ks z)) (stands_then m bs k (g k) d)
-    ∙ then_then bs k (g k) (outs g m ks (carried m (g k) (stands m bs d)))
+    ∙ then_then bs k (g k) (outs g m ks (carried_part m (g k) (stands m bs d)))
 
 -- one turn
 pub step_kept : (g : List ℕ → Plain) (m : Bool) (bs cs : Branches) (d x : Plain) (k : List ℕ) (ks : List (List ℕ)) (whole : Branches) → x ≡ g k
-    → cs ≡ added (same x (stands m bs d)) bs k x → then_branches bs (outs g m (k ∷ ks) (stands m bs d)) ≡ whole → then_branches cs (outs g m ks (stands m cs d)) ≡ whole
+    → cs ≡ more_branches (same x (stands m bs d)) bs k x → then_branches bs (outs g m (k ∷ ks) (stands m bs d)) ≡ whole → then_branches cs (outs g m ks (stands m cs d)) ≡ whole
 step_kept g m bs cs d x k ks whole p q h =
     ap (λ z. then_branches z (outs g m ks (stands m z d))) q
-    ∙ ap (λ z. then_branches (added (same z (stands m bs d)) bs k z) (outs g m ks (stands m (added (same z (stands m bs d)) bs k z) d))) p
+    ∙ ap (λ z. then_branches (more_branches (same z (stands m bs d)) bs k z) (outs g m ks (stands m (more_branches (same z (stands m bs d)) bs k z) d))) p
     ∙ next_added g m k ks d bs (same (g k) (stands m bs d)) ∙ h
 
 -- what is read past the end of keys
@@ -40,7 +40,7 @@ keys_left items i d h = ap keys_view (drop_more items i d h)
 
 -- the end
 pub applied_is : (op : Bool → Bool → Bool) (n : ℕ) (a b : Plain) (l : List ℕ) (t other : Plain) (bs : Branches) (ks : List (List ℕ)) → Some l ≡ first_of a b → other ≡ apply op n (rest_at l a) (rest_at l b)
-    → ks ≡ merged (keys (branches_at l a)) (keys (branches_at l b)) → bs ≡ outs (λ v. apply op n (part_at l v a) (part_at l v b)) (carries l) ks other → t ≡ close l other bs → t ≡ apply op (suc n) a b
+    → ks ≡ key_union (keys (branches_at l a)) (keys (branches_at l b)) → bs ≡ outs (λ v. apply op n (part_at l v a) (part_at l v b)) (carries l) ks other → t ≡ close l other bs → t ≡ apply op (suc n) a b
 applied_is op n a b l t other bs ks first end whole made is =
     is ∙ ap (close l other) made
     ∙ ap (λ z. close l z (outs (λ v. apply op n (part_at l v a) (part_at l v b)) (carries l) ks z)) end
@@ -71,7 +71,7 @@ part_at_reduced l v (node k d bs) h = go (text_cmp l k) refl
     go Greater e = h
 
 pub closed_reduced : (op : Bool → Bool → Bool) (n : ℕ) (a b : Plain) (l : List ℕ) (other : Plain) (bs : Branches) (ks : List (List ℕ)) → size a + size b < suc n → IsReduced a → IsReduced b → Some l ≡ first_of a b
-    → other ≡ apply op n (rest_at l a) (rest_at l b) → ks ≡ merged (keys (branches_at l a)) (keys (branches_at l b))
+    → other ≡ apply op n (rest_at l a) (rest_at l b) → ks ≡ key_union (keys (branches_at l a)) (keys (branches_at l b))
     → bs ≡ outs (λ v. apply op n (part_at l v a) (part_at l v b)) (carries l) ks other → IsReduced (close l other bs)
 closed_reduced op n a b l other bs ks small x y first end whole made =
     subst (λ (z : Plain). IsReduced z) (sym (applied_is op n a b l (close l other bs) other bs ks first end whole made refl)) (applied op (suc n) a b [] small x y).0

@@ -7,11 +7,11 @@ use Rattle.std.proofs.lemmas.List.Folds.{list_all-append, list_any-append}
 use Rattle.std.proofs.lemmas.Map.Text.{is_eq-slice_cmp}
 use Rattle.ul_tree.specs.Apply.{keys}
 use Rattle.ul_tree.specs.Levels.{python_level}
-use Rattle.ul_tree.specs.Plain.{Plain, truth, node, Branches, done, branch, text_cmp, by_order, carries, carried, holds_of, holds_in}
+use Rattle.ul_tree.specs.Plain.{Plain, truth, node, Branches, done, branch, text_cmp, by_order, carries, carried_part, holds_of, holds_in}
 use Rattle.ul_tree.specs.Reduced.{Fits, FitsAll, StartsAfter}
 use Rattle.ul_tree.specs.Values.{value_of}
 use Rattle.ul_tree.proofs.Order.{cmp_trans, cmp_equal, cmp_less}
-use Rattle.ul_tree.specs.PathList.{Step, interval, point, others, start_of, led, paths_to_true, paths_from, paths_at}
+use Rattle.ul_tree.specs.PathList.{Step, interval, point, others, start_of, longer_paths, paths_to_true, paths_from, paths_at}
 use Rattle.ul_tree.specs.Comparisons.{at_least, below, differs, lower, upper, comparisons_of, path_comparisons}
 use Rattle.ul_tree.specs.PathTruth.{is_before, comparison_holds, path_holds, some_path_holds}
 use Rattle.ul_tree.specs.PathLaws.{PathsTellTruth}
@@ -38,10 +38,10 @@ or_false : (a : Bool) → (a || false) ≡ a
 or_false true = refl
 or_false false = refl
 
-some_led : (f : List ℕ → List ℕ) (s : Step) (ps : List (List Step)) → some_path_holds f (led s ps) ≡ (step_holds f s && some_path_holds f ps)
+some_led : (f : List ℕ → List ℕ) (s : Step) (ps : List (List Step)) → some_path_holds f (longer_paths s ps) ≡ (step_holds f s && some_path_holds f ps)
 some_led f s [] = sym (and_false (step_holds f s))
 some_led f s (p ∷ ps) =
-    ap (λ b. b || some_path_holds f (led s ps)) (list_all-append (comparison_holds f) (comparisons_of s) (path_comparisons p))
+    ap (λ b. b || some_path_holds f (longer_paths s ps)) (list_all-append (comparison_holds f) (comparisons_of s) (path_comparisons p))
     ∙ ap (λ b. (step_holds f s && path_holds f p) || b) (some_led f s ps)
     ∙ both_or (step_holds f s) (path_holds f p) (some_path_holds f ps)
 
@@ -58,7 +58,7 @@ AllTold f (branch k c rest) = Told f c × AllTold f rest
 
 -- ---- points
 
-point_holds : (f : List ℕ → List ℕ) (l k : List ℕ) (ps : List (List Step)) → some_path_holds f (led (point l k) ps) ≡ (is_eq (text_cmp (f l) k) && some_path_holds f ps)
+point_holds : (f : List ℕ → List ℕ) (l k : List ℕ) (ps : List (List Step)) → some_path_holds f (longer_paths (point l k) ps) ≡ (is_eq (text_cmp (f l) k) && some_path_holds f ps)
 point_holds f l k ps = some_led f (point l k) ps ∙ ap (λ b. b && some_path_holds f ps) (and_true (bytes_eq (f l) k) ∙ sym (is_eq-slice_cmp (f l) k))
 
 -- none of the keys
@@ -72,7 +72,7 @@ absent : (f : List ℕ → List ℕ) (l : List ℕ) (bs : Branches) → Increasi
 absent f l done h a = (refl, refl)
 absent f l (branch k c rest) h a =
     let more = absent f l rest h.1 (starts_after (f l) k rest a h.0) in (
-      some_both f (led (point l k) (paths_to_true c)) (paths_at l rest) ∙ ap (λ b. b || some_path_holds f (paths_at l rest)) (point_holds f l k (paths_to_true c) ∙ ap (λ o. is_eq o && some_path_holds f (paths_to_true c)) a) ∙ more.0,
+      some_both f (longer_paths (point l k) (paths_to_true c)) (paths_at l rest) ∙ ap (λ b. b || some_path_holds f (paths_at l rest)) (point_holds f l k (paths_to_true c) ∙ ap (λ o. is_eq o && some_path_holds f (paths_to_true c)) a) ∙ more.0,
       none_more f l k (keys rest) ∙ ap (λ o. not (is_eq o) && none_of f l (keys rest)) a ∙ more.1,
     )
 
@@ -81,7 +81,7 @@ at_truth f l done t h es = refl
 at_truth f l (branch k c rest) t h es =
     go (text_cmp (f l) k) refl (at_truth f l rest t h.1 es.1)
     ∙ ap (λ b. (b || some_path_holds f (paths_at l rest)) || ((not (is_eq (text_cmp (f l) k)) && none_of f l (keys rest)) && t)) (sym (point_holds f l k (paths_to_true c)))
-    ∙ ap (λ b. b || ((not (is_eq (text_cmp (f l) k)) && none_of f l (keys rest)) && t)) (sym (some_both f (led (point l k) (paths_to_true c)) (paths_at l rest)))
+    ∙ ap (λ b. b || ((not (is_eq (text_cmp (f l) k)) && none_of f l (keys rest)) && t)) (sym (some_both f (longer_paths (point l k) (paths_to_true c)) (paths_at l rest)))
     ∙ ap (λ b. some_path_holds f (paths_at l (branch k c rest)) || (b && t)) (sym (none_more f l k (keys rest)))
   where
     go : (o : Ordering) → text_cmp (f l) k ≡ o → holds_in rest false (f l) t f ≡ (some_path_holds f (paths_at l rest) || (none_of f l (keys rest) && t))
@@ -107,7 +107,7 @@ upper_holds : (f : List ℕ → List ℕ) (x : ℕ) → x < 2 ^ 96 → list_all 
 upper_holds f x h = ap (λ b. list_all (comparison_holds f) (if b then [] else below x ∷ [])) (eqb_less x (2 ^ 96) h) ∙ and_true (is_before (text_cmp (f python_level) (x ∷ [])))
 
 piece_holds : (f : List ℕ → List ℕ) (a b : ℕ) (ps : List (List Step))
-    → some_path_holds f (led (interval a b) ps) ≡ ((list_all (comparison_holds f) (lower a) && list_all (comparison_holds f) (upper b)) && some_path_holds f ps)
+    → some_path_holds f (longer_paths (interval a b) ps) ≡ ((list_all (comparison_holds f) (lower a) && list_all (comparison_holds f) (upper b)) && some_path_holds f ps)
 piece_holds f a b ps = some_led f (interval a b) ps ∙ ap (λ z. z && some_path_holds f ps) (list_all-append (comparison_holds f) (lower a) (upper b))
 
 rising_low : (bs : Branches) (x : ℕ) → Rising x bs → x < 2 ^ 96
@@ -121,7 +121,7 @@ beyond f (branch k c rest) x ps p h e =
     let y = start_of k in
     let less : text_cmp (x ∷ []) (y ∷ []) ≡ Less = ap (λ o. ordering_then o Equal) (cmp_less x y h.0) in
     let s = h.0 in
-    some_both f (led (interval x y) ps) (paths_from y (paths_to_true c) rest)
+    some_both f (longer_paths (interval x y) ps) (paths_from y (paths_to_true c) rest)
     ∙ ap (λ z. z || some_path_holds f (paths_from y (paths_to_true c) rest))
     (piece_holds f x y ps ∙ ap (λ z. (z && list_all (comparison_holds f) (upper y)) && some_path_holds f ps) (lower_holds f x p ∙ ap (λ o. not (is_before o)) e))
     ∙ beyond f rest y (paths_to_true c) (omega (arith, s, p)) h.2 (cmp_trans (f python_level) (x ∷ []) (y ∷ []) e less)
@@ -139,7 +139,7 @@ from_truth f (branch k c rest) start d h i low e es =
     ∙ go (text_cmp (f python_level) (x ∷ [])) refl (λ low. from_truth f rest x c h.2 i.1 low es.0 es.1)
     ∙ ap (λ z. (z && some_path_holds f (paths_to_true d)) || some_path_holds f (paths_from x (paths_to_true c) rest)) (sym (ap (λ z. z && list_all (comparison_holds f) (upper x)) low ∙ upper_holds f x (rising_low rest x h.2)))
     ∙ ap (λ z. z || some_path_holds f (paths_from x (paths_to_true c) rest)) (sym (piece_holds f start x (paths_to_true d)))
-    ∙ sym (some_both f (led (interval start x) (paths_to_true d)) (paths_from x (paths_to_true c) rest))
+    ∙ sym (some_both f (longer_paths (interval start x) (paths_to_true d)) (paths_from x (paths_to_true c) rest))
   where
     x : ℕ
     x = start_of k
@@ -166,7 +166,7 @@ node_truth f l d k c rest h e es = go (carries l) refl
     bs = branch k c rest
 
     go : (m : Bool) → carries l ≡ m
-        → holds_in bs m (f l) (holds_of d f) f ≡ some_path_holds f (if m then paths_from 0 (paths_to_true d) bs else paths_at l bs ++ led (others l (keys bs)) (paths_to_true d))
+        → holds_in bs m (f l) (holds_of d f) f ≡ some_path_holds f (if m then paths_from 0 (paths_to_true d) bs else paths_at l bs ++ longer_paths (others l (keys bs)) (paths_to_true d))
     go true q =
         let p = is_python l q in
         let g = subst (λ (z : List ℕ). FitsAll bs z d) p h in
@@ -174,7 +174,7 @@ node_truth f l d k c rest h e es = go (carries l) refl
     go false q =
         at_truth f l bs (holds_of d f) (increasing_fits bs l d h) es
         ∙ ap (λ b. some_path_holds f (paths_at l bs) || b) (ap (λ t. none_of f l (keys bs) && t) e ∙ sym (some_led f (others l (keys bs)) (paths_to_true d)))
-        ∙ sym (some_both f (paths_at l bs) (led (others l (keys bs)) (paths_to_true d)))
+        ∙ sym (some_both f (paths_at l bs) (longer_paths (others l (keys bs)) (paths_to_true d)))
 
 mutual
   pub tree_told : (f : List ℕ → List ℕ) (t : Plain) (l : List ℕ) → Fits t l → Told f t
@@ -185,7 +185,7 @@ mutual
 
   parts_told : (f : List ℕ → List ℕ) (bs : Branches) (m : List ℕ) (d : Plain) → FitsAll bs m d → AllTold f bs
   parts_told f done m d h = tt
-  parts_told f (branch k c rest) m d h = (tree_told f c m h.2, parts_told f rest m (carried (carries m) c d) h.4)
+  parts_told f (branch k c rest) m d h = (tree_told f c m h.2, parts_told f rest m (carried_part (carries m) c d) h.4)
 
 pub paths_truth : PathsTellTruth
 paths_truth t h w x = tree_told (value_of w x) t [] h

@@ -1,6 +1,6 @@
 -- The union of a node's parts is reduced, and holds wherever the node does.
 use Rattle.std.proofs.Common.{◌≡◌, ℕ, suc, ◌+◌, List, Bool, true, false, refl, ◌∙◌, arith, Less, Equal, Greater, Ordering}
-use Rattle.ul_tree.specs.Plain.{Plain, Branches, done, branch, text_cmp, carries, carried, by_order, holds_of, holds_in}
+use Rattle.ul_tree.specs.Plain.{Plain, Branches, done, branch, text_cmp, carries, carried_part, by_order, holds_of, holds_in}
 use Rattle.ul_tree.specs.Reduced.{Fits, FitsAll}
 use Rattle.ul_tree.specs.Apply.{size, either}
 use Rattle.ul_tree.specs.Laws.{or_of}
@@ -26,17 +26,17 @@ or_right e a b f x y h = (applied either (suc (size a + size b)) a b e (omega ar
 
 pub union_fits : (bs : Branches) (e : List ℕ) (d t : Plain) → FitsAll bs e d → Fits t e → Fits (union_in bs t) e
 union_fits done e d t h x = x
-union_fits (branch k c rest) e d t h x = union_fits rest e (carried (carries e) c d) (or_of t c) h.4 (or_fits e t c x h.2)
+union_fits (branch k c rest) e d t h x = union_fits rest e (carried_part (carries e) c d) (or_of t c) h.4 (or_fits e t c x h.2)
 
 pub union_keeps : (bs : Branches) (e : List ℕ) (d t : Plain) (f : List ℕ → List ℕ) → FitsAll bs e d → Fits t e → holds_of t f ≡ true → holds_of (union_in bs t) f ≡ true
 union_keeps done e d t f h x p = p
-union_keeps (branch k c rest) e d t f h x p = union_keeps rest e (carried (carries e) c d) (or_of t c) f h.4 (or_fits e t c x h.2) (or_left e t c f x h.2 p)
+union_keeps (branch k c rest) e d t f h x p = union_keeps rest e (carried_part (carries e) c d) (or_of t c) f h.4 (or_fits e t c x h.2) (or_left e t c f x h.2 p)
 
 pub union_holds : (bs : Branches) (e : List ℕ) (d t : Plain) (m : Bool) (v : List ℕ) (b : Bool) (f : List ℕ → List ℕ) → FitsAll bs e d → Fits t e → (b ≡ true → holds_of t f ≡ true)
     → holds_in bs m v b f ≡ true → holds_of (union_in bs t) f ≡ true
 union_holds done e d t m v b f h x g p = g p
 union_holds (branch k c rest) e d t m v b f h x g p =
-    go (text_cmp v k) p (λ q r. union_holds rest e (carried (carries e) c d) (or_of t c) m v (carried m (holds_of c f) b) f h.4 (or_fits e t c x h.2) q r)
+    go (text_cmp v k) p (λ q r. union_holds rest e (carried_part (carries e) c d) (or_of t c) m v (carried_part m (holds_of c f) b) f h.4 (or_fits e t c x h.2) q r)
   where
     left : b ≡ true → holds_of (or_of t c) f ≡ true
     left q = or_left e t c f x h.2 (g q)
@@ -45,14 +45,14 @@ union_holds (branch k c rest) e d t m v b f h x g p =
     right q = or_right e t c f x h.2 q
 
     after : holds_of (or_of t c) f ≡ true → holds_of (union_in rest (or_of t c)) f ≡ true
-    after q = union_keeps rest e (carried (carries e) c d) (or_of t c) f h.4 (or_fits e t c x h.2) q
+    after q = union_keeps rest e (carried_part (carries e) c d) (or_of t c) f h.4 (or_fits e t c x h.2) q
 
-    chosen : (m : Bool) → carried m (holds_of c f) b ≡ true → holds_of (or_of t c) f ≡ true
+    chosen : (m : Bool) → carried_part m (holds_of c f) b ≡ true → holds_of (or_of t c) f ≡ true
     chosen true q = right q
     chosen false q = left q
 
-    go : (o : Ordering) → by_order o b (holds_of c f) (holds_in rest m v (carried m (holds_of c f) b) f) ≡ true
-        → ((carried m (holds_of c f) b ≡ true → holds_of (or_of t c) f ≡ true) → holds_in rest m v (carried m (holds_of c f) b) f ≡ true → holds_of (union_in rest (or_of t c)) f ≡ true)
+    go : (o : Ordering) → by_order o b (holds_of c f) (holds_in rest m v (carried_part m (holds_of c f) b) f) ≡ true
+        → ((carried_part m (holds_of c f) b ≡ true → holds_of (or_of t c) f ≡ true) → holds_in rest m v (carried_part m (holds_of c f) b) f ≡ true → holds_of (union_in rest (or_of t c)) f ≡ true)
         → holds_of (union_in rest (or_of t c)) f ≡ true
     go Less q j = after (left q)
     go Equal q j = after (right q)

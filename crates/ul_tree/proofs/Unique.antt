@@ -1,6 +1,6 @@
 -- One truth, one tree.
 use Rattle.std.proofs.Common.{◌≡◌, ℕ, suc, zero, ◌+◌, ◌<◌, List, false, refl, ap, sym, ◌∙◌, subst, arith, Less, Equal, Greater, Ordering, None, ◌⊎◌, inl, inr}
-use Rattle.ul_tree.specs.Plain.{Plain, truth, node, Branches, done, branch, text_cmp, carries, carried, pick, holds_of, holds_in}
+use Rattle.ul_tree.specs.Plain.{Plain, truth, node, Branches, done, branch, text_cmp, carries, carried_part, pick, holds_of, holds_in}
 use Rattle.ul_tree.specs.Reduced.{Fits, FitsAll, HasBranch, StartsAfter}
 use Rattle.ul_tree.proofs.Varied.{Varied}
 use Rattle.ul_tree.proofs.Order.{cmp_equal, cmp_over}
@@ -31,12 +31,12 @@ module _ (W : Type 0) (value : W → List ℕ → List ℕ) (Ok : List ℕ → L
 
   at_free : (bs : Branches) (l : List ℕ) (d : Plain) → FitsAll bs l d → pick bs (carries l) (free l) d ≡ d
   at_free done l d h = refl
-  at_free (branch k c rest) l d h = go (g.free_key l k h.0) (at_free rest l (carried (carries l) c d) h.4)
+  at_free (branch k c rest) l d h = go (g.free_key l k h.0) (at_free rest l (carried_part (carries l) c d) h.4)
     where
-      go : ((text_cmp (free l) k ≡ Less) ⊎ ((carries l ≡ false) × (text_cmp (free l) k ≡ Greater))) → pick rest (carries l) (free l) (carried (carries l) c d) ≡ carried (carries l) c d
+      go : ((text_cmp (free l) k ≡ Less) ⊎ ((carries l ≡ false) × (text_cmp (free l) k ≡ Greater))) → pick rest (carries l) (free l) (carried_part (carries l) c d) ≡ carried_part (carries l) c d
           → pick (branch k c rest) (carries l) (free l) d ≡ d
       go (inl e) ih = before_key (free l) k c d rest (carries l) e
-      go (inr e) ih = past_key (free l) k c d rest (carries l) (cmp_over (free l) k e.1) ∙ ih ∙ ap (λ m. carried m c d) e.0
+      go (inr e) ih = past_key (free l) k c d rest (carries l) (cmp_over (free l) k e.1) ∙ ih ∙ ap (λ m. carried_part m c d) e.0
 
   -- a node differs from a tree of later levels
   apart : (l : List ℕ) (d : Plain) (bs : Branches) (t : Plain) (b : List ℕ) → Fits (node l d bs) b → Fits t l → Alike (node l d bs) t

@@ -10,9 +10,9 @@ use Rattle.ul_marker.specs.declared.variable.AtomKind.TheVariants.{Contains, Wit
 use Rattle.ul_marker.specs.declared.variable.Variable.{Variable}
 use Rattle.ul_marker.specs.declared.variable.Variable.TheVariants.{OsName, SysPlatform, PlatformMachine, PlatformPythonImplementation, PlatformRelease, PlatformSystem, PlatformVersion, PythonVersion, PythonFullVersion, ImplementationName, ImplementationVersion}
 use Rattle.ul_tree.specs.Levels.{IsKey, IsAtomLevel, extra_level, atom_level}
-use Rattle.ul_tree.specs.Plain.{Plain, truth, node, Branches, done, branch, text_cmp, carries, carried, holds_of}
+use Rattle.ul_tree.specs.Plain.{Plain, truth, node, Branches, done, branch, text_cmp, carries, carried_part, holds_of}
 use Rattle.ul_tree.specs.Reduced.{IsReduced, Fits, FitsAll}
-use Rattle.ul_tree.specs.Sample.{Step, beside, or_else, stepped, first_path, first_in, variable_of, kind_of, atom_of, held, with_level, with_steps, with_path, empty_world, sample_of, asks_extra, SampleHolds}
+use Rattle.ul_tree.specs.Sample.{Step, beside, or_else, longer_path, first_path, first_in, variable_of, kind_of, atom_of, held, with_level, with_steps, with_path, empty_world, sample_of, asks_extra, SampleHolds}
 use Rattle.ul_tree.specs.Values.{has_level, mark_of, value_of, tree_holds}
 use Rattle.ul_tree.proofs.Order.{cmp_itself, cmp_back, cmp_less, cmp_trans}
 use Rattle.ul_tree.proofs.Atoms.{Each, all_of_each, Rises, rise_of_rises, atoms_of_rises, unlike}
@@ -234,7 +234,7 @@ or_walks : (x b : List ℕ) (p q : Option (List Step)) → Walks x b p → Walks
 or_walks x b None q g h = h
 or_walks x b (Some p) q g h = g
 
-step_walks : (x b l v : List ℕ) (p : Option (List Step)) → text_cmp b l ≡ Less → Fine x l v → Walks x l p → Walks x b (stepped l v p)
+step_walks : (x b l v : List ℕ) (p : Option (List Step)) → text_cmp b l ≡ Less → Fine x l v → Walks x l p → Walks x b (longer_path l v p)
 step_walks x b l v None e o h = tt
 step_walks x b l v (Some steps) e o h = (e, o, h)
 
@@ -272,17 +272,17 @@ mutual
   walks x (node l d bs) b h g = go (carries l) refl (walks x d l h.2 (λ k e. cmp_trans extra_level l k (g l h.0) e)) (walks_in x bs l d b h.0 h.3 (g l h.0)) (first_key bs l b d h)
     where
       go : (m : Bool) → carries l ≡ m → Walks x l (first_path d) → Walks x b (first_in l bs) → (k : List ℕ) × IsKey l k
-          → Walks x b (cond m (or_else (stepped l (0 ∷ []) (first_path d)) (first_in l bs)) (or_else (first_in l bs) (stepped l (beside l bs) (first_path d))))
-      go true m y z k = or_walks x b (stepped l (0 ∷ []) (first_path d)) (first_in l bs) (step_walks x b l (0 ∷ []) (first_path d) h.0 (start_fine x l k.0 m) y) z
+          → Walks x b (cond m (or_else (longer_path l (0 ∷ []) (first_path d)) (first_in l bs)) (or_else (first_in l bs) (longer_path l (beside l bs) (first_path d))))
+      go true m y z k = or_walks x b (longer_path l (0 ∷ []) (first_path d)) (first_in l bs) (step_walks x b l (0 ∷ []) (first_path d) h.0 (start_fine x l k.0 m) y) z
       go false m y z k =
-          or_walks x b (first_in l bs) (stepped l (beside l bs) (first_path d)) z (step_walks x b l (beside l bs) (first_path d) h.0 (beside_fine x l k.0 bs (g l h.0) m k.1) y)
+          or_walks x b (first_in l bs) (longer_path l (beside l bs) (first_path d)) z (step_walks x b l (beside l bs) (first_path d) h.0 (beside_fine x l k.0 bs (g l h.0) m k.1) y)
 
   pub walks_in : (x : List ℕ) (bs : Branches) (l : List ℕ) (d : Plain) (b : List ℕ) → text_cmp b l ≡ Less → FitsAll bs l d → text_cmp extra_level l ≡ Less → Walks x b (first_in l bs)
   walks_in x done l d b e h g = tt
   walks_in x (branch k c rest) l d b e h g =
-      or_walks x b (stepped l k (first_path c)) (first_in l rest)
+      or_walks x b (longer_path l k (first_path c)) (first_in l rest)
       (step_walks x b l k (first_path c) e (key_fine x l k g h.0) (walks x c l h.2 (λ j f. cmp_trans extra_level l j g f)))
-      (walks_in x rest l (carried (carries l) c d) b e h.4 g)
+      (walks_in x rest l (carried_part (carries l) c d) b e h.4 g)
 
 -- ---- the sample
 

@@ -1,7 +1,7 @@
 -- Trees made of trees, part by part.
 use Rattle.std.specs.Prelude.{ℕ, zero, suc, ◌+◌, List, [], ◌∷◌, Bool, true, false, Option, Some, None, if◌then◌else◌}
 use Rattle.std.specs.Str.{bytes_eq}
-use Rattle.ul_tree.specs.Plain.{Plain, truth, node, Branches, done, branch, text_cmp, carries, carried, by_order, pick}
+use Rattle.ul_tree.specs.Plain.{Plain, truth, node, Branches, done, branch, text_cmp, carries, carried_part, by_order, pick}
 
 -- how much a tree has
 abbrev mutual
@@ -45,7 +45,7 @@ abbrev mutual
 -- the branches of keys, those left out that say what stands already
 abbrev pub outs : (List ℕ → Plain) → Bool → List (List ℕ) → Plain → Branches
 outs g m [] d = done
-outs g m (k ∷ ks) d = if same (g k) d then outs g m ks d else branch k (g k) (outs g m ks (carried m (g k) d))
+outs g m (k ∷ ks) d = if same (g k) d then outs g m ks d else branch k (g k) (outs g m ks (carried_part m (g k) d))
 
 -- a node with these branches, or its other part alone where it has none
 abbrev pub close : List ℕ → Plain → Branches → Plain
@@ -77,9 +77,9 @@ merged_with x f [] = x ∷ f []
 merged_with x f (y ∷ ys) = by_order (text_cmp x y) (x ∷ f (y ∷ ys)) (x ∷ f ys) (y ∷ merged_with x f ys)
 
 -- the keys of two lists in order, each once
-abbrev pub merged : List (List ℕ) → List (List ℕ) → List (List ℕ)
-merged [] ys = ys
-merged (x ∷ xs) ys = merged_with x (merged xs) ys
+abbrev pub key_union : List (List ℕ) → List (List ℕ) → List (List ℕ)
+key_union [] ys = ys
+key_union (x ∷ xs) ys = merged_with x (key_union xs) ys
 
 -- the keys of a tree at a level
 abbrev pub keys_at : List ℕ → Plain → List (List ℕ)
@@ -87,7 +87,7 @@ keys_at l t = keys (branches_at l t)
 
 -- the keys of two trees at a level, each once
 abbrev pub both_keys : List ℕ → Plain → Plain → List (List ℕ)
-both_keys l a b = merged (keys_at l a) (keys_at l b)
+both_keys l a b = key_union (keys_at l a) (keys_at l b)
 
 -- a node made of the parts at keys, reduced
 abbrev pub built : List ℕ → (List ℕ → Plain) → Plain → List (List ℕ) → Plain
@@ -101,9 +101,9 @@ first_of (truth x) (node k e cs) = Some k
 first_of (node l d bs) (node k e cs) = Some (by_order (text_cmp l k) l l k)
 
 -- the truth that a tree is; false for a node
-abbrev pub known : Plain → Bool
-known (truth b) = b
-known (node l d bs) = false
+abbrev pub leaf_truth : Plain → Bool
+leaf_truth (truth b) = b
+leaf_truth (node l d bs) = false
 
 -- the truth that a tree is, if it is one
 abbrev pub truth_value : Plain → Option Bool
@@ -112,9 +112,9 @@ truth_value (node l d bs) = None
 
 -- two trees joined at their first level: their parts at the keys of both are joined in turn
 abbrev pub apply_at : (Bool → Bool → Bool) → (Plain → Plain → Plain) → Option (List ℕ) → Plain → Plain → Plain
-apply_at op rec None a b = truth (op (known a) (known b))
+apply_at op rec None a b = truth (op (leaf_truth a) (leaf_truth b))
 apply_at op rec (Some l) a b =
-    built l (λ v. rec (part_at l v a) (part_at l v b)) (rec (rest_at l a) (rest_at l b)) (merged (keys (branches_at l a)) (keys (branches_at l b)))
+    built l (λ v. rec (part_at l v a) (part_at l v b)) (rec (rest_at l a) (rest_at l b)) (key_union (keys (branches_at l a)) (keys (branches_at l b)))
 
 -- two trees joined part by part, in at most so many turns
 abbrev pub apply : (Bool → Bool → Bool) → ℕ → Plain → Plain → Plain

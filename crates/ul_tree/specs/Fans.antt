@@ -80,9 +80,9 @@ pieces_from start ((point l k, p) ∷ parts) = done
 pieces_from start ((others l ks, p) ∷ parts) = done
 
 -- the node of the interpreter whose first piece is the first branch
-abbrev pub opened : Branches → Plain
-opened done = truth false
-opened (branch k p rest) = node python_level p rest
+abbrev pub opening_node : Branches → Plain
+opening_node done = truth false
+opening_node (branch k p rest) = node python_level p rest
 
 -- the other part of a node, with its keys
 abbrev pub other_part : List (Step × Plain) → Option (List (List ℕ) × Plain)
@@ -114,7 +114,7 @@ pointed_at l parts (Some other) = node l other.1 (filled_points other.0 parts)
 -- the node that has these parts where it isn't false
 abbrev pub node_of : List (Step × Plain) → Plain
 node_of [] = truth false
-node_of ((interval a b, p) ∷ parts) = opened (pieces_from 0 ((interval a b, p) ∷ parts))
+node_of ((interval a b, p) ∷ parts) = opening_node (pieces_from 0 ((interval a b, p) ∷ parts))
 node_of ((point l k, p) ∷ parts) = pointed_at l ((point l k, p) ∷ parts) (other_part ((point l k, p) ∷ parts))
 node_of ((others l ks, p) ∷ parts) = pointed_at l ((others l ks, p) ∷ parts) (other_part ((others l ks, p) ∷ parts))
 

@@ -5,7 +5,7 @@ use Rattle.ul_tree.specs.Plain.{Plain, truth}
 use Rattle.ul_tree.specs.Levels.{IsExtra}
 use Rattle.ul_tree.specs.Reduced.{IsReduced}
 use Rattle.ul_tree.specs.Values.{tree_holds}
-use Rattle.ul_tree.specs.Apply.{apply, built, both, first_of, keys, merged, branches_at, rest_at, part_at, size}
+use Rattle.ul_tree.specs.Apply.{apply, built, both, first_of, keys, key_union, branches_at, rest_at, part_at, size}
 use Rattle.ul_tree.specs.Laws.{joined_by, not_of}
 
 -- t has the joined truth of a and b, at every world and extra
@@ -21,7 +21,7 @@ pub record JoinsTo (op : Bool → Bool → Bool) (a b t : Plain) : Type 0 where
 pub record ApplySteps : Type 0 where
   pub at_truths : (op : Bool → Bool → Bool) (x y : Bool) → joined_by op (truth x) (truth y) ≡ truth (op x y)
   pub at_level : (op : Bool → Bool → Bool) (l : List ℕ) (a b : Plain) → IsReduced a → IsReduced b → Some l ≡ first_of a b
-      → joined_by op a b ≡ built l (λ v. joined_by op (part_at l v a) (part_at l v b)) (joined_by op (rest_at l a) (rest_at l b)) (merged (keys (branches_at l a)) (keys (branches_at l b)))
+      → joined_by op a b ≡ built l (λ v. joined_by op (part_at l v a) (part_at l v b)) (joined_by op (rest_at l a) (rest_at l b)) (key_union (keys (branches_at l a)) (keys (branches_at l b)))
   pub rest_smaller : (l : List ℕ) (a b : Plain) → Some l ≡ first_of a b → size (rest_at l a) + size (rest_at l b) < size a + size b
   pub part_smaller : (l v : List ℕ) (a b : Plain) → Some l ≡ first_of a b → size (part_at l v a) + size (part_at l v b) < size a + size b
   -- more turns than enough give the same tree

@@ -1,6 +1,6 @@
 -- How two truths are joined, and the branches of a tree that is being made.
 use Rattle.std.specs.Prelude.{ℕ, ◌+◌, ◌<◌, List, [], ◌∷◌, Bool, true, false, not, ◌≡◌, if◌then◌else◌}
-use Rattle.ul_tree.specs.Plain.{Plain, truth, node, Branches, done, branch, carried}
+use Rattle.ul_tree.specs.Plain.{Plain, truth, node, Branches, done, branch, carried_part}
 use Rattle.ul_tree.specs.Apply.{size, apply, close, both, either, same, same_bool}
 use Rattle.ul_tree.specs.Views.{tree_view}
 use Rattle.ul_tree.specs.Keys.{key_view, then_branches, has_kind, KeysOf}
@@ -29,12 +29,12 @@ made_view view (p ∷ ps) = branch (key_view p.0) (view p.1) (made_view view ps)
 -- the part that stands after branches: at the interpreter that of the last branch, elsewhere the other part
 abbrev pub stands : Bool → Branches → Plain → Plain
 stands m done d = d
-stands m (branch k c rest) d = stands m rest (carried m c d)
+stands m (branch k c rest) d = stands m rest (carried_part m c d)
 
 -- a branch more, unless its part is the one that stands
-abbrev pub added : Bool → Branches → List ℕ → Plain → Branches
-added true bs k next = bs
-added false bs k next = then_branches bs (branch k next done)
+abbrev pub more_branches : Bool → Branches → List ℕ → Plain → Branches
+more_branches true bs k next = bs
+more_branches false bs k next = then_branches bs (branch k next done)
 
 -- the tree that a join is at once
 abbrev pub at_once_view : AtOnce → Plain
@@ -51,8 +51,8 @@ trees_made = made_view tree_view
 
 -- a branch more, unless its part is the one that stands
 abbrev pub IsAdded : Bool → Tree → Key → Tree → List (Key × Tree) → List (Key × Tree) → Type 0
-IsAdded carried other key next before after =
-    trees_made after ≡ added (same (tree_view next) (stands carried (trees_made before) (tree_view other))) (trees_made before) (key_view key) (tree_view next)
+IsAdded carried_part other key next before after =
+    trees_made after ≡ more_branches (same (tree_view next) (stands carried_part (trees_made before) (tree_view other))) (trees_made before) (key_view key) (tree_view next)
 
 -- a branch more keeps that the keys are those of a level
 abbrev pub KeepsKeys : Key → List (Key × Tree) → List (Key × Tree) → Type 0

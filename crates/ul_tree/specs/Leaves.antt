@@ -7,5 +7,5 @@ abbrev pub point_of : List ℕ → Bool → Branches
 point_of key asked = branch key (truth asked) done
 
 -- a truth where the level has this key, and its negation elsewhere
-abbrev pub pointed : List ℕ → List ℕ → Bool → Plain
-pointed level key asked = node level (truth (not asked)) (point_of key asked)
+abbrev pub point_tree : List ℕ → List ℕ → Bool → Plain
+point_tree level key asked = node level (truth (not asked)) (point_of key asked)

@@ -11,8 +11,8 @@ use Rattle.ul_tree.specs.Apply.{close, same_bool}
 -- ---- interpreters as numbers
 
 -- three numbers as one
-abbrev pub numbered : ℕ → ℕ → ℕ → ℕ
-numbered major minor patch = major * 2 ^ 64 + minor * 2 ^ 32 + patch
+abbrev pub packed_number : ℕ → ℕ → ℕ → ℕ
+packed_number major minor patch = major * 2 ^ 64 + minor * 2 ^ 32 + patch
 
 -- an interpreter's major number, by its number
 abbrev pub major_of : ℕ → ℕ
@@ -37,14 +37,14 @@ abbrev pub digit : List ℕ → ℕ → ℕ
 digit release i = min (slice_index release i) (2 ^ 32 - 1)
 
 -- at most the last interpreter
-abbrev pub capped : ℕ → ℕ
-capped n = min n (2 ^ 96 - 1)
+abbrev pub capped_number : ℕ → ℕ
+capped_number n = min n (2 ^ 96 - 1)
 
 -- the first interpreter that has the release's first number, its first two, and its first three, and the next
 -- after all that have the first three, the first two, and the first
 abbrev pub cuts_at : ℕ → ℕ → ℕ → List ℕ
 cuts_at a b c =
-    numbered a 0 0 ∷ numbered a b 0 ∷ numbered a b c ∷ capped (numbered a b c + 1) ∷ capped (numbered a b 0 + 2 ^ 32) ∷ capped (numbered a 0 0 + 2 ^ 64) ∷ []
+    packed_number a 0 0 ∷ packed_number a b 0 ∷ packed_number a b c ∷ capped_number (packed_number a b c + 1) ∷ capped_number (packed_number a b 0 + 2 ^ 32) ∷ capped_number (packed_number a 0 0 + 2 ^ 64) ∷ []
 
 -- the interpreters at which the truth of a clause with this release may change, in order
 unfoldable pub cuts_of : List ℕ → List ℕ

@@ -32,14 +32,14 @@ carries (suc zero ∷ []) = true
 carries _ = false
 
 -- what stands after a branch: its own part where branches are carried, else what stood before
-abbrev pub carried : {A : Type 0} → Bool → A → A → A
-carried true c d = c
-carried false c d = d
+abbrev pub carried_part : {A : Type 0} → Bool → A → A → A
+carried_part true c d = c
+carried_part false c d = d
 
 -- the part that a value takes
 abbrev pub pick : Branches → Bool → List ℕ → Plain → Plain
 pick done m v d = d
-pick (branch k c rest) m v d = by_order (text_cmp v k) d c (pick rest m v (carried m c d))
+pick (branch k c rest) m v d = by_order (text_cmp v k) d c (pick rest m v (carried_part m c d))
 
 -- the truth where each level has a value
 abbrev mutual
@@ -49,4 +49,4 @@ abbrev mutual
 
   pub holds_in : Branches → Bool → List ℕ → Bool → (List ℕ → List ℕ) → Bool
   holds_in done m v t f = t
-  holds_in (branch k c rest) m v t f = by_order (text_cmp v k) t (holds_of c f) (holds_in rest m v (carried m (holds_of c f) t) f)
+  holds_in (branch k c rest) m v t f = by_order (text_cmp v k) t (holds_of c f) (holds_in rest m v (carried_part m (holds_of c f) t) f)

@@ -1,7 +1,7 @@
 -- Trees whose levels, keys and parts are in order, with nothing that says the same twice.
 use Rattle.std.specs.Prelude.{ℕ, List, [], ◌≡◌, Option, Some, None}
 use Rattle.std.specs.declared.cmp.Ordering.TheVariants.{Less}
-use Rattle.ul_tree.specs.Plain.{Plain, truth, node, Branches, done, branch, text_cmp, carries, carried}
+use Rattle.ul_tree.specs.Plain.{Plain, truth, node, Branches, done, branch, text_cmp, carries, carried_part}
 use Rattle.ul_tree.specs.Levels.{IsKey}
 
 -- a key comes after another, if there is another
@@ -29,7 +29,7 @@ abbrev mutual
 
   pub FitsAll : Branches → List ℕ → Plain → Type 0
   FitsAll done l d = Unit {0}
-  FitsAll (branch k c rest) l d = IsKey l k × StartsAfter (Some k) rest × Fits c l × (c ≡ d → ⊥) × FitsAll rest l (carried (carries l) c d)
+  FitsAll (branch k c rest) l d = IsKey l k × StartsAfter (Some k) rest × Fits c l × (c ≡ d → ⊥) × FitsAll rest l (carried_part (carries l) c d)
 
 -- ordered and reduced
 abbrev pub IsReduced : Plain → Type 0

@@ -50,9 +50,9 @@ or_else None q = q
 or_else (Some p) q = Some p
 
 -- a path that begins with this value of a level
-abbrev pub stepped : List ℕ → List ℕ → Option (List Step) → Option (List Step)
-stepped l v None = None
-stepped l v (Some steps) = Some (record { level = l; value = v } ∷ steps)
+abbrev pub longer_path : List ℕ → List ℕ → Option (List Step) → Option (List Step)
+longer_path l v None = None
+longer_path l v (Some steps) = Some (record { level = l; value = v } ∷ steps)
 
 -- the first path to true: by the pieces of the interpreter in their order; by the points in their order, then
 -- the other part; by the part where an opaque comparison holds, then the other
@@ -61,11 +61,11 @@ abbrev mutual
   first_path (truth true) = Some []
   first_path (truth false) = None
   first_path (node l d bs) =
-      if carries l then or_else (stepped l (0 ∷ []) (first_path d)) (first_in l bs) else or_else (first_in l bs) (stepped l (beside l bs) (first_path d))
+      if carries l then or_else (longer_path l (0 ∷ []) (first_path d)) (first_in l bs) else or_else (first_in l bs) (longer_path l (beside l bs) (first_path d))
 
   pub first_in : List ℕ → Branches → Option (List Step)
   first_in l done = None
-  first_in l (branch k c rest) = or_else (stepped l k (first_path c)) (first_in l rest)
+  first_in l (branch k c rest) = or_else (longer_path l k (first_path c)) (first_in l rest)
 
 -- ---- its world
 

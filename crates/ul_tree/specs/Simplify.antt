@@ -2,8 +2,8 @@
 -- pieces level by level; where the region is false, a piece takes over what a neighbouring piece became.
 use Rattle.std.specs.Prelude.{ℕ, List, [], ◌∷◌, Bool, true, false, Option, Some, None, ◌≡◌, if◌then◌else◌}
 use Rattle.std.specs.declared.cmp.Ordering.TheVariants.{Less}
-use Rattle.ul_tree.specs.Plain.{Plain, truth, node, Branches, done, branch, text_cmp, carries, carried}
-use Rattle.ul_tree.specs.Apply.{same, keys, branches_at, rest_at, part_at, merged, close}
+use Rattle.ul_tree.specs.Plain.{Plain, truth, node, Branches, done, branch, text_cmp, carries, carried_part}
+use Rattle.ul_tree.specs.Apply.{same, keys, branches_at, rest_at, part_at, key_union, close}
 use Rattle.ul_tree.specs.Laws.{or_of}
 
 -- the union of a node's parts
@@ -31,9 +31,9 @@ last_result [] z = z
 last_result (r ∷ rs) z = last_result rs (own_or r.1 z)
 
 -- each key with its own result or, where it has none, that of the nearest earlier key that has one, z before any
-abbrev pub filled : Results → Plain → List (List ℕ × Plain)
-filled [] z = []
-filled (r ∷ rs) z = (r.0, own_or r.1 z) ∷ filled rs (own_or r.1 z)
+abbrev pub filled_results : Results → Plain → List (List ℕ × Plain)
+filled_results [] z = []
+filled_results (r ∷ rs) z = (r.0, own_or r.1 z) ∷ filled_results rs (own_or r.1 z)
 
 -- the first result of all pieces, which serves those before it; o is that of the piece without a key, which is the
 -- first at the interpreter and the last at other levels
@@ -49,16 +49,16 @@ latest false rs z = last_result rs z
 -- the branches of keys and parts, those left out that say what stands already
 abbrev pub reduced_branches : Bool → List (List ℕ × Plain) → Plain → Branches
 reduced_branches m [] d = done
-reduced_branches m (p ∷ ps) d = if same p.1 d then reduced_branches m ps d else branch p.0 p.1 (reduced_branches m ps (carried m p.1 d))
+reduced_branches m (p ∷ ps) d = if same p.1 d then reduced_branches m ps d else branch p.0 p.1 (reduced_branches m ps (carried_part m p.1 d))
 
 -- a level put together from the results of its pieces, where z serves those before the first result
 abbrev pub settled_from : List ℕ → Results → Option Plain → Plain → Plain
-settled_from l rs o z = let e = own_or o (latest (carries l) rs z) in close l e (reduced_branches (carries l) (filled rs z) e)
+settled_from l rs o z = let e = own_or o (latest (carries l) rs z) in close l e (reduced_branches (carries l) (filled_results rs z) e)
 
 -- a level put together from the results of its pieces: a piece without one takes that of the nearest earlier piece
 -- with one, else of the nearest later; d where no piece has a result, as under a region that is false
-abbrev pub settled : List ℕ → Results → Option Plain → Plain → Plain
-settled l rs o d = settled_from l rs o (earliest (carries l) rs o d)
+abbrev pub settled_level : List ℕ → Results → Option Plain → Plain → Plain
+settled_level l rs o d = settled_from l rs o (earliest (carries l) rs o d)
 
 mutual
   -- Simplifies f c t: under the region c, f becomes t
@@ -71,8 +71,8 @@ mutual
     above : {l k : List ℕ} {d e t : Plain} {bs cs : Branches} → text_cmp k l ≡ Less → Simplifies (node l d bs) (union_in cs e) t → Simplifies (node l d bs) (node k e cs) t
     -- else the pieces of both at f's level are simplified in turn; a region of later levels is the same in each
     by_pieces : {l k : List ℕ} {d e : Plain} {bs cs : Branches} {rs : Results} {o : Option Plain} → (text_cmp k l ≡ Less → ⊥)
-        → Pieces l (node l d bs) (node k e cs) (merged (keys bs) (keys (branches_at l (node k e cs)))) rs → Piece d (rest_at l (node k e cs)) o
-        → Simplifies (node l d bs) (node k e cs) (settled l rs o d)
+        → Pieces l (node l d bs) (node k e cs) (key_union (keys bs) (keys (branches_at l (node k e cs)))) rs → Piece d (rest_at l (node k e cs)) o
+        → Simplifies (node l d bs) (node k e cs) (settled_level l rs o d)
 
   -- the pieces of f and c at keys of a level, and their results
   pub data Pieces : List ℕ → Plain → Plain → List (List ℕ) → Results → Type 0 where

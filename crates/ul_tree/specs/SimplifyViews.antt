@@ -5,7 +5,7 @@ use Rattle.ul_tree.specs.Plain.{Plain, truth, node, Branches, done, branch, text
 use Rattle.ul_tree.specs.Apply.{either}
 use Rattle.ul_tree.specs.Reduced.{IsReduced, Fits}
 use Rattle.ul_tree.specs.Keys.{key_view, keys_view, level_view, has_kind, branches_from, branches_of, rest_of, KeysOf}
-use Rattle.ul_tree.specs.Simplify.{Results, Simplifies, Pieces, filled, reduced_branches, settled, union_in}
+use Rattle.ul_tree.specs.Simplify.{Results, Simplifies, Pieces, filled_results, reduced_branches, settled_level, union_in}
 use Rattle.ul_tree.specs.Views.{tree_view}
 use Rattle.ul_tree.specs.declared.level.Level.{Level}
 use Rattle.ul_tree.specs.declared.tree.Tree.{Tree}
@@ -96,7 +96,7 @@ reduced_parts carried parts other = reduced_branches carried (part_trees parts) 
 
 -- a level put together from the results of its pieces
 abbrev pub settled_tree : Level → List (Key × Option Tree) → Option Tree → Tree → Plain
-settled_tree level results rest otherwise = settled (level_view level) (result_trees results) (option_map tree_view rest) (tree_view otherwise)
+settled_tree level results rest otherwise = settled_level (level_view level) (result_trees results) (option_map tree_view rest) (tree_view otherwise)
 
 -- the union of all parts of a tree
 abbrev pub union_parts : Plain → Plain
@@ -112,4 +112,4 @@ PiecesAre level tree region keys results = Pieces (level_view level) (tree_view 
 
 -- the parts of keys, where a piece without a result has the part before it
 abbrev pub filled_trees : List (Key × Option Tree) → Tree → List (List ℕ × Plain)
-filled_trees results first = filled (result_trees results) (tree_view first)
+filled_trees results first = filled_results (result_trees results) (tree_view first)

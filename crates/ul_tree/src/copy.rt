@@ -112,26 +112,26 @@ fn copy_parts(alloc: Global, parts: &[Tree], room: usize) -> Result<Vec<Tree>, A
 }
 
 /// Whether two trees are equal.
-pub fn same(a: &Tree, b: &Tree) -> bool
-    requires a_reduced { IsTree a.now }
-    requires b_reduced { IsTree b.now }
-    ensures { result ≡ same_plain (tree_view a.now) (tree_view b.now) }
+pub fn same(left: &Tree, right: &Tree) -> bool
+    requires left_reduced { IsTree left.now }
+    requires right_reduced { IsTree right.now }
+    ensures { result ≡ same_plain (tree_view left.now) (tree_view right.now) }
 {
-    if !same_top(a, b) {
+    if !same_top(left, right) {
         return false;
     }
-    if level_of(a).is_none() {
+    if level_of(left).is_none() {
         return true;
     }
-    if branch_count(a) != branch_count(b) {
+    if branch_count(left) != branch_count(right) {
         return false;
     }
-    if !same(rest_of(a), rest_of(b)) {
+    if !same(rest_of(left), rest_of(right)) {
         return false;
     }
-    for index in 0..branch_count(a) {
-        let one = branch_at(a, index);
-        let other = branch_at(b, index);
+    for index in 0..branch_count(left) {
+        let one = branch_at(left, index);
+        let other = branch_at(right, index);
         if !one.key.cmp(other.key).is_eq() {
             return false;
         }
@@ -143,15 +143,15 @@ pub fn same(a: &Tree, b: &Tree) -> bool
 }
 
 // Whether two trees have equal top levels, or are both truths and equal.
-fn same_top(a: &Tree, b: &Tree) -> bool
-    ensures { result ≡ same_tops (tree_view a.now) (tree_view b.now) }
+fn same_top(left: &Tree, right: &Tree) -> bool
+    ensures { result ≡ same_tops (tree_view left.now) (tree_view right.now) }
 {
-    match level_of(a) {
-        None => match level_of(b) {
-            None => known(a) == known(b),
+    match level_of(left) {
+        None => match level_of(right) {
+            None => known(left) == known(right),
             Some(_) => false,
         },
-        Some(level) => match level_of(b) {
+        Some(level) => match level_of(right) {
             None => false,
             Some(found) => level.cmp(found).is_eq(),
         },

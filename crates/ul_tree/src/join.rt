@@ -30,13 +30,13 @@ pub enum Join {
 }
 
 impl Join {
-    fn truth(self, a: bool, b: bool) -> bool
-        ensures { result ≡ truth_of self a b }
+    fn truth(self, left: bool, right: bool) -> bool
+        ensures { result ≡ truth_of self left right }
     {
         match self {
-            Join::Both => a && b,
-            Join::Either => a || b,
-            Join::NotFirst => !a,
+            Join::Both => left && right,
+            Join::Either => left || right,
+            Join::NotFirst => !left,
         }
     }
 }
@@ -173,40 +173,40 @@ fn past_truth<'a>(neutral: bool, value: bool, other: &'a Tree) -> AtOnce<'a>
 }
 
 // The join of a truth and a tree after it.
-fn after_truth<'a>(op: Join, value: bool, b: &'a Tree) -> AtOnce<'a>
-    requires { IsTree b.now }
-    ensures { JoinsTo (truth_of op) (truth value) (tree_view b.now) (at_once_view result) }
+fn after_truth<'a>(operation: Join, value: bool, right: &'a Tree) -> AtOnce<'a>
+    requires { IsTree right.now }
+    ensures { JoinsTo (truth_of operation) (truth value) (tree_view right.now) (at_once_view result) }
 {
-    match op {
-        Join::Both => past_truth(true, value, b),
-        Join::Either => past_truth(false, value, b),
+    match operation {
+        Join::Both => past_truth(true, value, right),
+        Join::Either => past_truth(false, value, right),
         Join::NotFirst => AtOnce::Truth(!value),
     }
 }
 
 // The join of a tree and a truth after it, where it is known at once.
-fn before_truth<'a>(op: Join, a: &'a Tree, value: bool) -> Option<AtOnce<'a>>
-    requires { IsTree a.now }
-    ensures { IfSome (λ k. JoinsTo (truth_of op) (tree_view a.now) (truth value) (at_once_view k)) result }
+fn before_truth<'a>(operation: Join, left: &'a Tree, value: bool) -> Option<AtOnce<'a>>
+    requires { IsTree left.now }
+    ensures { IfSome (λ k. JoinsTo (truth_of operation) (tree_view left.now) (truth value) (at_once_view k)) result }
 {
-    match op {
-        Join::Both => Some(past_truth(true, value, a)),
-        Join::Either => Some(past_truth(false, value, a)),
+    match operation {
+        Join::Both => Some(past_truth(true, value, left)),
+        Join::Either => Some(past_truth(false, value, left)),
         Join::NotFirst => None,
     }
 }
 
 /// The join of two trees, one of which is a truth, where it is known at once: a truth that settles the joined
 /// truth is the answer, and one that doesn't count leaves it to the other side.
-pub fn at_once<'a>(op: Join, a: &'a Tree, b: &'a Tree) -> Option<AtOnce<'a>>
-    requires a_reduced { IsTree a.now }
-    requires b_reduced { IsTree b.now }
-    ensures { IfSome (λ k. JoinsTo (truth_of op) (tree_view a.now) (tree_view b.now) (at_once_view k)) result }
+pub fn at_once<'a>(operation: Join, left: &'a Tree, right: &'a Tree) -> Option<AtOnce<'a>>
+    requires left_reduced { IsTree left.now }
+    requires right_reduced { IsTree right.now }
+    ensures { IfSome (λ k. JoinsTo (truth_of operation) (tree_view left.now) (tree_view right.now) (at_once_view k)) result }
 {
-    match truth_value(a) {
-        Some(value) => Some(after_truth(op, value, b)),
-        None => match truth_value(b) {
-            Some(value) => before_truth(op, a, value),
+    match truth_value(left) {
+        Some(value) => Some(after_truth(operation, value, right)),
+        None => match truth_value(right) {
+            Some(value) => before_truth(operation, left, value),
             None => None,
         },
     }
@@ -223,60 +223,60 @@ fn made(alloc: Global, known: AtOnce<'_>, room: usize) -> Result<Tree, AllocErro
 }
 
 /// The tree that has the joined truth of two.
-pub fn joined(alloc: Global, op: Join, a: &Tree, b: &Tree) -> Result<Tree, AllocError>
-    requires a_reduced { IsTree a.now }
-    requires b_reduced { IsTree b.now }
-    ensures joined { IfOk result (λ t. IsJoined op (tree_view a.now) (tree_view b.now) (tree_view t)) }
+pub fn joined(alloc: Global, operation: Join, left: &Tree, right: &Tree) -> Result<Tree, AllocError>
+    requires left_reduced { IsTree left.now }
+    requires right_reduced { IsTree right.now }
+    ensures joined { IfOk result (λ t. IsJoined operation (tree_view left.now) (tree_view right.now) (tree_view t)) }
     ensures reduced { IfOk result IsTree }
 {
-    joined_within(alloc, op, a, b, DEEPEST)
+    joined_within(alloc, operation, left, right, DEEPEST)
 }
 
 /// The tree that has the joined truth of two; want of memory where a path has more levels than `room`.
 #[cycle(joined)]
 pub fn joined_within(
     alloc: Global,
-    op: Join,
-    a: &Tree,
-    b: &Tree,
+    operation: Join,
+    left: &Tree,
+    right: &Tree,
     room: usize,
 ) -> Result<Tree, AllocError>
-    requires a_reduced { IsTree a.now }
-    requires b_reduced { IsTree b.now }
-    ensures joined { IfOk result (λ t. IsJoined op (tree_view a.now) (tree_view b.now) (tree_view t)) }
+    requires left_reduced { IsTree left.now }
+    requires right_reduced { IsTree right.now }
+    ensures joined { IfOk result (λ t. IsJoined operation (tree_view left.now) (tree_view right.now) (tree_view t)) }
     ensures reduced { IfOk result IsTree }
 {
-    if let Some(known) = at_once(op, a, b) {
+    if let Some(known) = at_once(operation, left, right) {
         let tree = made(alloc, known, room)?;
         return Ok(tree);
     }
-    joined_parts(alloc, op, a, b, room)
+    joined_parts(alloc, operation, left, right, room)
 }
 
 // The same, part by part.
 #[cycle(joined)]
 fn joined_parts(
     alloc: Global,
-    op: Join,
-    a: &Tree,
-    b: &Tree,
+    operation: Join,
+    left: &Tree,
+    right: &Tree,
     room: usize,
 ) -> Result<Tree, AllocError>
-    requires a_reduced { IsTree a.now }
-    requires b_reduced { IsTree b.now }
-    ensures joined { IfOk result (λ t. IsJoined op (tree_view a.now) (tree_view b.now) (tree_view t)) }
+    requires left_reduced { IsTree left.now }
+    requires right_reduced { IsTree right.now }
+    ensures joined { IfOk result (λ t. IsJoined operation (tree_view left.now) (tree_view right.now) (tree_view t)) }
     ensures reduced { IfOk result IsTree }
 {
     let room = deeper(room)?;
-    match first_level::<Trees>(a, b) {
-        None => Ok(Tree::Truth(op.truth(known(a), known(b)))),
+    match first_level::<Trees>(left, right) {
+        None => Ok(Tree::Truth(operation.truth(known(left), known(right)))),
         Some(level) => {
-            let keys = level_keys::<Trees>(alloc, level, a, b)?;
+            let keys = level_keys::<Trees>(alloc, level, left, right)?;
             let other = joined_within(
                 alloc,
-                op,
-                rest_at::<Trees>(a, level),
-                rest_at::<Trees>(b, level),
+                operation,
+                rest_at::<Trees>(left, level),
+                rest_at::<Trees>(right, level),
                 room,
             )?;
             let carried = level.is_carried();
@@ -284,9 +284,9 @@ fn joined_parts(
             for key in &keys {
                 let next = joined_within(
                     alloc,
-                    op,
-                    part_at::<Trees>(a, level, *key),
-                    part_at::<Trees>(b, level, *key),
+                    operation,
+                    part_at::<Trees>(left, level, *key),
+                    part_at::<Trees>(right, level, *key),
                     room,
                 )?;
                 add(&mut made, &other, carried, *key, next)?;

@@ -6,7 +6,7 @@ ghost use Rattle.std.specs.Prelude.{◌≡◌, ◌<◌, ℕ, suc, List, option_m
 ghost use Rattle.ul_tree.specs.TreeFacts.{IsBranchAt};
 ghost use Rattle.ul_tree.specs.Plain.{Plain};
 ghost use Rattle.ul_tree.specs.Reduced.{IsReduced};
-ghost use Rattle.ul_tree.specs.Apply.{first_of, keys, merged, rest_at, part_at, keys_at};
+ghost use Rattle.ul_tree.specs.Apply.{first_of, keys, key_union, rest_at, part_at, keys_at};
 ghost use Rattle.ul_tree.specs.Keys.{level_view, key_view, keys_view, top_of, rest_of, branches_of, branch_count, is_level, is_key_of, AreKeysOf, keys_of_both, part_by};
 
 use crate::level::{Key, Level};
@@ -150,14 +150,14 @@ pub fn part_of<'a, N: Nodes>(node: &'a N::Node, carried: bool, value: Key<'_>) -
 }
 
 /// The first level of two nodes.
-pub fn first_level<'a, N: Nodes>(a: &'a N::Node, b: &'a N::Node) -> Option<Level<'a>>
-    requires a_reduced { IsReduced (N.tree a.now) }
-    requires b_reduced { IsReduced (N.tree b.now) }
-    ensures { option_map level_view result ≡ first_of (N.tree a.now) (N.tree b.now) }
+pub fn first_level<'a, N: Nodes>(left: &'a N::Node, right: &'a N::Node) -> Option<Level<'a>>
+    requires left_reduced { IsReduced (N.tree left.now) }
+    requires right_reduced { IsReduced (N.tree right.now) }
+    ensures { option_map level_view result ≡ first_of (N.tree left.now) (N.tree right.now) }
 {
-    match N::level_of(a) {
-        None => N::level_of(b),
-        Some(own) => match N::level_of(b) {
+    match N::level_of(left) {
+        None => N::level_of(right),
+        Some(own) => match N::level_of(right) {
             None => Some(own),
             Some(found) => match own.cmp(found) {
                 Ordering::Less => Some(own),
@@ -172,16 +172,16 @@ pub fn first_level<'a, N: Nodes>(a: &'a N::Node, b: &'a N::Node) -> Option<Level
 pub fn level_keys<'a, N: Nodes>(
     alloc: Global,
     level: Level<'_>,
-    a: &'a N::Node,
-    b: &'a N::Node,
+    left: &'a N::Node,
+    right: &'a N::Node,
 ) -> Result<Vec<Key<'a>>, AllocError>
-    requires a_reduced { IsReduced (N.tree a.now) }
-    requires b_reduced { IsReduced (N.tree b.now) }
-    ensures keys { IfOk result (λ ks. keys_view ks.items ≡ keys_of_both level.entry (N.tree a.now) (N.tree b.now)) }
+    requires left_reduced { IsReduced (N.tree left.now) }
+    requires right_reduced { IsReduced (N.tree right.now) }
+    ensures keys { IfOk result (λ ks. keys_view ks.items ≡ keys_of_both level.entry (N.tree left.now) (N.tree right.now)) }
     ensures kinds { IfOk result (λ ks. AreKeysOf (level_view level.entry) ks.items) }
 {
-    let of_a = keys_at::<N>(alloc, a, level)?;
-    let of_b = keys_at::<N>(alloc, b, level)?;
+    let of_a = keys_at::<N>(alloc, left, level)?;
+    let of_b = keys_at::<N>(alloc, right, level)?;
     let keys = merged_keys(alloc, &of_a, &of_b)?;
     Ok(keys)
 }
@@ -189,36 +189,36 @@ pub fn level_keys<'a, N: Nodes>(
 /// The keys of two lists, in order, each once.
 pub fn merged_keys<'a>(
     alloc: Global,
-    a: &[Key<'a>],
-    b: &[Key<'a>],
+    left: &[Key<'a>],
+    right: &[Key<'a>],
 ) -> Result<Vec<Key<'a>>, AllocError>
-    ensures keys { IfOk result (λ ks. keys_view ks.items ≡ merged (keys_view a.now) (keys_view b.now)) }
-    ensures kinds { IfOk result (λ ks. (l : List ℕ) → AreKeysOf l a.now → AreKeysOf l b.now → AreKeysOf l ks.items) }
+    ensures keys { IfOk result (λ ks. keys_view ks.items ≡ key_union (keys_view left.now) (keys_view right.now)) }
+    ensures kinds { IfOk result (λ ks. (l : List ℕ) → AreKeysOf l left.now → AreKeysOf l right.now → AreKeysOf l ks.items) }
 {
     let mut made = Vec::new(alloc);
     let mut i = 0;
     let mut j = 0;
-    while i < a.len() && j < b.len() {
-        match a[i].cmp(b[j]) {
+    while i < left.len() && j < right.len() {
+        match left[i].cmp(right[j]) {
             Ordering::Less => {
-                made.push(a[i])?;
+                made.push(left[i])?;
                 i += 1;
                 continue;
             }
             Ordering::Equal => {
-                made.push(a[i])?;
+                made.push(left[i])?;
                 i += 1;
                 j += 1;
                 continue;
             }
             Ordering::Greater => {
-                made.push(b[j])?;
+                made.push(right[j])?;
                 j += 1;
                 continue;
             }
         }
     }
-    made.extend_from_slice(&a[i..])?;
-    made.extend_from_slice(&b[j..])?;
+    made.extend_from_slice(&left[i..])?;
+    made.extend_from_slice(&right[j..])?;
     Ok(made)
 }

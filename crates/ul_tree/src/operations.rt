@@ -19,13 +19,13 @@ use std::alloc::{AllocError, Global};
 /// # Errors
 ///
 /// Only for want of memory.
-pub fn plain_and(alloc: Global, a: &Tree, b: &Tree) -> Result<Tree, AllocError>
-    requires a_reduced { IsTree a.now }
-    requires b_reduced { IsTree b.now }
+pub fn plain_and(alloc: Global, left: &Tree, right: &Tree) -> Result<Tree, AllocError>
+    requires left_reduced { IsTree left.now }
+    requires right_reduced { IsTree right.now }
     ensures reduced { IfOk result IsTree }
-    ensures truth { IfOk result (λ t. HoldsJoined both a.now b.now t) }
+    ensures truth { IfOk result (λ t. HoldsJoined both left.now right.now t) }
 {
-    let tree = joined(alloc, Join::Both, a, b)?;
+    let tree = joined(alloc, Join::Both, left, right)?;
     Ok(tree)
 }
 
@@ -34,13 +34,13 @@ pub fn plain_and(alloc: Global, a: &Tree, b: &Tree) -> Result<Tree, AllocError>
 /// # Errors
 ///
 /// Only for want of memory.
-pub fn plain_or(alloc: Global, a: &Tree, b: &Tree) -> Result<Tree, AllocError>
-    requires a_reduced { IsTree a.now }
-    requires b_reduced { IsTree b.now }
+pub fn plain_or(alloc: Global, left: &Tree, right: &Tree) -> Result<Tree, AllocError>
+    requires left_reduced { IsTree left.now }
+    requires right_reduced { IsTree right.now }
     ensures reduced { IfOk result IsTree }
-    ensures truth { IfOk result (λ t. HoldsJoined either a.now b.now t) }
+    ensures truth { IfOk result (λ t. HoldsJoined either left.now right.now t) }
 {
-    let tree = joined(alloc, Join::Either, a, b)?;
+    let tree = joined(alloc, Join::Either, left, right)?;
     Ok(tree)
 }
 
@@ -49,12 +49,12 @@ pub fn plain_or(alloc: Global, a: &Tree, b: &Tree) -> Result<Tree, AllocError>
 /// # Errors
 ///
 /// Only for want of memory.
-pub fn plain_not(alloc: Global, a: &Tree) -> Result<Tree, AllocError>
-    requires { IsTree a.now }
+pub fn plain_not(alloc: Global, whole: &Tree) -> Result<Tree, AllocError>
+    requires { IsTree whole.now }
     ensures reduced { IfOk result IsTree }
-    ensures truth { IfOk result (λ t. HoldsAs t (λ w x. not (tree_holds (tree_view a.now) w x))) }
+    ensures truth { IfOk result (λ t. HoldsAs t (λ w x. not (tree_holds (tree_view whole.now) w x))) }
 {
-    let tree = joined(alloc, Join::NotFirst, a, &Tree::Truth(false))?;
+    let tree = joined(alloc, Join::NotFirst, whole, &Tree::Truth(false))?;
     Ok(tree)
 }
 
@@ -63,15 +63,15 @@ pub fn plain_not(alloc: Global, a: &Tree) -> Result<Tree, AllocError>
 /// # Errors
 ///
 /// Only for want of memory.
-pub fn plain_at_extra(alloc: Global, a: &Tree, extra: &str) -> Result<Tree, AllocError>
-    requires { IsTree a.now }
+pub fn plain_at_extra(alloc: Global, whole: &Tree, extra: &str) -> Result<Tree, AllocError>
+    requires { IsTree whole.now }
     ensures reduced { IfOk result IsTree }
-    ensures truth { IfOk result (λ t. HoldsAs t (λ w x. tree_holds (tree_view a.now) w extra.now)) }
+    ensures truth { IfOk result (λ t. HoldsAs t (λ w x. tree_holds (tree_view whole.now) w extra.now)) }
     ensures no_extra { IfOk result (λ t. asks_extra (tree_view t) ≡ false) }
 {
     let tree = copy(
         alloc,
-        part_at::<Trees>(a, Level::Extra, Key::Literal(extra)),
+        part_at::<Trees>(whole, Level::Extra, Key::Literal(extra)),
     )?;
     Ok(tree)
 }

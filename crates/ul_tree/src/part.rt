@@ -1,7 +1,7 @@
 //! Trees as nodes: the top level, the part without a key, and the branches.
 ghost use Rattle.std.specs.Prelude.{◌≡◌, ◌<◌, suc, length, option_map, true};
 ghost use Rattle.ul_tree.specs.TreeFacts.{IsTree, IsBranchAt, IsTreeBranch};
-ghost use Rattle.ul_tree.specs.Apply.{known as known_plain, truth_value as truth_value_plain};
+ghost use Rattle.ul_tree.specs.Apply.{leaf_truth as known_plain, truth_value as truth_value_plain};
 ghost use Rattle.ul_tree.specs.FirstParts.{is_false as is_false_plain};
 ghost use Rattle.ul_tree.specs.Sample.{asks_extra as asks_extra_plain};
 ghost use Rattle.ul_tree.specs.Views.{tree_view, points_view};

@@ -5,7 +5,7 @@ ghost use Rattle.ul_tree.specs.Views.{tree_view};
 ghost use Rattle.ul_tree.specs.Reduced.{IsReduced};
 ghost use Rattle.ul_tree.specs.Keys.{level_view, KeysOf};
 ghost use Rattle.ul_tree.specs.Joins.{trees_made};
-ghost use Rattle.ul_tree.specs.Simplify.{own_or, filled};
+ghost use Rattle.ul_tree.specs.Simplify.{own_or, filled_results};
 ghost use Rattle.ul_tree.specs.SimplifyViews.{PartsFit, ResultFits, ResultsFit, result_trees, part_trees, filled_trees, reduced_parts, settled_tree};
 
 use crate::Tree;

@@ -17,14 +17,14 @@ use crate::settle::settled;
 use crate::tree::{DEEPEST, deeper};
 use std::alloc::{AllocError, Global};
 
-/// A tree made simpler where only the region `c` counts, which isn't false: reduced, and with `f`'s truth
-/// wherever `c` holds. It also depends on `f` outside of `c`; the rule determines it:
+/// A tree made simpler where only the region `within` counts, which isn't false: reduced, and with `whole`'s truth
+/// wherever `within` holds. It also depends on `whole` outside of `within`; the rule determines it:
 ///
-/// - Where `f` is a truth value or `c` is true, the result is `f`.
-/// - Where `c`'s top level is above `f`'s, `c` is replaced by the union of its parts.
-/// - Where `f`'s top level is above `c`'s, each part of `f` is simplified by `c`.
+/// - Where `whole` is a truth value or `within` is true, the result is `whole`.
+/// - Where `within`'s top level is above `whole`'s, `within` is replaced by the union of its parts.
+/// - Where `whole`'s top level is above `within`'s, each part of `whole` is simplified by `within`.
 /// - At one level, both are cut by the pieces of both: intervals ascending; points ascending, then the other
-///   part; where an opaque comparison holds, then where it doesn't. A piece where `c` is false takes the result of
+///   part; where an opaque comparison holds, then where it doesn't. A piece where `within` is false takes the result of
 ///   the nearest earlier piece where it isn't, else of the nearest later one; every other piece is simplified.
 ///
 /// What says the same twice is then left out.
@@ -32,15 +32,15 @@ use std::alloc::{AllocError, Global};
 /// # Errors
 ///
 /// Only for want of memory.
-pub fn plain_simplify(alloc: Global, f: &Tree, c: &Tree) -> Result<Tree, AllocError>
-    requires f_reduced { IsTree f.now }
-    requires c_reduced { IsTree c.now }
-    requires not_false { tree_view c.now ≡ truth false → ⊥ }
-    ensures rule { IfOk result (λ t. Simplifies (tree_view f.now) (tree_view c.now) (tree_view t)) }
+pub fn plain_simplify(alloc: Global, whole: &Tree, within: &Tree) -> Result<Tree, AllocError>
+    requires whole_reduced { IsTree whole.now }
+    requires within_reduced { IsTree within.now }
+    requires not_false { tree_view within.now ≡ truth false → ⊥ }
+    ensures rule { IfOk result (λ t. Simplifies (tree_view whole.now) (tree_view within.now) (tree_view t)) }
     ensures reduced { IfOk result IsTree }
-    ensures agrees { IfOk result (λ t. AgreesWithin (tree_view c.now) (tree_view f.now) (tree_view t)) }
+    ensures agrees { IfOk result (λ t. AgreesWithin (tree_view within.now) (tree_view whole.now) (tree_view t)) }
 {
-    let simpler = simplified(alloc, f, c, DEEPEST)?;
+    let simpler = simplified(alloc, whole, within, DEEPEST)?;
     Ok(simpler)
 }
 
@@ -123,21 +123,21 @@ fn region<'a>(made: &'a Option<Tree>, stands: &'a Tree) -> &'a Tree
 
 // A tree made simpler under a region; want of memory where a path has more levels than `room`.
 #[cycle(simplify)]
-fn simplified(alloc: Global, f: &Tree, c: &Tree, room: usize) -> Result<Tree, AllocError>
-    requires f_reduced { IsTree f.now }
-    requires c_reduced { IsTree c.now }
-    requires not_false { tree_view c.now ≡ truth false → ⊥ }
-    ensures { IfOk result (λ t. Simplifies (tree_view f.now) (tree_view c.now) (tree_view t)) }
+fn simplified(alloc: Global, whole: &Tree, within: &Tree, room: usize) -> Result<Tree, AllocError>
+    requires whole_reduced { IsTree whole.now }
+    requires within_reduced { IsTree within.now }
+    requires not_false { tree_view within.now ≡ truth false → ⊥ }
+    ensures { IfOk result (λ t. Simplifies (tree_view whole.now) (tree_view within.now) (tree_view t)) }
 {
-    match level_of(f) {
+    match level_of(whole) {
         None => {
-            let tree = copy(alloc, f)?;
+            let tree = copy(alloc, whole)?;
             Ok(tree)
         }
         Some(level) => {
             let room = deeper(room)?;
-            let made = lowered(alloc, c, level)?;
-            let tree = simplified_at(alloc, f, region(&made, c), level, room)?;
+            let made = lowered(alloc, within, level)?;
+            let tree = simplified_at(alloc, whole, region(&made, within), level, room)?;
             Ok(tree)
         }
     }
@@ -147,31 +147,31 @@ fn simplified(alloc: Global, f: &Tree, c: &Tree, room: usize) -> Result<Tree, Al
 #[cycle(simplify)]
 fn simplified_at<'x>(
     alloc: Global,
-    f: &'x Tree,
+    whole: &'x Tree,
     region: &'x Tree,
     level: Level<'_>,
     room: usize,
 ) -> Result<Tree, AllocError>
-    requires f_reduced { IsTree f.now }
-    requires top { Some (level_view level) ≡ top_of (tree_view f.now) }
+    requires whole_reduced { IsTree whole.now }
+    requires top { Some (level_view level) ≡ top_of (tree_view whole.now) }
     requires region_reduced { IsTree region.now }
     requires not_false { tree_view region.now ≡ truth false → ⊥ }
     requires not_above { is_above_plain (level_view level) (tree_view region.now) ≡ false }
-    ensures { IfOk result (λ t. Simplifies (tree_view f.now) (tree_view region.now) (tree_view t)) }
+    ensures { IfOk result (λ t. Simplifies (tree_view whole.now) (tree_view region.now) (tree_view t)) }
 {
     if known(region) {
-        let tree = copy(alloc, f)?;
+        let tree = copy(alloc, whole)?;
         return Ok(tree);
     }
-    let keys = level_keys::<Trees>(alloc, level, f, region)?;
-    let results = results(alloc, f, region, level, &keys, room)?;
+    let keys = level_keys::<Trees>(alloc, level, whole, region)?;
+    let results = results(alloc, whole, region, level, &keys, room)?;
     let rest = piece(
         alloc,
-        rest_at::<Trees>(f, level),
+        rest_at::<Trees>(whole, level),
         rest_at::<Trees>(region, level),
         room,
     )?;
-    let tree = settled(alloc, level, results, rest, rest_at::<Trees>(f, level))?;
+    let tree = settled(alloc, level, results, rest, rest_at::<Trees>(whole, level))?;
     Ok(tree)
 }
 
@@ -179,25 +179,25 @@ fn simplified_at<'x>(
 #[cycle(simplify)]
 fn results<'x>(
     alloc: Global,
-    f: &Tree,
+    whole: &Tree,
     region: &Tree,
     level: Level<'_>,
     keys: &[Key<'x>],
     room: usize,
 ) -> Result<Vec<(Key<'x>, Option<Tree>)>, AllocError>
-    requires f_reduced { IsTree f.now }
-    requires top { Some (level_view level) ≡ top_of (tree_view f.now) }
+    requires whole_reduced { IsTree whole.now }
+    requires top { Some (level_view level) ≡ top_of (tree_view whole.now) }
     requires region_reduced { IsTree region.now }
     requires not_above { is_above_plain (level_view level) (tree_view region.now) ≡ false }
     requires kinds { AreKeysOf (level_view level) keys.now }
-    ensures pieces { IfOk result (λ rs. PiecesAre level.entry f.now region.now keys.now rs.items) }
+    ensures pieces { IfOk result (λ rs. PiecesAre level.entry whole.now region.now keys.now rs.items) }
     ensures kinds { IfOk result (λ rs. KeysOf (level_view level.entry) rs.items) }
 {
     let mut made = Vec::new(alloc);
     for key in keys {
         let result = piece(
             alloc,
-            part_at::<Trees>(f, level, *key),
+            part_at::<Trees>(whole, level, *key),
             part_at::<Trees>(region, level, *key),
             room,
         )?;
@@ -208,14 +208,19 @@ fn results<'x>(
 
 // A piece made simpler; none where the region is false.
 #[cycle(simplify)]
-fn piece(alloc: Global, f: &Tree, c: &Tree, room: usize) -> Result<Option<Tree>, AllocError>
-    requires f_reduced { IsTree f.now }
-    requires c_reduced { IsTree c.now }
-    ensures { IfOk result (λ o. Piece (tree_view f.now) (tree_view c.now) (option_map tree_view o)) }
+fn piece(
+    alloc: Global,
+    whole: &Tree,
+    within: &Tree,
+    room: usize,
+) -> Result<Option<Tree>, AllocError>
+    requires whole_reduced { IsTree whole.now }
+    requires within_reduced { IsTree within.now }
+    ensures { IfOk result (λ o. Piece (tree_view whole.now) (tree_view within.now) (option_map tree_view o)) }
 {
-    if is_false(c) {
+    if is_false(within) {
         return Ok(None);
     }
-    let tree = simplified(alloc, f, c, room)?;
+    let tree = simplified(alloc, whole, within, room)?;
     Ok(Some(tree))
 }

@@ -9,7 +9,7 @@ use Rattle.std.proofs.lemmas.Bool.Decides.{nat_tests}
 use Rattle.std.specs.Char.{is_ascii_digit, is_ascii_lowercase}
 use Rattle.ul_version.specs.Fields.{Fields, is_word_byte}
 use Rattle.ul_version.specs.Grammar.{IsNum, IsOptionalNum, IsOptionalSeparator, IsSuffix, IsEpoch, ArePoints, IsRelease, IsPre, IsPost, IsDev, IsSpelledSegment, AreSegments, IsLocal, IsSpelled}
-use Rattle.ul_version.specs.Reading.{Cut, number, value_after, needed, begins, epoch, marked, after_word, points, release, pre, any_kind, kind_words, suffix_number, after_optional, is_separator, post, post_words, after_any, dev, segment, segments, local, fields_of}
+use Rattle.ul_version.specs.Reading.{Cut, number, value_after, required_number, begins, epoch, marked_digits, after_word, points, release, pre, any_kind, kind_words, suffix_number, after_optional, is_separator, post, post_words, after_any, dev, segment, segments, local, fields_of}
 use Rattle.ul_version.specs.declared.fields.Pre.{Pre}
 use Rattle.ul_version.specs.declared.fields.PreKind.{PreKind}
 use Rattle.ul_version.specs.declared.fields.PreKind.TheVariants.{A, B, Rc}
@@ -78,8 +78,8 @@ optional-letter before b rest (inl none) h = rw (none, letter-separator b h) ref
 optional-letter before b rest (inr (c, one, sep)) h = rw (one, sep) refl
 
 pub marked-letter : (mark : ℕ) (before : List ℕ) (b : ℕ) (rest : List ℕ) → mark < 97 → IsOptionalSeparator before → is_ascii_lowercase b ≡ true
-    → marked (mark ∷ []) (before ++ (b ∷ rest)) ≡ None
-unfolding marked after_word
+    → marked_digits (mark ∷ []) (before ++ (b ∷ rest)) ≡ None
+unfolding marked_digits after_word
 marked-letter mark before b rest low (inl none) h = rw (none, letter-mark b mark h low) refl
 marked-letter mark before b rest low (inr (c, one, sep)) h = elim (cases_Bool (c == mark)) [
   | inl same ↦ rw (one, same, letter-digit b h) refl
@@ -175,7 +175,7 @@ last-cases : (text : List ℕ) → Last text → (text ≡ []) ⊎ ((rest : List
 last-cases text t = local-cases text t.segments t.is_local
 
 Last-ends : (text : List ℕ) → Last text → Ends text
-unfolding marked after_word
+unfolding marked_digits after_word
 Last-ends text t = elim (last-cases text t) [
   | inl none ↦ rw none (record { digit = refl; point = refl; mark = refl })
   | inr (rest, plus) ↦ rw plus (record { digit = refl; point = refl; mark = refl })
@@ -365,7 +365,7 @@ from_dev : (text : List ℕ) → FromDev text → FromPost text
 from_dev text t = record { value = None; part = []; rest = text; is_part = refl; later = t; whole = refl }
 
 post-ends : (text : List ℕ) (value : Option ℕ) (part rest : List ℕ) → IsPost part value → FromDev rest → text ≡ part ++ rest → Ends text
-unfolding marked after_word
+unfolding marked_digits after_word
 post-ends text None part rest h later whole = rw (whole, h) (FromDev-ends rest later)
 post-ends text (Some n) part rest (inl (digits, num, dash)) later whole = rw (whole, dash) (record { digit = refl; point = refl; mark = refl })
 post-ends text (Some n) part rest (inr h) later whole = rw whole (Lettered-ends (part ++ rest) (suffix-lettered post_words part rest n refl h))
@@ -430,8 +430,8 @@ no_post word u (inr none) = absurd none
 
 -- no post part stands in front of a dev or local part
 post-none : (text : List ℕ) (value : Option ℕ) (part rest : List ℕ) → IsDev part value → Last rest → text ≡ part ++ rest
-    → (marked (codes "-") text ≡ None) × (after_any post_words (after_optional is_separator text) ≡ None)
-unfolding marked
+    → (marked_digits (codes "-") text ≡ None) × (after_any post_words (after_optional is_separator text) ≡ None)
+unfolding marked_digits
 post-none text None part rest h last whole =
     rw (whole, h) (
       rw (Last-word rest [] 45 last refl) refl,
@@ -447,8 +447,8 @@ post-none text (Some n) part rest h last whole =
 num-begins : (digits rest : List ℕ) (n : ℕ) → IsNum digits n → begins is_ascii_digit (digits ++ rest) ≡ true
 num-begins digits rest n num = let d = first_digit digits num.filled num.digits in rw d.shape d.digit
 
-pub marked-dash : (digits rest : List ℕ) (n : ℕ) → IsNum digits n → marked (codes "-") (45 ∷ (digits ++ rest)) ≡ Some (digits ++ rest)
-unfolding marked after_word
+pub marked-dash : (digits rest : List ℕ) (n : ℕ) → IsNum digits n → marked_digits (codes "-") (45 ∷ (digits ++ rest)) ≡ Some (digits ++ rest)
+unfolding marked_digits after_word
 marked-dash digits rest n num = rw (num-begins digits rest n num) refl
 
 post-reads-by : (text : List ℕ) (value : Option ℕ) (part rest : List ℕ) → IsPost part value → FromDev rest → text ≡ part ++ rest → Reads FromDev (post text) (length rest)
@@ -462,7 +462,7 @@ post-reads-by text (Some n) part rest (inl (digits, num, dash)) later whole =
 post-reads-by text (Some n) part rest (inr h) later whole =
     let u = h.between ++ (h.digits ++ rest) in
     let l = suffix-lettered post_words part rest n refl h in
-    let no_dash : marked (codes "-") (part ++ rest) ≡ None = rw l.shape (marked-letter 45 l.before l.first l.others (omega arith) l.is_before l.letter) in
+    let no_dash : marked_digits (codes "-") (part ++ rest) ≡ None = rw l.shape (marked-letter 45 l.before l.first l.others (omega arith) l.is_before l.letter) in
     let other = opens-other u 101 (word-opens h.between h.digits rest n h.is_between h.are_digits (FromDev-opens rest later)) refl in
     let r = suffix-reads FromDev FromDev-follows h.between h.digits rest n h.is_between h.are_digits later in
     record { value = Some r.value; rest = r.rest; is = rw (whole, no_dash, suffix-optional post_words part rest n refl h, post-word h.word u (one_of post_words h.word h.is_word) other, r.is) refl; holds = r.holds; shorter = r.shorter }
@@ -576,8 +576,8 @@ unfolding after_word
 points-mark part [] text h e = rw h e.mark
 points-mark part (n ∷ ns) text (digits, rest, num, more, whole) e = rw whole refl
 
-marked-point : (digits rest : List ℕ) (n : ℕ) → IsNum digits n → marked (codes ".") (46 ∷ (digits ++ rest)) ≡ Some (digits ++ rest)
-unfolding marked after_word
+marked-point : (digits rest : List ℕ) (n : ℕ) → IsNum digits n → marked_digits (codes ".") (46 ∷ (digits ++ rest)) ≡ Some (digits ++ rest)
+unfolding marked_digits after_word
 marked-point digits rest n num = rw (num-begins digits rest n num) refl
 
 points-read : (part ns text : List ℕ) (most : ℕ) → ArePoints part ns → Ends text → length ns ≤ most → points most (part ++ text) ≡ Some (ns, text)
@@ -604,7 +604,7 @@ points-length part (n ∷ ns) (digits, rest, num, more, whole) =
     omega arith
 
 pub release-read : (part ns text : List ℕ) → IsRelease part ns → Ends text → release (part ++ text) ≡ Some (ns, text)
-unfolding release needed
+unfolding release required_number
 release-read part [] text h e = absurd h
 release-read part (n ∷ ns) text (digits, rest, num, more, whole) e =
     let group : (digits ++ rest) ++ text ≡ digits ++ (rest ++ text) = append_assoc digits rest text in

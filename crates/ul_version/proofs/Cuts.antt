@@ -5,7 +5,7 @@ use Rattle.std.proofs.lemmas.List.{drop_more, drop_all, map_more, append-nil, ap
 use Rattle.std.proofs.lemmas.Bool.{cases_Bool, and_parts, lt-ltb, le-ltb, eq-eqb, ne_eqb}
 use Rattle.std.proofs.lemmas.Bool.Decides.{nat_tests}
 use Rattle.std.specs.Char.{is_ascii_alphanumeric, is_ascii_digit, to_ascii_lowercase}
-use Rattle.ul_version.specs.Reading.{lowered, digits, after_digits, value_after, number, after_word, Cut, needed, release, points, marked, onto, is_separator, segment, segments, pieces_of, ◌>>=◌}
+use Rattle.ul_version.specs.Reading.{lowercase_text, digits, after_digits, value_after, number, after_word, Cut, required_number, release, points, marked_digits, onto, is_separator, segment, segments, pieces_of, ◌>>=◌}
 use Rattle.ul_version.specs.declared.fields.Segment.{Segment}
 use Rattle.ul_version.specs.Fields.{is_word_byte}
 use Rattle.std.specs.List.{list_all, slice_split, onto_first}
@@ -37,24 +37,24 @@ value_after-grows n [] = omega arith
 value_after-grows n (d ∷ ds) = let more = value_after-grows (n * 10 + (d - 48)) ds in omega arith
 
 pub number_from-digit : (n : ℕ) (xs : List ℕ) (i : ℕ) → i < length xs → is_ascii_digit (get_or xs i 0) ≡ true
-    → number_from n (lowered (drop i xs)) ≡ number_from (n * 10 + (get_or xs i 0 - 48)) (lowered (drop (i + 1) xs))
+    → number_from n (lowercase_text (drop i xs)) ≡ number_from (n * 10 + (get_or xs i 0 - 48)) (lowercase_text (drop (i + 1) xs))
 unfolding number_from digits after_digits value_after
 number_from-digit n xs i h d = rw (drop_more xs i 0 h, lower-digit (get_or xs i 0) d, d) refl
 
 pub number_from-over : (n : ℕ) (xs : List ℕ) (i : ℕ) → i < length xs → is_ascii_digit (get_or xs i 0) ≡ true
-    → 2 ^ 64 ≤ n * 10 + (get_or xs i 0 - 48) → number_from n (lowered (drop i xs)) ≡ None
+    → 2 ^ 64 ≤ n * 10 + (get_or xs i 0 - 48) → number_from n (lowercase_text (drop i xs)) ≡ None
 unfolding number_from
 number_from-over n xs i h d over =
     number_from-digit n xs i h d
-    ∙ rw (le-ltb (value_after (n * 10 + (get_or xs i 0 - 48)) (digits (lowered (drop (i + 1) xs)))) (2 ^ 64)
+    ∙ rw (le-ltb (value_after (n * 10 + (get_or xs i 0 - 48)) (digits (lowercase_text (drop (i + 1) xs)))) (2 ^ 64)
     (le_trans over (value_after-grows _ _))) refl
 
 pub number_from-stop : (n : ℕ) (xs : List ℕ) (i : ℕ) → n < 2 ^ 64 → i < length xs → is_ascii_digit (get_or xs i 0) ≡ false
-    → number_from n (lowered (drop i xs)) ≡ Some (n, lowered (drop i xs))
+    → number_from n (lowercase_text (drop i xs)) ≡ Some (n, lowercase_text (drop i xs))
 unfolding number_from digits after_digits value_after
 number_from-stop n xs i fits h d = rw (drop_more xs i 0 h, digit-lower (get_or xs i 0), d, lt-ltb n (2 ^ 64) fits) refl
 
-pub number_from-end : (n : ℕ) (xs : List ℕ) (i : ℕ) → n < 2 ^ 64 → length xs ≤ i → number_from n (lowered (drop i xs)) ≡ Some (n, [])
+pub number_from-end : (n : ℕ) (xs : List ℕ) (i : ℕ) → n < 2 ^ 64 → length xs ≤ i → number_from n (lowercase_text (drop i xs)) ≡ Some (n, [])
 unfolding number_from digits after_digits value_after
 number_from-end n xs i fits h = rw (drop_all i xs h, lt-ltb n (2 ^ 64) fits) refl
 
@@ -70,12 +70,12 @@ after_word-short (w ∷ word) (b ∷ rest) h = elim (cases_Bool (b == w)) [
 ]
 
 pub after_word-next : (word text : List ℕ) (i : ℕ) → i < length word → i < length text → to_ascii_lowercase (get_or text i 0) ≡ get_or word i 0
-    → after_word (drop i word) (lowered (drop i text)) ≡ after_word (drop (i + 1) word) (lowered (drop (i + 1) text))
+    → after_word (drop i word) (lowercase_text (drop i text)) ≡ after_word (drop (i + 1) word) (lowercase_text (drop (i + 1) text))
 unfolding after_word
 after_word-next word text i h k e = rw (drop_more word i 0 h, drop_more text i 0 k, eq-eqb (to_ascii_lowercase (get_or text i 0)) (get_or word i 0) e) refl
 
 pub after_word-differs : (word text : List ℕ) (i : ℕ) → i < length word → i < length text → to_ascii_lowercase (get_or text i 0) ≢ get_or word i 0
-    → after_word (drop i word) (lowered (drop i text)) ≡ None
+    → after_word (drop i word) (lowercase_text (drop i text)) ≡ None
 unfolding after_word
 after_word-differs word text i h k e = rw (drop_more word i 0 h, drop_more text i 0 k, ne_eqb (to_ascii_lowercase (get_or text i 0)) (get_or word i 0) e) refl
 
@@ -89,15 +89,15 @@ after_word-end word text i h = rw (drop_all i word h) refl
 abbrev pub point : List ℕ
 point = 46 ∷ []
 
-pub release-none : (text : List ℕ) → needed text ≡ None → release text ≡ None
+pub release-none : (text : List ℕ) → required_number text ≡ None → release text ≡ None
 unfolding release
 release-none text h = rw h refl
 
-pub release-start : (text rest : List ℕ) (size n : ℕ) → length text ≡ size → needed text ≡ Some (n, rest) → release text ≡ onto (n ∷ []) (points size rest)
+pub release-start : (text rest : List ℕ) (size n : ℕ) → length text ≡ size → required_number text ≡ Some (n, rest) → release text ≡ onto (n ∷ []) (points size rest)
 unfolding release
 release-start text rest size n e h = rw (h, e) refl
 
-pub points-done : (ns text : List ℕ) (k : ℕ) → marked point text ≡ None → onto ns (points k text) ≡ Some (ns, text)
+pub points-done : (ns text : List ℕ) (k : ℕ) → marked_digits point text ≡ None → onto ns (points k text) ≡ Some (ns, text)
 unfolding points
 points-done ns text zero h = rw (append-nil ns) refl
 points-done ns text (suc k) h = rw (h, append-nil ns) refl
@@ -110,12 +110,12 @@ onto-onto : (xs ys : List ℕ) (part : Cut (List ℕ)) → onto xs (onto ys part
 onto-onto xs ys None = refl
 onto-onto xs ys (Some p) = rw append_assoc refl
 
-pub points-next : (ns text digits rest : List ℕ) (n k m : ℕ) → k ≡ m + 1 → marked point text ≡ Some digits → number digits ≡ Some (n, rest)
+pub points-next : (ns text digits rest : List ℕ) (n k m : ℕ) → k ≡ m + 1 → marked_digits point text ≡ Some digits → number digits ≡ Some (n, rest)
     → onto ns (points k text) ≡ onto (ns ++ n ∷ []) (points m rest)
 unfolding points
 points-next ns text digits rest n k m e h d = rw (e, add-one m, h, d) (onto-onto ns (n ∷ []) (points m rest))
 
-pub points-over : (ns text digits : List ℕ) (k m : ℕ) → k ≡ m + 1 → marked point text ≡ Some digits → number digits ≡ None → onto ns (points k text) ≡ None
+pub points-over : (ns text digits : List ℕ) (k m : ℕ) → k ≡ m + 1 → marked_digits point text ≡ Some digits → number digits ≡ None → onto ns (points k text) ≡ None
 unfolding points
 points-over ns text digits k m e h d = rw (e, add-one m, h, d) refl
 
@@ -124,23 +124,23 @@ points-over ns text digits k m e h d = rw (e, add-one m, h, d) refl
 word_byte-lower : (b : ℕ) → is_word_byte (to_ascii_lowercase b) ≡ is_ascii_alphanumeric b
 word_byte-lower b = grind (arith, nat_tests)
 
-pub alphanumeric-lowered : (xs : List ℕ) → list_all is_word_byte (lowered xs) ≡ list_all is_ascii_alphanumeric xs
+pub alphanumeric-lowered : (xs : List ℕ) → list_all is_word_byte (lowercase_text xs) ≡ list_all is_ascii_alphanumeric xs
 alphanumeric-lowered [] = refl
 alphanumeric-lowered (b ∷ xs) = rw (word_byte-lower b, alphanumeric-lowered xs) refl
 
-pub numeric-lowered : (xs : List ℕ) → list_all is_ascii_digit (lowered xs) ≡ list_all is_ascii_digit xs
+pub numeric-lowered : (xs : List ℕ) → list_all is_ascii_digit (lowercase_text xs) ≡ list_all is_ascii_digit xs
 numeric-lowered [] = refl
 numeric-lowered (b ∷ xs) = rw (digit-lower b, numeric-lowered xs) refl
 
 separator-lower : (b : ℕ) → is_separator (to_ascii_lowercase b) ≡ is_separator b
 separator-lower b = grind (arith, nat_tests)
 
-onto_first-lowered : (b : ℕ) (pieces : List (List ℕ)) → onto_first (to_ascii_lowercase b) (map lowered pieces) ≡ map lowered (onto_first b pieces)
+onto_first-lowered : (b : ℕ) (pieces : List (List ℕ)) → onto_first (to_ascii_lowercase b) (map lowercase_text pieces) ≡ map lowercase_text (onto_first b pieces)
 onto_first-lowered b [] = refl
 onto_first-lowered b (piece ∷ pieces) = refl
 
 -- the pieces of a text in lower case are the pieces of the text, in lower case
-pub slice_split-lowered : (xs : List ℕ) → slice_split is_separator (lowered xs) ≡ map lowered (slice_split is_separator xs)
+pub slice_split-lowered : (xs : List ℕ) → slice_split is_separator (lowercase_text xs) ≡ map lowercase_text (slice_split is_separator xs)
 slice_split-lowered [] = refl
 slice_split-lowered (b ∷ xs) = elim (cases_Bool (is_separator b)) [
   | inl yes_one ↦ rw (separator-lower b, yes_one, slice_split-lowered xs) refl
@@ -156,13 +156,13 @@ list_all-at p (x ∷ xs) zero d h lt = (and_parts (p x) (list_all p xs) h).0
 list_all-at p (x ∷ xs) (suc k) d h lt = list_all-at p xs k d (and_parts (p x) (list_all p xs) h).1 (omega arith)
 
 -- the bytes of a word are ASCII
-pub word-ascii : (xs : List ℕ) (k : ℕ) → list_all is_word_byte (lowered xs) ≡ true → k < length xs → to_ascii_lowercase (get_or xs k 0) < 128
+pub word-ascii : (xs : List ℕ) (k : ℕ) → list_all is_word_byte (lowercase_text xs) ≡ true → k < length xs → to_ascii_lowercase (get_or xs k 0) < 128
 word-ascii [] k h lt = absurd (omega arith)
-word-ascii (x ∷ xs) zero h lt = word_byte-ascii (to_ascii_lowercase x) (and_parts (is_word_byte (to_ascii_lowercase x)) (list_all is_word_byte (lowered xs)) h).0
-word-ascii (x ∷ xs) (suc k) h lt = word-ascii xs k (and_parts (is_word_byte (to_ascii_lowercase x)) (list_all is_word_byte (lowered xs)) h).1 (omega arith)
+word-ascii (x ∷ xs) zero h lt = word_byte-ascii (to_ascii_lowercase x) (and_parts (is_word_byte (to_ascii_lowercase x)) (list_all is_word_byte (lowercase_text xs)) h).0
+word-ascii (x ∷ xs) (suc k) h lt = word-ascii xs k (and_parts (is_word_byte (to_ascii_lowercase x)) (list_all is_word_byte (lowercase_text xs)) h).1 (omega arith)
 
 -- one byte more in lower case
-pub lowered-more : (xs text : List ℕ) (k b : ℕ) → text ≡ lowered (take k xs) → k < length xs → b ≡ to_ascii_lowercase (get_or xs k 0) → text ++ b ∷ [] ≡ lowered (take (k + 1) xs)
+pub lowered-more : (xs text : List ℕ) (k b : ℕ) → text ≡ lowercase_text (take k xs) → k < length xs → b ≡ to_ascii_lowercase (get_or xs k 0) → text ++ b ∷ [] ≡ lowercase_text (take (k + 1) xs)
 lowered-more xs text k b e lt h = rw (e, h) (sym (map_more to_ascii_lowercase xs k 0 lt))
 
 -- a step that gave something came from a step that gave something
@@ -196,12 +196,12 @@ pub pieces-last : (ss : List Segment) (s : Segment) (piece : List ℕ) (all : Li
 unfolding segments
 pieces-last ss s piece all e h = rw (e, h) refl
 
-onto-lowered : (b : ℕ) (pieces : List (List ℕ)) → onto_first (to_ascii_lowercase b) (map lowered pieces) ≡ map lowered (onto_first b pieces)
+onto-lowered : (b : ℕ) (pieces : List (List ℕ)) → onto_first (to_ascii_lowercase b) (map lowercase_text pieces) ≡ map lowercase_text (onto_first b pieces)
 onto-lowered b [] = refl
 onto-lowered b (piece ∷ pieces) = refl
 
 -- the pieces of a text in lower case are those of the text
-pub pieces-lowered : (xs : List ℕ) → pieces_of (lowered xs) ≡ map lowered (pieces_of xs)
+pub pieces-lowered : (xs : List ℕ) → pieces_of (lowercase_text xs) ≡ map lowercase_text (pieces_of xs)
 pieces-lowered [] = refl
 pieces-lowered (x ∷ xs) = elim (cases_Bool (is_separator x)) [
   | inl parts ↦ rw (separator-lower x, parts) (ap (λ ps. [] ∷ ps) (pieces-lowered xs))

@@ -5,12 +5,12 @@ use Rattle.std.proofs.lemmas.List.{ext_get_or, get_or-take, length-take}
 use Rattle.std.proofs.lemmas.Bool.{cases_Bool}
 use Rattle.std.specs.Cmp.Lexicographic.{same_text, other_text}
 use lib.Pointwise.{pointwise}
-use Rattle.ul_version.specs.Order.{padded, has_release_front}
+use Rattle.ul_version.specs.Order.{padded_release, has_release_front}
 use Rattle.ul_version.proofs.Orders.{length-padded, get_or-padded}
 
 -- the numbers of a release that stand beside those of a front
 beside : List ℕ → List ℕ → List ℕ
-beside front release = take (length front) (padded (length front) release)
+beside front release = take (length front) (padded_release (length front) release)
 
 beside-at : (front release : List ℕ) (k : ℕ) → k < length front → get_or (beside front release) k 0 ≡ get_or release k 0
 unfolding beside
@@ -18,7 +18,7 @@ beside-at front release k lt = get_or-take (length front) _ k 0 lt ∙ get_or-pa
 
 beside-length : (front release : List ℕ) → length (beside front release) ≡ length front
 unfolding beside
-beside-length front release = length-take (length front) (padded (length front) release) ∙ omega (arith, length-padded (length front) release)
+beside-length front release = length-take (length front) (padded_release (length front) release) ∙ omega (arith, length-padded (length front) release)
 
 differ-not : (xs ys : List ℕ) (b : Bool) → b ≡ pointwise nat_eq xs ys → xs ≡ ys → b ≡ true
 differ-not xs ys true e same = refl

@@ -3,7 +3,7 @@ use Rattle.std.proofs.Common.{◌≡◌, Some, sym, ap, ◌∙◌}
 use Rattle.std.specs.Cmp.{upto}
 use Rattle.std.proofs.lemmas.Cmp.{tied_itself}
 use Rattle.ul_version.specs.Fields.{Fields}
-use Rattle.ul_version.specs.Laws.{IsOrder, ReadIsSpelled, ReadIsVersion, SpelledIsRead, EarlierIsLongest, TextIsPlain, TextTells, TiesAreZeros, settled}
+use Rattle.ul_version.specs.Laws.{IsOrder, ReadIsSpelled, ReadIsVersion, SpelledIsRead, EarlierIsLongest, TextIsPlain, TextTells, TiesAreZeros, trimmed_lowercase}
 use Rattle.ul_version.specs.Reading.{version_of}
 use Rattle.ul_version.proofs.OrderLaws.{version_total, version_ties, zeros_tie}
 use Rattle.ul_version.proofs.RoundTrip.{version-read, version-text, version-filled}
@@ -35,15 +35,15 @@ plain f v = (version-text f v, version-filled f v)
 
 pub spelled : ReadIsSpelled
 unfolding version_of
-spelled text f e = fields-spelled (settled text) f e
+spelled text f e = fields-spelled (trimmed_lowercase text) f e
 
 pub versions : ReadIsVersion
-versions text f e = spelled-version (settled text) f (spelled text f e)
+versions text f e = spelled-version (trimmed_lowercase text) f (spelled text f e)
 
 pub read : SpelledIsRead
 unfolding version_of
-read text f h = fields-complete (settled text) f h
+read text f h = fields-complete (trimmed_lowercase text) f h
 
 pub longest : EarlierIsLongest
 unfolding version_of
-longest text f g other e = fields-longest (settled text) f g other e
+longest text f g other e = fields-longest (trimmed_lowercase text) f g other e

@@ -3,7 +3,7 @@ use Rattle.std.proofs.Common.{◌≡◌, ℕ, List, [], ◌∷◌, ◌++◌, len
 use Rattle.std.specs.Prelude.{codes}
 use Rattle.ul_version.specs.Grammar.{IsOptionalNum, IsOptionalSeparator, IsPre, IsPost, IsDev}
 use Rattle.ul_version.specs.Laws.{SpellingsAreOne}
-use Rattle.ul_version.specs.Reading.{epoch, marked, after_word, release, pre, kind_words, suffix_number, after_optional, is_separator, post, post_words, dev, local}
+use Rattle.ul_version.specs.Reading.{epoch, marked_digits, after_word, release, pre, kind_words, suffix_number, after_optional, is_separator, post, post_words, dev, local}
 use Rattle.ul_version.specs.declared.fields.Pre.{Pre}
 use Rattle.ul_version.proofs.RoundTrip.{first_digit, number-digits, digit-separator}
 use Rattle.ul_version.proofs.Spelling.{cut_same, inside}
@@ -35,14 +35,14 @@ pre-alone part (Some p) h =
     ) refl
 
 post-alone : (part : List ℕ) (value : Option ℕ) → IsPost part value → post (part ++ []) ≡ Some (value, [])
-unfolding post marked after_word
+unfolding post marked_digits after_word
 post-alone part None h = rw h refl
 post-alone part (Some n) (inl (digits, num, dash)) =
     rw (dash, marked-dash digits [] n num, number-digits digits [] n num.digits num.value num.fits refl) refl
 post-alone part (Some n) (inr h) =
     let u = h.between ++ (h.digits ++ []) in
     let l = suffix-lettered post_words part [] n refl h in
-    let no_dash : marked (codes "-") (part ++ []) ≡ None =
+    let no_dash : marked_digits (codes "-") (part ++ []) ≡ None =
     rw l.shape (marked-letter 45 l.before l.first l.others (omega arith) l.is_before l.letter) in
     let other = opens-other u 101 (word-opens h.between h.digits [] n h.is_between h.are_digits refl) refl in
     rw (

@@ -9,7 +9,7 @@ use Rattle.std.specs.FinMap.{IsAntisymmetric, nat_cmp-IsAntisymmetric, slice_cmp
 use Rattle.std.specs.declared.cmp.Ordering.{Ordering}
 use Rattle.std.specs.declared.cmp.Ordering.TheVariants.{Less, Equal, Greater}
 use Rattle.ul_version.specs.Fields.{Fields}
-use Rattle.ul_version.specs.Order.{Place, place_cmp, kind_rank, pre_place, pre_place_of, post_place, dev_place, segment_key, segment_cmp, local_cmp, numbers_cmp, padded, release_cmp, suffix_cmp, version_cmp, AreZerosApart, DifferInZeros}
+use Rattle.ul_version.specs.Order.{Place, place_cmp, kind_rank, pre_place, pre_place_of, post_place, dev_place, segment_key, segment_cmp, local_cmp, numbers_cmp, padded_release, release_cmp, suffix_cmp, version_cmp, AreZerosApart, DifferInZeros}
 use Rattle.ul_version.specs.declared.fields.Pre.{Pre}
 use Rattle.ul_version.specs.declared.fields.PreKind.{PreKind}
 use Rattle.ul_version.specs.declared.fields.PreKind.TheVariants.{A, B, Rc}
@@ -31,40 +31,40 @@ slice_cmp-append (x ∷ xs) (y ∷ ys) zs e =
     ap (λ (r : Ordering). ordering_then (nat_cmp x y) r) (slice_cmp-append xs ys zs same)
 
 -- more zeros after a padded release
-padded-more : (m n : ℕ) (xs : List ℕ) → length xs ≤ m → m ≤ n → padded n xs ≡ padded m xs ++ replicate (n - m) 0
-unfolding padded
+padded-more : (m n : ℕ) (xs : List ℕ) → length xs ≤ m → m ≤ n → padded_release n xs ≡ padded_release m xs ++ replicate (n - m) 0
+unfolding padded_release
 padded-more m n xs h k =
     let sum : n - length xs ≡ (m - length xs) + (n - m) = omega arith in
     rw (sum, ← replicate-append-replicate {A = ℕ} (m - length xs) (n - m) 0) (sym (append_assoc xs (replicate (m - length xs) 0) (replicate (n - m) 0)))
 
-padded-length : (m : ℕ) (xs : List ℕ) → length xs ≤ m → length (padded m xs) ≡ m
-unfolding padded
+padded-length : (m : ℕ) (xs : List ℕ) → length xs ≤ m → length (padded_release m xs) ≡ m
+unfolding padded_release
 padded-length m xs h = length-append xs (replicate (m - length xs) 0) ∙ rw (length-replicate {A = ℕ}) (omega arith)
 
 -- padding two releases to any length that both fit in compares them alike
-release_cmp-padded : (n : ℕ) (xs ys : List ℕ) → length xs ≤ n → length ys ≤ n → release_cmp xs ys ≡ numbers_cmp (padded n xs) (padded n ys)
+release_cmp-padded : (n : ℕ) (xs ys : List ℕ) → length xs ≤ n → length ys ≤ n → release_cmp xs ys ≡ numbers_cmp (padded_release n xs) (padded_release n ys)
 unfolding release_cmp
 release_cmp-padded n xs ys h k =
     let m = max (length xs) (length ys) in
     rw (padded-more m n xs (omega arith) (omega arith), padded-more m n ys (omega arith) (omega arith))
-    (sym (slice_cmp-append (padded m xs) (padded m ys) (replicate (n - m) 0) (padded-length m xs (omega arith) ∙ sym (padded-length m ys (omega arith)))))
+    (sym (slice_cmp-append (padded_release m xs) (padded_release m ys) (replicate (n - m) 0) (padded-length m xs (omega arith) ∙ sym (padded-length m ys (omega arith)))))
 
 pub release_total : IsTotalOrder release_cmp
 release_total = record {
   antisymm = λ x y.
       let n = max (length x) (length y) in
       release_cmp-padded n x y (omega arith) (omega arith)
-      ∙ nat_list_cmp_total.antisymm (padded n x) (padded n y)
+      ∙ nat_list_cmp_total.antisymm (padded_release n x) (padded_release n y)
       ∙ ap ordering_reverse (sym (release_cmp-padded n y x (omega arith) (omega arith)));
   trans = λ x y z p q.
       let n = max (length x) (max (length y) (length z)) in
       release_cmp-padded n x z (omega arith) (omega arith)
-      ∙ nat_list_cmp_total.trans (padded n x) (padded n y) (padded n z)
+      ∙ nat_list_cmp_total.trans (padded_release n x) (padded_release n y) (padded_release n z)
       (sym (release_cmp-padded n x y (omega arith) (omega arith)) ∙ p) (sym (release_cmp-padded n y z (omega arith) (omega arith)) ∙ q);
   congr = λ x y z p.
       let n = max (length x) (max (length y) (length z)) in
       release_cmp-padded n x z (omega arith) (omega arith)
-      ∙ nat_list_cmp_total.congr (padded n x) (padded n y) (padded n z) (sym (release_cmp-padded n x y (omega arith) (omega arith)) ∙ p)
+      ∙ nat_list_cmp_total.congr (padded_release n x) (padded_release n y) (padded_release n z) (sym (release_cmp-padded n x y (omega arith) (omega arith)) ∙ p)
       ∙ sym (release_cmp-padded n y z (omega arith) (omega arith));
 }
 
@@ -99,27 +99,27 @@ then_second Greater s e = cc e
 both_tied : (r s : Ordering) → r ≡ Equal → s ≡ Equal → ordering_then r s ≡ Equal
 both_tied r s e h = rw (e, h) refl
 
-padded-whole : (n : ℕ) (xs : List ℕ) → length xs ≡ n → padded n xs ≡ xs
-unfolding padded
+padded-whole : (n : ℕ) (xs : List ℕ) → length xs ≡ n → padded_release n xs ≡ xs
+unfolding padded_release
 padded-whole n xs e = let none : n - length xs ≡ 0 = omega arith in rw none (append-nil xs)
 
 zeros_apart : (xs ys : List ℕ) → release_cmp xs ys ≡ Equal → AreZerosApart xs ys
-unfolding padded
+unfolding padded_release
 zeros_apart xs ys e = elim (cases_lt (length xs) (length ys)) [
   | inl shorter ↦
       let n = length ys in
-      let same : padded n xs ≡ padded n ys =
+      let same : padded_release n xs ≡ padded_release n ys =
       slice_cmp-IsAntisymmetric nat_cmp-IsAntisymmetric _ _ (sym (release_cmp-padded n xs ys (omega arith) (omega arith)) ∙ e) in
       inl (n - length xs, sym (padded-whole n ys refl) ∙ sym same)
   | inr longer ↦
       let n = length xs in
-      let same : padded n xs ≡ padded n ys =
+      let same : padded_release n xs ≡ padded_release n ys =
       slice_cmp-IsAntisymmetric nat_cmp-IsAntisymmetric _ _ (sym (release_cmp-padded n xs ys (omega arith) (omega arith)) ∙ e) in
       inr (n - length ys, sym (padded-whole n xs refl) ∙ same)
 ]
 
-padded-zeros : (xs : List ℕ) (n m : ℕ) → m ≡ length xs + n → padded m xs ≡ xs ++ replicate n 0
-unfolding padded
+padded-zeros : (xs : List ℕ) (n m : ℕ) → m ≡ length xs + n → padded_release m xs ≡ xs ++ replicate n 0
+unfolding padded_release
 padded-zeros xs n m e = let k : m - length xs ≡ n = omega arith in rw k refl
 
 tied_zeros : (xs ys : List ℕ) (n : ℕ) → ys ≡ xs ++ replicate n 0 → release_cmp xs ys ≡ Equal

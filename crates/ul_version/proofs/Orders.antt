@@ -7,7 +7,7 @@ use Rattle.std.specs.Cmp.Lexicographic.{slice_cmp}
 use Rattle.std.specs.declared.cmp.Ordering.{Ordering}
 use Rattle.std.specs.declared.cmp.Ordering.TheVariants.{Less, Equal, Greater}
 use Rattle.std.proofs.lemmas.Cmp.{ranked}
-use Rattle.ul_version.specs.Order.{dev_place, local_cmp, numbers_cmp, padded, place_cmp, post_place, pre_place, release_cmp, suffix_cmp, version_cmp}
+use Rattle.ul_version.specs.Order.{dev_place, local_cmp, numbers_cmp, padded_release, place_cmp, post_place, pre_place, release_cmp, suffix_cmp, version_cmp}
 use Rattle.ul_version.specs.Fields.{Fields, without_local}
 
 -- two lists from a place on: the elements there decide, and else what follows
@@ -49,8 +49,8 @@ nat_cmp-decided x y b h = then_decided (nat_cmp x y) b (differ (nat_cmp x y) (ra
     differ Greater m = refl
 
 -- the length of a padded release
-pub length-padded : (size : ℕ) (xs : List ℕ) → length (padded size xs) ≡ max (length xs) size
-unfolding padded
+pub length-padded : (size : ℕ) (xs : List ℕ) → length (padded_release size xs) ≡ max (length xs) size
+unfolding padded_release
 length-padded size xs =
     length-append xs (replicate (size - length xs) 0) ∙ rw (length-replicate {A = ℕ}) (omega arith)
 
@@ -61,8 +61,8 @@ zeros_at n k = elim (cases_lt k n) [
 ]
 
 -- the number at a place of a padded release
-pub get_or-padded : (size : ℕ) (xs : List ℕ) (i : ℕ) → get_or (padded size xs) i 0 ≡ get_or xs i 0
-unfolding padded
+pub get_or-padded : (size : ℕ) (xs : List ℕ) (i : ℕ) → get_or (padded_release size xs) i 0 ≡ get_or xs i 0
+unfolding padded_release
 get_or-padded size xs i = elim (cases_lt i (length xs)) [
   | inl inside ↦ get_or_append_left xs _ 0 i inside
   | inr past ↦
@@ -72,17 +72,17 @@ get_or-padded size xs i = elim (cases_lt i (length xs)) [
 
 -- two padded releases from a place on
 pub numbers_cmp-next : (size : ℕ) (xs ys : List ℕ) (i : ℕ) → i < size
-    → numbers_cmp (drop i (padded size xs)) (drop i (padded size ys))
-    ≡ ordering_then (nat_cmp (get_or xs i 0) (get_or ys i 0)) (numbers_cmp (drop (i + 1) (padded size xs)) (drop (i + 1) (padded size ys)))
+    → numbers_cmp (drop i (padded_release size xs)) (drop i (padded_release size ys))
+    ≡ ordering_then (nat_cmp (get_or xs i 0) (get_or ys i 0)) (numbers_cmp (drop (i + 1) (padded_release size xs)) (drop (i + 1) (padded_release size ys)))
 numbers_cmp-next size xs ys i h =
     rw (← get_or-padded size xs i, ← get_or-padded size ys i)
-    (slice_cmp-drop nat_cmp (padded size xs) (padded size ys) i 0 0 (omega (arith, length-padded size xs)) (omega (arith, length-padded size ys)))
+    (slice_cmp-drop nat_cmp (padded_release size xs) (padded_release size ys) i 0 0 (omega (arith, length-padded size xs)) (omega (arith, length-padded size ys)))
 
 -- two padded releases that have ended
 pub numbers_cmp-ended : (size : ℕ) (xs ys : List ℕ) (i : ℕ) → size ≤ i → length xs ≤ size → length ys ≤ size
-    → numbers_cmp (drop i (padded size xs)) (drop i (padded size ys)) ≡ Equal
+    → numbers_cmp (drop i (padded_release size xs)) (drop i (padded_release size ys)) ≡ Equal
 numbers_cmp-ended size xs ys i h x y =
-    slice_cmp-ended nat_cmp (padded size xs) (padded size ys) i (omega (arith, length-padded size xs)) (omega (arith, length-padded size ys))
+    slice_cmp-ended nat_cmp (padded_release size xs) (padded_release size ys) i (omega (arith, length-padded size xs)) (omega (arith, length-padded size ys))
 
 -- the epochs decide
 pub version_cmp-epoch : (f g : Fields) (e : Ordering) → e ≡ nat_cmp f.epoch g.epoch → is_ne e ≡ true → e ≡ version_cmp f g

@@ -13,7 +13,7 @@ use Rattle.std.specs.Char.{is_ascii_digit, is_ascii_lowercase, to_ascii_lowercas
 use Rattle.ul_version.specs.Fields.{Fields, IsVersion, IsNumber64, IsSegment, is_word_byte}
 use Rattle.ul_version.specs.Texts.{epoch_text, points_text, release_text, kind_text, pre_text, numbered_text, segment_text, segments_text, local_text, version_text, is_text_byte}
 use Rattle.ul_version.specs.Ascii.{unless_last}
-use Rattle.ul_version.specs.Reading.{number, value_after, digits, after_digits, needed, begins, epoch, marked, after_word, points, release, pre, any_kind, suffix_number, after_optional, is_separator, post, dev, segment, segments, local, fields_of, version_of, lowered, before_white, after_white, is_white}
+use Rattle.ul_version.specs.Reading.{number, value_after, digits, after_digits, required_number, begins, epoch, marked_digits, after_word, points, release, pre, any_kind, suffix_number, after_optional, is_separator, post, dev, segment, segments, local, fields_of, version_of, lowercase_text, before_white, after_white, is_white}
 use Rattle.ul_version.specs.declared.fields.Pre.{Pre}
 use Rattle.ul_version.specs.declared.fields.PreKind.{PreKind}
 use Rattle.ul_version.specs.declared.fields.PreKind.TheVariants.{A, B, Rc}
@@ -122,7 +122,7 @@ dev-read None (s ∷ ss) h = refl
 dev-read (Some n) l h = rw (suffix-decimal n (local_text l) (h n refl) (local-begin l)) refl
 
 post-read : (q d : Option ℕ) (l : List Segment) → ((n : ℕ) → q ≡ Some n → n < 2 ^ 64) → post (after_pre q d l) ≡ Some (q, numbered_text (codes ".dev") d ++ local_text l)
-unfolding post after_word marked
+unfolding post after_word marked_digits
 post-read None None [] h = refl
 post-read None None (s ∷ ss) h = refl
 post-read None (Some m) l h = refl
@@ -154,22 +154,22 @@ pre-read (Some x) q d l h =
 -- no number, point or mark of the epoch stands in front of what follows the release
 pub record Ends (text : List ℕ) : Type 0 where
   pub digit : begins is_ascii_digit text ≡ false
-  pub point : marked (codes ".") text ≡ None
+  pub point : marked_digits (codes ".") text ≡ None
   pub mark : after_word (codes "!") text ≡ None
 
 dev-ends : (d : Option ℕ) (l : List Segment) → Ends (numbered_text (codes ".dev") d ++ local_text l)
-unfolding marked after_word
+unfolding marked_digits after_word
 dev-ends None [] = record { digit = refl; point = refl; mark = refl }
 dev-ends None (s ∷ ss) = record { digit = refl; point = refl; mark = refl }
 dev-ends (Some n) l = record { digit = refl; point = refl; mark = refl }
 
 after_pre-ends : (q d : Option ℕ) (l : List Segment) → Ends (after_pre q d l)
-unfolding marked after_word
+unfolding marked_digits after_word
 after_pre-ends None d l = dev-ends d l
 after_pre-ends (Some n) d l = record { digit = refl; point = refl; mark = refl }
 
 kind-ends : (k : PreKind) (text : List ℕ) → Ends (kind_text k ++ text)
-unfolding marked after_word
+unfolding marked_digits after_word
 kind-ends A text = record { digit = refl; point = refl; mark = refl }
 kind-ends B text = record { digit = refl; point = refl; mark = refl }
 kind-ends Rc text = record { digit = refl; point = refl; mark = refl }
@@ -180,8 +180,8 @@ after_release-ends (Some x) q d l = rw (append_assoc (kind_text x.kind) (decimal
 
 -- ---- the release
 
-marked-decimal : (n : ℕ) (rest : List ℕ) → n < 2 ^ 64 → marked (codes ".") (codes "." ++ (decimal n ++ rest)) ≡ Some (decimal n ++ rest)
-unfolding marked after_word
+marked-decimal : (n : ℕ) (rest : List ℕ) → n < 2 ^ 64 → marked_digits (codes ".") (codes "." ++ (decimal n ++ rest)) ≡ Some (decimal n ++ rest)
+unfolding marked_digits after_word
 marked-decimal n rest h = rw (begins-append n rest h) refl
 
 points-begin : (ns text : List ℕ) → Ends text → begins is_ascii_digit (points_text ns ++ text) ≡ false
@@ -213,7 +213,7 @@ points-length [] = omega arith
 points-length (n ∷ ns) = let more = points-length ns in let whole = length-append (decimal n) (points_text ns) in omega arith
 
 release-read : (ns text : List ℕ) → Ends text → All IsNumber64 ns → 0 < length ns → release (release_text ns ++ text) ≡ Some (ns, text)
-unfolding release needed
+unfolding release required_number
 release-read [] text e h k = absurd (omega arith)
 release-read (n ∷ ns) text e h k =
     let fits = All-first IsNumber64 n ns h in
@@ -368,7 +368,7 @@ text-before_white (b ∷ text) h =
     let (first, others) = and_parts (is_text_byte b) (list_all is_text_byte text) h in
     rw (text-before_white text others) (unless_white-kept b text (text_byte-plain b first).0)
 
-text-lowered : (text : List ℕ) → list_all is_text_byte text ≡ true → lowered text ≡ text
+text-lowered : (text : List ℕ) → list_all is_text_byte text ≡ true → lowercase_text text ≡ text
 text-lowered [] h = refl
 text-lowered (b ∷ text) h =
     let (first, others) = and_parts (is_text_byte b) (list_all is_text_byte text) h in

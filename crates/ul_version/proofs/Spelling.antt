@@ -8,7 +8,7 @@ use Rattle.std.proofs.lemmas.Bool.{cases_Bool, ltb-true, eqb-true, and_from, and
 use Rattle.std.specs.Char.{is_ascii_digit, is_ascii_lowercase}
 use Rattle.ul_version.specs.Fields.{Fields, is_word_byte}
 use Rattle.ul_version.specs.Grammar.{IsNum, IsOptionalNum, IsOptionalSeparator, IsSuffix, IsEpoch, ArePoints, IsRelease, IsPre, IsPost, IsDev, IsSpelledSegment, AreSegments, IsLocal, IsSpelled}
-use Rattle.ul_version.specs.Reading.{◌>>=◌, Cut, or_else, number, value_after, digits, after_digits, needed, begins, epoch, epoch_from, marked, after_word, points, onto, release, pre, pre_from, any_kind, kind_in_front, kind_words, suffix_number, suffix_from, after_optional, is_separator, post, post_words, after_any, dev, segment, segments, local, fields_of}
+use Rattle.ul_version.specs.Reading.{◌>>=◌, Cut, or_else, number, value_after, digits, after_digits, required_number, begins, epoch, epoch_from, marked_digits, after_word, points, onto, release, pre, pre_from, any_kind, kind_in_front, kind_words, suffix_number, suffix_from, after_optional, is_separator, post, post_words, after_any, dev, segment, segments, local, fields_of}
 use Rattle.ul_version.specs.declared.fields.Pre.{Pre}
 use Rattle.ul_version.specs.declared.fields.PreKind.{PreKind}
 use Rattle.ul_version.specs.declared.fields.PreKind.TheVariants.{A, B, Rc}
@@ -89,8 +89,8 @@ number-there text n rest b e =
       holds = record { filled = digits-begin text b; digits = digits-all text; value = value; fits = fits };
     }
 
-pub needed-spelled : (text : List ℕ) (n : ℕ) (rest : List ℕ) → needed text ≡ Some (n, rest) → Front text rest (λ front. IsNum front n)
-unfolding needed
+pub needed-spelled : (text : List ℕ) (n : ℕ) (rest : List ℕ) → required_number text ≡ Some (n, rest) → Front text rest (λ front. IsNum front n)
+unfolding required_number
 needed-spelled text n rest e = let (b, there) = cond_some (begins is_ascii_digit text) _ _ e in number-there text n rest b there
 
 pub separator-spelled : (text : List ℕ) → Front text (after_optional is_separator text) IsOptionalSeparator
@@ -169,8 +169,8 @@ epoch-spelled text n rest e = elim (cases_Bool (begins is_ascii_digit text)) [
 ]
 
 -- the text from its digits on
-pub marked-spelled : (mark text rest : List ℕ) → marked mark text ≡ Some rest → (text ≡ mark ++ rest) × (begins is_ascii_digit rest ≡ true)
-unfolding marked
+pub marked-spelled : (mark text rest : List ℕ) → marked_digits mark text ≡ Some rest → (text ≡ mark ++ rest) × (begins is_ascii_digit rest ≡ true)
+unfolding marked_digits
 marked-spelled mark text rest e =
     let (left, is, same) = bind_some (after_word mark text) _ _ e in
     let (digit, same2) = cond_some (begins is_ascii_digit left) (Some left) rest same in
@@ -182,7 +182,7 @@ nil_points text rest ns e =
     let (none, same) = cut_same [] ns text rest e in
     record { front = []; whole = same; holds = rw (← none) refl }
 
-points-step : (text t mid rest : List ℕ) (m : ℕ) (ns : List ℕ) → marked (codes ".") text ≡ Some t → number t ≡ Some (m, mid)
+points-step : (text t mid rest : List ℕ) (m : ℕ) (ns : List ℕ) → marked_digits (codes ".") text ≡ Some t → number t ≡ Some (m, mid)
     → Front mid rest (λ front. ArePoints front ns) → Front text rest (λ front. ArePoints front (m ∷ ns))
 points-step text t mid rest m ns h is f =
     let (mark, digit) = marked-spelled (codes ".") text t h in
@@ -194,7 +194,7 @@ points-step text t mid rest m ns h is f =
     }
 
 points_from-spelled : (most : ℕ) (text ns rest : List ℕ) → ((mid ms : List ℕ) (left : List ℕ) → points most mid ≡ Some (ms, left) → Front mid left (λ front. ArePoints front ms))
-    → (o : Option (List ℕ)) → marked (codes ".") text ≡ o
+    → (o : Option (List ℕ)) → marked_digits (codes ".") text ≡ o
     → option_map_or (λ t. number t >>= λ n. onto (n.0 ∷ []) (points most n.1)) o (Some ([], text)) ≡ Some (ns, rest)
     → Front text rest (λ front. ArePoints front ns)
 points_from-spelled most text ns rest ih None h k = nil_points text rest ns k
@@ -208,9 +208,9 @@ pub points-spelled : (most : ℕ) (text ns rest : List ℕ) → points most text
 unfolding points
 points-spelled zero text ns rest e = nil_points text rest ns e
 points-spelled (suc most) text ns rest e =
-    points_from-spelled most text ns rest (λ mid ms left h. points-spelled most mid ms left h) (marked (codes ".") text) refl e
+    points_from-spelled most text ns rest (λ mid ms left h. points-spelled most mid ms left h) (marked_digits (codes ".") text) refl e
 
-release-step : (text mid rest : List ℕ) (m : ℕ) (ns : List ℕ) → needed text ≡ Some (m, mid)
+release-step : (text mid rest : List ℕ) (m : ℕ) (ns : List ℕ) → required_number text ≡ Some (m, mid)
     → Front mid rest (λ front. ArePoints front ns) → Front text rest (λ front. IsRelease front (m ∷ ns))
 release-step text mid rest m ns is f =
     let d = needed-spelled text m mid is in
@@ -223,7 +223,7 @@ release-step text mid rest m ns is f =
 pub release-spelled : (text ns rest : List ℕ) → release text ≡ Some (ns, rest) → Front text rest (λ front. IsRelease front ns)
 unfolding release
 release-spelled text ns rest e =
-    let (m, is, more) = bind_some (needed text) _ _ e in
+    let (m, is, more) = bind_some (required_number text) _ _ e in
     let (p, is_more, same) = bind_some (points (length text) m.1) _ _ more in
     let (all, left) = cut_same (m.0 ∷ p.0) ns p.1 rest same in
     front_at IsRelease text p.1 rest (m.0 ∷ p.0) ns all left
@@ -286,7 +286,7 @@ post_word-spelled text p rest e =
       | inr (n, some, f) ↦ record { front = f.front; whole = f.whole; holds = rw some (inr f.holds) }
     ]
 
-dash-step : (text t rest : List ℕ) (n : ℕ) → marked (codes "-") text ≡ Some t → number t ≡ Some (n, rest) → Front text rest (λ front. IsPost front (Some n))
+dash-step : (text t rest : List ℕ) (n : ℕ) → marked_digits (codes "-") text ≡ Some t → number t ≡ Some (n, rest) → Front text rest (λ front. IsPost front (Some n))
 dash-step text t rest n h is =
     let (mark, digit) = marked-spelled (codes "-") text t h in
     let d = number-there t n rest digit is in
@@ -296,7 +296,7 @@ dash-step text t rest n h is =
       holds = inl (d.front, d.holds, refl);
     }
 
-post_from-spelled : (text : List ℕ) (p : Option ℕ) (rest : List ℕ) (o : Option (List ℕ)) → marked (codes "-") text ≡ o
+post_from-spelled : (text : List ℕ) (p : Option ℕ) (rest : List ℕ) (o : Option (List ℕ)) → marked_digits (codes "-") text ≡ o
     → option_map_or (λ t. number t >>= λ n. Some (Some n.0, n.1)) o (suffix_from text (after_any post_words (after_optional is_separator text))) ≡ Some (p, rest)
     → Front text rest (λ front. IsPost front p)
 post_from-spelled text p rest None h k = post_word-spelled text p rest k
@@ -307,7 +307,7 @@ post_from-spelled text p rest (Some t) h k =
 
 pub post-spelled : (text : List ℕ) (p : Option ℕ) (rest : List ℕ) → post text ≡ Some (p, rest) → Front text rest (λ front. IsPost front p)
 unfolding post
-post-spelled text p rest e = post_from-spelled text p rest (marked (codes "-") text) refl e
+post-spelled text p rest e = post_from-spelled text p rest (marked_digits (codes "-") text) refl e
 
 -- ---- the local part
 

@@ -6,7 +6,7 @@ use Rattle.std.specs.declared.cmp.Ordering.TheVariants.{Less, Equal}
 use Rattle.ul_version.specs.Fields.{Fields, IsVersion, version_above}
 use Rattle.ul_version.specs.Order.{numbers_cmp, version_cmp, DifferInZeros}
 use Rattle.ul_version.specs.Grammar.{IsSpelled}
-use Rattle.ul_version.specs.Reading.{version_of, lowered, before_white, after_white}
+use Rattle.ul_version.specs.Reading.{version_of, lowercase_text, before_white, after_white}
 use Rattle.ul_version.specs.Texts.{version_text, is_text_byte}
 
 -- the order is total; each two versions compare one way, as each answer is one of three
@@ -34,16 +34,16 @@ abbrev pub TextIsPlain : Type 0
 TextIsPlain = (f : Fields) → IsVersion f → IsTrue (list_all is_text_byte (version_text f)) × (0 < length (version_text f))
 
 -- a text without white space at its ends, in lower case
-abbrev pub settled : List ℕ → List ℕ
-settled text = lowered (before_white (after_white text))
+abbrev pub trimmed_lowercase : List ℕ → List ℕ
+trimmed_lowercase text = lowercase_text (before_white (after_white text))
 
 -- what a text is read as is what the grammar spells it as
 abbrev pub ReadIsSpelled : Type 0
-ReadIsSpelled = (text : List ℕ) (f : Fields) → version_of text ≡ Some f → IsSpelled (settled text) f
+ReadIsSpelled = (text : List ℕ) (f : Fields) → version_of text ≡ Some f → IsSpelled (trimmed_lowercase text) f
 
 -- what the grammar spells has a reading
 abbrev pub SpelledIsRead : Type 0
-SpelledIsRead = (text : List ℕ) (f : Fields) → IsSpelled (settled text) f → IsSome (version_of text)
+SpelledIsRead = (text : List ℕ) (f : Fields) → IsSpelled (trimmed_lowercase text) f → IsSome (version_of text)
 
 -- how long each part of a spelling is, from the front; what is left is the local part
 abbrev pub part_lengths : {text : List ℕ} {f : Fields} → IsSpelled text f → List ℕ
@@ -51,8 +51,8 @@ part_lengths s = length s.letter ∷ length s.epoch ∷ length s.release ∷ len
 
 -- of all spellings of a text, it is read by the one whose earlier parts are longest
 abbrev pub EarlierIsLongest : Type 0
-EarlierIsLongest = (text : List ℕ) (f g : Fields) (other : IsSpelled (settled text) f) → version_of text ≡ Some g
-    → (read : IsSpelled (settled text) g) × (is_lt (numbers_cmp (part_lengths read) (part_lengths other)) ≡ false)
+EarlierIsLongest = (text : List ℕ) (f g : Fields) (other : IsSpelled (trimmed_lowercase text) f) → version_of text ≡ Some g
+    → (read : IsSpelled (trimmed_lowercase text) g) × (is_lt (numbers_cmp (part_lengths read) (part_lengths other)) ≡ false)
 
 -- two spellings of one text with parts of equal lengths are one version, so the grammar and the longest parts determine
 -- what a text is read as

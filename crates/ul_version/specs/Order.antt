@@ -18,16 +18,16 @@ abbrev pub numbers_cmp : List ℕ → List ℕ → Ordering
 numbers_cmp = slice_cmp nat_cmp
 
 -- a release padded with zeros to at least this length
-unfoldable pub padded : ℕ → List ℕ → List ℕ
-padded size release = release ++ replicate (size - length release) 0
+unfoldable pub padded_release : ℕ → List ℕ → List ℕ
+padded_release size release = release ++ replicate (size - length release) 0
 
 -- two releases, the shorter one padded with zeros to the length of the longer
 unfoldable pub release_cmp : List ℕ → List ℕ → Ordering
-release_cmp xs ys = let size = max (length xs) (length ys) in numbers_cmp (padded size xs) (padded size ys)
+release_cmp xs ys = let size = max (length xs) (length ys) in numbers_cmp (padded_release size xs) (padded_release size ys)
 
 -- whether a release, padded with zeros to at least the length of `front`, begins with `front`
 unfoldable pub has_release_front : List ℕ → List ℕ → Bool
-has_release_front front release = starts_with nat_eq (padded (length front) release) front
+has_release_front front release = starts_with nat_eq (padded_release (length front) release) front
 
 -- A rank and a number: a lower rank comes first, and in one rank the lower number
 abbrev pub Place : Type 0

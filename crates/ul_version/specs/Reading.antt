@@ -28,8 +28,8 @@ unfoldable pub before_white : List ℕ → List ℕ
 before_white text = before_all is_white text
 
 -- a text in which ASCII letters are lower case
-abbrev pub lowered : List ℕ → List ℕ
-lowered text = map to_ascii_lowercase text
+abbrev pub lowercase_text : List ℕ → List ℕ
+lowercase_text text = map to_ascii_lowercase text
 
 -- ---- what stands in front of a text
 
@@ -81,12 +81,12 @@ unfoldable pub number : List ℕ → Cut ℕ
 number text = if nat_lt (value_after 0 (digits text)) (2 ^ 64) then Some (value_after 0 (digits text), after_digits text) else None
 
 -- a number that must be there
-unfoldable pub needed : List ℕ → Cut ℕ
-needed text = if begins is_ascii_digit text then number text else None
+unfoldable pub required_number : List ℕ → Cut ℕ
+required_number text = if begins is_ascii_digit text then number text else None
 
 -- the text from its digits on, where the mark and a digit stand in front
-unfoldable pub marked : List ℕ → List ℕ → Option (List ℕ)
-marked mark text = after_word mark text >>= λ rest. if begins is_ascii_digit rest then Some rest else None
+unfoldable pub marked_digits : List ℕ → List ℕ → Option (List ℕ)
+marked_digits mark text = after_word mark text >>= λ rest. if begins is_ascii_digit rest then Some rest else None
 
 -- ---- [num "!"]: the epoch, which is 0 where there is none
 
@@ -111,11 +111,11 @@ onto xs part = part >>= λ p. Some (xs ++ p.0, p.1)
 unfoldable pub points : ℕ → List ℕ → Cut (List ℕ)
 points zero text = Some ([], text)
 points (suc most) text =
-    option_map_or (λ rest. number rest >>= λ n. onto (n.0 ∷ []) (points most n.1)) (marked (codes ".") text) (Some ([], text))
+    option_map_or (λ rest. number rest >>= λ n. onto (n.0 ∷ []) (points most n.1)) (marked_digits (codes ".") text) (Some ([], text))
 
 -- a text has no more numbers than bytes
 unfoldable pub release : List ℕ → Cut (List ℕ)
-release text = needed text >>= λ n. onto (n.0 ∷ []) (points (length text) n.1)
+release text = required_number text >>= λ n. onto (n.0 ∷ []) (points (length text) n.1)
 
 -- ---- [sep] WORD [sep] [num]: a pre, post or dev part; a word that begins with another stands before it
 
@@ -148,7 +148,7 @@ suffix_from text (Some rest) = suffix_number rest >>= λ n. Some (Some n.0, n.1)
 -- the post part in front: "-" num, or a word with its number
 unfoldable pub post : List ℕ → Cut (Option ℕ)
 post text =
-    option_map_or (λ rest. number rest >>= λ n. Some (Some n.0, n.1)) (marked (codes "-") text)
+    option_map_or (λ rest. number rest >>= λ n. Some (Some n.0, n.1)) (marked_digits (codes "-") text)
     (suffix_from text (after_any post_words (after_optional is_separator text)))
 
 -- the dev part in front
@@ -193,4 +193,4 @@ fields_of text =
 
 -- the fields that a text says, after white space at both ends is dropped and letters are made lower case
 unfoldable pub version_of : List ℕ → Option Fields
-version_of text = fields_of (lowered (before_white (after_white text)))
+version_of text = fields_of (lowercase_text (before_white (after_white text)))

@@ -1,7 +1,7 @@
 -- What a reader's answer says.
 use Rattle.std.specs.Prelude.{◌≡◌, ℕ, List, Option, Some, None, Result, Ok, Err, Vec}
 use Rattle.std.specs.Borrow.{Bor}
-use Rattle.ul_version.specs.Reading.{Cut, lowered}
+use Rattle.ul_version.specs.Reading.{Cut, lowercase_text}
 use Rattle.ul_version.specs.declared.fields.Segment.{Segment}
 use Rattle.ul_version.specs.declared.fault.VersionFault.{VersionFault}
 use Rattle.ul_version.specs.declared.fault.VersionFault.TheVariants.{NoReading, NoMemory}
@@ -9,12 +9,12 @@ use Rattle.ul_version.specs.declared.fault.VersionFault.TheVariants.{NoReading, 
 -- a part and the text after it, which stands behind a reference, in its own case
 abbrev pub cut_view : {X : Type 0} → Option (X × Bor (List ℕ)) → Cut X
 cut_view None = None
-cut_view (Some p) = Some (p.0, lowered p.1.now)
+cut_view (Some p) = Some (p.0, lowercase_text p.1.now)
 
 -- the text after a word
 abbrev pub rest_view : Option (Bor (List ℕ)) → Option (List ℕ)
 rest_view None = None
-rest_view (Some rest) = Some (lowered rest.now)
+rest_view (Some rest) = Some (lowercase_text rest.now)
 
 -- the answer of a reader that may lack memory: what it read is what the grammar reads, and it finds no
 -- reading only where the grammar has none
@@ -25,7 +25,7 @@ Reads view (Err NoMemory) reading = Unit {0}
 
 -- the numbers of a release, and the text after it
 abbrev pub release_view : {Z : Type 0} → Vec ℕ Z × Bor (List ℕ) → List ℕ × List ℕ
-release_view p = (p.0.items, lowered p.1.now)
+release_view p = (p.0.items, lowercase_text p.1.now)
 
 -- a list of segments
 abbrev pub segments_view : {Z : Type 0} → Vec Segment Z → List Segment

@@ -8,7 +8,7 @@ ghost use Rattle.std.specs.List.{list_all};
 ghost use Rattle.ul_version.specs.Fields.{is_word_byte, IsVersion};
 ghost use Rattle.ul_version.specs.Reading as spec;
 ghost use Rattle.ul_version.specs.Ascii.{letter_v};
-ghost use Rattle.ul_version.specs.Reading.{begins, lowered, pieces_of};
+ghost use Rattle.ul_version.specs.Reading.{begins, lowercase_text, pieces_of};
 ghost use Rattle.ul_version.specs.Views.{cut_view, rest_view, Reads, release_view, segments_view};
 
 use crate::ascii::{ByteClass, Digit, Separator, White, is_run, piece_len, trimmed};
@@ -16,7 +16,7 @@ use crate::{Pre, PreKind, Segment, Text, Version, VersionFault, ascii};
 use std::alloc::{AllocError, Global};
 
 fn after_separator(input: &[u8]) -> &[u8]
-    ensures { lowered result.now ≡ spec.after_optional spec.is_separator (lowered input.now) }
+    ensures { lowercase_text result.now ≡ spec.after_optional spec.is_separator (lowercase_text input.now) }
 {
     match input {
         [byte, rest @ ..] if Separator.has(*byte) => rest,
@@ -25,7 +25,7 @@ fn after_separator(input: &[u8]) -> &[u8]
 }
 
 fn after_v(input: &[u8]) -> &[u8]
-    ensures { lowered result.now ≡ spec.after_optional (λ b. b == letter_v) (lowered input.now) }
+    ensures { lowercase_text result.now ≡ spec.after_optional (λ b. b == letter_v) (lowercase_text input.now) }
 {
     match input {
         [byte, rest @ ..] if byte.to_ascii_lowercase() == b'v' => rest,
@@ -34,7 +34,7 @@ fn after_v(input: &[u8]) -> &[u8]
 }
 
 fn begins_with_digit(input: &[u8]) -> bool
-    ensures { result ≡ begins is_ascii_digit (lowered input.now) }
+    ensures { result ≡ begins is_ascii_digit (lowercase_text input.now) }
 {
     ascii::begins(&Digit, input)
 }
@@ -51,7 +51,7 @@ fn next_value(value: u64, digit: u8) -> Option<u64>
 
 // The number in front, which is 0 where there is no digit.
 fn number(input: &[u8]) -> Option<(u64, &[u8])>
-    ensures { cut_view result ≡ spec.number (lowered input.now) }
+    ensures { cut_view result ≡ spec.number (lowercase_text input.now) }
 {
     let mut value = 0u64;
     'digits: for i in 0..input.len() {
@@ -69,7 +69,7 @@ fn number(input: &[u8]) -> Option<(u64, &[u8])>
 
 // The text after the word, where the word stands in front.
 fn after_word<'a>(input: &'a [u8], word: &[u8]) -> Option<&'a [u8]>
-    ensures { rest_view result ≡ spec.after_word word.now (lowered input.now) }
+    ensures { rest_view result ≡ spec.after_word word.now (lowercase_text input.now) }
 {
     if input.len() < word.len() {
         return None;
@@ -85,7 +85,7 @@ fn after_word<'a>(input: &'a [u8], word: &[u8]) -> Option<&'a [u8]>
 // A number that must be there.
 #[tactic(auto, unfolding(crate::specs::Reading::needed))]
 fn needed(input: &[u8]) -> Option<(u64, &[u8])>
-    ensures { cut_view result ≡ spec.needed (lowered input.now) }
+    ensures { cut_view result ≡ spec.required_number (lowercase_text input.now) }
 {
     if begins_with_digit(input) {
         number(input)
@@ -97,7 +97,7 @@ fn needed(input: &[u8]) -> Option<(u64, &[u8])>
 // The text from its digits on, where the mark and a digit stand in front.
 #[tactic(auto, unfolding(crate::specs::Reading::marked))]
 fn marked<'a>(input: &'a [u8], mark: &[u8]) -> Option<&'a [u8]>
-    ensures { rest_view result ≡ spec.marked mark.now (lowered input.now) }
+    ensures { rest_view result ≡ spec.marked_digits mark.now (lowercase_text input.now) }
 {
     let rest = after_word(input, mark)?;
     if begins_with_digit(rest) {
@@ -110,7 +110,7 @@ fn marked<'a>(input: &'a [u8], mark: &[u8]) -> Option<&'a [u8]>
 // The epoch, which is 0 where there is none.
 #[tactic(auto, unfolding(crate::specs::Reading::epoch))]
 fn epoch(input: &[u8]) -> Option<(u64, &[u8])>
-    ensures { cut_view result ≡ spec.epoch (lowered input.now) }
+    ensures { cut_view result ≡ spec.epoch (lowercase_text input.now) }
 {
     if !begins_with_digit(input) {
         return Some((0, input));
@@ -124,7 +124,7 @@ fn epoch(input: &[u8]) -> Option<(u64, &[u8])>
 
 // The kind of pre-release whose word stands in front, and the text after the word.
 fn any_kind(input: &[u8]) -> Option<(PreKind, &[u8])>
-    ensures { cut_view result ≡ spec.any_kind (lowered input.now) }
+    ensures { cut_view result ≡ spec.any_kind (lowercase_text input.now) }
 {
     if let Some(rest) = after_either(input, b"alpha", b"a") {
         return Some((PreKind::A, rest));
@@ -144,7 +144,7 @@ fn any_kind(input: &[u8]) -> Option<(PreKind, &[u8])>
 // The text after the first of two words that stands in front.
 fn after_either<'a>(input: &'a [u8], first: &[u8], second: &[u8]) -> Option<&'a [u8]>
     ensures { rest_view result
-        ≡ spec.or_else (spec.after_word first.now (lowered input.now)) (spec.after_word second.now (lowered input.now)) }
+        ≡ spec.or_else (spec.after_word first.now (lowercase_text input.now)) (spec.after_word second.now (lowercase_text input.now)) }
 {
     match after_word(input, first) {
         Some(rest) => Some(rest),
@@ -154,14 +154,14 @@ fn after_either<'a>(input: &'a [u8], first: &[u8], second: &[u8]) -> Option<&'a 
 
 // The number of a pre, post or dev part after its word.
 fn suffix_number(input: &[u8]) -> Option<(u64, &[u8])>
-    ensures { cut_view result ≡ spec.suffix_number (lowered input.now) }
+    ensures { cut_view result ≡ spec.suffix_number (lowercase_text input.now) }
 {
     number(after_separator(input))
 }
 
 #[tactic(auto, unfolding(crate::specs::Reading::pre))]
 fn pre(input: &[u8]) -> Option<(Option<Pre>, &[u8])>
-    ensures { cut_view result ≡ spec.pre (lowered input.now) }
+    ensures { cut_view result ≡ spec.pre (lowercase_text input.now) }
 {
     let Some((kind, rest)) = any_kind(after_separator(input)) else {
         return Some((None, input));
@@ -172,7 +172,7 @@ fn pre(input: &[u8]) -> Option<(Option<Pre>, &[u8])>
 
 #[tactic(auto, unfolding(crate::specs::Reading::post))]
 fn post(input: &[u8]) -> Option<(Option<u64>, &[u8])>
-    ensures { cut_view result ≡ spec.post (lowered input.now) }
+    ensures { cut_view result ≡ spec.post (lowercase_text input.now) }
 {
     if let Some(rest) = marked(input, b"-") {
         let (number, rest) = number(rest)?;
@@ -189,7 +189,7 @@ fn post(input: &[u8]) -> Option<(Option<u64>, &[u8])>
 
 // The text after the word of a post-release, where one stands in front.
 fn post_word(input: &[u8]) -> Option<&[u8]>
-    ensures { rest_view result ≡ spec.after_any spec.post_words (lowered input.now) }
+    ensures { rest_view result ≡ spec.after_any spec.post_words (lowercase_text input.now) }
 {
     match after_word(input, b"post") {
         Some(rest) => Some(rest),
@@ -199,7 +199,7 @@ fn post_word(input: &[u8]) -> Option<&[u8]>
 
 #[tactic(auto, unfolding(crate::specs::Reading::dev))]
 fn dev(input: &[u8]) -> Option<(Option<u64>, &[u8])>
-    ensures { cut_view result ≡ spec.dev (lowered input.now) }
+    ensures { cut_view result ≡ spec.dev (lowercase_text input.now) }
 {
     match after_word(after_separator(input), b"dev") {
         None => Some((None, input)),
@@ -212,7 +212,7 @@ fn dev(input: &[u8]) -> Option<(Option<u64>, &[u8])>
 
 // The numbers of a release, and the text after it.
 fn release(alloc: Global, input: &[u8]) -> Result<(Vec<u64>, &[u8]), VersionFault>
-    ensures { Reads release_view result (spec.release (lowered input.now)) }
+    ensures { Reads release_view result (spec.release (lowercase_text input.now)) }
 {
     let Some((first, mut rest)) = needed(input) else {
         return Err(VersionFault::NoReading);
@@ -233,21 +233,21 @@ fn release(alloc: Global, input: &[u8]) -> Result<(Vec<u64>, &[u8]), VersionFaul
 
 // Whether each byte is a letter or a digit.
 fn is_alphanumeric(piece: &[u8]) -> bool
-    ensures { result ≡ list_all is_word_byte (lowered piece.now) }
+    ensures { result ≡ list_all is_word_byte (lowercase_text piece.now) }
 {
     piece.iter().all(|byte| byte.is_ascii_alphanumeric())
 }
 
 fn is_numeric(piece: &[u8]) -> bool
-    ensures { result ≡ list_all is_ascii_digit (lowered piece.now) }
+    ensures { result ≡ list_all is_ascii_digit (lowercase_text piece.now) }
 {
     piece.iter().all(|byte| byte.is_ascii_digit())
 }
 
 // The text in which letters are lower case.
 fn lower_text(alloc: Global, piece: &[u8]) -> Result<Text, AllocError>
-    requires { IsTrue (list_all is_word_byte (lowered piece.now)) }
-    ensures { IfOk result (λ t. t ≡ lowered piece.now) }
+    requires { IsTrue (list_all is_word_byte (lowercase_text piece.now)) }
+    ensures { IfOk result (λ t. t ≡ lowercase_text piece.now) }
 {
     let mut text = String::with_capacity(alloc, piece.len())?;
     for byte in piece {
@@ -259,7 +259,7 @@ fn lower_text(alloc: Global, piece: &[u8]) -> Result<Text, AllocError>
 // One segment of a local part.
 #[tactic(auto, unfolding(crate::specs::Reading::segment))]
 fn segment(alloc: Global, piece: &[u8]) -> Result<Segment, VersionFault>
-    ensures { Reads (λ s. s) result (spec.segment (lowered piece.now)) }
+    ensures { Reads (λ s. s) result (spec.segment (lowercase_text piece.now)) }
 {
     if piece.is_empty() || !is_alphanumeric(piece) {
         return Err(VersionFault::NoReading);
@@ -276,16 +276,16 @@ fn segment(alloc: Global, piece: &[u8]) -> Result<Segment, VersionFault>
 // The length of the text before the first separator, or of the whole text.
 fn segment_len(input: &[u8]) -> usize
     ensures fits { result ≤ length input.now }
-    ensures last { length input.now ≤ result → pieces_of (lowered input.now) ≡ lowered input.now ∷ [] }
-    ensures more { result < length input.now → pieces_of (lowered input.now)
-        ≡ lowered (take result input.now) ∷ pieces_of (lowered (drop (result + 1) input.now)) }
+    ensures last { length input.now ≤ result → pieces_of (lowercase_text input.now) ≡ lowercase_text input.now ∷ [] }
+    ensures more { result < length input.now → pieces_of (lowercase_text input.now)
+        ≡ lowercase_text (take result input.now) ∷ pieces_of (lowercase_text (drop (result + 1) input.now)) }
 {
     piece_len(&Separator, input)
 }
 
 // The segments of a local part, between single separators.
 fn segments(alloc: Global, input: &[u8]) -> Result<Vec<Segment>, VersionFault>
-    ensures { Reads segments_view result (spec.segments (pieces_of (lowered input.now))) }
+    ensures { Reads segments_view result (spec.segments (pieces_of (lowercase_text input.now))) }
 {
     let mut list = Vec::new(alloc);
     let mut rest = input;
@@ -303,7 +303,7 @@ fn segments(alloc: Global, input: &[u8]) -> Result<Vec<Segment>, VersionFault>
 // The local part, which ends the text.
 #[tactic(auto, unfolding(crate::specs::Reading::local))]
 fn local(alloc: Global, input: &[u8]) -> Result<Vec<Segment>, VersionFault>
-    ensures { Reads segments_view result (spec.local (lowered input.now)) }
+    ensures { Reads segments_view result (spec.local (lowercase_text input.now)) }
 {
     match input {
         [] => Ok(Vec::new(alloc)),

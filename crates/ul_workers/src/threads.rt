@@ -74,7 +74,8 @@ pub(crate) fn work_all<R: Threads + Wait + Sync, L: Label, J: Job<L>>(
         threads,
         &|_: usize, worker: &mut Worker<L, J::Out>|
             requires { MayBegin (J.ready job.now) claims.now interner.now worker.now }
-            ensures { Worked (Within claims.entry.now.limit (J.fits job.entry.now)) J.known claims.entry.now worker.entry.now.pass worker.exit.now }
+            ensures { Worked (Within claims.entry.now.limit (J.fits job.entry.now))
+                J.known claims.entry.now worker.entry.now.pass worker.exit.now }
         { work(rt, alloc, claims, interner, job, worker) },
     );
 }

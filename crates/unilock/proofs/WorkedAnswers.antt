@@ -7,7 +7,7 @@ use Rattle.serde_json.proofs.OnLiterals.{serde_json_on_literals}
 use Rattle.ul_base.specs.Names.{name_of, is_name, normal_form}
 use Rattle.std.specs.declared.cmp.Ordering.TheVariants.{Equal}
 use Rattle.ul_version.specs.Fields.{Fields, plain}
-use Rattle.ul_version.specs.Order.{version_cmp, release_cmp, padded}
+use Rattle.ul_version.specs.Order.{version_cmp, release_cmp, padded_release}
 use Rattle.ul_version.specs.Texts.{version_text}
 use Rattle.ul_pin_lock.specs.Text.{lock_text, package_lines, edge_line}
 use Rattle.ul_pin_lock.specs.declared.parts.Lock.{Lock}
@@ -71,11 +71,11 @@ abbrev alone_content : Lock
 alone_content = record { root = codes "demo"; packages = record { name = codes "demo"; version = point_one; edges = [] } ∷ [] }
 
 alone_edges : AreEdgesOf (decisions_of ((codes "demo", alone_release) ∷ [])) (pins_at alone_catalog (codes "demo") point_one) []
-unfolding version_cmp release_cmp padded
+unfolding version_cmp release_cmp padded_release
 alone_edges = record { increasing = tt; sound = λ e i. absurd i; whole = λ pin v i found. absurd i }
 
 alone_content_is : IsLockOf alone_catalog (decisions_of ((codes "demo", alone_release) ∷ [])) alone_content
-unfolding version_cmp release_cmp padded
+unfolding version_cmp release_cmp padded_release
 alone_content_is = record {
   root = refl;
   increasing = (tt, tt);
@@ -131,7 +131,7 @@ unfolding is_utf8 chars toml_on_literals project_at bytes_at project_form projec
 pinned_read = refl
 
 a_read : releases_at pinned_files (codes "ix") (codes "a") ≡ Ok (a_release ∷ [])
-unfolding is_utf8 chars serde_json_on_literals releases_at bytes_at document_form releases_in release_in json_of pin_of plain_of number_of name_of is_name normal_form version_cmp release_cmp padded
+unfolding is_utf8 chars serde_json_on_literals releases_at bytes_at document_form releases_in release_in json_of pin_of plain_of number_of name_of is_name normal_form version_cmp release_cmp padded_release
 a_read = refl
 
 pinned_loads : Loads pinned_files (codes "ix") pinned (Ok pinned_catalog)
@@ -150,7 +150,7 @@ a_due : IsDue pinned_catalog first_step a_pin
 a_due = due_at pinned_catalog first_step 0 0 (codes "demo", demo_release) a_pin pinned_is_catalog demo_walked refl (λ pin i. absurd i) refl
 
 a_equal : version_cmp one one ≡ Equal
-unfolding version_cmp release_cmp padded
+unfolding version_cmp release_cmp padded_release
 a_equal = refl
 
 both_forced : IsForced pinned_catalog both_steps
@@ -180,14 +180,14 @@ abbrev EdgesAre : Locked → Type 0
 EdgesAre p = AreEdgesOf (decisions_of both_steps) (pins_at pinned_catalog p.name p.version) p.edges
 
 a_edges : EdgesAre a_locked
-unfolding version_cmp release_cmp padded
+unfolding version_cmp release_cmp padded_release
 a_edges = record { increasing = tt; sound = λ e i. absurd i; whole = λ pin v i found. absurd i }
 
 target : (pin : Pin) (v : Fields) → a_pin ≡ pin → version_in (decisions_of both_steps) (codes "a") ≡ Some v → edge_to (codes "a") one ≡ edge_to pin.name v
 target pin v g found = let same : one ≡ v = cc in subst (λ (w : Fields). edge_to (codes "a") one ≡ edge_to pin.name w) same (ap (λ (x : Pin). edge_to x.name one) g)
 
 demo_edges : EdgesAre demo_locked
-unfolding version_cmp release_cmp padded
+unfolding version_cmp release_cmp padded_release
 demo_edges = record {
   increasing = (tt, tt);
   sound = λ e i. elim i [ inl g ↦ (a_pin, one, inl refl, refl, sym g) | inr j ↦ absurd j ];

@@ -6,7 +6,7 @@ use Rattle.ul_tree.specs.Reduced.{IsReduced}
 use Rattle.ul_tree.specs.Apply.{size, rest_at, part_at}
 use Rattle.ul_tree.specs.Keys.{level_view, key_view, keys_view}
 use Rattle.ul_tree.specs.SimplifyViews.{is_above as is_above_plain}
-use Rattle.ul_tree.specs.Simplify.{Simplifies, Pieces, Piece, settled}
+use Rattle.ul_tree.specs.Simplify.{Simplifies, Pieces, Piece, settled_level}
 use Rattle.ul_tree.proofs.ForCallers.{no_key}
 use Rattle.ul_tree.proofs.ForCallers.{tree_part, tree_rest, region_part, region_rest, part_smaller, rest_smaller, piece_outside, piece_inside, truth_done, all_done, level_done, result_reduced, results_reduced, simpler_reduced}
 use Rattle.ul_tree.specs.declared.level.Key.{Key}
@@ -142,14 +142,14 @@ simplified_at-piece-requires g t c =
 
 -- the level put together from the results
 settles : (g : _) (t : ℕ) (c : simplified_at-In_ok-rest g t) → Simplifies (tree_of c.args.f.now) (tree_of c.args.region.now)
-    (settled (level_view c.args.level) (result_diagrams c.in_ok-results.results.items) (option_map tree_of c.in_ok-rest.rest) (rest_at (level_view c.args.level) (tree_of c.args.f.now)))
+    (settled_level (level_view c.args.level) (result_diagrams c.in_ok-results.results.items) (option_map tree_of c.in_ok-rest.rest) (rest_at (level_view c.args.level) (tree_of c.args.f.now)))
 settles g t c =
     let l = level_view c.args.level in
     let f = tree_of c.args.f.now in
     let r = tree_of c.args.region.now in
     let rs = result_diagrams c.in_ok-results.results.items in
     let o = option_map tree_of c.in_ok-rest.rest in
-    level_done f r (settled l rs o (rest_at l f)) l (keys_view c.in_ok-keys.keys.items) rs o c.requires.top c.requires.not_above c.requires.not_false
+    level_done f r (settled_level l rs o (rest_at l f)) l (keys_view c.in_ok-keys.keys.items) rs o c.requires.top c.requires.not_above c.requires.not_false
     (sym c.known.ensures ∙ c.if-known.false) c.in_ok-keys.ensures.keys
     (subst (λ (z : List Key). Pieces l f r (keys_view z) rs) c.deref.ensures.value c.in_ok-results.ensures.pieces)
     (subst (λ (z : Plain). Piece z (rest_at l r) o) c.rest_at-other.ensures.part (subst (λ (z : Plain). Piece (tree_of c.rest_at-other.result.now) z o) c.rest_at.ensures.part c.in_ok-rest.ensures.piece))
@@ -159,7 +159,7 @@ pub simplified_at-returns-clause-rule : goal.simplified_at-returns-clause-rule
 simplified_at-returns-clause-rule g t c =
     let l = level_view c.args.level in
     subst (λ (z : Plain). Simplifies (tree_of c.args.f.now) (tree_of c.args.region.now) z)
-    (sym (c.in_ok-d-2.ensures.tree ∙ ap (settled l (result_diagrams c.in_ok-results.results.items) (option_map tree_of c.in_ok-rest.rest)) c.rest_at-other.ensures.part))
+    (sym (c.in_ok-d-2.ensures.tree ∙ ap (settled_level l (result_diagrams c.in_ok-results.results.items) (option_map tree_of c.in_ok-rest.rest)) c.rest_at-other.ensures.part))
     (settles g t (goal.at.simplified_at-returns-clause-rule g t c).In_ok-rest)
 
 pub simplified_at-settled-requires-clause-results_reduced : goal.simplified_at-settled-requires-clause-results_reduced
@@ -187,8 +187,8 @@ simplified_at-settled-requires-clause-reduced g t c =
     let l = level_view c.args.level in
     let rs = result_diagrams c.in_ok-results.results.items in
     let o = option_map tree_of c.in_ok-rest.rest in
-    subst (λ (z : Plain). IsReduced (settled l rs o z)) (sym c.rest_at-other.ensures.part)
-    (simpler_reduced (tree_of c.args.f.now) (tree_of c.args.region.now) (settled l rs o (rest_at l (tree_of c.args.f.now)))
+    subst (λ (z : Plain). IsReduced (settled_level l rs o z)) (sym c.rest_at-other.ensures.part)
+    (simpler_reduced (tree_of c.args.f.now) (tree_of c.args.region.now) (settled_level l rs o (rest_at l (tree_of c.args.f.now)))
     (settles g t (goal.at.simplified_at-settled-requires-clause-reduced g t c).In_ok-rest) c.requires.f.reduced c.requires.region.reduced)
 
 pub simplified_at-settled-requires-clause-results_known : goal.simplified_at-settled-requires-clause-results_known

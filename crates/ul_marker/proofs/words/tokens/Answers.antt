@@ -6,7 +6,7 @@ use Rattle.ul_specifier.proofs.ForCallers.{not_empty}
 use Rattle.ul_marker.proofs.Depths.{deep-none, level-push, level_after}
 use Rattle.ul_marker.proofs.Refusals.{tokens-refused}
 use Rattle.ul_marker.proofs.Tokens.{onto, onto-end, onto-next, onto-none, tokens-shorter}
-use Rattle.ul_marker.specs.Reading.{marker_in, opened}
+use Rattle.ul_marker.specs.Reading.{marker_in, open_count}
 use Rattle.ul_marker.specs.Words.{front_token, tokens_of}
 use Rattle.ul_marker.specs.declared.words.Token.{Token}
 use Rattle.ul_marker.proofs.words.tokens.Goals as goal
@@ -25,7 +25,7 @@ returns-then-depth-from c =
     let token = c.in_ok-token.token in
     let seen = c.tokens.list.items ++ token ∷ [] in
     let level : level_after 0 seen ≡ c.opened-depth.result =
-    level-push 0 c.tokens.list.items token ∙ ap (opened token) (sym c.tokens.invariant.depth) ∙ sym c.opened-depth.ensures in
+    level-push 0 c.tokens.list.items token ∙ ap (open_count token) (sym c.tokens.invariant.depth) ∙ sym c.opened-depth.ensures in
     ap marker_in (c.tokens.invariant.found ∙ onto-next c.tokens.rest.now token c.in_ok-token.after.now c.tokens.list.items seen c.in_ok-token.ensures refl)
     ∙ deep-none seen (tokens_of (after_all is_blank c.in_ok-token.after.now)) (omega arith)
 
@@ -40,7 +40,7 @@ tokens-preserved c = record {
       rw c.after_space-rest.ensures
       (c.tokens.invariant.found ∙ onto-next c.tokens.rest.now c.in_ok-token.token c.in_ok-token.after.now c.tokens.list.items _ c.in_ok-token.ensures c.in_ok-push.ensures.items);
   depth =
-      c.opened-depth.ensures ∙ ap (opened c.in_ok-token.token) c.tokens.invariant.depth ∙ sym (level-push 0 c.tokens.list.items c.in_ok-token.token)
+      c.opened-depth.ensures ∙ ap (open_count c.in_ok-token.token) c.tokens.invariant.depth ∙ sym (level-push 0 c.tokens.list.items c.in_ok-token.token)
       ∙ ap (λ (ts : List Token). level_after 0 ts) (sym c.in_ok-push.ensures.items);
   fits = omega arith;
 }

@@ -1,7 +1,7 @@
 use Rattle.std.proofs.Common.{ap, sym, ◌∙◌, subst, Some, ◌+◌, drop}
 use Rattle.ul_tree.specs.Joins.{trees_made}
 use Rattle.ul_tree.specs.Keys.{key_view}
-use Rattle.ul_tree.specs.Plain.{Plain, carried}
+use Rattle.ul_tree.specs.Plain.{Plain, carried_part}
 use Rattle.ul_tree.specs.Reduced.{IsReduced}
 use Rattle.ul_tree.specs.Views.{tree_view}
 use Rattle.ul_marker_text.specs.Nodes.{are_apart}
@@ -9,8 +9,8 @@ use Rattle.ul_marker_text.proofs.NodeCode.{entry_reduced, apart_step}
 use Rattle.ul_marker_text.proofs.nodes.are_apart.Goals as goal
 use Rattle.ul_marker_text.proofs.nodes.are_apart.Goals.{then-carried, else-carried}
 
-pub same-requires-clause-a_reduced : goal.same-requires-clause-a_reduced
-same-requires-clause-a_reduced c = entry_reduced c.args.made.now c.loop-entry.entry-index c.entry-item.result c.loop-entry-test.true c.entry-item.is c.requires.made_reduced
+pub same-requires-clause-left_reduced : goal.same-requires-clause-left_reduced
+same-requires-clause-left_reduced c = entry_reduced c.args.made.now c.loop-entry.entry-index c.entry-item.result c.loop-entry-test.true c.entry-item.is c.requires.made_reduced
 
 pub loop-entry-preserved : goal.loop-entry-preserved
 loop-entry-preserved c =
@@ -22,10 +22,10 @@ loop-entry-preserved c =
     elim c.if-carried.branch [
       | then-carried w ↦ record {
         standing = subst (λ (z : Plain). IsReduced z) (sym (ap (λ z. tree_view z.now) w.standing-is)) (entry_reduced c.args.made.now c.loop-entry.entry-index x c.loop-entry-test.true c.entry-item.is c.requires.made_reduced);
-        left = ap (λ z. are_apart (Some k) c.args.carried z rest) (ap (λ z. tree_view z.now) w.standing-is ∙ sym (ap (λ b. carried b (tree_view x.1) (tree_view c.loop-entry.standing.now)) w.if-carried.true)) ∙ sym step ∙ c.loop-entry.invariant.left;
+        left = ap (λ z. are_apart (Some k) c.args.carried z rest) (ap (λ z. tree_view z.now) w.standing-is ∙ sym (ap (λ b. carried_part b (tree_view x.1) (tree_view c.loop-entry.standing.now)) w.if-carried.true)) ∙ sym step ∙ c.loop-entry.invariant.left;
       }
       | else-carried w ↦ record {
         standing = subst (λ (z : Plain). IsReduced z) (sym (ap (λ z. tree_view z.now) w.standing-is)) c.loop-entry.invariant.standing;
-        left = ap (λ z. are_apart (Some k) c.args.carried z rest) (ap (λ z. tree_view z.now) w.standing-is ∙ sym (ap (λ b. carried b (tree_view x.1) (tree_view c.loop-entry.standing.now)) w.if-carried.false)) ∙ sym step ∙ c.loop-entry.invariant.left;
+        left = ap (λ z. are_apart (Some k) c.args.carried z rest) (ap (λ z. tree_view z.now) w.standing-is ∙ sym (ap (λ b. carried_part b (tree_view x.1) (tree_view c.loop-entry.standing.now)) w.if-carried.false)) ∙ sym step ∙ c.loop-entry.invariant.left;
       }
     ]

@@ -2,7 +2,7 @@ use Rattle.std.proofs.Common.{◌∙◌, ap, sym, add-one, arith, string_bytes}
 use Rattle.ul_tree.specs.Keys.{level_view, key_view, branches_of, branches_from}
 use Rattle.ul_tree.specs.Views.{tree_view}
 use Rattle.ul_tree.proofs.ForCallers.{size_part, from_end, part_reduced}
-use Rattle.ul_tree.specs.PathList.{interval, point, others, led, paths_to_true, paths_from, paths_at}
+use Rattle.ul_tree.specs.PathList.{interval, point, others, longer_paths, paths_to_true, paths_from, paths_at}
 use Rattle.ul_marker_text.specs.Printing.{paths_behind}
 use Rattle.ul_tree.specs.Apply.{keys}
 use Rattle.ul_marker_text.proofs.Behind.{false_behind, truth_behind, untrue_behind, pieces_paths, key_kind, piece_behind, point_behind, other_behind, points_step, points_done, node_behind, pieces_step, pieces_done}
@@ -61,7 +61,7 @@ print_points-returns-then-is_false t c =
     let e = points_done l (string_bytes c.loop-index.out) c.args.prefix.now (branches_from c.loop-index.index bs) (from_end bs c.loop-index.index (omega (arith, c.branch_count-index-end.ensures))) ∙ c.loop-index.invariant in
     let f = false_behind (string_bytes c.loop-index.out) c.args.prefix.now (others l (keys bs)) (tree_view c.rest_of-rest.result.now) (sym c.if-is_false.ensures) in
     node_behind (string_bytes c.args.out.now) (string_bytes c.loop-index.out) (string_bytes c.loop-index.out) c.args.prefix.now l a ((c.requires.1).1).0 (((c.requires.1).1).1).0 e
-    (f ∙ ap (λ z. paths_behind (string_bytes c.loop-index.out) c.args.prefix.now (led (others l (keys bs)) (paths_to_true z))) c.rest_of-rest.ensures)
+    (f ∙ ap (λ z. paths_behind (string_bytes c.loop-index.out) c.args.prefix.now (longer_paths (others l (keys bs)) (paths_to_true z))) c.rest_of-rest.ensures)
 
 pub print_points-returns : goal.print_points-returns
 print_points-returns t c =
@@ -72,7 +72,7 @@ print_points-returns t c =
     let f = c.in_ok-print.ensures ∙ ap (λ z. paths_behind (string_bytes c.loop-index.out) z (paths_to_true (tree_view c.rest_of-rest.result.now))) c.as_str.ensures.value
     ∙ other_behind (string_bytes c.loop-index.out) c.args.prefix.now (string_bytes c.in_ok-next.next) l bs (paths_to_true (tree_view c.rest_of-rest.result.now)) c.in_ok-next.ensures in
     node_behind (string_bytes c.args.out.now) (string_bytes c.loop-index.out) (string_bytes c.print.new.out) c.args.prefix.now l a ((c.requires.1).1).0 (((c.requires.1).1).1).0 e
-    (f ∙ ap (λ z. paths_behind (string_bytes c.loop-index.out) c.args.prefix.now (led (others l (keys bs)) (paths_to_true z))) c.rest_of-rest.ensures)
+    (f ∙ ap (λ z. paths_behind (string_bytes c.loop-index.out) c.args.prefix.now (longer_paths (others l (keys bs)) (paths_to_true z))) c.rest_of-rest.ensures)
 
 pub print_pieces-loop-index-preserved : goal.print_pieces-loop-index-preserved
 print_pieces-loop-index-preserved t c =

@@ -1,5 +1,5 @@
 use Rattle.std.proofs.Common.{◌≡◌, ◌++◌, take, length}
-use Rattle.ul_problem.specs.Best.{wanted}
+use Rattle.ul_problem.specs.Best.{joined_needs}
 use Rattle.ul_trail.specs.Propagation.{root_facts}
 use Rattle.ul_trail.specs.Counts.{sizes_of}
 use Rattle.ul_trail.specs.Standing.{IsStanding}
@@ -15,5 +15,5 @@ invariant-loop-place l = record {
   picks : l.asked.picks.items ≡ root_picks (take l.place l.roots);
   indexed : IsIndexed l.asked.picks.items l.asked.positions.items;
   positions : length l.asked.positions.items ≡ length l.problem.nodes;
-  queue : l.asked.queue.items ≡ l.problem.roots ++ wanted l.problem (root_picks (take l.place l.roots));
+  queue : l.asked.queue.items ≡ l.problem.roots ++ joined_needs l.problem (root_picks (take l.place l.roots));
 }

@@ -2,7 +2,7 @@ use Rattle.std.proofs.Common.{◌≡◌, ℕ, List, [], ◌++◌, true, length, 
 use Rattle.std.proofs.lemmas.Option.{none-some}
 use Rattle.ul_problem.specs.declared.term.Term.{Term}
 use Rattle.ul_problem.specs.declared.step.Step.{Step}
-use Rattle.ul_problem.specs.Best.{wanted}
+use Rattle.ul_problem.specs.Best.{joined_needs}
 use Rattle.ul_problem.proofs.ForCallers.{root_single}
 use Rattle.ul_trail.specs.Track.{Track}
 use Rattle.ul_trail.specs.Facts.{level_of, picks_of}
@@ -59,10 +59,10 @@ track-of steps terms facts sizes width queue turns = record { steps = steps; ter
 pub returns-clause-right : goal.returns-clause-right
 returns-clause-right c =
     let r = rooted_trail c.args.problem.now c.roots-roots.ensures.whole in
-    let r1 = subst (λ (x : List Step). IsTrailOf c.args.problem.now (track-of x [] (root_facts c.args.problem.now c.args.problem.now.roots) (sizes_of c.args.problem.now) (length c.args.problem.now.nodes) (c.args.problem.now.roots ++ wanted c.args.problem.now (root_picks c.args.problem.now.roots)) [])) (sym c.new-4.ensures.items) r in
-    let r2 = subst (λ (x : List (List Term)). IsTrailOf c.args.problem.now (track-of c.new-4.result.items x (root_facts c.args.problem.now c.args.problem.now.roots) (sizes_of c.args.problem.now) (length c.args.problem.now.nodes) (c.args.problem.now.roots ++ wanted c.args.problem.now (root_picks c.args.problem.now.roots)) [])) (sym c.new-5.ensures.items) r1 in
-    let r3 = subst (λ (x : List Fact). IsTrailOf c.args.problem.now (track-of c.new-4.result.items c.new-5.result.items x (sizes_of c.args.problem.now) (length c.args.problem.now.nodes) (c.args.problem.now.roots ++ wanted c.args.problem.now (root_picks c.args.problem.now.roots)) [])) (sym c.in_ok-plant.ensures.facts) r2 in
-    let r4 = subst (λ (x : List ℕ). IsTrailOf c.args.problem.now (track-of c.new-4.result.items c.new-5.result.items c.plant.new.standing.facts.items x (length c.args.problem.now.nodes) (c.args.problem.now.roots ++ wanted c.args.problem.now (root_picks c.args.problem.now.roots)) [])) (sym c.in_ok-plant.ensures.sizes) r3 in
-    let r5 = subst (λ (x : ℕ). IsTrailOf c.args.problem.now (track-of c.new-4.result.items c.new-5.result.items c.plant.new.standing.facts.items c.plant.new.standing.sizes.items x (c.args.problem.now.roots ++ wanted c.args.problem.now (root_picks c.args.problem.now.roots)) [])) (sym (c.in_ok-rows.ensures.width ∙ count-is c)) r4 in
+    let r1 = subst (λ (x : List Step). IsTrailOf c.args.problem.now (track-of x [] (root_facts c.args.problem.now c.args.problem.now.roots) (sizes_of c.args.problem.now) (length c.args.problem.now.nodes) (c.args.problem.now.roots ++ joined_needs c.args.problem.now (root_picks c.args.problem.now.roots)) [])) (sym c.new-4.ensures.items) r in
+    let r2 = subst (λ (x : List (List Term)). IsTrailOf c.args.problem.now (track-of c.new-4.result.items x (root_facts c.args.problem.now c.args.problem.now.roots) (sizes_of c.args.problem.now) (length c.args.problem.now.nodes) (c.args.problem.now.roots ++ joined_needs c.args.problem.now (root_picks c.args.problem.now.roots)) [])) (sym c.new-5.ensures.items) r1 in
+    let r3 = subst (λ (x : List Fact). IsTrailOf c.args.problem.now (track-of c.new-4.result.items c.new-5.result.items x (sizes_of c.args.problem.now) (length c.args.problem.now.nodes) (c.args.problem.now.roots ++ joined_needs c.args.problem.now (root_picks c.args.problem.now.roots)) [])) (sym c.in_ok-plant.ensures.facts) r2 in
+    let r4 = subst (λ (x : List ℕ). IsTrailOf c.args.problem.now (track-of c.new-4.result.items c.new-5.result.items c.plant.new.standing.facts.items x (length c.args.problem.now.nodes) (c.args.problem.now.roots ++ joined_needs c.args.problem.now (root_picks c.args.problem.now.roots)) [])) (sym c.in_ok-plant.ensures.sizes) r3 in
+    let r5 = subst (λ (x : ℕ). IsTrailOf c.args.problem.now (track-of c.new-4.result.items c.new-5.result.items c.plant.new.standing.facts.items c.plant.new.standing.sizes.items x (c.args.problem.now.roots ++ joined_needs c.args.problem.now (root_picks c.args.problem.now.roots)) [])) (sym (c.in_ok-rows.ensures.width ∙ count-is c)) r4 in
     let r6 = subst (λ (x : List ℕ). IsTrailOf c.args.problem.now (track-of c.new-4.result.items c.new-5.result.items c.plant.new.standing.facts.items c.plant.new.standing.sizes.items (length c.in_ok-rows.rows.items) x [])) (sym c.in_ok-plant.ensures.queue) r5 in
     subst (λ (x : List ℕ). IsTrailOf c.args.problem.now (track-of c.new-4.result.items c.new-5.result.items c.plant.new.standing.facts.items c.plant.new.standing.sizes.items (length c.in_ok-rows.rows.items) c.plant.new.asked.queue.items x)) (sym (ap turns_of c.new-6.ensures.items)) r6

@@ -5,7 +5,7 @@ use Rattle.ul_tree.specs.Views.{tree_view}
 use Rattle.ul_tree.proofs.copy.+same.Given as goal
 
 abbrev pub decreases-same : goal.decreases-same
-decreases-same l = size (tree_view l.a.now)
+decreases-same l = size (tree_view l.left.now)
 
 abbrev pub invariant-loop-index : goal.invariant-loop-index
-invariant-loop-index l = same_plain (tree_view l.a) (tree_view l.b) ≡ sames_plain (branches_from l.index (branches_of (tree_view l.a))) (branches_from l.index (branches_of (tree_view l.b)))
+invariant-loop-index l = same_plain (tree_view l.left) (tree_view l.right) ≡ sames_plain (branches_from l.index (branches_of (tree_view l.left))) (branches_from l.index (branches_of (tree_view l.right)))

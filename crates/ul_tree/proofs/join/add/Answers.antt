@@ -1,7 +1,7 @@
 use Rattle.std.proofs.Common.{◌≡◌, Bool, List, ap, sym, ◌∙◌, subst, false}
 use Rattle.ul_tree.specs.Plain.{Plain}
 use Rattle.ul_tree.specs.Reduced.{IsReduced}
-use Rattle.ul_tree.specs.Joins.{made_view, stands, added}
+use Rattle.ul_tree.specs.Joins.{made_view, stands, more_branches}
 use Rattle.ul_tree.specs.Apply.{same as same_plain}
 use Rattle.ul_tree.specs.Keys.{key_view}
 use Rattle.ul_tree.specs.SimplifyViews.{standing_part}
@@ -16,14 +16,14 @@ use Rattle.ul_tree.proofs.join.add.Goals as goal
 stands_is : (carried : Bool) (xs ys : List (Key × Tree)) (other part : Tree) → part ≡ standing_part carried xs other → xs ≡ ys → tree_view part ≡ stands carried (made_view tree_view ys) (tree_view other)
 stands_is carried xs ys other part e s = ap tree_view e ∙ standing_viewed tree_view carried xs other ∙ ap (λ zs. stands carried (made_view tree_view zs) (tree_view other)) s
 
-pub same-requires-clause-b_reduced : goal.same-requires-clause-b_reduced
-same-requires-clause-b_reduced c =
+pub same-requires-clause-right_reduced : goal.same-requires-clause-right_reduced
+same-requires-clause-right_reduced c =
     subst (λ (z : Plain). IsReduced z) (sym (stands_is c.args.carried c.deref.result.now c.args.made.now.items c.args.other.now c.standing.result.now c.standing.ensures c.deref.ensures.value)) c.requires.stands_reduced
 
 pub returns-then-same-clause-made : goal.returns-then-same-clause-made
 returns-then-same-clause-made c =
     let e = stands_is c.args.carried c.deref.result.now c.args.made.now.items c.args.other.now c.standing.result.now c.standing.ensures c.deref.ensures.value in
-    ap (λ b. added b (made_view tree_view c.args.made.now.items) (key_view c.args.key) (tree_view c.args.next)) (sym c.if-same.true ∙ c.same.ensures ∙ ap (same_plain (tree_view c.args.next)) e)
+    ap (λ b. more_branches b (made_view tree_view c.args.made.now.items) (key_view c.args.key) (tree_view c.args.next)) (sym c.if-same.true ∙ c.same.ensures ∙ ap (same_plain (tree_view c.args.next)) e)
 
 pub returns-clause-made : goal.returns-clause-made
 returns-clause-made c =

@@ -10,13 +10,13 @@ use Rattle.ul_tree.proofs.join.after_truth.Goals as goal
 
 pub returns-in-Both : goal.returns-in-Both
 returns-in-Both c =
-    let b = tree_view c.args.b.now in
+    let b = tree_view c.args.right.now in
     let x = truth c.args.value in
     subst (λ (o : Join). JoinsTo (truth_of o) x b (at_once_view c.past_truth.result)) (sym c.in-Both.is) (subst (λ (z : Plain). JoinsTo both x b z) (sym c.past_truth.ensures) (joins_both c.args.value b c.requires))
 
 pub returns-in-Either : goal.returns-in-Either
 returns-in-Either c =
-    let b = tree_view c.args.b.now in
+    let b = tree_view c.args.right.now in
     let x = truth c.args.value in
     subst (λ (o : Join). JoinsTo (truth_of o) x b (at_once_view c.past_truth-in-Either.result)) (sym c.in-Either.is)
     (subst (λ (z : Plain). JoinsTo either x b z) (sym c.past_truth-in-Either.ensures) (joins_either c.args.value b c.requires))

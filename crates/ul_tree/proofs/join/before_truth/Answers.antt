@@ -10,13 +10,13 @@ use Rattle.ul_tree.proofs.join.before_truth.Goals as goal
 
 pub returns-in-Both : goal.returns-in-Both
 returns-in-Both c =
-    let a = tree_view c.args.a.now in
+    let a = tree_view c.args.left.now in
     let x = truth c.args.value in
     subst (λ (o : Join). JoinsTo (truth_of o) a x (at_once_view c.past_truth.result)) (sym c.in-Both.is) (subst (λ (z : Plain). JoinsTo both a x z) (sym c.past_truth.ensures) (both_joins c.args.value a c.requires))
 
 pub returns-in-Either : goal.returns-in-Either
 returns-in-Either c =
-    let a = tree_view c.args.a.now in
+    let a = tree_view c.args.left.now in
     let x = truth c.args.value in
     subst (λ (o : Join). JoinsTo (truth_of o) a x (at_once_view c.past_truth-in-Either.result)) (sym c.in-Either.is)
     (subst (λ (z : Plain). JoinsTo either a x z) (sym c.past_truth-in-Either.ensures) (either_joins c.args.value a c.requires))

@@ -1,5 +1,5 @@
 use Rattle.std.proofs.Common.{◌≡◌, ◌+◌, ◌-◌, ◌/◌, suc, ap, sym, ◌∙◌, arith, subst, Some, add-one}
-use Rattle.ul_tree.specs.Plain.{Branches, pick, carried}
+use Rattle.ul_tree.specs.Plain.{Branches, pick, carried_part}
 use Rattle.ul_tree.specs.Reduced.{StartsAfter}
 use Rattle.ul_tree.specs.Keys.{key_view, rest_of, branches_of, branches_from}
 use Rattle.ul_tree.proofs.Halves.{from_count, tree_past, tree_at, pick_before}
@@ -33,7 +33,7 @@ loop-low-preserved-then-carried g c =
       ordered = omega arith;
       within = c.loop-low.invariant.within;
       left = tree_past t v _ m part (rest_of t) _ middle c.requires c.branch_at-branch.ensures.found (sym c.in-Greater.ensures)
-          ∙ ap (λ b. pick (branches_from (suc middle) (branches_of t)) m v (carried b part (rest_of t))) c.if-carried.true
+          ∙ ap (λ b. pick (branches_from (suc middle) (branches_of t)) m v (carried_part b part (rest_of t))) c.if-carried.true
           ∙ ap (λ i. pick (branches_from i (branches_of t)) m v part) (sym (add-one middle));
       above = c.loop-low.invariant.above;
       below = c.branch_at-branch.ensures.below;
@@ -50,7 +50,7 @@ loop-low-preserved g c =
       ordered = omega arith;
       within = c.loop-low.invariant.within;
       left = tree_past t v _ m part (rest_of t) _ middle c.requires c.branch_at-branch.ensures.found (sym c.in-Greater.ensures)
-          ∙ ap (λ b. pick (branches_from (suc middle) (branches_of t)) m v (carried b part (rest_of t))) c.if-carried.false
+          ∙ ap (λ b. pick (branches_from (suc middle) (branches_of t)) m v (carried_part b part (rest_of t))) c.if-carried.false
           ∙ ap (pick (branches_from (suc middle) (branches_of t)) m v) (sym c.rest_of-rest.ensures.part)
           ∙ ap (λ i. pick (branches_from i (branches_of t)) m v (g.N.Nodes.tree c.rest_of-rest.result.now)) (sym (add-one middle));
       above = c.loop-low.invariant.above;

@@ -11,7 +11,7 @@ use Rattle.ul_tree.proofs.operations.plain_not.Goals as goal
 
 pub returns-clause-truth : goal.returns-clause-truth
 returns-clause-truth c =
-    let a = tree_view c.args.a.now in
+    let a = tree_view c.args.whole.now in
     let b = tree_view (Truth false) in
     let e = c.in_ok-tree.ensures.joined (suc (size a + size b)) (omega arith) in
     λ w x. ap (λ t. tree_holds t w x) e ∙ operations.join_truth (λ x y. not x) a b c.requires (subst (λ (z : Plain). IsReduced z) (sym (view_truth false)) tt) w x

@@ -7,7 +7,7 @@ use Rattle.ul_tree.proofs.operations.plain_or.Goals as goal
 
 pub returns-clause-truth : goal.returns-clause-truth
 returns-clause-truth c =
-    let a = tree_view c.args.a.now in
-    let b = tree_view c.args.b.now in
+    let a = tree_view c.args.left.now in
+    let b = tree_view c.args.right.now in
     let e = c.in_ok-tree.ensures.joined (suc (size a + size b)) (omega arith) in
-    λ w x. ap (λ t. tree_holds t w x) e ∙ operations.join_truth either a b c.requires.a_reduced c.requires.b_reduced w x
+    λ w x. ap (λ t. tree_holds t w x) e ∙ operations.join_truth either a b c.requires.left_reduced c.requires.right_reduced w x

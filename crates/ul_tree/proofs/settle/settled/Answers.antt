@@ -5,7 +5,7 @@ use Rattle.ul_tree.specs.Joins.{made_view}
 use Rattle.ul_tree.specs.Keys.{level_view}
 use Rattle.ul_tree.specs.Plain.{Plain}
 use Rattle.ul_tree.specs.Reduced.{IsReduced}
-use Rattle.ul_tree.specs.Simplify.{earliest, latest, own_or, settled}
+use Rattle.ul_tree.specs.Simplify.{earliest, latest, own_or, settled_level}
 use Rattle.ul_tree.specs.SimplifyViews.{results_view, parts_view}
 use Rattle.ul_tree.specs.Views.{tree_view}
 use Rattle.ul_tree.proofs.Viewed.{earliest_viewed, latest_viewed}
@@ -41,7 +41,7 @@ reduced_branches-requires-clause-other_reduced c =
 made_is : (c : In_ok-made) → tree_view c.in_ok-first.first ≡ earliest c.is_carried-carried.result (results_view tree_view c.deref.result.now) (option_map tree_view c.args.rest) (tree_view c.args.otherwise.now)
     → tree_view c.latest.result.now ≡ latest c.is_carried-carried.result (results_view tree_view c.deref-2.result.now) (tree_view c.in_ok-first.first)
     → close (level_view c.args.level) (tree_view c.in_ok-other.other) (made_view tree_view c.in_ok-made.made.items)
-    ≡ settled (level_view c.args.level) (results_view tree_view c.args.results.items) (option_map tree_view c.args.rest) (tree_view c.args.otherwise.now)
+    ≡ settled_level (level_view c.args.level) (results_view tree_view c.args.results.items) (option_map tree_view c.args.rest) (tree_view c.args.otherwise.now)
 made_is c first last =
     let m = c.is_carried-carried.result in
     let o = option_map tree_view c.args.rest in

@@ -13,8 +13,8 @@ use Rattle.ul_tree.proofs.simplify.union.Goals as goal
 pub returns-then-count-eq0 : goal.returns-then-count-eq0
 returns-then-count-eq0 c = c.in_ok-rest.ensures ∙ c.rest_of.ensures ∙ no_branches (tree_view c.args.tree.now) c.branch_count-count.result c.branch_count-count.ensures c.if-count-eq0.true
 
-pub joined-requires-clause-a_reduced : goal.joined-requires-clause-a_reduced
-joined-requires-clause-a_reduced c = subst (λ (z : Plain). IsReduced z) (sym c.rest_of-2.ensures) (rest_reduced (tree_view c.args.tree.now) c.requires)
+pub joined-requires-clause-left_reduced : goal.joined-requires-clause-left_reduced
+joined-requires-clause-left_reduced c = subst (λ (z : Plain). IsReduced z) (sym c.rest_of-2.ensures) (rest_reduced (tree_view c.args.tree.now) c.requires)
 
 pub returns : goal.returns
 returns c =

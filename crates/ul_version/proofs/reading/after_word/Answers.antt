@@ -1,14 +1,14 @@
 use Rattle.std.proofs.Common.{◌≡◌, arith, sym, ◌∙◌, length}
 use Rattle.std.proofs.lemmas.List.{take_rest, length-map}
 use Rattle.std.specs.Char.{to_ascii_lowercase}
-use Rattle.ul_version.specs.Reading.{lowered}
+use Rattle.ul_version.specs.Reading.{lowercase_text}
 use Rattle.ul_version.proofs.Cuts.{after_word-short, after_word-next, after_word-differs, after_word-end}
 use Rattle.ul_version.proofs.reading.after_word.Goals as goal
 
 pub returns-then-input-word : goal.returns-then-input-word
 returns-then-input-word c =
-    let same : length (lowered c.args.input.now) ≡ length c.args.input.now = length-map c.args.input.now to_ascii_lowercase in
-    sym (after_word-short c.args.word.now (lowered c.args.input.now) (omega arith))
+    let same : length (lowercase_text c.args.input.now) ≡ length c.args.input.now = length-map c.args.input.now to_ascii_lowercase in
+    sym (after_word-short c.args.word.now (lowercase_text c.args.input.now) (omega arith))
 
 pub returns-then-to_ascii_lowercase-word : goal.returns-then-to_ascii_lowercase-word
 returns-then-to_ascii_lowercase-word c =
@@ -25,4 +25,4 @@ pub returns : goal.returns
 returns c =
     let n : c.loop-i.i ≡ length c.args.word.now = omega arith in
     rw (take_rest c.args.input.now (length c.args.word.now), ← n)
-    (sym (c.loop-i.invariant ∙ after_word-end c.args.word.now (lowered _) c.loop-i.i (omega arith)))
+    (sym (c.loop-i.invariant ∙ after_word-end c.args.word.now (lowercase_text _) c.loop-i.i (omega arith)))
