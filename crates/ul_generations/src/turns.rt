@@ -42,7 +42,8 @@ fn judge_rows<R: Threads + Wait + Sync, L: Label, J: Judge<L>, G: Gate + Sync>(
     ensures learns { Knows pass.old pass.new }
     ensures outcomes { IfOk result (λ r. AreOutcomes (J.outcome judge.now) rows.now r.0.items) }
     ensures known { IfOk result (λ r. (k : ℕ) (o : _) → slice_get r.0.items k ≡ Some o
-        → OutcomeKnown (J.may judge.now) (J.region_known pass.new) (J.done_known pass.new) (J.refusal_known pass.new) o) }
+        → OutcomeKnown (J.may judge.now) (J.region_known pass.new)
+        (J.done_known pass.new) (J.refusal_known pass.new) o) }
     ensures round { IfOk result (λ r. r.1 ≡ (workers, length (open_regions rows.now))) }
 {
     let regions = regions_of(alloc, rows)?;

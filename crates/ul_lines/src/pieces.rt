@@ -4,10 +4,10 @@ ghost use Rattle.std.specs.Prelude.{◌≡◌, ℕ, List, bytes_eq, option_map};
 ghost use Rattle.ul_lines.specs.Pieces.{strip, until, inner_and_rest, optional_part, cut_end, inside};
 
 /// Whether two texts are the same bytes.
-pub fn same(a: &[u8], b: &[u8]) -> bool
-    ensures { result ≡ bytes_eq a.now b.now }
+pub fn same(left: &[u8], right: &[u8]) -> bool
+    ensures { result ≡ bytes_eq left.now right.now }
 {
-    a == b
+    left == right
 }
 
 /// The text behind a front, if the front is there.

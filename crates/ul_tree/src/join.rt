@@ -201,7 +201,8 @@ fn before_truth<'a>(operation: Join, left: &'a Tree, value: bool) -> Option<AtOn
 pub fn at_once<'a>(operation: Join, left: &'a Tree, right: &'a Tree) -> Option<AtOnce<'a>>
     requires left_reduced { IsTree left.now }
     requires right_reduced { IsTree right.now }
-    ensures { IfSome (λ k. JoinsTo (truth_of operation) (tree_view left.now) (tree_view right.now) (at_once_view k)) result }
+    ensures { IfSome (λ k. JoinsTo (truth_of operation)
+        (tree_view left.now) (tree_view right.now) (at_once_view k)) result }
 {
     match truth_value(left) {
         Some(value) => Some(after_truth(operation, value, right)),

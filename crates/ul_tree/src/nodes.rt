@@ -177,7 +177,8 @@ pub fn level_keys<'a, N: Nodes>(
 ) -> Result<Vec<Key<'a>>, AllocError>
     requires left_reduced { IsReduced (N.tree left.now) }
     requires right_reduced { IsReduced (N.tree right.now) }
-    ensures keys { IfOk result (λ ks. keys_view ks.items ≡ keys_of_both level.entry (N.tree left.now) (N.tree right.now)) }
+    ensures keys { IfOk result (λ ks. keys_view ks.items
+        ≡ keys_of_both level.entry (N.tree left.now) (N.tree right.now)) }
     ensures kinds { IfOk result (λ ks. AreKeysOf (level_view level.entry) ks.items) }
 {
     let of_a = keys_at::<N>(alloc, left, level)?;
@@ -193,7 +194,8 @@ pub fn merged_keys<'a>(
     right: &[Key<'a>],
 ) -> Result<Vec<Key<'a>>, AllocError>
     ensures keys { IfOk result (λ ks. keys_view ks.items ≡ key_union (keys_view left.now) (keys_view right.now)) }
-    ensures kinds { IfOk result (λ ks. (l : List ℕ) → AreKeysOf l left.now → AreKeysOf l right.now → AreKeysOf l ks.items) }
+    ensures kinds { IfOk result (λ ks. (l : List ℕ) → AreKeysOf l left.now
+        → AreKeysOf l right.now → AreKeysOf l ks.items) }
 {
     let mut made = Vec::new(alloc);
     let mut i = 0;
