@@ -145,7 +145,7 @@ fn clause(alloc: Global, op: Op, literal: &Literal) -> Result<Clause, MarkerFaul
 }
 
 // A variable, a sign and a literal.
-#[tactic(auto, using(crate::proofs::Compared::not_python), unfolding(crate::specs::Comparisons::signed))]
+#[tactic(auto, using(crate::proofs::Compared::not_python), unfolding(crate::specs::Comparisons::sign_formula))]
 fn signed(alloc: Global, subject: &Token, op: Op, literal: &Literal) -> Result<Marker, MarkerFault>
     ensures { Reads marker_view result (Grammar.sign_formula subject.now op literal.now) }
 {
@@ -300,7 +300,7 @@ fn within(
 }
 
 // A literal `in` a variable, or `not in` it.
-#[tactic(auto, unfolding(crate::specs::Comparisons::contained))]
+#[tactic(auto, unfolding(crate::specs::Comparisons::containment))]
 fn contained(
     alloc: Global,
     positive: bool,

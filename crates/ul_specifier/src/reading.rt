@@ -114,7 +114,7 @@ fn star_of(op: Op) -> Option<bool>
 }
 
 // The clause of a version before `.*`.
-#[tactic(auto, unfolding(crate::specs::Reading::starred))]
+#[tactic(auto, unfolding(crate::specs::Reading::star_clause))]
 fn starred(op: Op, version: Version) -> Result<Clause, SpecFault>
     ensures { Reads (λ c. c) result (spec.star_clause op version) }
 {
@@ -132,7 +132,7 @@ fn starred(op: Op, version: Version) -> Result<Clause, SpecFault>
 }
 
 // The clause of a version without `.*`.
-#[tactic(auto, unfolding(crate::specs::Reading::unstarred))]
+#[tactic(auto, unfolding(crate::specs::Reading::plain_clause))]
 fn unstarred(op: Op, version: Version) -> Result<Clause, SpecFault>
     ensures { Reads (λ c. c) result (spec.plain_clause op version) }
 {

@@ -83,7 +83,7 @@ fn after_word<'a>(input: &'a [u8], word: &[u8]) -> Option<&'a [u8]>
 }
 
 // A number that must be there.
-#[tactic(auto, unfolding(crate::specs::Reading::needed))]
+#[tactic(auto, unfolding(crate::specs::Reading::required_number))]
 fn needed(input: &[u8]) -> Option<(u64, &[u8])>
     ensures { cut_view result ≡ spec.required_number (lowercase_text input.now) }
 {
@@ -95,7 +95,7 @@ fn needed(input: &[u8]) -> Option<(u64, &[u8])>
 }
 
 // The text from its digits on, where the mark and a digit stand in front.
-#[tactic(auto, unfolding(crate::specs::Reading::marked))]
+#[tactic(auto, unfolding(crate::specs::Reading::marked_digits))]
 fn marked<'a>(input: &'a [u8], mark: &[u8]) -> Option<&'a [u8]>
     ensures { rest_view result ≡ spec.marked_digits mark.now (lowercase_text input.now) }
 {
