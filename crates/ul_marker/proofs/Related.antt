@@ -100,7 +100,7 @@ record Opposite (op other : Op) : Type 0 where
   stars : star_of op ≡ star_of other
   stand : (V : Fields) → may_stand op V ≡ may_stand other V
   without : (V : Fields) (release : List ℕ) → meets_with other V false (plain release) ≡ not (meets_with op V false (plain release))
-  star_clause : (V : Fields) (prefix : Bool) (release : List ℕ) → star_of op ≡ Some prefix → meets_with other V prefix (plain release) ≡ not (meets_with op V prefix (plain release))
+  starred : (V : Fields) (prefix : Bool) (release : List ℕ) → star_of op ≡ Some prefix → meets_with other V prefix (plain release) ≡ not (meets_with op V prefix (plain release))
 
 -- the formula of a clause
 abbrev clause-formula : Bool → Option ClauseFields → Option Formula

@@ -302,7 +302,7 @@ fn front_token(alloc: Global, input: &[u8]) -> Result<(Token, &[u8]), MarkerFaul
 /// How many parentheses are open after a token.
 pub fn opened(token: &Token, count: usize) -> usize
     requires { count + 1 < 2 ^ 64 }
-    ensures { result ≡ Reading.opened token.now count }
+    ensures { result ≡ Reading.open_count token.now count }
 {
     match token {
         Token::Open => count + 1,

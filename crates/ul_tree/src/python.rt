@@ -63,7 +63,7 @@ fn digit(release: &[u64], i: usize) -> u128
 
 // At most the last interpreter.
 fn capped(number: u128) -> u128
-    ensures { result ≡ Pieces.capped number }
+    ensures { result ≡ Pieces.capped_number number }
 {
     number.min(END - 1)
 }
