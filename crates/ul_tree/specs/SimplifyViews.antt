@@ -1,10 +1,10 @@
 -- What the code of simplifying sees of pieces and regions, as plain data.
-use Rattle.std.specs.Prelude.{ℕ, List, [], ◌∷◌, map, Bool, true, false, Option, Some, None, option_map, All, ◌≡◌, zero, suc}
+use Rattle.std.specs.Prelude.{ℕ, List, [], ◌∷◌, map, Bool, true, false, Option, Some, None, option_map, ◌≡◌, zero, suc}
 use Rattle.std.specs.Ordering.{is_lt}
 use Rattle.ul_tree.specs.Plain.{Plain, truth, node, Branches, done, branch, text_cmp, holds_of}
 use Rattle.ul_tree.specs.Apply.{either}
 use Rattle.ul_tree.specs.Reduced.{IsReduced, Fits}
-use Rattle.ul_tree.specs.Keys.{key_view, keys_view, level_view, has_kind, branches_from, branches_of, rest_of, KeysOf}
+use Rattle.ul_tree.specs.Keys.{key_view, keys_view, level_view, branches_from, branches_of, rest_of}
 use Rattle.ul_tree.specs.Simplify.{Results, Simplifies, Pieces, filled_results, reduced_branches, settled_level, union_in}
 use Rattle.ul_tree.specs.Views.{tree_view}
 use Rattle.ul_tree.specs.declared.level.Level.{Level}

@@ -5,7 +5,7 @@ use Rattle.ul_tree.specs.Joins.{truth_of, at_once_view}
 use Rattle.ul_tree.specs.Plain.{Plain, truth}
 use Rattle.ul_tree.specs.Views.{tree_view}
 use Rattle.ul_tree.specs.declared.join.Join.{Join}
-use Rattle.ul_tree.proofs.Shortcuts.{joins_both, joins_either, negation_joins}
+use Rattle.ul_tree.proofs.Shortcuts.{joins_both, joins_either}
 use Rattle.ul_tree.proofs.join.after_truth.Goals as goal
 
 pub returns-in-Both : goal.returns-in-Both

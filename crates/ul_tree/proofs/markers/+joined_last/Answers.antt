@@ -1,4 +1,4 @@
-use Rattle.std.proofs.Common.{◌≡◌, ◌-◌, ◌/◌, [], ◌∷◌, List, ap, sym, ◌∙◌, subst, length, arith, take, drop, length-take}
+use Rattle.std.proofs.Common.{◌-◌, ◌/◌, [], ◌∷◌, List, ap, sym, ◌∙◌, subst, length, arith, drop, length-take}
 use Rattle.std.specs.List.{All}
 use Rattle.std.proofs.lemmas.List.Elements.{All-take}
 use Rattle.ul_tree.specs.Joining.{joint, truths_of}

@@ -5,7 +5,7 @@ use Rattle.ul_tree.specs.Keys.{keys_view, has_kind}
 use Rattle.ul_tree.specs.declared.level.Key.{Key}
 use Rattle.ul_tree.proofs.Merged.{rest_taken, ended_first, ended_second, kinds_ended}
 use Rattle.ul_tree.proofs.nodes.merged_keys.Goals as goal
-use Rattle.ul_tree.proofs.nodes.merged_keys.Goals.{In_ok-extend_from_slice-2, then-loop-i-test+else-j-b, else-loop-i-test}
+use Rattle.ul_tree.proofs.nodes.merged_keys.Goals.{In_ok-extend_from_slice-2, then-loop-i-test+else-j-right, else-loop-i-test}
 
 -- what was made, and after it what is left of both
 ended : (c : In_ok-extend_from_slice-2) → c.extend_from_slice-2.new.self.items ≡ (c.loop-i.made.items ++ drop c.loop-i.i c.args.left.now) ++ drop c.loop-i.j c.args.right.now
@@ -19,7 +19,7 @@ returns-clause-keys c =
     let xs = drop c.loop-i.i c.args.left.now in
     let ys = drop c.loop-i.j c.args.right.now in
     ap keys_view (ended c) ∙ elim c.loop-i-test.branch [
-      | then-loop-i-test+else-j-b w ↦ ended_second made xs ys (drop_all c.loop-i.j c.args.right.now w.if-j-b.false)
+      | then-loop-i-test+else-j-right w ↦ ended_second made xs ys (drop_all c.loop-i.j c.args.right.now w.if-j-right.false)
       | else-loop-i-test w ↦ ended_first made xs ys (drop_all c.loop-i.i c.args.left.now w.loop-i-test.false)
     ] ∙ c.loop-i.invariant.keys
 

@@ -1,9 +1,9 @@
-use Rattle.std.proofs.Common.{◌≡◌, ◌-◌, sym, ◌∙◌, ap, subst, arith}
+use Rattle.std.proofs.Common.{◌≡◌, ◌-◌, sym, ◌∙◌, subst, arith}
 use Rattle.ul_tree.specs.Plain.{Plain}
 use Rattle.ul_tree.specs.Reduced.{IsReduced}
 use Rattle.ul_tree.specs.Joins.{IsJoined}
 use Rattle.ul_tree.specs.declared.join.Join.TheVariants.{Either}
-use Rattle.ul_tree.specs.Keys.{branches_of, branch_count, rest_of}
+use Rattle.ul_tree.specs.Keys.{branches_of, branch_count}
 use Rattle.ul_tree.specs.SimplifyViews.{HoldsParts}
 use Rattle.ul_tree.specs.Views.{tree_view}
 use Rattle.ul_tree.proofs.Halves.{rest_reduced}
