@@ -1,0 +1,5 @@
+pub mod ForCallers
+mod Ascii
+mod Markers
+mod LineLaws
+mod TypedLaws

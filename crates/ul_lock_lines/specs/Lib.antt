@@ -1,0 +1,4 @@
+pub mod Region
+pub mod Raw
+pub mod Text
+pub mod LineReading

@@ -1,0 +1,2 @@
+mod OverPaths
+mod Written

@@ -1,0 +1,5 @@
+pub mod WellFormed
+pub mod Walk
+pub mod Orders
+pub mod Increasing
+pub mod Targets

@@ -1,0 +1,12 @@
+//! Well formed locks, and what a lock gives in a world.
+//!
+//! `specs/WellFormed.antt` says which locks are well formed, and `specs/Walk.antt` what a lock gives in a world.
+#![tactic(auto)]
+
+pub mod laws;
+mod orders;
+
+pub use orders::{edge_order, file_order};
+pub use ul_lock_lines::{
+    Edge, Edges, Extra, Extras, Files, Lock, Locked, Packages, Region, Regions,
+};
