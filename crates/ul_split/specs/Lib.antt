@@ -1,3 +1,4 @@
 pub mod Split
 pub mod Laws
 pub mod Answers
+pub mod Picked

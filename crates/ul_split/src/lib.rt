@@ -3,7 +3,9 @@
 
 pub mod laws;
 mod leaf;
+mod picks;
 mod split;
 
 pub use leaf::Leaf;
+pub use picks::split_point;
 pub use split::{Chosen, split_in};
