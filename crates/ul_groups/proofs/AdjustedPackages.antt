@@ -1,0 +1,53 @@
+-- What holds of packages holds of adjusted ones.
+use Rattle.std.proofs.Common.{◌≡◌, ◌+◌, ◌<◌, ◌^◌, ◌∙◌, ℕ, List, [], ◌∷◌, length, map, refl, ap, sym, subst}
+use Rattle.std.proofs.lemmas.List.{length-map}
+use Rattle.std.proofs.lemmas.List.Elements.{All-map}
+use Rattle.ul_requirement.specs.Fields.{IsOtherVersion, ReleaseFields, RequirementFields, VersionsDiffer}
+use Rattle.ul_index.specs.Catalogs.{BeginsWithOne, IsCatalog, IsOtherName, NamesDiffer, Packages, release_count}
+use Rattle.ul_groups.specs.Adjusted.{ByName, adjusted_catalog, adjusted_package, adjusted_release, all_on}
+use Rattle.ul_groups.specs.NameLists.{Entries, HasEach, at_name}
+
+differ_still : (cs os : ByName) (rs : List ReleaseFields) → VersionsDiffer rs → VersionsDiffer (map (adjusted_release cs os) rs)
+differ_still cs os [] h = tt
+differ_still cs os (r ∷ rs) h =
+    (All-map (IsOtherVersion (adjusted_release cs os r)) (adjusted_release cs os) rs h.0, differ_still cs os rs h.1)
+
+-- the versions of adjusted releases differ still
+pub differ_of : (cs os : ByName) (rs ss : List ReleaseFields) → ss ≡ map (adjusted_release cs os) rs → VersionsDiffer rs → VersionsDiffer ss
+differ_of cs os rs ss e h = subst VersionsDiffer (sym e) (differ_still cs os rs h)
+
+names_still : (cs os : ByName) (ps : Packages) → NamesDiffer ps → NamesDiffer (map (adjusted_package cs os) ps)
+names_still cs os [] h = tt
+names_still cs os (p ∷ ps) h =
+    (All-map (IsOtherName (adjusted_package cs os p)) (adjusted_package cs os) ps h.0, names_still cs os ps h.1)
+
+count_still : (cs os : ByName) (ps : Packages) → release_count (map (adjusted_package cs os) ps) ≡ release_count ps
+count_still cs os [] = refl
+count_still cs os (p ∷ ps) =
+    ap (λ (n : ℕ). n + release_count (map (adjusted_package cs os) ps)) (length-map p.releases (adjusted_release cs os))
+    ∙ ap (λ (n : ℕ). length p.releases + n) (count_still cs os ps)
+
+begins_still : (cs os : ByName) (ps : Packages) → BeginsWithOne ps → BeginsWithOne (map (adjusted_package cs os) ps)
+begins_still cs os [] h = h
+begins_still cs os (p ∷ ps) h = length-map p.releases (adjusted_release cs os) ∙ h
+
+catalog_still : (cs os : ByName) (ps : Packages) → IsCatalog ps → IsCatalog (map (adjusted_package cs os) ps)
+catalog_still cs os ps h = record {
+  differ = names_still cs os ps h.differ;
+  few = subst (λ (n : ℕ). n < 2 ^ 32) (sym (count_still cs os ps)) h.few;
+  project = begins_still cs os ps h.project;
+}
+
+-- adjusted packages are a catalog
+pub catalog_of : (cs os : ByName) (ps qs : Packages) → qs ≡ map (adjusted_package cs os) ps → IsCatalog ps → IsCatalog qs
+catalog_of cs os ps qs e h = subst IsCatalog (sym e) (catalog_still cs os ps h)
+
+each_at : (f g : ByName) → ((name : List ℕ) → f name ≡ g name) → f ≡ g
+each_at f g h = λ i name. h name i
+
+-- the packages are adjusted by the lists that the maps have
+pub adjusted_by_lists : (cs os : Entries) (constraints overrides : List RequirementFields) (ps : Packages) → HasEach cs constraints → HasEach os overrides
+    → map (adjusted_package (at_name cs) (at_name os)) ps ≡ adjusted_catalog constraints overrides ps
+adjusted_by_lists cs os constraints overrides ps c o =
+    ap (λ (f : ByName). map (adjusted_package f (at_name os)) ps) (each_at (at_name cs) (all_on constraints) c)
+    ∙ ap (λ (f : ByName). map (adjusted_package (all_on constraints) f) ps) (each_at (at_name os) (all_on overrides) o)

@@ -1,0 +1,11 @@
+mod AdjustedExamples
+mod AdjustedLists
+mod AdjustedPackages
+mod ExtendedProjects
+mod ExtraLists
+mod ExtraMarkers
+mod GroupExamples
+mod GroupLists
+mod GroupMaps
+mod NameLists
+mod TakenLists

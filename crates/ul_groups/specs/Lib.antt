@@ -1,0 +1,7 @@
+pub mod Adjusted
+pub mod NameLists
+pub mod Expanded
+pub mod GroupMaps
+pub mod Answers
+pub mod Vectors
+pub mod GroupVectors

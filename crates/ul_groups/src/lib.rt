@@ -1,0 +1,14 @@
+//! Dependency groups expanded, and requirements adjusted by constraints and overrides.
+#![tactic(auto)]
+
+mod adjustment;
+mod catalogs;
+mod copies;
+mod expansion;
+mod extras;
+pub mod laws;
+mod name_lists;
+
+pub use catalogs::adjust;
+pub use expansion::DEEPEST;
+pub use extras::expand;
