@@ -6,3 +6,4 @@ mod Growth
 mod Sets
 mod FaultCauses
 mod Loads
+mod LoadingExamples

@@ -4,3 +4,4 @@ pub mod Progressing
 pub mod Faults
 pub mod Laws
 pub mod Views
+pub mod Vectors

@@ -8,9 +8,11 @@ pub mod laws;
 mod loading;
 mod met;
 mod progress;
+mod projects;
 
 pub use fault::LoadFault;
 pub use loading::load;
+pub use projects::load_project;
 
 /// The most bytes that an index document may have.
 pub const FILE_BYTES: u64 = 16_777_216;

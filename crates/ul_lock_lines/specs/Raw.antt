@@ -24,16 +24,22 @@ part front (Some text) rest = front ++ quoted text rest
 abbrev pub end_text : List ℕ
 end_text = codes " }," ++ 10 ∷ []
 
+-- the bytes of an edge's line
 abbrev pub edge_text : RawEdge → List ℕ
-edge_text e = codes "    { name = " ++ quoted e.name (codes ", version = " ++ quoted e.version (part (codes ", extra = ") e.extra (part (codes ", marker = ") e.marker end_text)))
+edge_text e =
+    codes "    { name = " ++ quoted e.name (codes ", version = " ++ quoted e.version
+    (part (codes ", extra = ") e.extra (part (codes ", marker = ") e.marker end_text)))
 
+-- the bytes of a file's line
 abbrev pub file_text : RawFile → List ℕ
 file_text f = codes "    { file = " ++ quoted f.file (codes ", hash = \"sha256:" ++ (f.hash ++ 34 ∷ end_text))
 
+-- the number of a version of the format, to the end of its line
 abbrev pub edition_text : Edition → List ℕ
 edition_text one = 49 ∷ 10 ∷ []
 edition_text two = 50 ∷ 10 ∷ []
 
+-- the bytes of a line of texts
 abbrev pub spell_raw : RawLine → List ℕ
 spell_raw (raw_first e) = keyed (codes "version") (edition_text e)
 spell_raw (raw_root t) = keyed (codes "root") (quoted t (10 ∷ []))

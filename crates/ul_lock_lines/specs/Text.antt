@@ -33,9 +33,17 @@ fork_line m = cond (is_true m) (42 ∷ []) (marker_line m)
 abbrev pub marker_part : Plain → Option (List ℕ)
 marker_part m = cond (is_true m) None (Some (marker_line m))
 
+-- the texts of an edge
 abbrev pub raw_edge_of : Edge → RawEdge
-raw_edge_of e = record { name = e.target.name; version = version_text e.version; extra = e.target.extra; marker = marker_part e.marker }
+raw_edge_of e =
+    record {
+      name = e.target.name;
+      version = version_text e.version;
+      extra = e.target.extra;
+      marker = marker_part e.marker;
+    }
 
+-- the texts of a file
 abbrev pub raw_file_of : FileFields → RawFile
 raw_file_of f = record { file = f.file; hash = f.sha256 }
 
@@ -56,6 +64,7 @@ raw_of table = raw_table
 raw_of (opens n) = raw_opens n
 raw_of (bare n) = raw_bare n
 
+-- the bytes of a line
 unfoldable pub spell : Line → List ℕ
 spell l = spell_raw (raw_of l)
 

@@ -1,7 +1,6 @@
 pub mod Headline
 pub mod Texts
 pub mod Sheet
-pub mod Shaped
 pub mod Markers
 pub mod Written
 pub mod TextLimit

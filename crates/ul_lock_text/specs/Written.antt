@@ -63,7 +63,9 @@ entry_front = 10 ∷ codes "[[package]]" ++ 10 ∷ []
 
 -- the lines of a package
 unfoldable pub block_text : Locked → List ℕ
-block_text b = entry_front ++ (keyed (codes "name") (quoted b.name (10 ∷ [])) ++ (keyed (codes "version") (quoted (version_text b.version) (10 ∷ [])) ++ (files_text b.files ++ (edges_text b.edges ++ table_text b.extras))))
+block_text b = entry_front ++ (keyed (codes "name") (quoted b.name (10 ∷ []))
+    ++ (keyed (codes "version") (quoted (version_text b.version) (10 ∷ []))
+    ++ (files_text b.files ++ (edges_text b.edges ++ table_text b.extras))))
 
 -- the line of a leaf
 unfoldable pub item_text : Plain → List ℕ
@@ -80,4 +82,5 @@ supported_text m = cond (is_true m) [] (keyed (codes "supported-markers") (quote
 
 -- the lines above the packages
 abbrev pub head_text : Lock → List ℕ
-head_text l = (codes "version = 2" ++ 10 ∷ []) ++ (keyed (codes "root") (quoted l.root (10 ∷ [])) ++ (supported_text l.supported ++ forks_text l.forks))
+head_text l = (codes "version = 2" ++ 10 ∷ [])
+    ++ (keyed (codes "root") (quoted l.root (10 ∷ [])) ++ (supported_text l.supported ++ forks_text l.forks))

@@ -1,6 +1,6 @@
 //! The text of a lock, and writing it.
 //!
-//! `specs/Sheet.antt` has the lines of a lock in either version of the format, `specs/Shaped.antt` says which are shaped.
+//! `specs/Sheet.antt` has the lines of a lock in either version of the format, `specs/Texts.antt` its text.
 #![tactic(auto)]
 
 mod paths;
@@ -8,7 +8,7 @@ mod sheets;
 mod writing;
 
 pub use sheets::{Head, Sheet};
-pub use ul_lock_walk::{
+pub use ul_lock_lines::{
     Edge, Edges, Extra, Extras, Files, Lock, Locked, Packages, Region, Regions,
 };
 pub use writing::{WriteFault, write};

@@ -56,7 +56,8 @@ fn put_name_line(out: &mut Vec<u8>, key: &[u8], name: &Name) -> Result<(), Alloc
 }
 
 fn put_version_line(alloc: Global, out: &mut Vec<u8>, version: &Version) -> Result<(), AllocError>
-    ensures { OnOk result (out.new.items ≡ out.old.items ++ keyed (codes "version") (quoted (version_text version.now) (10 ∷ []))) }
+    ensures { OnOk result (out.new.items
+        ≡ out.old.items ++ keyed (codes "version") (quoted (version_text version.now) (10 ∷ []))) }
 {
     let text = version.text(alloc)?;
     put_pair(out, b"version", text.as_str().as_bytes())

@@ -16,7 +16,8 @@ package_cmp = then_cmp (on (λ p. p.name) name_cmp) (on (λ p. p.version) versio
 
 -- edges by the target's name and version, the base before the extras
 abbrev pub edge_cmp : Edge → Edge → Ordering
-edge_cmp = then_cmp (on (λ e. e.target.name) name_cmp) (then_cmp (on (λ e. e.version) version_cmp) (on (λ e. e.target.extra) (option_cmp name_cmp)))
+edge_cmp = then_cmp (on (λ e. e.target.name) name_cmp)
+    (then_cmp (on (λ e. e.version) version_cmp) (on (λ e. e.target.extra) (option_cmp name_cmp)))
 
 -- files by the bytes of their names
 abbrev pub file_cmp : FileFields → FileFields → Ordering

@@ -58,7 +58,8 @@ Walk l w xs p = Reached (WalkBegins l xs) (WalkLeads l w) p
 -- it is such a set, and each such set has it
 pub record WalkIsLeast : Type 0 where
   pub begins : (l : Lock) (w : WorldFields) (xs : List (List ℕ)) (p : Pick) → WalkBegins l xs p → Walk l w xs p
-  pub leads : (l : Lock) (w : WorldFields) (xs : List (List ℕ)) (p q : Pick) → Walk l w xs p → WalkLeads l w p q → Walk l w xs q
+  pub leads : (l : Lock) (w : WorldFields) (xs : List (List ℕ)) (p q : Pick)
+      → Walk l w xs p → WalkLeads l w p q → Walk l w xs q
   pub least : (l : Lock) (w : WorldFields) (xs : List (List ℕ)) (has : Pick → Bool)
       → ((p : Pick) → WalkBegins l xs p → has p ≡ true)
       → ((p q : Pick) → has p ≡ true → WalkLeads l w p q → has q ≡ true)
@@ -69,7 +70,8 @@ abbrev mutual
   -- truth of an opaque comparison
   pub AgreeAt : WorldFields → WorldFields → Plain → Type 0
   AgreeAt w v (truth b) = Unit {0}
-  AgreeAt w v (node level rest branches) = (value_of w [] level ≡ value_of v [] level) × AgreeAt w v rest × AgreeAtAll w v branches
+  AgreeAt w v (node level rest branches) =
+      (value_of w [] level ≡ value_of v [] level) × AgreeAt w v rest × AgreeAtAll w v branches
 
   pub AgreeAtAll : WorldFields → WorldFields → Branches → Type 0
   AgreeAtAll w v done = Unit {0}
@@ -81,4 +83,5 @@ AgreeOnLock l w v = (p : Pick) (e : Edge) → HasEdge l p e → AgreeAt w v e.ma
 
 -- such worlds have one walk
 abbrev pub WalksAgree : Type 0
-WalksAgree = (l : Lock) (w v : WorldFields) (xs : List (List ℕ)) → AgreeOnLock l w v → (p : Pick) → Walk l w xs p ↔ Walk l v xs p
+WalksAgree = (l : Lock) (w v : WorldFields) (xs : List (List ℕ))
+    → AgreeOnLock l w v → (p : Pick) → Walk l w xs p ↔ Walk l v xs p

@@ -8,12 +8,12 @@ use ul_lock_lines::Edge;
 use ul_requirement::FileEntry;
 
 /// Edges by target and version, the base before the extras.
-pub fn edge_order(a: &Edge, b: &Edge) -> Ordering
-    ensures { result ≡ edge_cmp a.now b.now }
+pub fn edge_order(edge: &Edge, other: &Edge) -> Ordering
+    ensures { result ≡ edge_cmp edge.now other.now }
 {
-    let names = a.target.name.cmp(&b.target.name);
-    let versions = a.version.cmp(&b.version);
-    let extras = match (&a.target.extra, &b.target.extra) {
+    let names = edge.target.name.cmp(&other.target.name);
+    let versions = edge.version.cmp(&other.version);
+    let extras = match (&edge.target.extra, &other.target.extra) {
         (None, None) => Ordering::Equal,
         (None, Some(_)) => Ordering::Less,
         (Some(_), None) => Ordering::Greater,
@@ -23,8 +23,8 @@ pub fn edge_order(a: &Edge, b: &Edge) -> Ordering
 }
 
 /// Files by the bytes of their names.
-pub fn file_order(a: &FileEntry, b: &FileEntry) -> Ordering
-    ensures { result ≡ file_cmp a.now b.now }
+pub fn file_order(file: &FileEntry, other: &FileEntry) -> Ordering
+    ensures { result ≡ file_cmp file.now other.now }
 {
-    a.file.as_str().as_bytes().cmp(b.file.as_str().as_bytes())
+    file.file.as_str().as_bytes().cmp(other.file.as_str().as_bytes())
 }

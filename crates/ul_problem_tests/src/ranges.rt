@@ -30,66 +30,104 @@ fn agrees(set: &Ordinals, flags: &[bool]) -> bool {
     !set.has(set.size()) && set.next_from(set.size()).is_none()
 }
 
-// Whether the operations on the multiples of two and of three below a size are the plain ones.
-fn operations_agree(alloc: Global, size: u32) -> Result<bool, AllocError> {
-    let twos = multiples(alloc, size, 2)?;
-    let threes = multiples(alloc, size, 3)?;
-    let a = Ordinals::of_list(alloc, size, &twos)?;
-    let b = Ordinals::of_list(alloc, size, &threes)?;
-    let xs = plain::of_list(alloc, size, &twos)?;
-    let ys = plain::of_list(alloc, size, &threes)?;
-    if a.size() != b.size() || xs.len() != ys.len() {
-        return Ok(false);
-    }
-    let meet = agrees(&a.meet(alloc, &b)?, &plain::meet(alloc, &xs, &ys)?);
-    let join = agrees(&a.join(alloc, &b)?, &plain::join(alloc, &xs, &ys)?);
-    let less = agrees(&a.less(alloc, &b)?, &plain::less(alloc, &xs, &ys)?);
-    Ok(agrees(&a, &xs) && agrees(&b, &ys) && meet && join && less)
+fn multiples_set(alloc: Global, size: u32, step: u32) -> Result<Ordinals, AllocError>
+    requires { 0 < step }
+{
+    Ordinals::of_list(alloc, size, &multiples(alloc, size, step)?)
 }
 
-// Whether the tests on those sets answer as the plain ones do.
-fn answers_agree(alloc: Global, size: u32) -> Result<bool, AllocError> {
-    let twos = multiples(alloc, size, 2)?;
-    let a = Ordinals::of_list(alloc, size, &twos)?;
-    let b = Ordinals::of_list(alloc, size, &multiples(alloc, size, 3)?)?;
-    let ys = plain::of_list(alloc, size, &multiples(alloc, size, 3)?)?;
-    if a.size() != b.size() {
-        return Ok(false);
-    }
-    let empty = b.is_empty() == plain::is_empty(&ys) && b.is_empty() == (size == 0);
-    let first = b.first_in(&twos) == plain::first_in(&ys, &twos);
-    let within = a.is_within(&b) == (size < 3) && a.is_within(&a);
-    let apart = a.is_apart(&b) == (size == 0);
-    Ok(empty && first && within && apart && a.same(&b) == (size < 3) && a.copy(alloc)?.same(&a))
+fn multiples_flags(alloc: Global, size: u32, step: u32) -> Result<Vec<bool>, AllocError>
+    requires { 0 < step }
+{
+    plain::of_list(alloc, size, &multiples(alloc, size, step)?)
 }
 
-// Whether the operations in place make what the others make, over blocks of their own and over shared ones.
-fn places_agree(alloc: Global, size: u32, shared: bool) -> Result<bool, AllocError> {
-    let a = Ordinals::of_list(alloc, size, &multiples(alloc, size, 2)?)?;
-    let b = Ordinals::of_list(alloc, size, &multiples(alloc, size, 3)?)?;
-    if a.size() != b.size() {
-        return Ok(false);
-    }
-    let meet = a.meet(alloc, &b)?;
-    let join = a.join(alloc, &b)?;
-    let less = a.less(alloc, &b)?;
-    let mut met = own(alloc, &a, shared)?;
-    let mut joined = own(alloc, &a, shared)?;
-    let mut lessened = own(alloc, &a, shared)?;
-    if met.size() != b.size() || joined.size() != b.size() || lessened.size() != b.size() {
-        return Ok(false);
-    }
-    met.put_meet(alloc, &b)?;
-    joined.put_join(alloc, &b)?;
-    lessened.put_less(alloc, &b)?;
-    Ok(met.same(&meet) && joined.same(&join) && lessened.same(&less))
+// The multiples of two and of three below a size, as sets and plain.
+#[derive(Drop)]
+struct Sets {
+    twos: Ordinals,
+    threes: Ordinals,
+    plain_twos: Vec<bool>,
+    plain_threes: Vec<bool>,
 }
 
-// An equal set, with blocks of its own or the same ones.
-fn own(alloc: Global, set: &Ordinals, shared: bool) -> Result<Ordinals, AllocError> {
-    if shared {
-        return set.copy(alloc);
+fn sets_of(alloc: Global, size: u32) -> Result<Sets, AllocError> {
+    let twos = multiples_set(alloc, size, 2)?;
+    let threes = multiples_set(alloc, size, 3)?;
+    let plain_twos = multiples_flags(alloc, size, 2)?;
+    let plain_threes = multiples_flags(alloc, size, 3)?;
+    Ok(Sets {
+        twos,
+        threes,
+        plain_twos,
+        plain_threes,
+    })
+}
+
+// Whether an operation on those sets is the plain one.
+fn meets_agree(alloc: Global, of: &Sets) -> Result<bool, AllocError> {
+    if of.twos.size() != of.threes.size() || of.plain_twos.len() != of.plain_threes.len() {
+        return Ok(false);
     }
+    let set = of.twos.meet(alloc, &of.threes)?;
+    let flags = plain::meet(alloc, &of.plain_twos, &of.plain_threes)?;
+    Ok(agrees(&set, &flags) && is_met(alloc, of, &set)?)
+}
+
+fn joins_agree(alloc: Global, of: &Sets) -> Result<bool, AllocError> {
+    if of.twos.size() != of.threes.size() || of.plain_twos.len() != of.plain_threes.len() {
+        return Ok(false);
+    }
+    let set = of.twos.join(alloc, &of.threes)?;
+    let flags = plain::join(alloc, &of.plain_twos, &of.plain_threes)?;
+    Ok(agrees(&set, &flags) && is_joined(alloc, of, &set)?)
+}
+
+fn lesses_agree(alloc: Global, of: &Sets) -> Result<bool, AllocError> {
+    if of.twos.size() != of.threes.size() || of.plain_twos.len() != of.plain_threes.len() {
+        return Ok(false);
+    }
+    let set = of.twos.less(alloc, &of.threes)?;
+    let flags = plain::less(alloc, &of.plain_twos, &of.plain_threes)?;
+    Ok(agrees(&set, &flags) && is_lessened(alloc, of, &set)?)
+}
+
+// Whether the operation in place makes an equal set, over blocks of its own and over shared ones.
+fn is_met(alloc: Global, of: &Sets, want: &Ordinals) -> Result<bool, AllocError> {
+    let mut own = own(alloc, &of.twos)?;
+    let mut shared = of.twos.copy(alloc)?;
+    if own.size() != of.threes.size() || shared.size() != of.threes.size() {
+        return Ok(false);
+    }
+    own.put_meet(alloc, &of.threes)?;
+    shared.put_meet(alloc, &of.threes)?;
+    Ok(own.same(want) && shared.same(want))
+}
+
+fn is_joined(alloc: Global, of: &Sets, want: &Ordinals) -> Result<bool, AllocError> {
+    let mut own = own(alloc, &of.twos)?;
+    let mut shared = of.twos.copy(alloc)?;
+    if own.size() != of.threes.size() || shared.size() != of.threes.size() {
+        return Ok(false);
+    }
+    own.put_join(alloc, &of.threes)?;
+    shared.put_join(alloc, &of.threes)?;
+    Ok(own.same(want) && shared.same(want))
+}
+
+fn is_lessened(alloc: Global, of: &Sets, want: &Ordinals) -> Result<bool, AllocError> {
+    let mut own = own(alloc, &of.twos)?;
+    let mut shared = of.twos.copy(alloc)?;
+    if own.size() != of.threes.size() || shared.size() != of.threes.size() {
+        return Ok(false);
+    }
+    own.put_less(alloc, &of.threes)?;
+    shared.put_less(alloc, &of.threes)?;
+    Ok(own.same(want) && shared.same(want))
+}
+
+// An equal set with blocks of its own.
+fn own(alloc: Global, set: &Ordinals) -> Result<Ordinals, AllocError> {
     let none = Ordinals::none(alloc, set.size())?;
     if none.size() != set.size() {
         return set.copy(alloc);
@@ -97,33 +135,62 @@ fn own(alloc: Global, set: &Ordinals, shared: bool) -> Result<Ordinals, AllocErr
     none.join(alloc, set)
 }
 
-// Whether the empty set, the whole one and that of the last number are right.
+// Whether the tests on those sets answer as they should, for a size.
+fn tests_agree(of: &Sets, size: u32) -> bool {
+    if of.twos.size() != of.threes.size() {
+        return false;
+    }
+    let within = of.twos.is_within(&of.threes) == (size < 3) && of.twos.is_within(&of.twos);
+    let apart = of.twos.is_apart(&of.threes) == (size == 0);
+    within && apart && of.twos.same(&of.threes) == (size < 3)
+}
+
+// Whether the answers on those sets are those on the plain ones.
+fn answers_agree(alloc: Global, of: &Sets, size: u32) -> Result<bool, AllocError> {
+    let (threes, flags) = (&of.threes, &of.plain_threes);
+    let empty = threes.is_empty() == plain::is_empty(flags) && threes.is_empty() == (size == 0);
+    let list = multiples(alloc, size, 2)?;
+    let first = threes.first_in(&list) == plain::first_in(flags, &list);
+    Ok(empty && first && of.twos.copy(alloc)?.same(&of.twos))
+}
+
+// Whether the empty set and the whole one are right.
 fn ends_agree(alloc: Global, size: u32) -> Result<bool, AllocError> {
     let none = Ordinals::none(alloc, size)?;
     let all = Ordinals::all(alloc, size)?;
     let flags = vec![in alloc; true; size as usize]?;
-    let ends = none.is_empty() && agrees(&all, &flags) && none.same(&all) == (size == 0);
+    Ok(none.is_empty() && agrees(&all, &flags) && none.same(&all) == (size == 0))
+}
+
+// Whether the set of the last number is right, where there is one.
+fn last_agrees(alloc: Global, size: u32) -> Result<bool, AllocError> {
     if size == 0 {
-        return Ok(ends);
+        return Ok(true);
     }
     let last = Ordinals::of_list(alloc, size, &vec![in alloc; size - 1]?)?;
     let one = Ordinals::one(size, size - 1);
-    let blocks = one.blocks(alloc)?;
-    if !one.same(&last) || blocks.len() != size.div_ceil(64) as usize {
-        return Ok(false);
-    }
     let order = vec![in alloc; size, size - 1, 0]?;
-    Ok(ends && !last.is_empty() && last.first_in(&order) == Some(size - 1))
+    let first = last.first_in(&order) == Some(size - 1);
+    let blocks = one.blocks(alloc)?.len() == size.div_ceil(64) as usize;
+    Ok(first && blocks && one.same(&last) && !last.is_empty())
+}
+
+fn operations_agree(alloc: Global, of: &Sets) -> Result<bool, AllocError> {
+    let given = agrees(&of.twos, &of.plain_twos) && agrees(&of.threes, &of.plain_threes);
+    Ok(given && meets_agree(alloc, of)? && joins_agree(alloc, of)? && lesses_agree(alloc, of)?)
+}
+
+fn all_agree(alloc: Global, size: u32) -> Result<bool, AllocError> {
+    let of = sets_of(alloc, size)?;
+    let answers = tests_agree(&of, size) && answers_agree(alloc, &of, size)?;
+    let operations = operations_agree(alloc, &of)?;
+    Ok(answers && operations && ends_agree(alloc, size)? && last_agrees(alloc, size)?)
 }
 
 #[test]
 fn blocks_are_the_plain_sets(rt: HostRuntime) -> Result<(), Fail> {
     for size in [0, 1, 63, 64, 65, 66, 255, 256, 257, 1000] {
-        assert!(rt; operations_agree(rt.alloc(), size)?);
-        assert!(rt; answers_agree(rt.alloc(), size)?);
-        assert!(rt; ends_agree(rt.alloc(), size)?);
-        assert!(rt; places_agree(rt.alloc(), size, true)?);
-        assert!(rt; places_agree(rt.alloc(), size, false)?);
+        assert!(rt; all_agree(rt.alloc(), size)?, "{size}");
     }
     Ok(())
 }
@@ -167,18 +234,32 @@ fn starts_fit(rt: HostRuntime) {
     assert!(rt; !Cuts::fits(&[0, 5, 5]) && !Cuts::fits(&[0, 5, 4]) && !Cuts::fits(&[0, 1 << 96]));
 }
 
+// Whether the pieces of numbers are those, also by the plain search.
+fn finds(cuts: &Cuts, wanted: &[(u128, usize)]) -> bool {
+    for (number, want) in wanted {
+        if *number >= 1 << 96 || cuts.piece_of(*number) != *want {
+            return false;
+        }
+        if plain::piece_of(cuts.starts(), *number) != *want {
+            return false;
+        }
+    }
+    true
+}
+
+// Whether two cuts refine each other to these starts, also by the plain search.
+fn refines(alloc: Global, first: &Cuts, second: &Cuts, want: &[u128]) -> Result<bool, AllocError> {
+    let both = first.refine(alloc, second)?;
+    let plain = plain::refine(alloc, second.starts(), first.starts())?;
+    Ok(both.starts() == want && plain.as_slice() == want)
+}
+
 #[test]
 fn pieces_are_found_and_cut(rt: HostRuntime) -> Result<(), Fail> {
     let first = cuts(rt.alloc(), &[0, 5, 9])?.ok_or("starts")?;
     let second = cuts(rt.alloc(), &[0, 5, 7, 1 << 95])?.ok_or("starts")?;
-    for (x, want) in [(0, 0), (4, 0), (5, 1), (8, 1), (9, 2), ((1 << 96) - 1, 2)] {
-        assert!(rt; x < 1 << 96);
-        assert_eq!(rt; first.piece_of(x), want);
-        assert_eq!(rt; plain::piece_of(first.starts(), x), want);
-    }
-    let both = first.refine(rt.alloc(), &second)?;
-    let plain = plain::refine(rt.alloc(), second.starts(), first.starts())?;
-    assert_eq!(rt; both.starts(), [0, 5, 7, 9, 1 << 95].as_slice());
-    assert_eq!(rt; plain.as_slice(), both.starts());
+    let wanted = [(0, 0), (4, 0), (5, 1), (8, 1), (9, 2), ((1 << 96) - 1, 2)];
+    assert!(rt; finds(&first, &wanted));
+    assert!(rt; refines(rt.alloc(), &first, &second, &[0, 5, 7, 9, 1 << 95])?);
     Ok(())
 }

@@ -1,0 +1,17 @@
+//! Reading a lock's text, exactly, in either version of the format.
+#![tactic(auto)]
+
+pub mod laws;
+mod locks;
+mod orders;
+mod states;
+mod targets;
+mod texts;
+
+pub use locks::{LockFault, read};
+pub use states::State;
+pub use texts::ShapeFault;
+pub use ul_lock_lines::{
+    Edge, Edges, Edition, Extra, Extras, Files, Line, Lock, Locked, Packages, Region, Regions,
+};
+pub use ul_lock_text::{Head, Sheet, WriteFault, write};

@@ -1,0 +1,8 @@
+-- The lemmas that crates above may cite.
+
+-- the orders of a lock's lists are strict
+pub use Rattle.ul_sound.proofs.Strict.{IsStrict, strict, blocks_strict, edges_strict, extras_strict}
+-- a list in order with a right element for each wanted key is determined
+pub use Rattle.ul_sound.proofs.Indexes.{before_all, increasing_same, index_once}
+-- a tree that is simplified under a region is a region, if both hold at some world
+pub use Rattle.ul_sound.proofs.NoExtra.{simplified_region}
