@@ -1,6 +1,7 @@
 //! Tests of specifiers, markers and machines, over the public surface of their crates alone.
 //!
-//! They stand apart, since a library with tests is proved twice.
+//! They stand apart, since a library with tests is proved twice. What is tried stands in tables of text. Functions are
+//! small and have no clause: the proof of a function grows with the square of its length.
 #![tactic(auto)]
 
 #[cfg(test)]
@@ -15,3 +16,5 @@ mod packages;
 mod printed;
 #[cfg(test)]
 mod specifier;
+#[cfg(test)]
+mod texts;

@@ -1,256 +1,324 @@
 //! Truths of markers at worlds, the order of atoms, and the texts of a world, as tables.
 
-use std::alloc::Global;
+use crate::texts::{atom, atoms, cells, digit, front, read_atom, read_world, variable, world};
+use std::alloc::{AllocError, Global};
 use std::fmt::Write;
 use std::test::Fail;
-use ul_marker::{Atom, AtomKind, Marker, Variable, World, meets_python};
+use ul_marker::{Atom, Marker, World, meets_python};
 use ul_specifier::{Clause, Op};
 use ul_version::Version;
 
-// The eight texts of three machines.
-const MACHINES: [&str; 3] = [
-    "posix|linux|x86_64|CPython|6.1.0|Linux|#1 SMP|cpython",
-    "nt|win32|AMD64|CPython|10|Windows|10.0.19045|cpython",
-    "posix|darwin|arm64|PyPy|22.6.0|Darwin|Darwin Kernel|pypy",
+// Three machines: the interpreter, the eight texts, and the comparisons that hold.
+const MACHINES: [((u32, u32, u32), &str, &str); 3] = [
+    (
+        (3, 8, 5),
+        "posix|linux|x86_64|CPython|6.1.0|Linux|#1 SMP|cpython",
+        "os_name contains n\nimplementation_version same 3.8.5",
+    ),
+    (
+        (3, 10, 0),
+        "nt|win32|AMD64|CPython|10|Windows|10.0.19045|cpython",
+        "os_name contains n",
+    ),
+    (
+        (2, 7, 18),
+        "posix|darwin|arm64|PyPy|22.6.0|Darwin|Darwin Kernel|pypy",
+        "",
+    ),
 ];
 
-const INTERPRETERS: [(u32, u32, u32); 3] = [(3, 8, 5), (3, 10, 0), (2, 7, 18)];
-
-// Two comparisons hold at the first machine, one at the second, none at the third.
 fn worlds(alloc: Global) -> Result<Vec<World>, Fail> {
     let mut worlds = Vec::new(alloc);
-    for (number, (line, python)) in MACHINES.iter().zip(INTERPRETERS).enumerate() {
-        let mut texts = Vec::new(alloc);
-        for text in line.split('|') {
-            texts.push(String::from_str(alloc, text)?)?;
-        }
-        let mut truths = Vec::new(alloc);
-        if number < 2 {
-            truths.push(atom(alloc, Variable::OsName, AtomKind::Contains, "n")?)?;
-        }
-        if number < 1 {
-            truths.push(atom(
-                alloc,
-                Variable::ImplementationVersion,
-                AtomKind::Same,
-                "3.8.5",
-            )?)?;
-        }
-        worlds.push(World::of(python, texts, truths).ok_or("no world")?)?;
+    for (python, machine, truths) in MACHINES {
+        let truths = atoms(alloc, truths)?;
+        worlds.push(world(alloc, python, machine, truths)?)?;
     }
     Ok(worlds)
 }
 
-fn atom(alloc: Global, variable: Variable, kind: AtomKind, literal: &str) -> Result<Atom, Fail> {
-    let literal = String::from_str(alloc, literal)?;
-    Ok(Atom::of(variable, kind, literal).ok_or("no atom")?)
-}
-
-fn extra(alloc: Global, literal: &str, equal: bool) -> Result<Marker, Fail> {
-    let literal = String::from_str(alloc, literal)?;
-    Ok(Marker::Extra { literal, equal })
-}
-
-fn text(alloc: Global, variable: Variable, literal: &str, equal: bool) -> Result<Marker, Fail> {
-    let literal = String::from_str(alloc, literal)?;
-    Ok(Marker::Text {
-        variable,
-        literal,
-        equal,
-    })
-}
-
-fn python(alloc: Global, full: bool, op: Op, version: &str) -> Result<Marker, Fail> {
-    let clause = Clause::read(alloc, op, version)?;
-    Ok(Marker::Python { full, clause })
-}
-
-fn list(alloc: Global, full: bool, list: &str, within: bool) -> Result<Marker, Fail> {
-    let mut versions = Vec::new(alloc);
-    for version in list.split(' ').filter(|version| !version.is_empty()) {
-        versions.push(Version::read(alloc, version)?)?;
-    }
-    Ok(Marker::PythonList {
-        full,
-        versions,
-        within,
-    })
-}
-
 // Where a marker holds: for each of the three worlds, without an extra and with the extra `test`.
-fn truths(alloc: Global, marker: &Marker) -> Result<String, Fail> {
+fn truths(alloc: Global, worlds: &[World], marker: &Marker) -> Result<String, AllocError> {
     let mut truths = String::new(alloc);
-    for world in &worlds(alloc)? {
-        for extra in ["", "test"] {
-            truths.push_str(if marker.holds(world, extra) { "1" } else { "0" })?;
-        }
+    for world in worlds {
+        truths.push_str(digit(marker.holds(world, "")))?;
+        truths.push_str(digit(marker.holds(world, "test")))?;
     }
     Ok(truths)
 }
 
+fn holds(alloc: Global, worlds: &[World], marker: &Marker, want: &str) -> Result<bool, AllocError> {
+    let truths = truths(alloc, worlds, marker)?;
+    Ok(truths.as_str() == want)
+}
+
+// `== LITERAL`
+fn extra(alloc: Global, text: &str) -> Result<Marker, AllocError> {
+    let (sign, literal) = front(text);
+    let literal = String::from_str(alloc, literal)?;
+    Ok(Marker::Extra {
+        literal,
+        equal: sign == "==",
+    })
+}
+
+// `== VARIABLE LITERAL`
+fn text(alloc: Global, text: &str) -> Result<Marker, AllocError> {
+    let (sign, rest) = front(text);
+    let (name, literal) = front(rest);
+    let literal = String::from_str(alloc, literal)?;
+    Ok(Marker::Text {
+        variable: variable(name),
+        literal,
+        equal: sign == "==",
+    })
+}
+
+// `== VARIABLE KIND LITERAL`
+fn opaque(alloc: Global, text: &str) -> Result<Marker, Fail> {
+    let (sign, rest) = front(text);
+    let atom = atom(alloc, rest)?;
+    Ok(Marker::Opaque {
+        atom,
+        positive: sign == "==",
+    })
+}
+
+fn versions(alloc: Global, text: &str) -> Result<Vec<Version>, Fail> {
+    let mut versions = Vec::new(alloc);
+    for version in text.split_whitespace() {
+        versions.push(Version::read(alloc, version)?)?;
+    }
+    Ok(versions)
+}
+
+// `in full VERSIONS`
+fn list(alloc: Global, text: &str) -> Result<Marker, Fail> {
+    let (sign, rest) = front(text);
+    let (width, rest) = front(rest);
+    let versions = versions(alloc, rest)?;
+    Ok(Marker::PythonList {
+        full: width == "full",
+        versions,
+        within: sign == "in",
+    })
+}
+
+fn op(sign: &str) -> Op {
+    match sign {
+        ">=" => Op::AtLeast,
+        "<" => Op::Less,
+        _ => Op::Equal,
+    }
+}
+
+// `== full VERSION`
+fn python(alloc: Global, text: &str) -> Result<Marker, Fail> {
+    let (sign, rest) = front(text);
+    let (width, version) = front(rest);
+    let clause = Clause::read(alloc, op(sign), version)?;
+    Ok(Marker::Python {
+        full: width == "full",
+        clause,
+    })
+}
+
+fn marker(alloc: Global, line: &str) -> Result<Marker, Fail> {
+    let (kind, rest) = front(line);
+    match kind {
+        "extra" => Ok(extra(alloc, rest)?),
+        "text" => Ok(text(alloc, rest)?),
+        "opaque" => opaque(alloc, rest),
+        "list" => list(alloc, rest),
+        _ => python(alloc, rest),
+    }
+}
+
+// Where a marker holds, and the marker.
+const MARKERS: &str = "010101 extra == test\n\
+    101010 extra != test\n\
+    101010 extra == \n\
+    000000 extra == te st\n\
+    110000 python == minor 3.8\n\
+    000000 python == full 3.8\n\
+    110000 python == full 3.8.*\n\
+    001100 python >= minor 3.9\n\
+    000011 python < full 3.8.5\n\
+    001111 list in minor 2.7 3.10\n\
+    001100 list in full 2.7 3.10\n\
+    110000 list out minor 2.7 3.10\n\
+    000000 list in minor \n\
+    111111 list out full \n\
+    110011 text == os_name posix\n\
+    111100 text != implementation_name pypy\n\
+    111100 opaque == os_name contains n\n\
+    000011 opaque != os_name contains n\n\
+    000000 opaque == os_name within n";
+
+fn is_held(alloc: Global, worlds: &[World], line: &str) -> Result<bool, Fail> {
+    let (want, rest) = front(line);
+    let marker = marker(alloc, rest)?;
+    Ok(holds(alloc, worlds, &marker, want)?)
+}
+
 #[test]
 fn markers_hold_as_defined(rt: HostRuntime) -> Result<(), Fail> {
-    let alloc = rt.alloc();
-    for (marker, want) in [
-        (extra(alloc, "test", true)?, "010101"),
-        (extra(alloc, "test", false)?, "101010"),
-        (extra(alloc, "", true)?, "101010"),
-        (extra(alloc, "te st", true)?, "000000"),
-        (python(alloc, false, Op::Equal, "3.8")?, "110000"),
-        (python(alloc, true, Op::Equal, "3.8")?, "000000"),
-        (python(alloc, true, Op::Equal, "3.8.*")?, "110000"),
-        (python(alloc, false, Op::AtLeast, "3.9")?, "001100"),
-        (python(alloc, true, Op::Less, "3.8.5")?, "000011"),
-        (list(alloc, false, "2.7 3.10", true)?, "001111"),
-        (list(alloc, true, "2.7 3.10", true)?, "001100"),
-        (list(alloc, false, "2.7 3.10", false)?, "110000"),
-        (list(alloc, false, "", true)?, "000000"),
-        (list(alloc, true, "", false)?, "111111"),
-        (text(alloc, Variable::OsName, "posix", true)?, "110011"),
-        (
-            text(alloc, Variable::ImplementationName, "pypy", false)?,
-            "111100",
-        ),
-    ] {
-        let held = truths(alloc, &marker)?;
-        assert_eq!(rt; held.as_str(), want);
+    let worlds = worlds(rt.alloc())?;
+    for line in MARKERS.split('\n') {
+        assert!(rt; is_held(rt.alloc(), &worlds, line)?, "{line}");
     }
     Ok(())
+}
+
+// Where all and where any of two markers hold, one of an extra and one of a platform.
+const JOINED: &str = "100000 111010 == |== sys_platform linux\n\
+    010000 110101 == test|== sys_platform linux\n\
+    000000 010101 == test|== sys_platform plan9";
+
+fn pair(alloc: Global, line: &str) -> Result<Vec<Marker>, AllocError> {
+    let (first, second) = cells(line);
+    let mut parts = Vec::new(alloc);
+    parts.push(extra(alloc, first)?)?;
+    parts.push(text(alloc, second)?)?;
+    Ok(parts)
+}
+
+fn is_joined(alloc: Global, worlds: &[World], line: &str) -> Result<bool, AllocError> {
+    let (all, rest) = front(line);
+    let (any, rest) = front(rest);
+    let both = Marker::All(pair(alloc, rest)?);
+    let either = Marker::Any(pair(alloc, rest)?);
+    Ok(holds(alloc, worlds, &both, all)? && holds(alloc, worlds, &either, any)?)
+}
+
+// Whether no marker holds nowhere as a choice, and everywhere as a list.
+fn is_empty_joined(alloc: Global, worlds: &[World]) -> Result<bool, AllocError> {
+    let all = Marker::All(Vec::new(alloc));
+    let any = Marker::Any(Vec::new(alloc));
+    Ok(holds(alloc, worlds, &all, "111111")? && holds(alloc, worlds, &any, "000000")?)
 }
 
 #[test]
 fn joined_markers_hold_as_defined(rt: HostRuntime) -> Result<(), Fail> {
-    let alloc = rt.alloc();
-    for (kind, positive, want) in [
-        (AtomKind::Contains, true, "111100"),
-        (AtomKind::Contains, false, "000011"),
-        (AtomKind::Within, true, "000000"),
-    ] {
-        let atom = atom(alloc, Variable::OsName, kind, "n")?;
-        let held = truths(alloc, &Marker::Opaque { atom, positive })?;
-        assert_eq!(rt; held.as_str(), want);
+    let worlds = worlds(rt.alloc())?;
+    for line in JOINED.split('\n') {
+        assert!(rt; is_joined(rt.alloc(), &worlds, line)?, "{line}");
     }
-    for (first, second, all, any) in [
-        ("", "linux", "100000", "111010"),
-        ("test", "linux", "010000", "110101"),
-        ("test", "plan9", "000000", "010101"),
-    ] {
-        let mut parts = Vec::new(alloc);
-        parts.push(extra(alloc, first, true)?)?;
-        parts.push(text(alloc, Variable::SysPlatform, second, true)?)?;
-        assert_eq!(rt;
-            truths(alloc, &Marker::All(parts))?.as_str(),
-            all,
-            "{first} {second}"
-        );
-        let mut parts = Vec::new(alloc);
-        parts.push(extra(alloc, first, true)?)?;
-        parts.push(text(alloc, Variable::SysPlatform, second, true)?)?;
-        assert_eq!(rt;
-            truths(alloc, &Marker::Any(parts))?.as_str(),
-            any,
-            "{first} {second}"
-        );
-    }
-    assert_eq!(rt;
-        truths(alloc, &Marker::All(Vec::new(alloc)))?.as_str(),
-        "111111"
-    );
-    assert_eq!(rt;
-        truths(alloc, &Marker::Any(Vec::new(alloc)))?.as_str(),
-        "000000"
-    );
+    assert!(rt; is_empty_joined(rt.alloc(), &worlds)?);
     Ok(())
+}
+
+// Comparisons in their order.
+const ORDERED: &str = "os_name contains \n\
+    os_name contains a\n\
+    os_name contains a a\n\
+    os_name contains b\n\
+    os_name within a\n\
+    os_name below a\n\
+    os_name at_most a\n\
+    sys_platform below B\n\
+    sys_platform below a\n\
+    platform_version contains a\n\
+    python_version contains a\n\
+    python_full_version contains 3.\n\
+    implementation_name contains a\n\
+    implementation_version at_most a\n\
+    implementation_version same a";
+
+// Whether a comparison stands at a place among all.
+fn is_placed(alloc: Global, atoms: &[Atom], place: usize, atom: &Atom) -> Result<bool, AllocError> {
+    for (other, second) in atoms.iter().enumerate() {
+        if atom.copy(alloc)?.cmp(second) != place.cmp(&other) {
+            return Ok(false);
+        }
+    }
+    Ok(true)
 }
 
 #[test]
 fn atoms_are_ordered(rt: HostRuntime) -> Result<(), Fail> {
-    let alloc = rt.alloc();
-    let mut atoms = Vec::new(alloc);
-    for (variable, kind, literal) in [
-        (Variable::OsName, AtomKind::Contains, ""),
-        (Variable::OsName, AtomKind::Contains, "a"),
-        (Variable::OsName, AtomKind::Contains, "a a"),
-        (Variable::OsName, AtomKind::Contains, "b"),
-        (Variable::OsName, AtomKind::Within, "a"),
-        (Variable::OsName, AtomKind::Below, "a"),
-        (Variable::OsName, AtomKind::AtMost, "a"),
-        (Variable::SysPlatform, AtomKind::Below, "B"),
-        (Variable::SysPlatform, AtomKind::Below, "a"),
-        (Variable::PlatformVersion, AtomKind::Contains, "a"),
-        (Variable::PythonVersion, AtomKind::Contains, "a"),
-        (Variable::PythonFullVersion, AtomKind::Contains, "3."),
-        (Variable::ImplementationName, AtomKind::Contains, "a"),
-        (Variable::ImplementationVersion, AtomKind::AtMost, "a"),
-        (Variable::ImplementationVersion, AtomKind::Same, "a"),
-    ] {
-        atoms.push(atom(alloc, variable, kind, literal)?)?;
-    }
-    for (i, first) in atoms.iter().enumerate() {
-        for (j, second) in atoms.iter().enumerate() {
-            assert_eq!(rt; first.copy(alloc)?.cmp(second), i.cmp(&j), "{i} {j}");
-        }
+    let atoms = atoms(rt.alloc(), ORDERED)?;
+    assert!(rt; atoms.len() == 15);
+    for (place, atom) in atoms.iter().enumerate() {
+        assert!(rt; is_placed(rt.alloc(), &atoms, place, atom)?, "{place}");
     }
     Ok(())
 }
 
+// Whether a comparison is one, and the comparison.
+const ATOMS: &str = "1 python_version contains ~ '\n\
+    0 python_version within a\n\
+    0 os_name same a\n\
+    1 implementation_version below \"\n\
+    0 os_name below '\"\n\
+    0 os_name below a\\b\n\
+    0 os_name below \u{7f}\n\
+    0 os_name below a\tb";
+
+// Whether a world is one, and the two comparisons that hold at it.
+const WORLDS: &str = "1 os_name below a|os_name below b\n\
+    0 os_name below b|os_name below a\n\
+    0 os_name below a|os_name below a";
+
+fn is_atom(alloc: Global, line: &str) -> Result<bool, AllocError> {
+    let (want, rest) = front(line);
+    let atom = read_atom(alloc, rest)?;
+    Ok(digit(atom.is_some()) == want)
+}
+
+fn is_world(alloc: Global, line: &str) -> Result<bool, Fail> {
+    let (want, rest) = front(line);
+    let (first, second) = cells(rest);
+    let mut truths = Vec::new(alloc);
+    truths.push(atom(alloc, first)?)?;
+    truths.push(atom(alloc, second)?)?;
+    let world = read_world(alloc, MACHINES[0].0, MACHINES[0].1, truths)?;
+    Ok(digit(world.is_some()) == want)
+}
+
 #[test]
 fn atoms_and_worlds_are_checked(rt: HostRuntime) -> Result<(), Fail> {
-    let alloc = rt.alloc();
-    for (variable, kind, literal, stands) in [
-        (Variable::PythonVersion, AtomKind::Contains, "~ '", true),
-        (Variable::PythonVersion, AtomKind::Within, "a", false),
-        (Variable::OsName, AtomKind::Same, "a", false),
-        (Variable::ImplementationVersion, AtomKind::Below, "\"", true),
-        (Variable::OsName, AtomKind::Below, "'\"", false),
-        (Variable::OsName, AtomKind::Below, "a\\b", false),
-        (Variable::OsName, AtomKind::Below, "\u{7f}", false),
-        (Variable::OsName, AtomKind::Below, "a\tb", false),
-    ] {
-        let literal = String::from_str(alloc, literal)?;
-        assert_eq!(rt; Atom::of(variable, kind, literal).is_some(), stands);
+    for line in ATOMS.split('\n') {
+        assert!(rt; is_atom(rt.alloc(), line)?, "{line}");
     }
-    for (first, second, is_world) in [("a", "b", true), ("b", "a", false), ("a", "a", false)] {
-        let mut texts = Vec::new(alloc);
-        for text in MACHINES[0].split('|') {
-            texts.push(String::from_str(alloc, text)?)?;
-        }
-        let mut truths = Vec::new(alloc);
-        truths.push(atom(alloc, Variable::OsName, AtomKind::Below, first)?)?;
-        truths.push(atom(alloc, Variable::OsName, AtomKind::Below, second)?)?;
-        assert_eq!(rt;
-            World::of((3, 8, 5), texts, truths).is_some(),
-            is_world,
-            "{first} {second}"
-        );
+    for line in WORLDS.split('\n') {
+        assert!(rt; is_world(rt.alloc(), line)?, "{line}");
     }
-    assert!(rt; World::of((3, 8, 5), Vec::new(alloc), Vec::new(alloc)).is_none());
+    assert!(rt; World::of((3, 8, 5), Vec::new(rt.alloc()), Vec::new(rt.alloc())).is_none());
     Ok(())
+}
+
+// Variables, and their texts at the first world.
+const NAMED: &str = "os_name posix\n\
+    sys_platform linux\n\
+    platform_machine x86_64\n\
+    platform_python_implementation CPython\n\
+    platform_release 6.1.0\n\
+    platform_system Linux\n\
+    platform_version #1 SMP\n\
+    implementation_name cpython\n\
+    python_version \n\
+    implementation_version ";
+
+fn is_named(world: &World, line: &str) -> bool {
+    let (name, want) = front(line);
+    world.text(variable(name)) == want
 }
 
 #[test]
 fn texts_stand_in_the_order_of_their_variables(rt: HostRuntime) -> Result<(), Fail> {
     let worlds = worlds(rt.alloc())?;
-    for (variable, want) in [
-        (Variable::OsName, "posix"),
-        (Variable::SysPlatform, "linux"),
-        (Variable::PlatformMachine, "x86_64"),
-        (Variable::PlatformPythonImplementation, "CPython"),
-        (Variable::PlatformRelease, "6.1.0"),
-        (Variable::PlatformSystem, "Linux"),
-        (Variable::PlatformVersion, "#1 SMP"),
-        (Variable::ImplementationName, "cpython"),
-        (Variable::PythonVersion, ""),
-        (Variable::ImplementationVersion, ""),
-    ] {
-        for world in worlds.iter().take(1) {
-            assert_eq!(rt; world.text(variable), want);
-        }
+    let first = worlds.first().ok_or("no world")?;
+    for line in NAMED.split('\n') {
+        assert!(rt; is_named(first, line), "{line}");
     }
+    Ok(())
+}
+
+#[test]
+fn interpreters_meet_clauses(rt: HostRuntime) -> Result<(), Fail> {
     let clause = Clause::read(rt.alloc(), Op::Compatible, "3.7")?;
-    assert!(rt;
-        meets_python(&clause, false, (3, 10, 0)) && !meets_python(&clause, true, (4, 0, 0))
-    );
+    let met = meets_python(&clause, false, (3, 10, 0));
+    assert!(rt; met && !meets_python(&clause, true, (4, 0, 0)));
     Ok(())
 }
 
@@ -260,31 +328,42 @@ const PARTS: &str =
     3 0 ('a' in os_name or os_name < 'b') and ('a' in os_name or python_full_version in '3.8.1, 3.9')|\
     1 1 implementation_version == '3' and (python_version in '3.8 2' or (extra == '' and sys_platform == 'b'))";
 
+fn has_parts(alloc: Global, marker: &Marker, count: &str, asks: &str) -> Result<bool, AllocError> {
+    let atoms = marker.atoms(alloc)?;
+    let found = format!(in alloc; "{}", atoms.len() as u64)?;
+    Ok(found.as_str() == count && digit(marker.asks_extra()) == asks)
+}
+
+// Whether a copy holds where the marker does.
+fn is_alike(
+    alloc: Global,
+    worlds: &[World],
+    copy: &Marker,
+    marker: &Marker,
+) -> Result<bool, AllocError> {
+    let truths = truths(alloc, worlds, marker)?;
+    holds(alloc, worlds, copy, truths.as_str())
+}
+
+fn is_copied(alloc: Global, worlds: &[World], line: &str) -> Result<bool, Fail> {
+    let (count, rest) = front(line);
+    let (asks, text) = front(rest);
+    let marker = Marker::read(alloc, text)?;
+    let copy = marker.copy(alloc)?;
+    let told = has_parts(alloc, &marker, count, asks)? && has_parts(alloc, &copy, count, asks)?;
+    Ok(told && is_alike(alloc, worlds, &copy, &marker)?)
+}
+
 #[test]
 fn parts_are_told_and_copied(rt: HostRuntime) -> Result<(), Fail> {
-    let alloc = rt.alloc();
+    let worlds = worlds(rt.alloc())?;
     for line in PARTS.split('|') {
-        let (count, rest) = line.split_once(' ').unwrap_or((line, ""));
-        let (asks, text) = rest.split_once(' ').unwrap_or((rest, ""));
-        let marker = Marker::read(alloc, text)?;
-        let copy = marker.copy(alloc)?;
-        for one in [&marker, &copy] {
-            let found = format!(in alloc; "{}", one.atoms(alloc)?.len() as u64)?;
-            assert_eq!(rt; found.as_str(), count, "{text}");
-            assert_eq!(rt; if one.asks_extra() { "1" } else { "0" }, asks, "{text}");
-        }
-        assert_eq!(rt;
-            truths(alloc, &copy)?.as_str(),
-            truths(alloc, &marker)?.as_str(),
-            "{text}"
-        );
+        assert!(rt; is_copied(rt.alloc(), &worlds, line)?, "{line}");
     }
     Ok(())
 }
 
-#[test]
-fn long_markers_are_copied(rt: HostRuntime) -> Result<(), Fail> {
-    let alloc = rt.alloc();
+fn long_text(alloc: Global) -> Result<String, Fail> {
     let mut text = String::from_str(alloc, "python_version in '2")?;
     for number in 0..300u32 {
         write!(text, ",3.{number}")?;
@@ -293,9 +372,19 @@ fn long_markers_are_copied(rt: HostRuntime) -> Result<(), Fail> {
     for number in 0..300u32 {
         write!(text, " or ('a{number}' in os_name and extra == 'x')")?;
     }
-    let marker = Marker::read(alloc, text.as_str())?.copy(alloc)?;
-    let atoms = marker.atoms(alloc)?;
-    assert_eq!(rt; atoms.len(), 300);
-    assert_eq!(rt; truths(alloc, &marker)?.as_str(), "111100");
+    Ok(text)
+}
+
+fn long_copy(alloc: Global) -> Result<Marker, Fail> {
+    let text = long_text(alloc)?;
+    let marker = Marker::read(alloc, text.as_str())?;
+    Ok(marker.copy(alloc)?)
+}
+
+#[test]
+fn long_markers_are_copied(rt: HostRuntime) -> Result<(), Fail> {
+    let (worlds, marker) = (worlds(rt.alloc())?, long_copy(rt.alloc())?);
+    assert!(rt; marker.atoms(rt.alloc())?.len() == 300);
+    assert!(rt; holds(rt.alloc(), &worlds, &marker, "111100")?);
     Ok(())
 }

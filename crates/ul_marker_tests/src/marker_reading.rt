@@ -1,5 +1,7 @@
 //! Readings of markers, as tables.
 
+use crate::texts::{digit, front};
+use std::alloc::{AllocError, Global};
 use std::fmt::Write;
 use std::test::Fail;
 use ul_marker::{Marker, MarkerFault};
@@ -42,89 +44,128 @@ const TEXTS: &str =
     0 python_version == '3.8' or python_version == 'x'|0 python_version ~= '3'|0 python_version > '3.*'|0 'a' == 'b'|\
     0 os_name == sys_platform|0 os_name == posix|0 posix == 'a'|0 os_name == 'a' xor os_name == 'b'|0 os_name == 'a' && os_name == 'b'";
 
-fn is_read(rt: HostRuntime, text: &str) -> Result<bool, MarkerFault> {
-    match Marker::read(rt.alloc(), text) {
+fn is_read(alloc: Global, text: &str) -> Result<bool, MarkerFault> {
+    match Marker::read(alloc, text) {
         Ok(_marker) => Ok(true),
         Err(MarkerFault::NoReading) => Ok(false),
         Err(MarkerFault::NoMemory) => Err(MarkerFault::NoMemory),
     }
 }
 
-fn digit(rt: HostRuntime, text: &str) -> Result<&'static str, MarkerFault> {
-    Ok(if is_read(rt, text)? { "1" } else { "0" })
+fn read_digit(alloc: Global, text: &str) -> Result<&'static str, MarkerFault> {
+    Ok(digit(is_read(alloc, text)?))
+}
+
+// Which relations are read with a variable on the left, as digits.
+fn on_left(alloc: Global, variable: &str) -> Result<String, Fail> {
+    let mut read = String::new(alloc);
+    for relation in RELATIONS.split(',') {
+        let text = format!(in alloc; "{variable} {relation} '3.8'")?;
+        read.push_str(read_digit(alloc, text.as_str())?)?;
+    }
+    Ok(read)
+}
+
+// Which are read with the variable on the right.
+fn on_right(alloc: Global, variable: &str) -> Result<String, Fail> {
+    let mut read = String::new(alloc);
+    for relation in RELATIONS.split(',') {
+        let text = format!(in alloc; "'3.8' {relation} {variable}")?;
+        read.push_str(read_digit(alloc, text.as_str())?)?;
+    }
+    Ok(read)
+}
+
+fn is_row(alloc: Global, line: &str) -> Result<bool, Fail> {
+    let (variable, want) = front(line);
+    let (left, right) = front(want);
+    Ok(on_left(alloc, variable)?.as_str() == left && on_right(alloc, variable)?.as_str() == right)
 }
 
 #[test]
 fn relations_stand_with_their_variables(rt: HostRuntime) -> Result<(), Fail> {
     for line in GRID.lines() {
-        let (variable, want) = line.split_once(' ').unwrap_or((line, ""));
-        let mut left = String::new(rt.alloc());
-        let mut right = String::new(rt.alloc());
-        for relation in RELATIONS.split(',') {
-            let text = format!(in rt.alloc(); "{variable} {relation} '3.8'")?;
-            left.push_str(digit(rt, text.as_str())?)?;
-            let text = format!(in rt.alloc(); "'3.8' {relation} {variable}")?;
-            right.push_str(digit(rt, text.as_str())?)?;
-        }
-        let met = format!(in rt.alloc(); "{left} {right}")?;
-        assert_eq!(rt; met.as_str(), want, "{variable}");
+        assert!(rt; is_row(rt.alloc(), line)?, "{line}");
     }
     Ok(())
+}
+
+fn is_told(alloc: Global, line: &str) -> Result<bool, MarkerFault> {
+    let (want, text) = front(line);
+    Ok(read_digit(alloc, text)? == want)
 }
 
 #[test]
 fn texts_are_read(rt: HostRuntime) -> Result<(), Fail> {
     for line in TEXTS.split('|') {
-        let (want, text) = line.split_once(' ').unwrap_or((line, ""));
-        assert_eq!(rt; digit(rt, text)?, want, "{text}");
+        assert!(rt; is_told(rt.alloc(), line)?, "{line}");
+    }
+    Ok(())
+}
+
+fn push_times(text: &mut String, piece: &str, count: usize) -> Result<(), AllocError> {
+    for _ in 0..count {
+        text.push_str(piece)?;
     }
     Ok(())
 }
 
 // A comparison in so many parentheses.
-fn nested(rt: HostRuntime, depth: usize) -> Result<String, Fail> {
-    let mut text = String::new(rt.alloc());
-    for _ in 0..depth {
-        text.push_str("(")?;
-    }
+fn nested(alloc: Global, depth: usize) -> Result<String, AllocError> {
+    let mut text = String::new(alloc);
+    push_times(&mut text, "(", depth)?;
     text.push_str("os_name == 'a'")?;
-    for _ in 0..depth {
-        text.push_str(")")?;
-    }
+    push_times(&mut text, ")", depth)?;
     Ok(text)
+}
+
+fn is_nested_read(alloc: Global, depth: usize) -> Result<bool, Fail> {
+    let text = nested(alloc, depth)?;
+    Ok(is_read(alloc, text.as_str())?)
+}
+
+// A choice of so many comparisons, and one more.
+fn long_list(alloc: Global, count: u32) -> Result<String, Fail> {
+    let mut text = String::new(alloc);
+    for i in 0..count {
+        write!(text, "os_name == '{i}' or ")?;
+    }
+    text.push_str("extra == 'b'")?;
+    Ok(text)
+}
+
+fn parts(alloc: Global, text: &str) -> Result<usize, MarkerFault> {
+    match Marker::read(alloc, text)? {
+        Marker::Any(parts) => Ok(parts.len()),
+        _ => Ok(0),
+    }
 }
 
 #[test]
 fn parentheses_nest_and_lists_are_long(rt: HostRuntime) -> Result<(), Fail> {
-    assert!(rt; is_read(rt, nested(rt, 64)?.as_str())?, "64 parentheses");
-    assert!(rt; !is_read(rt, nested(rt, 65)?.as_str())?, "65 parentheses");
-    let mut text = String::new(rt.alloc());
-    for i in 0..20000u32 {
-        write!(text, "os_name == '{i}' or ")?;
-    }
-    text.push_str("extra == 'b'")?;
-    match Marker::read(rt.alloc(), text.as_str())? {
-        Marker::Any(parts) => assert_eq!(rt; parts.len(), 20001),
-        _ => assert!(rt; false, "no list"),
-    }
+    assert!(rt; is_nested_read(rt.alloc(), 64)? && !is_nested_read(rt.alloc(), 65)?);
+    let text = long_list(rt.alloc(), 20000)?;
+    assert!(rt; parts(rt.alloc(), text.as_str())? == 20001);
     Ok(())
+}
+
+// So many pieces, and a comparison behind them.
+fn deep(alloc: Global, piece: &str, count: usize, last: &str) -> Result<String, AllocError> {
+    let mut text = String::new(alloc);
+    push_times(&mut text, piece, count)?;
+    text.push_str(last)?;
+    Ok(text)
 }
 
 #[test]
 fn deep_texts_are_refused_at_once(rt: HostRuntime) -> Result<(), Fail> {
-    let mut text = String::new(rt.alloc());
-    for _ in 0..1_000_000 {
-        text.push_str("(")?;
-    }
-    assert!(rt; !is_read(rt, text.as_str())?, "a million parentheses");
-    let mut text = String::new(rt.alloc());
-    for _ in 0..10_000 {
-        text.push_str("((os_name == 'a') and extra == 'b') or ")?;
-    }
-    text.push_str("os_name != 'c'")?;
+    let text = deep(rt.alloc(), "(", 1_000_000, "")?;
     assert!(rt;
-        is_read(rt, text.as_str())?,
-        "many parentheses, one behind the other"
+        !is_read(rt.alloc(), text.as_str())?,
+        "a million parentheses"
     );
+    let piece = "((os_name == 'a') and extra == 'b') or ";
+    let text = deep(rt.alloc(), piece, 10_000, "os_name != 'c'")?;
+    assert!(rt; is_read(rt.alloc(), text.as_str())?, "one behind the other");
     Ok(())
 }

@@ -1,6 +1,7 @@
 //! Markers, some from the metadata of published packages, evaluated at three machines.
 
-use std::alloc::Global;
+use crate::texts::{cells, digit, front, world};
+use std::alloc::{AllocError, Global};
 use std::test::Fail;
 use ul_marker::{Atom, Marker, MarkerFault, World};
 
@@ -257,57 +258,57 @@ const OWN: &str = "000 platform_release == '10.0'|texts are compared as texts, n
     --- python_version == 'three'|a literal beside a Python variable is a version\n\
     --- python_version === '3.8'|this operator is left out";
 
-// The opaque comparison that a marker is.
-fn atom_of(marker: Marker) -> Result<Atom, Fail> {
-    match marker {
+// The opaque comparison that a marker's text is.
+fn opaque(alloc: Global, text: &str) -> Result<Atom, Fail> {
+    match Marker::read(alloc, text)? {
         Marker::Opaque { atom, .. } => Ok(atom),
         _ => Err(Fail::from("no opaque comparison")),
     }
 }
 
-fn world(
-    alloc: Global,
-    python: (u32, u32, u32),
-    machine: &str,
-    comparisons: &str,
-) -> Result<World, Fail> {
-    let mut texts = Vec::new(alloc);
-    for text in machine.split('|') {
-        texts.push(String::from_str(alloc, text)?)?;
+fn comparisons(alloc: Global, texts: &str) -> Result<Vec<Atom>, Fail> {
+    let mut truths = Vec::new(alloc);
+    for text in texts.split(';') {
+        truths.push(opaque(alloc, text)?)?;
     }
-    let mut truths: Vec<Atom> = Vec::new(alloc);
-    for text in comparisons.split(';') {
-        truths.push(atom_of(Marker::read(alloc, text)?)?)?;
-    }
-    Ok(World::of(python, texts, truths).ok_or("no world")?)
+    Ok(truths)
 }
 
-// Whether a marker's text holds at each world with the extra `test`; `---` where it has no reading.
-fn held(alloc: Global, worlds: &[World], text: &str) -> Result<String, Fail> {
-    let marker = match Marker::read(alloc, text) {
-        Ok(marker) => marker,
-        Err(MarkerFault::NoReading) => return Ok(String::from_str(alloc, "---")?),
-        Err(MarkerFault::NoMemory) => return Err(Fail::from("no memory")),
-    };
-    let mut held = String::new(alloc);
+fn worlds(alloc: Global) -> Result<Vec<World>, Fail> {
+    let mut worlds = Vec::new(alloc);
+    for (python, (machine, truths)) in INTERPRETERS.iter().zip(MACHINES.iter().zip(TRUTHS)) {
+        let truths = comparisons(alloc, truths)?;
+        worlds.push(world(alloc, *python, machine, truths)?)?;
+    }
+    Ok(worlds)
+}
+
+// Whether a marker holds at each world with the extra `test`, as digits.
+fn digits(alloc: Global, worlds: &[World], marker: &Marker) -> Result<String, AllocError> {
+    let mut digits = String::new(alloc);
     for world in worlds {
-        held.push_str(if marker.holds(world, "test") {
-            "1"
-        } else {
-            "0"
-        })?;
+        digits.push_str(digit(marker.holds(world, "test")))?;
     }
-    Ok(held)
+    Ok(digits)
 }
 
-// The lines of a table whose marker holds elsewhere than the line says.
+// Whether a marker's text holds where it should; `---` where it should have no reading.
+fn holds(alloc: Global, worlds: &[World], text: &str, want: &str) -> Result<bool, MarkerFault> {
+    match Marker::read(alloc, text) {
+        Ok(marker) => Ok(digits(alloc, worlds, &marker)?.as_str() == want),
+        Err(MarkerFault::NoReading) => Ok(want == "---"),
+        Err(MarkerFault::NoMemory) => Err(MarkerFault::NoMemory),
+    }
+}
+
+// The lines of a table whose marker holds elsewhere than the line says. What stands behind a bar is a reason.
 fn others(alloc: Global, worlds: &[World], table: &str) -> Result<String, Fail> {
     let mut others = String::new(alloc);
     for line in table.lines() {
-        let (want, text) = line.split_once(' ').unwrap_or((line, ""));
-        if held(alloc, worlds, text)?.as_str() != want {
+        let (case, _) = cells(line);
+        let (want, text) = front(case);
+        if !holds(alloc, worlds, text, want)? {
             others.push_str(line)?;
-            others.push_str("; ")?;
         }
     }
     Ok(others)
@@ -315,21 +316,9 @@ fn others(alloc: Global, worlds: &[World], table: &str) -> Result<String, Fail> 
 
 #[test]
 fn markers_hold_as_in_packaging(rt: HostRuntime) -> Result<(), Fail> {
-    let alloc = rt.alloc();
-    let mut worlds = Vec::new(alloc);
-    for (python, (machine, comparisons)) in INTERPRETERS.iter().zip(MACHINES.iter().zip(TRUTHS)) {
-        worlds.push(world(alloc, *python, machine, comparisons)?)?;
-    }
-    assert_eq!(rt; others(alloc, &worlds, PUBLISHED)?.as_str(), "");
-    assert_eq!(rt; others(alloc, &worlds, MARKERS)?.as_str(), "");
-    for line in OWN.lines() {
-        let (case, reason) = line.split_once('|').unwrap_or((line, ""));
-        let (want, text) = case.split_once(' ').unwrap_or((case, ""));
-        assert_eq!(rt;
-            held(alloc, &worlds, text)?.as_str(),
-            want,
-            "{text}: {reason}"
-        );
+    let worlds = worlds(rt.alloc())?;
+    for table in [PUBLISHED, MARKERS, OWN] {
+        assert_eq!(rt; others(rt.alloc(), &worlds, table)?.as_str(), "");
     }
     Ok(())
 }

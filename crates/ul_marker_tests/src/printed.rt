@@ -1,106 +1,124 @@
 //! Printed comparisons, which are read back.
 
-use std::alloc::Global;
+use crate::texts::{atom, cells};
+use std::alloc::{AllocError, Global};
 use std::test::Fail;
 use ul_marker::printed::{push_atom, push_bound, push_extra, push_text};
-use ul_marker::{Atom, AtomKind, Marker, Variable, is_literal};
+use ul_marker::{Atom, Marker, Variable, is_literal};
 
-fn atom(alloc: Global, variable: Variable, kind: AtomKind, literal: &str) -> Result<Atom, Fail> {
-    let literal = String::from_str(alloc, literal)?;
-    Ok(Atom::of(variable, kind, literal).ok_or("no atom")?)
+// A list of printed comparisons.
+const LIST: &str = "python_full_version >= '3.0.4294967295' and python_full_version < '4.10.0' or \
+    os_name == \"a'b\" and implementation_name != 'a\"b' or extra == ''";
+
+fn push_bounds(out: &mut String) -> Result<(), AllocError> {
+    push_bound(out, true, (3, 0, 4294967295))?;
+    out.push_str(" and ")?;
+    push_bound(out, false, (4, 10, 0))?;
+    Ok(())
+}
+
+fn push_texts(out: &mut String) -> Result<(), AllocError> {
+    push_text(out, Variable::OsName, "a'b", true)?;
+    out.push_str(" and ")?;
+    push_text(out, Variable::ImplementationName, "a\"b", false)?;
+    Ok(())
+}
+
+fn printed(alloc: Global) -> Result<String, AllocError> {
+    let mut out = String::new(alloc);
+    push_bounds(&mut out)?;
+    out.push_str(" or ")?;
+    push_texts(&mut out)?;
+    out.push_str(" or ")?;
+    push_extra(&mut out, "", true)?;
+    Ok(out)
+}
+
+// How many parts a marker has that is a choice.
+fn parts(alloc: Global, text: &str) -> Result<usize, Fail> {
+    match Marker::read(alloc, text)? {
+        Marker::Any(parts) => Ok(parts.len()),
+        _ => Ok(0),
+    }
 }
 
 #[test]
 fn comparisons_are_printed(rt: HostRuntime) -> Result<(), Fail> {
-    let alloc = rt.alloc();
-    let mut out = String::new(alloc);
-    push_bound(&mut out, true, (3, 0, 4294967295))?;
-    out.push_str(" and ")?;
-    push_bound(&mut out, false, (4, 10, 0))?;
-    out.push_str(" or ")?;
-    push_text(&mut out, Variable::OsName, "a'b", true)?;
-    out.push_str(" and ")?;
-    push_text(&mut out, Variable::ImplementationName, "a\"b", false)?;
-    out.push_str(" or ")?;
-    push_extra(&mut out, "", true)?;
-    assert_eq!(rt;
-        out.as_str(),
-        "python_full_version >= '3.0.4294967295' and python_full_version < '4.10.0' or os_name == \"a'b\" and implementation_name != 'a\"b' or extra == ''"
-    );
-    match Marker::read(alloc, out.as_str())? {
-        Marker::Any(parts) => assert_eq!(rt; parts.len(), 3),
-        _ => assert!(rt; false, "no list"),
-    }
+    let out = printed(rt.alloc())?;
+    assert_eq!(rt; out.as_str(), LIST);
+    assert!(rt; parts(rt.alloc(), LIST)? == 3);
     Ok(())
+}
+
+// Opaque comparisons, how they are printed, and how where they don't hold.
+const OPAQUE: &str = "python_version contains x|'x' in python_version|'x' not in python_version\n\
+    sys_platform within x|sys_platform in 'x'|sys_platform not in 'x'\n\
+    platform_release below x|platform_release < 'x'|platform_release >= 'x'\n\
+    implementation_version at_most x|implementation_version <= 'x'|implementation_version > 'x'\n\
+    implementation_version same x|implementation_version == 'x'|implementation_version != 'x'";
+
+fn is_printed(alloc: Global, atom: &Atom, positive: bool, want: &str) -> Result<bool, AllocError> {
+    let mut out = String::new(alloc);
+    push_atom(&mut out, atom, positive)?;
+    Ok(out.as_str() == want)
+}
+
+fn is_read(alloc: Global, atom: &Atom, positive: bool, text: &str) -> Result<bool, Fail> {
+    match Marker::read(alloc, text)? {
+        Marker::Opaque {
+            atom: read,
+            positive: sign,
+        } => Ok(read.cmp(atom).is_eq() && sign == positive),
+        _ => Ok(false),
+    }
+}
+
+fn comes_back(alloc: Global, atom: &Atom, positive: bool, text: &str) -> Result<bool, Fail> {
+    Ok(is_printed(alloc, atom, positive, text)? && is_read(alloc, atom, positive, text)?)
+}
+
+fn is_row(alloc: Global, line: &str) -> Result<bool, Fail> {
+    let (text, rest) = cells(line);
+    let (holds, fails) = cells(rest);
+    let atom = atom(alloc, text)?;
+    Ok(comes_back(alloc, &atom, true, holds)? && comes_back(alloc, &atom, false, fails)?)
 }
 
 #[test]
 fn opaque_comparisons_are_printed(rt: HostRuntime) -> Result<(), Fail> {
-    let alloc = rt.alloc();
-    for (variable, kind, holds, fails) in [
-        (
-            Variable::PythonVersion,
-            AtomKind::Contains,
-            "'x' in python_version",
-            "'x' not in python_version",
-        ),
-        (
-            Variable::SysPlatform,
-            AtomKind::Within,
-            "sys_platform in 'x'",
-            "sys_platform not in 'x'",
-        ),
-        (
-            Variable::PlatformRelease,
-            AtomKind::Below,
-            "platform_release < 'x'",
-            "platform_release >= 'x'",
-        ),
-        (
-            Variable::ImplementationVersion,
-            AtomKind::AtMost,
-            "implementation_version <= 'x'",
-            "implementation_version > 'x'",
-        ),
-        (
-            Variable::ImplementationVersion,
-            AtomKind::Same,
-            "implementation_version == 'x'",
-            "implementation_version != 'x'",
-        ),
-    ] {
-        let atom = atom(alloc, variable, kind, "x")?;
-        for (positive, want) in [(true, holds), (false, fails)] {
-            let mut out = String::new(alloc);
-            push_atom(&mut out, &atom, positive)?;
-            assert_eq!(rt; out.as_str(), want);
-            match Marker::read(alloc, want)? {
-                Marker::Opaque {
-                    atom: read,
-                    positive: sign,
-                } => assert!(rt; read.cmp(&atom).is_eq() && sign == positive),
-                _ => assert!(rt; false, "no opaque comparison"),
-            }
-        }
+    for line in OPAQUE.split('\n') {
+        assert!(rt; is_row(rt.alloc(), line)?, "{line}");
     }
     Ok(())
 }
 
-#[test]
-fn long_literals_are_printed(rt: HostRuntime) -> Result<(), Fail> {
-    let alloc = rt.alloc();
+fn quotes(alloc: Global) -> Result<String, AllocError> {
     let mut literal = String::new(alloc);
     for _ in 0..10_000 {
         literal.push_str("'")?;
     }
-    assert!(rt; is_literal(literal.as_bytes()));
-    let mut out = String::new(alloc);
-    push_text(&mut out, Variable::PlatformVersion, literal.as_str(), true)?;
-    assert_eq!(rt; out.len(), 10_022);
-    match Marker::read(alloc, out.as_str())? {
-        Marker::Text { literal: read, .. } => assert_eq!(rt; read.as_str(), literal.as_str()),
-        _ => assert!(rt; false, "no text"),
+    Ok(literal)
+}
+
+fn is_text_of(alloc: Global, text: &str, literal: &str) -> Result<bool, Fail> {
+    match Marker::read(alloc, text)? {
+        Marker::Text { literal: read, .. } => Ok(read.as_str() == literal),
+        _ => Ok(false),
     }
+}
+
+// Whether a literal is printed in so many bytes, and read back.
+fn is_printed_long(alloc: Global, literal: &str, bytes: usize) -> Result<bool, Fail> {
+    let mut out = String::new(alloc);
+    push_text(&mut out, Variable::PlatformVersion, literal, true)?;
+    Ok(out.len() == bytes && is_text_of(alloc, out.as_str(), literal)?)
+}
+
+#[test]
+fn long_literals_are_printed(rt: HostRuntime) -> Result<(), Fail> {
+    let mut literal = quotes(rt.alloc())?;
+    assert!(rt; is_literal(literal.as_bytes()));
+    assert!(rt; is_printed_long(rt.alloc(), literal.as_str(), 10_022)?);
     literal.push_str("\"")?;
     assert!(rt; !is_literal(literal.as_bytes()));
     Ok(())

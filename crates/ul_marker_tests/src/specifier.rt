@@ -1,5 +1,7 @@
 //! Meanings and readings of PEP 440, as tables.
 
+use crate::texts::{cells, digit, front};
+use std::alloc::{AllocError, Global};
 use std::test::Fail;
 use ul_specifier::{Clause, Op, SpecFault, Specifiers, equals_plain};
 use ul_version::Version;
@@ -81,7 +83,8 @@ const GRID: &str = "==1.0 111000000011100000000000000000\n\
     ==1!1.* 000000000000000000000000001110\n\
     !=1!1.* 111111111111111111111111110001";
 
-// A specifier, a version, and whether the version meets it.
+// A specifier, a version, and whether the version meets it; in the last lines also why `packaging` 24 answers
+// otherwise.
 const EXAMPLES: &str = "==1.0 1.0+cpu 1\n\
     >1.7 1.7.post1 0\n\
     >1.7 1.7.0.post1 0\n\
@@ -102,140 +105,177 @@ const EXAMPLES: &str = "==1.0 1.0+cpu 1\n\
     ~=1.0 1!1.5 0\n\
     <1.0 1!0.9 0\n\
     >1!1.0 1.0.post1 0\n\
-    ~=1!1.0 1!1.0.1 1";
-
-// The same, with the reason why `packaging` 24 answers otherwise.
-const OWN_EXAMPLES: &str = ">=1.5.* 1.5 1 `.*` is dropped, where `packaging` refuses it\n\
+    ~=1!1.0 1!1.0.1 1\n\
+    >=1.5.* 1.5 1 `.*` is dropped, where `packaging` refuses it\n\
     >=1.5.* 1.5rc1 0 the clause is >=1.5, and 1.5rc1 comes before 1.5\n\
     <1.5.* 1.4.9 1 `.*` is dropped, where `packaging` refuses it";
 
-// Texts without a reading.
+// Texts without a reading; the last ones, with the reason, are read by `packaging` 24.
 const REFUSED: &str =
-    "~=1;>=1+local;~=1.0+local;>1.*;<=1.*;~=1.0.*;==1.0a1.*;>=1.0.post1.*;==1.0+x.*;,>=1;1.0;>=;== 1 .*;>=1 2;==*";
-
-// Texts without a reading that `packaging` 24 reads, and why.
-const OWN_REFUSED: &str = "===1.0|this operator is left out;\
+    "~=1;>=1+local;~=1.0+local;>1.*;<=1.*;~=1.0.*;==1.0a1.*;>=1.0.post1.*;==1.0+x.*;,>=1;1.0;>=;== 1 .*;>=1 2;==*;\
+    ===1.0|this operator is left out;\
     ,|a comma follows a clause;\
     >=1,,|one comma follows the last clause;\
     >=1\n,<2|a line feed stands at the ends of a text alone";
 
+fn meets(alloc: Global, specifiers: &Specifiers, version: &str) -> Result<bool, Fail> {
+    let version = Version::read(alloc, version)?;
+    Ok(specifiers.meets(&version))
+}
+
+// The versions of the list that meet a specifier, as digits.
+fn met(alloc: Global, text: &str) -> Result<String, Fail> {
+    let specifiers = Specifiers::read(alloc, text)?;
+    let mut met = String::new(alloc);
+    for version in VERSIONS.split(' ') {
+        met.push_str(digit(meets(alloc, &specifiers, version)?))?;
+    }
+    Ok(met)
+}
+
+fn is_row(alloc: Global, line: &str) -> Result<bool, Fail> {
+    let (text, want) = front(line);
+    let met = met(alloc, text)?;
+    Ok(met.as_str() == want)
+}
+
 #[test]
 fn clauses_are_met_as_in_packaging(rt: HostRuntime) -> Result<(), Fail> {
     for line in GRID.lines() {
-        let (text, want) = line.split_once(' ').unwrap_or(("", line));
-        let specifiers = Specifiers::read(rt.alloc(), text)?;
-        let mut met = String::new(rt.alloc());
-        for version in VERSIONS.split(' ') {
-            let version = Version::read(rt.alloc(), version)?;
-            met.push_str(if specifiers.meets(&version) { "1" } else { "0" })?;
-        }
-        assert_eq!(rt; met.as_str(), want, "{text}");
+        assert!(rt; is_row(rt.alloc(), line)?, "{line}");
     }
     Ok(())
 }
 
-fn is_met(rt: HostRuntime, text: &str, version: &str) -> Result<bool, Fail> {
-    let specifiers = Specifiers::read(rt.alloc(), text)?;
-    let version = Version::read(rt.alloc(), version)?;
-    Ok(specifiers.meets(&version))
+fn is_example(alloc: Global, line: &str) -> Result<bool, Fail> {
+    let (text, rest) = front(line);
+    let (version, rest) = front(rest);
+    let (want, _) = front(rest);
+    let specifiers = Specifiers::read(alloc, text)?;
+    Ok(digit(meets(alloc, &specifiers, version)?) == want)
 }
 
 #[test]
 fn clauses_are_met_as_defined(rt: HostRuntime) -> Result<(), Fail> {
     for line in EXAMPLES.lines() {
-        let (text, rest) = line.split_once(' ').unwrap_or(("", line));
-        let (version, want) = rest.split_once(' ').unwrap_or((rest, ""));
-        let met = if is_met(rt, text, version)? { "1" } else { "0" };
-        assert_eq!(rt; met, want, "{line}");
-    }
-    for line in OWN_EXAMPLES.lines() {
-        let (text, rest) = line.split_once(' ').unwrap_or(("", line));
-        let (version, rest) = rest.split_once(' ').unwrap_or((rest, ""));
-        let (want, reason) = rest.split_once(' ').unwrap_or((rest, ""));
-        let met = if is_met(rt, text, version)? { "1" } else { "0" };
-        assert_eq!(rt; met, want, "{text}: {reason}");
+        assert!(rt; is_example(rt.alloc(), line)?, "{line}");
     }
     Ok(())
 }
 
+fn is_refused(alloc: Global, line: &str) -> bool {
+    let (text, _) = cells(line);
+    matches!(Specifiers::read(alloc, text), Err(SpecFault::NoReading))
+}
+
+#[test]
+fn texts_are_refused(rt: HostRuntime) {
+    for line in REFUSED.split(';') {
+        assert!(rt; is_refused(rt.alloc(), line), "{line}");
+    }
+}
+
 #[test]
 fn texts_are_read(rt: HostRuntime) -> Result<(), Fail> {
-    for text in REFUSED.split(';') {
-        let refused = matches!(
-            Specifiers::read(rt.alloc(), text),
-            Err(SpecFault::NoReading)
-        );
-        assert!(rt; refused, "{text}");
-    }
-    for line in OWN_REFUSED.split(';') {
-        let (text, reason) = line.split_once('|').unwrap_or((line, ""));
-        let refused = matches!(
-            Specifiers::read(rt.alloc(), text),
-            Err(SpecFault::NoReading)
-        );
-        assert!(rt; refused, "{text}: {reason}");
-    }
     let list = Specifiers::read(rt.alloc(), "\t>= 1 , !=1.5.*,<2,\r\n")?;
-    assert_eq!(rt; list.clauses.len(), 3);
     let clause = Clause::read(rt.alloc(), Op::Less, " \u{b}1.5.*\n")?;
-    assert_eq!(rt; clause.version.text(rt.alloc())?.as_str(), "1.5");
+    let version = clause.version.text(rt.alloc())?;
+    assert!(rt; list.clauses.len() == 3 && version.as_str() == "1.5");
     Ok(())
+}
+
+// Whether a clause says the same of a version as of its release.
+fn is_plain(clause: &Clause, version: &Version) -> bool {
+    let met = clause.meets(version);
+    if clause.meets_plain(version.release.as_slice()) != met {
+        return false;
+    }
+    let equal = matches!(clause.op, Op::Equal) && !clause.prefix;
+    !equal || equals_plain(&clause.version, version.release.as_slice()) == met
+}
+
+fn are_plain(clauses: &[Clause], version: &Version) -> bool {
+    for clause in clauses {
+        if !is_plain(clause, version) {
+            return false;
+        }
+    }
+    true
+}
+
+fn meets_alike(alloc: Global, line: &str) -> Result<bool, Fail> {
+    let (text, _) = front(line);
+    let specifiers = Specifiers::read(alloc, text)?;
+    for version in "1.0.0 1.1.0 1.10.0 0.9.1".split(' ') {
+        let version = Version::read(alloc, version)?;
+        if !are_plain(&specifiers.clauses, &version) {
+            return Ok(false);
+        }
+    }
+    Ok(!specifiers.clauses.is_empty())
 }
 
 #[test]
 fn plain_versions_meet_alike(rt: HostRuntime) -> Result<(), Fail> {
     for line in GRID.lines() {
-        let (text, _) = line.split_once(' ').unwrap_or(("", line));
-        let specifiers = Specifiers::read(rt.alloc(), text)?;
-        for version in "1.0.0 1.1.0 1.10.0 0.9.1".split(' ') {
-            let version = Version::read(rt.alloc(), version)?;
-            for clause in &specifiers.clauses {
-                let plain = clause.meets_plain(version.release.as_slice());
-                assert_eq!(rt; plain, clause.meets(&version), "{text}");
-                if matches!(clause.op, Op::Equal) && !clause.prefix {
-                    let equal = equals_plain(&clause.version, version.release.as_slice());
-                    assert_eq!(rt; equal, clause.meets(&version), "{text}");
-                }
-            }
-        }
+        assert!(rt; meets_alike(rt.alloc(), line)?, "{line}");
     }
     Ok(())
+}
+
+fn push_clause(alloc: Global, text: &mut String, clause: &Clause) -> Result<(), AllocError> {
+    let more = matches!(clause.op, Op::More);
+    text.push_str(if more { ">" } else { ">=" })?;
+    text.push_str(clause.version.text(alloc)?.as_str())?;
+    text.push_str(" ")?;
+    Ok(())
+}
+
+// The lower part of a list, clause by clause.
+fn lower(alloc: Global, text: &str) -> Result<String, Fail> {
+    let lower = Specifiers::read(alloc, text)?.lower_part(alloc)?;
+    let mut told = String::new(alloc);
+    for clause in &lower.clauses {
+        push_clause(alloc, &mut told, clause)?;
+    }
+    Ok(told)
+}
+
+#[test]
+fn lower_parts_are_told(rt: HostRuntime) -> Result<(), Fail> {
+    let lower = lower(rt.alloc(), "<9,==1.0+x,!=2,>3,==4.*,<=5,~=6.1,>=7")?;
+    assert_eq!(rt; lower.as_str(), ">=1.0 >3 >=4 >=6.1 >=7 ");
+    Ok(())
+}
+
+// Whether a list names a pre-release, whether it pins 1, and the list.
+const SUMS: &str = "1 0 >=1,<2.0rc1\n\
+    1 0 ==1.0.dev1\n\
+    0 0 !=1.0a1,>=1.0.post1\n\
+    0 1 >0,==1.0\n\
+    0 0 ==1.0.*\n\
+    0 0 ==1.0+x";
+
+fn is_summed_up(alloc: Global, line: &str) -> Result<bool, Fail> {
+    let (names_pre, rest) = front(line);
+    let (pinned, text) = front(rest);
+    let specifiers = Specifiers::read(alloc, text)?;
+    let version = Version::read(alloc, "1")?;
+    let pins = digit(specifiers.pins(&version)) == pinned;
+    Ok(pins && digit(specifiers.names_pre()) == names_pre)
 }
 
 #[test]
 fn lists_are_summed_up(rt: HostRuntime) -> Result<(), Fail> {
-    let list = Specifiers::read(rt.alloc(), "<9,==1.0+x,!=2,>3,==4.*,<=5,~=6.1,>=7")?;
-    let lower = list.lower_part(rt.alloc())?;
-    let mut met = String::new(rt.alloc());
-    for clause in &lower.clauses {
-        met.push_str(if matches!(clause.op, Op::More) {
-            ">"
-        } else {
-            ">="
-        })?;
-        met.push_str(clause.version.text(rt.alloc())?.as_str())?;
-        met.push_str(" ")?;
-    }
-    assert_eq!(rt; met.as_str(), ">=1.0 >3 >=4 >=6.1 >=7 ");
-    for (text, names_pre, pinned) in [
-        (">=1,<2.0rc1", true, false),
-        ("==1.0.dev1", true, false),
-        ("!=1.0a1,>=1.0.post1", false, false),
-        (">0,==1.0", false, true),
-        ("==1.0.*", false, false),
-        ("==1.0+x", false, false),
-    ] {
-        let specifiers = Specifiers::read(rt.alloc(), text)?;
-        let version = Version::read(rt.alloc(), "1")?;
-        assert_eq!(rt; specifiers.names_pre(), names_pre, "{text}");
-        assert_eq!(rt; specifiers.pins(&version), pinned, "{text}");
+    for line in SUMS.lines() {
+        assert!(rt; is_summed_up(rt.alloc(), line)?, "{line}");
     }
     Ok(())
 }
 
-// A list of so many clauses that all ask for what 2 is.
-fn long_list(rt: HostRuntime, clauses: usize) -> Result<String, Fail> {
-    let mut text = String::new(rt.alloc());
+// A list of so many clauses that all ask for what 2 is, and one more.
+fn long_text(alloc: Global, clauses: usize) -> Result<String, AllocError> {
+    let mut text = String::new(alloc);
     for _ in 0..clauses {
         text.push_str(">=1 , ")?;
     }
@@ -243,27 +283,31 @@ fn long_list(rt: HostRuntime, clauses: usize) -> Result<String, Fail> {
     Ok(text)
 }
 
+fn is_long(alloc: Global, clauses: usize) -> Result<bool, Fail> {
+    let text = long_text(alloc, clauses)?;
+    let list = Specifiers::read(alloc, text.as_str())?;
+    let lower = list.lower_part(alloc)?;
+    let long = list.clauses.len() == clauses.saturating_add(1) && lower.clauses.len() == clauses;
+    Ok(long && meets(alloc, &list, "2")?)
+}
+
 #[test]
 fn lists_are_long(rt: HostRuntime) -> Result<(), Fail> {
     for clauses in [8, 299, 2000] {
-        let list = Specifiers::read(rt.alloc(), long_list(rt, clauses)?.as_str())?;
-        assert_eq!(rt; list.clauses.len(), clauses + 1);
-        let version = Version::read(rt.alloc(), "2")?;
-        assert!(rt; list.meets(&version), "{clauses}");
-        assert_eq!(rt; list.lower_part(rt.alloc())?.clauses.len(), clauses);
+        assert!(rt; is_long(rt.alloc(), clauses)?, "{clauses}");
     }
     Ok(())
 }
 
+fn copied(alloc: Global, op: Op, version: &str) -> Result<String, Fail> {
+    let clause = Clause::read(alloc, op, version)?;
+    let copy = clause.copy(alloc)?;
+    Ok(copy.version.text(alloc)?)
+}
+
 #[test]
 fn clauses_are_copied(rt: HostRuntime) -> Result<(), Fail> {
-    let list = Specifiers::read(rt.alloc(), "==1!2.3.4.5.6.7.8.9.10+a.b")?;
-    for clause in &list.clauses {
-        let copy = clause.copy(rt.alloc())?;
-        assert_eq!(rt;
-            copy.version.text(rt.alloc())?.as_str(),
-            "1!2.3.4.5.6.7.8.9.10+a.b"
-        );
-    }
+    let copied = copied(rt.alloc(), Op::Equal, "1!2.3.4.5.6.7.8.9.10+a.b")?;
+    assert_eq!(rt; copied.as_str(), "1!2.3.4.5.6.7.8.9.10+a.b");
     Ok(())
 }

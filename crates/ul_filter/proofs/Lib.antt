@@ -1,0 +1,9 @@
+pub mod RouteFacts
+pub mod Following
+pub mod RouteBlocks
+pub mod WalkSteps
+pub mod Strict
+pub mod Apart
+pub mod Ends
+pub mod PickFacts
+pub mod Agree

@@ -1,0 +1,5 @@
+pub mod Headline
+pub mod Routes
+pub mod Picks
+pub mod Met
+pub mod Walked

@@ -1,0 +1,4 @@
+pub mod Outcome
+pub mod Headline
+pub mod Judged
+pub mod Children

@@ -1,0 +1,3 @@
+mod Unions
+mod ForkSteps
+mod MadeEdges

@@ -1,0 +1,63 @@
+-- Edges that are made of regions.
+use Rattle.std.proofs.Common.{◌≡◌, ◌≢◌, ℕ, List, [], Bool, true, false, refl, sym, ap, subst, ◌∙◌}
+use Rattle.ul_base.specs.declared.node.Node.{Node}
+use Rattle.ul_version.specs.Fields.{Fields}
+use Rattle.ul_marker.specs.Worlds.{WorldFields, IsWorld}
+use Rattle.ul_tree.specs.Apply.{both}
+use Rattle.ul_tree.specs.Plain.{Plain, truth}
+use Rattle.ul_tree.specs.Regions.{HasTruth, IsRegionTree}
+use Rattle.ul_tree.specs.Simplify.{Simplifies}
+use Rattle.ul_tree.specs.Values.{tree_holds}
+use Rattle.ul_tree.proofs.ForCallers.{has_and, holds_somewhere, no_extra, region_tree}
+use Rattle.ul_algebra.specs.Answers.{IsDiagram}
+use Rattle.ul_algebra.specs.Spelled.{tree_of}
+use Rattle.ul_algebra.specs.Truths.{HoldsJoined}
+use Rattle.ul_lock_lines.specs.declared.parts.Edge.{Edge}
+use Rattle.ul_region.specs.Truths.{PassView, DiagramMark, IsRegion, IsTruth, region_at, truth_within}
+use Rattle.ul_sound.specs.Merged.{IsSimplified}
+use Rattle.ul_merge.specs.Unions.{MeetSomewhere, some_holds}
+use Rattle.ul_merge.specs.Edges.{LieWithin, IsMadeEdge}
+
+-- where in a region a truth holds
+pub part_truth : (g h : PassView) (d a b : DiagramMark) → IsRegion g a → IsRegion g b → IsDiagram h d → HoldsJoined both a b d → IsTruth h d (truth_within (region_at a) (region_at b))
+part_truth g h d a b r s k j = record { diagram = k; truth = has_and (tree_of a) (tree_of b) (tree_of d) (region_at a) (region_at b) r.truth s.truth k.reduced j }
+
+-- a union that isn't false has a world
+pub has_world : (h : PassView) (d : DiagramMark) (ms : List DiagramMark) → IsTruth h d (some_holds ms) → (tree_of d ≡ truth false → ⊥)
+    → (w : WorldFields) × IsWorld w × (some_holds ms w ≡ true) × (region_at d w ≡ true)
+has_world h d ms t n =
+    let own : IsRegionTree (tree_of d) = region_tree (tree_of d) (some_holds ms) t.truth in
+    let at : (w : WorldFields) × IsWorld w × ((x : List ℕ) → tree_holds (tree_of d) w x ≡ true) = holds_somewhere.without_extra (tree_of d) own.reduced n (no_extra.region (tree_of d) own) in
+    (at.0, at.1, sym (t.truth.truth at.0 [] at.1) ∙ at.2 [], at.2 [])
+
+-- and so meets the supported region
+pub meets_there : (h : PassView) (d s : DiagramMark) (ms : List DiagramMark) → IsTruth h d (some_holds ms) → (tree_of d ≡ truth false → ⊥) → LieWithin ms s → MeetSomewhere d s
+meets_there h d s ms t n within = let at = has_world h d ms t n in (at.0, at.3, within at.0 at.1 at.2)
+
+-- a union that is false has none
+pub no_world : (h : PassView) (d : DiagramMark) (ms : List DiagramMark) → IsTruth h d (some_holds ms) → tree_of d ≡ truth false → (w : WorldFields) → IsWorld w → some_holds ms w ≡ false
+no_world h d ms t e w is = sym (t.truth.truth w [] is) ∙ ap (λ (u : Plain). tree_holds u w []) e
+
+-- the edge
+pub made_edge : (h : PassView) (d : DiagramMark) (s : Plain) (ms : List DiagramMark) (n : Node) (v : Fields) (target : Node) (version : Fields) (m : Plain)
+    → IsTruth h d (some_holds ms) → (tree_of d ≡ truth false → ⊥) → Simplifies (tree_of d) s m → target ≡ n → version ≡ v
+    → IsMadeEdge n v ms s (record { target = target; version = version; marker = m })
+made_edge h d s ms n v target version m t not k e f = let at = has_world h d ms t not in record {
+  target = e;
+  version = f;
+  somewhere = (at.0, at.1, at.2);
+  marker = record {
+    tree = tree_of d;
+    reduced = t.truth.reduced;
+    truth = λ w x is. ((λ r. sym (t.truth.truth w x is) ∙ r), (λ r. t.truth.truth w x is ∙ r));
+    simplifies = k;
+  };
+}
+
+-- what a test that failed says isn't so
+pub failed : {P : Type 0} (b : Bool) → b ≡ false → (b ≡ true → P) × (P → b ≡ true) → P → ⊥
+failed true e h p = cc
+failed false e h p = not_true (h.1 p)
+  where
+    not_true : false ≡ true → ⊥
+    not_true q = cc

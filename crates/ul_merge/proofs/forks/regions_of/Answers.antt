@@ -1,0 +1,31 @@
+use Rattle.std.proofs.Common.{◌≡◌, ◌+◌, List, map, take, sym, subst}
+use Rattle.ul_interner.proofs.ForCallers.{knows_then}
+use Rattle.ul_tree.specs.Plain.{Plain}
+use Rattle.ul_algebra.specs.Spelled.{tree_of}
+use Rattle.ul_split.specs.declared.leaf.Leaf.{Leaf}
+use Rattle.ul_region.proofs.ForCallers.{still, truth_still}
+use Rattle.ul_sound.specs.Merged.{AreSimplified}
+use Rattle.ul_merge.specs.Unions.{IsForkIn}
+use Rattle.ul_merge.specs.Views.{leaf_of}
+use Rattle.ul_merge.proofs.ForkSteps.{one_more}
+use Rattle.ul_merge.proofs.forks.regions_of.Goals as goal
+
+pub simplified-requires-clause-truth : goal.simplified-requires-clause-truth
+simplified-requires-clause-truth g c = truth_still _ _ _ _ c.loop-leaf.invariant.knows
+    (subst (λ (l : Leaf). IsForkIn c.args.algebra.now c.args.supported.now l) (sym c.leaf-item.is) (c.requires.leaves c.loop-leaf.leaf-index c.leaf-item.result c.loop-leaf-test.true)).0
+
+pub simplified-requires-clause-supported : goal.simplified-requires-clause-supported
+simplified-requires-clause-supported g c = still _ _ _ c.loop-leaf.invariant.knows c.requires.supported
+
+pub returns-in_err-region-clause-knows : goal.returns-in_err-region-clause-knows
+returns-in_err-region-clause-knows g c = knows_then _ _ _ c.loop-leaf.invariant.knows c.in_err-region.ensures.knows
+
+pub returns-in_err-push-clause-knows : goal.returns-in_err-push-clause-knows
+returns-in_err-push-clause-knows g c = knows_then _ _ _ c.loop-leaf.invariant.knows c.in_ok-region.ensures.knows
+
+pub loop-leaf-preserved : goal.loop-leaf-preserved
+loop-leaf-preserved g c = record {
+  knows = knows_then _ _ _ c.loop-leaf.invariant.knows c.in_ok-region.ensures.knows;
+  forks = subst (λ (ts : List Plain). AreSimplified (tree_of c.args.supported.now) (map leaf_of (take (c.loop-leaf.leaf-index + 1) c.args.leaves.now)) ts) (sym c.in_ok-push.ensures.items)
+      (one_more (tree_of c.args.supported.now) c.args.leaves.now c.loop-leaf.leaf-index c.leaf-item.result c.loop-leaf.regions.items c.in_ok-region.region c.loop-leaf-test.true c.leaf-item.is c.loop-leaf.invariant.forks c.in_ok-region.ensures.rule);
+}

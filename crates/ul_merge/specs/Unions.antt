@@ -1,0 +1,18 @@
+-- Regions that are joined and simplified.
+use Rattle.std.specs.Prelude.{◌≡◌, List, [], ◌∷◌, Bool, true, false, ◌||◌}
+use Rattle.ul_marker.specs.Worlds.{WorldFields}
+use Rattle.ul_region.specs.Truths.{PassView, DiagramMark, IsRegion, region_at}
+use Rattle.ul_split.specs.declared.leaf.Leaf.{Leaf}
+
+-- both regions have some world
+abbrev pub MeetSomewhere : DiagramMark → DiagramMark → Type 0
+MeetSomewhere a b = (w : WorldFields) × (region_at a w ≡ true) × (region_at b w ≡ true)
+
+-- some of the regions has the world
+abbrev pub some_holds : List DiagramMark → WorldFields → Bool
+some_holds [] w = false
+some_holds (m ∷ ms) w = region_at m w || some_holds ms w
+
+-- the leaf's diagram stands for a region, which has a world of the supported one
+abbrev pub IsForkIn : PassView → DiagramMark → Leaf → Type 0
+IsForkIn h supported l = IsRegion h l.region × MeetSomewhere l.region supported

@@ -1,0 +1,85 @@
+//! Truths of edges: unions of diagrams, and what they become under the supported region.
+ghost use Rattle.std.specs.Prelude.{IfOk, All, false, ◌||◌};
+ghost use Rattle.ul_interner.specs.Known.{Knows};
+ghost use Rattle.ul_tree.specs.Simplify.{Simplifies};
+ghost use Rattle.ul_algebra.specs.Answers.{IsDiagram};
+ghost use Rattle.ul_algebra.specs.Spelled.{tree_of};
+ghost use Rattle.ul_region.specs.Truths.{IsRegion, IsTruth, region_at};
+ghost use Rattle.ul_merge.specs.Unions.{MeetSomewhere, some_holds};
+
+use std::alloc::{AllocError, Global};
+use std::sync::Wait;
+use ul_algebra::{Algebra, Diagram};
+use ul_lock_lines::Region;
+use ul_tree::Tree;
+
+// What a truth becomes under the supported region.
+pub(crate) fn simplified<R: Wait>(
+    rt: &R,
+    alloc: Global,
+    algebra: &mut Algebra<'_>,
+    truth: &Diagram,
+    supported: &Diagram,
+) -> Result<Region, AllocError>
+    requires truth { IsRegion algebra.old truth.now }
+    requires supported { IsDiagram algebra.old supported.now }
+    requires meet { MeetSomewhere truth.now supported.now }
+    ensures knows { Knows algebra.old algebra.new }
+    ensures rule { IfOk result (λ r. Simplifies (tree_of truth.now) (tree_of supported.now) r) }
+{
+    let simpler = algebra.simplify(rt, alloc, truth, supported)?;
+    let tree = algebra.tree(alloc, &simpler)?;
+    Ok(Region::of(tree))
+}
+
+// The truth that is true nowhere.
+fn nowhere<R: Wait>(rt: &R, alloc: Global, algebra: &mut Algebra<'_>) -> Result<Diagram, AllocError>
+    ensures knows { Knows algebra.old algebra.new }
+    ensures truth { IfOk result (λ d. IsTruth algebra.new d (λ w. false)) }
+{
+    let d = algebra.of_tree(rt, alloc, &Tree::Truth(false))?;
+    Ok(d)
+}
+
+// The union of two regions.
+fn either<R: Wait>(
+    rt: &R,
+    alloc: Global,
+    algebra: &mut Algebra<'_>,
+    first: &Diagram,
+    second: &Diagram,
+) -> Result<Diagram, AllocError>
+    requires first { IsRegion algebra.old first.now }
+    requires second { IsRegion algebra.old second.now }
+    ensures knows { Knows algebra.old algebra.new }
+    ensures truth { IfOk result (λ d. IsTruth algebra.new d (λ w. region_at first.now w || region_at second.now w)) }
+{
+    let d = algebra.or(rt, alloc, first, second)?;
+    Ok(d)
+}
+
+// The union of regions, by halves.
+pub(crate) fn union_of<R: Wait>(
+    rt: &R,
+    alloc: Global,
+    algebra: &mut Algebra<'_>,
+    parts: &[Diagram],
+) -> Result<Diagram, AllocError>
+    requires { All (IsRegion algebra.old) parts.now }
+    ensures knows { Knows algebra.old algebra.new }
+    ensures truth { IfOk result (λ d. IsTruth algebra.new d (some_holds parts.now)) }
+{
+    if parts.len() == 0 {
+        let d = nowhere(rt, alloc, algebra)?;
+        return Ok(d);
+    }
+    if parts.len() == 1 {
+        let d = parts[0].share()?;
+        return Ok(d);
+    }
+    let (front, back) = parts.split_at(parts.len() / 2);
+    let first = union_of(rt, alloc, algebra, front)?;
+    let second = union_of(rt, alloc, algebra, back)?;
+    let d = either(rt, alloc, algebra, &first, &second)?;
+    Ok(d)
+}

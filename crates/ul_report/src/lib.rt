@@ -1,0 +1,15 @@
+//! Refusals and derivations as text.
+//!
+//! `specs/Texts.antt` has the bytes of each line, `specs/Naming.antt` what a step of a problem is called.
+#![tactic(auto)]
+
+pub mod laws;
+mod naming;
+mod refusals;
+mod step_lines;
+mod text_steps;
+
+pub use naming::fits;
+pub use refusals::refusal;
+pub use step_lines::steps;
+pub use text_steps::{Steps, Terms, TextStep, TextTerm, Versions};
