@@ -26,5 +26,8 @@ pub fn edge_order(edge: &Edge, other: &Edge) -> Ordering
 pub fn file_order(file: &FileEntry, other: &FileEntry) -> Ordering
     ensures { result ≡ file_cmp file.now other.now }
 {
-    file.file.as_str().as_bytes().cmp(other.file.as_str().as_bytes())
+    file.file
+        .as_str()
+        .as_bytes()
+        .cmp(other.file.as_str().as_bytes())
 }
