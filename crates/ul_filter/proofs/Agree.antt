@@ -1,9 +1,15 @@
 -- The picks of worlds that agree.
 use Rattle.std.proofs.Common.{◌≡◌, ◌↔◌, ◌<◌, ℕ, zero, suc, Bool, true, List, [], ◌∷◌, Some, length, refl, sym, ap, ap₂, ◌∙◌, subst, arith}
+use Rattle.std.specs.Prelude.{flat_map}
 use Rattle.std.specs.List.{slice_get}
 use Rattle.std.specs.Bool.{one_answer}
+use Rattle.ul_lock_lines.specs.declared.parts.Lock.{Lock}
+use Rattle.ul_lock_walk.specs.Walk.{AgreeAt, AgreeAtAll}
 use Rattle.ul_lock_walk.proofs.ForCallers.{walks_agree}
-use Rattle.ul_filter.specs.Headline.{PicksAgree}
+use Rattle.ul_marker.specs.Worlds.{WorldFields}
+use Rattle.ul_tree.specs.Plain.{Plain, truth, node, Branches, done, branch}
+use Rattle.ul_filter.specs.Environment.{pick_line}
+use Rattle.ul_filter.specs.Headline.{IsEnvironment, PicksAgree, TextsAgree}
 use Rattle.ul_filter.specs.Met.{is_flagged}
 use Rattle.ul_filter.specs.Picks.{picks_of}
 use Rattle.ul_filter.specs.Routes.{Route, routes_of}
@@ -32,3 +38,22 @@ picks_agree l w v xs ps qs agree a b =
 
     one : (k : ℕ) → (r : Route) × (slice_get (routes_of l.packages) k ≡ Some r) → is_flagged a.flags k ≡ is_flagged b.flags k
     one k r = both_ways (is_flagged a.flags k) (is_flagged b.flags k) (a.each k r.0 r.1) (b.each k r.0 r.1) (walks_agree l w v xs agree r.0.0)
+
+-- the texts of worlds that agree
+pub texts_agree : TextsAgree
+texts_agree l w v xs s t agree (ps, a, e) (qs, b, f) = e ∙ (ap (λ vs. flat_map pick_line vs) (picks_agree l w v xs ps qs agree a b) ∙ sym f)
+
+-- ---- a world agrees with itself
+
+mutual
+  tree_itself : (w : WorldFields) (t : Plain) → AgreeAt w w t
+  tree_itself w (truth b) = tt
+  tree_itself w (node l d bs) = (refl, tree_itself w d, branches_itself w bs)
+
+  branches_itself : (w : WorldFields) (bs : Branches) → AgreeAtAll w w bs
+  branches_itself w done = tt
+  branches_itself w (branch k c rest) = (tree_itself w c, branches_itself w rest)
+
+-- a lock gives a world one text
+pub one_text : (l : Lock) (w : WorldFields) (xs : List (List ℕ)) (s t : List ℕ) → IsEnvironment l w xs s → IsEnvironment l w xs t → s ≡ t
+one_text l w xs s t = texts_agree l w w xs s t (λ p e has. tree_itself w e.marker)

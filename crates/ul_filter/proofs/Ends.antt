@@ -30,7 +30,8 @@ use Rattle.ul_filter.proofs.RouteFacts.{clash}
 
 -- ---- lists
 
-each_at : {A : Type 0} (P : A → Type 0) (xs : List A) (x : A) → Each P xs → Contains xs x → P x
+-- what holds of each element holds of one
+pub each_at : {A : Type 0} (P : A → Type 0) (xs : List A) (x : A) → Each P xs → Contains xs x → P x
 each_at P [] x h c = absurd (none_in x c)
 each_at P (y ∷ ys) x h c = ⊎_elim (λ e. subst P (sym e) h.0) (each_at P ys x h.1) (contains_cases y ys x c)
 

@@ -7,3 +7,5 @@ pub mod Apart
 pub mod Ends
 pub mod PickFacts
 pub mod Agree
+pub mod Machines
+pub mod ForCallers

@@ -67,13 +67,13 @@ fn picks_in(
     Ok(picks)
 }
 
-/// What a lock gives in a world, with extras of its root: the packages that are reached from the root by edges that hold
-/// in the world, in the lock's order, without the root, each with its reached extras.
+/// What a lock gives in a world, with extras of its root: the packages that are reached from the root by edges that
+/// hold in the world, in the lock's order, without the root, each with its reached extras.
 ///
 /// # Errors
 ///
-/// `Outside` where the lock isn't for the world; else `NoExtra` with the first extra that the root doesn't have; or want of
-/// memory.
+/// `Outside` where the lock isn't for the world; else `NoExtra` with the first extra that the root doesn't have; or
+/// want of memory.
 pub fn walk(
     alloc: Global,
     lock: &Lock,

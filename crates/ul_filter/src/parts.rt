@@ -21,7 +21,8 @@ fn push_extras<'a>(
     block: &'a Locked,
     extras: &'a [Extra],
 ) -> Result<(), AllocError>
-    ensures { OnOk result (map route_of parts.new.items ≡ map route_of parts.old.items ++ map (extra_route block.now) extras.now) }
+    ensures { OnOk result (map route_of parts.new.items
+        ≡ map route_of parts.old.items ++ map (extra_route block.now) extras.now) }
 {
     for extra in extras {
         parts.push(Part {

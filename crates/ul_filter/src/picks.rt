@@ -85,7 +85,8 @@ fn pick_block(
     picks: &mut Vec<Pick>,
 ) -> Result<(), AllocError>
     requires { length flags.now ≡ node_count block.now }
-    ensures { OnOk result (map pick_view picks.new.items ≡ map pick_view picks.old.items ++ picks_at root.now block.now flags.now) }
+    ensures { OnOk result (map pick_view picks.new.items
+        ≡ map pick_view picks.old.items ++ picks_at root.now block.now flags.now) }
 {
     if block.name == *root {
         return Ok(());

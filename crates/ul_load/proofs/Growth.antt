@@ -12,6 +12,7 @@ use Rattle.indexmap.specs.IndexSet.{insert_key}
 use Rattle.ul_marker.specs.Atoms.{AtomFields}
 use Rattle.ul_requirement.specs.Fields.{PackageFields}
 use Rattle.ul_index.specs.Catalogs.{BeginsWithOne, IsCatalog, NamesDiffer, Packages, release_count}
+use Rattle.ul_load.specs.Begun.{BeginsWith, KeepsFirst}
 use Rattle.ul_load.specs.Loading.{Beginning, ProgressFields, first_progress, most_packages, most_releases, names_of, names_with, next_name, progress_with, requirements_of}
 use Rattle.ul_load.specs.Progressing.{HasNext, IsNextPackage, IsProgress}
 
@@ -109,3 +110,11 @@ grown s kept whole distinct =
       few = omega (arith, kept.releases, kept.entries);
       project = kept.project;
     }
+
+-- what stands first stays there when a package is added
+pub keeps_first : (s : ProgressFields) (p : ℕ × PackageFields) (t : ProgressFields) → t ≡ progress_with s p → KeepsFirst s.packages t.packages
+keeps_first s p t is first had = record { others = had.others ++ p.1 ∷ []; is = ap (λ x. x.packages) is ∙ ap (λ c. c ++ p.1 ∷ []) had.is }
+
+-- the project stands first in the beginning
+pub first_stands : (p : PackageFields) (c : Packages) → c ≡ p ∷ [] → BeginsWith p c
+first_stands p c is = record { others = []; is = is }

@@ -4,6 +4,7 @@ use Rattle.std.specs.Prelude.{◌≡◌, ℕ, List, Option, Result, IfOk}
 use Rattle.ul_base.specs.Files.{FileMap, Told}
 use Rattle.ul_index.specs.Catalogs.{IsCatalog, Packages}
 use Rattle.ul_load.specs.Loading.{Beginning}
+use Rattle.ul_load.specs.Begun.{BeginsWith}
 use Rattle.ul_load.specs.Faults.{Cause, LoadGives}
 use Rattle.ul_load.specs.declared.fault.LoadFault.{LoadFault}
 
@@ -17,3 +18,5 @@ pub record LoadPromises (before now : Option FileMap) (faults_before faults_now 
   pub cause : Cause faults_before faults_now last result
   -- the names of the packages differ, the project stands first, and there are few releases
   pub catalog : IfOk result IsCatalog
+  -- the project's package stands first, whatever the files tell
+  pub first : IfOk result (BeginsWith beginning.project)

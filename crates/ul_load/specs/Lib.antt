@@ -5,3 +5,4 @@ pub mod Faults
 pub mod Laws
 pub mod Views
 pub mod Vectors
+pub mod Begun

@@ -4,6 +4,7 @@ ghost use Rattle.std.specs.Prelude.{◌≡◌, IfOk, OnOk, length, map};
 ghost use Rattle.ul_base.specs.Files.{Told};
 ghost use Rattle.ul_index.specs.Catalogs.{IsCatalog};
 ghost use Rattle.ul_marker.specs.Views.{marker_view};
+ghost use Rattle.ul_load.specs.Begun.{BeginsWith, KeepsFirst};
 ghost use Rattle.ul_load.specs.Faults.{Cause, FailedAt, Gives, LoadGives};
 ghost use Rattle.ul_load.specs.Headline.{LoadPromises};
 ghost use Rattle.ul_load.specs.Loading.{beginning_of, document_path, next_name, next_progress};
@@ -34,6 +35,7 @@ fn follow<F: Files>(
     ensures cause { Cause (F.faults files.old) (F.faults files.new) (F.last_failed files.new) result }
     ensures failed { FailedAt (λ p. p ≡ document_path folder.now (next_name (progress_view progress.old))) result }
     ensures kept { OnOk result (IsProgress (progress_view progress.new)) }
+    ensures first { OnOk result (KeepsFirst (progress_view progress.old).packages (progress_view progress.new).packages) }
 {
     let name = progress.next_name(alloc)?;
     let found = package_at(alloc, files, folder, &name, progress.bytes)?;
@@ -56,6 +58,7 @@ fn load_all<F: Files>(
     ensures same { F.map files.new ≡ F.map files.old }
     ensures cause { Cause (F.faults files.old) (F.faults files.new) (F.last_failed files.new) result }
     ensures catalog { IfOk result IsCatalog }
+    ensures first { IfOk result (BeginsWith project.now) }
 {
     let mut progress = Progress::begin(alloc, project, environments, constraints, overrides)?;
     for _turn in 0..usize::MAX {

@@ -2,6 +2,7 @@
 
 ghost use Rattle.std.specs.Prelude.{◌≡◌, ◌∷◌, ◌≤◌, ◌+◌, ◌↔◌, [], IfErr, IfOk, IsTrue, OnOk, length, map};
 ghost use Rattle.ul_marker.specs.Views.{marker_view};
+ghost use Rattle.ul_load.specs.Begun.{BeginsWith, KeepsFirst};
 ghost use Rattle.ul_load.specs.Faults.{Gives, IsOfBytes};
 ghost use Rattle.ul_load.specs.Loading.{beginning_of, comparisons_with, first_progress, met_within, names_of, names_with, most_packages, most_releases, next_name, own_atoms, progress_with, requirements_of, total_bytes, within};
 ghost use Rattle.ul_load.specs.Progressing.{HasNext, IsNextPackage, IsProgress};
@@ -89,6 +90,7 @@ impl Progress {
         ensures told { Gives progress_view result (within (first_progress
             (beginning_of project.now (map marker_view environments.now) constraints.now overrides.now))) }
         ensures kept { IfOk result (λ p. IsProgress (progress_view p)) }
+        ensures first { IfOk result (λ p. BeginsWith project.now (progress_view p).packages) }
         ensures bytes { IfErr result IsOfBytes }
     {
         let names = first_names(alloc, project)?;
@@ -143,6 +145,7 @@ impl Progress {
         ensures told { Gives (λ _. progress_view self.new) result
             (within (progress_with (progress_view self.old) (size, found))) }
         ensures kept { OnOk result (IsProgress (progress_view self.new)) }
+        ensures first { OnOk result (KeepsFirst (progress_view self.old).packages (progress_view self.new).packages) }
         ensures bytes { IfErr result IsOfBytes }
     {
         if found.entries > RELEASES - self.entries {

@@ -10,6 +10,6 @@ mod step_lines;
 mod text_steps;
 
 pub use naming::fits;
-pub use refusals::refusal;
+pub use refusals::{refusal, sample_text};
 pub use step_lines::steps;
 pub use text_steps::{Steps, Terms, TextStep, TextTerm, Versions};

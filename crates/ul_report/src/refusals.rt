@@ -8,7 +8,7 @@ ghost use Rattle.ul_report.specs.Texts.{lines_text, path_text, python_part, refu
 ghost use Rattle.ul_tree.specs.Paths.{paths_of};
 ghost use Rattle.ul_tree.specs.Plain.{truth};
 ghost use Rattle.ul_tree.specs.Reduced.{IsReduced};
-ghost use Rattle.ul_tree.specs.Sample.{asks_extra};
+ghost use Rattle.ul_tree.specs.Sample.{asks_extra, sample_of};
 ghost use Rattle.ul_tree.specs.Views.{tree_view};
 
 use std::alloc::{AllocError, Global};
@@ -95,6 +95,20 @@ fn push_world(out: &mut String, world: &World) -> Result<(), AllocError>
     push_texts(out, world)?;
     push_truths(out, &world.truths)?;
     Ok(())
+}
+
+/// A world of a region as comparisons, as `refusal` prints it: the region's sample. The region isn't false and asks for
+/// no extra.
+pub fn sample_text(alloc: Global, region: &Tree) -> Result<String, AllocError>
+    requires reduced { IsReduced (tree_view region.now) }
+    requires not_false { tree_view region.now ≢ truth false }
+    requires no_extra { asks_extra (tree_view region.now) ≡ false }
+    ensures { IfOk result (λ s. string_bytes s ≡ world_text (sample_of (tree_view region.now))) }
+{
+    let world = sample(alloc, region)?;
+    let mut out = String::new(alloc);
+    push_world(&mut out, &world)?;
+    Ok(out)
 }
 
 // ---- a path

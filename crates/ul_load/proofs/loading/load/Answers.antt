@@ -6,4 +6,5 @@ returns g c = record {
   same = c.load_all.ensures.same;
   cause = c.load_all.ensures.cause;
   catalog = c.load_all.ensures.catalog;
+  first = c.load_all.ensures.first;
 }

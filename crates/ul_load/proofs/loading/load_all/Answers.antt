@@ -18,6 +18,7 @@ loop-turn-init g c = record {
   files = refl;
   faults = refl;
   kept = c.in_ok-progress.ensures.kept;
+  first = c.in_ok-progress.ensures.first;
   value = λ m e.
       loads_first m c.args.folder.now (beginning_of c.args.project.now (map marker_view c.args.environments.now) c.args.constraints.now c.args.overrides.now)
       (progress_view c.in_ok-progress.progress) c.in_ok-progress.ensures.told;
@@ -41,7 +42,12 @@ loop-turn-preserved g c = record {
   files = c.in_ok-follow.ensures.same ∙ c.loop-turn.invariant.files;
   faults = c.in_ok-follow.ensures.cause ∙ c.loop-turn.invariant.faults;
   kept = c.in_ok-follow.ensures.kept;
+  first = c.in_ok-follow.ensures.first _ c.loop-turn.invariant.first;
   value = λ m e.
       loads_on m c.args.folder.now (beginning_of c.args.project.now (map marker_view c.args.environments.now) c.args.constraints.now c.args.overrides.now)
       (progress_view c.loop-turn.progress) _ (search rules) (c.in_ok-follow.ensures.told m (c.loop-turn.invariant.files ∙ e)) (c.loop-turn.invariant.value m e);
 }
+
+pub returns-then-not-has_next-clause-first : goal.returns-then-not-has_next-clause-first
+returns-then-not-has_next-clause-first g c =
+    rw c.in_ok-catalog.ensures c.loop-turn.invariant.first

@@ -1,6 +1,7 @@
 use Rattle.std.proofs.Common.{◌≡◌, Some, map}
 use Rattle.ul_base.specs.Files.{FileMap}
 use Rattle.ul_marker.specs.Views.{marker_view}
+use Rattle.ul_load.specs.Begun.{BeginsWith}
 use Rattle.ul_load.specs.Loading.{beginning_of}
 use Rattle.ul_load.specs.Progressing.{IsLoading, IsProgress}
 use Rattle.ul_load.specs.Views.{progress_view}
@@ -12,6 +13,7 @@ invariant-loop-turn g l = record {
   files : g.F.Files.map l.files ≡ g.F.Files.map l.fn.files;
   faults : g.F.Files.faults l.files ≡ g.F.Files.faults l.fn.files;
   kept : IsProgress (progress_view l.progress);
+  first : BeginsWith l.project (progress_view l.progress).packages;
   value : (m : FileMap) → g.F.Files.map l.fn.files ≡ Some m
       → IsLoading m l.folder (beginning_of l.project (map marker_view l.environments) l.constraints l.overrides) (progress_view l.progress);
 }

@@ -3,7 +3,7 @@ use Rattle.ul_requirement.specs.Fields.{PackageFields}
 use Rattle.ul_load.specs.Loading.{most_packages}
 use Rattle.ul_load.specs.Progressing.{IsProgress}
 use Rattle.ul_load.specs.Views.{progress_view}
-use Rattle.ul_load.proofs.Growth.{grows, ok_then}
+use Rattle.ul_load.proofs.Growth.{grows, keeps_first, ok_then}
 use Rattle.ul_load.proofs.progress.Progress.add.Goals as goal
 
 pub returns-clause-kept : goal.returns-clause-kept
@@ -14,4 +14,10 @@ returns-clause-kept c =
     (λ names. subst IsProgress (sym note)
     (grows (progress_view c.args.self.now) (c.args.size, c.args.found) c.requires.kept c.requires.next c.requires.is
     (omega (arith, same, c.requires.kept.entries)) (subst (λ s. length s.names ≤ most_packages) note names)))
+    c.check.ensures.names
+
+pub returns-clause-first : goal.returns-clause-first
+returns-clause-first c =
+    ok_then c.check.result _ _
+    (λ names. keeps_first (progress_view c.args.self.now) (c.args.size, c.args.found) _ c.in_ok-note.ensures)
     c.check.ensures.names

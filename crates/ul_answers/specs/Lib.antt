@@ -1,0 +1,4 @@
+pub mod Answer
+pub mod Printed
+pub mod Views
+pub mod Refusals

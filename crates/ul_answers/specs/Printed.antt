@@ -1,0 +1,61 @@
+-- What is printed: one status and one text for each answer and for each refusal.
+use Rattle.std.specs.Prelude.{ℕ, List, [], ◌++◌, codes, length, nat_le, Option, Some, None, Result, Ok, Err, if◌then◌else◌}
+use Rattle.std.specs.Fmt.{decimal}
+use Rattle.ul_tree.specs.Paths.{paths_of}
+use Rattle.ul_tree.specs.Plain.{Plain}
+use Rattle.ul_lock_text.specs.Markers.{markers_of, first_over}
+use Rattle.ul_lock_text.specs.Texts.{lock_text}
+use Rattle.ul_report.specs.Texts.{refusal_text}
+use Rattle.ul_inputs.specs.Refused.{Refused, not_built, malformed, limit}
+use Rattle.ul_inputs.specs.Inputs.{text_bytes}
+use Rattle.ul_answers.specs.Answer.{Answer, usage, locked, no_selection, derived, none_refused, environment, outside, no_extra, accepted, rejected}
+
+-- a status and a text
+abbrev pub Output : Type 0
+Output = ℕ × List ℕ
+
+-- the output of a refused input
+abbrev pub refused_output : Refused → Output
+refused_output (not_built form) = (3, codes "not built: " ++ form ++ codes "\n")
+refused_output (malformed file place) = (3, codes "malformed: " ++ file ++ codes ": " ++ place ++ codes "\n")
+refused_output (limit name number) = (4, codes "limit: " ++ name ++ codes " " ++ decimal number ++ codes "\n")
+
+-- a marker has too many paths to be printed
+abbrev pub too_many_paths : Output
+too_many_paths = refused_output (limit (codes "marker-paths") 4096)
+
+-- a lock's text, where it isn't too long
+abbrev pub text_output : List ℕ → Output
+text_output text =
+    if nat_le (length text) text_bytes then (0, text) else refused_output (limit (codes "text-bytes") text_bytes)
+
+-- a lock's text, where no marker has too many paths and it isn't too long
+abbrev pub lock_output : Option ℕ → List ℕ → Output
+lock_output (Some paths) text = too_many_paths
+lock_output None text = text_output text
+
+-- a refusal's text, where its region hasn't too many paths
+abbrev pub refusal_output : Plain → List ℕ → Output
+refusal_output region text = if nat_le (paths_of region) 4096 then (1, text) else too_many_paths
+
+-- the line of words that aren't one of the commands
+abbrev pub usage_text : List ℕ
+usage_text = codes "usage: unilock lock|why|env|check|gen|export|verify WORDS\n"
+
+-- the status and the text of an answer
+abbrev pub output_of : Answer → Output
+output_of usage = (2, usage_text)
+output_of (locked l) = lock_output (first_over (markers_of l)) (lock_text l)
+output_of (no_selection path region) = refusal_output region (refusal_text path region)
+output_of (derived path region steps) = refusal_output region (refusal_text path region ++ steps)
+output_of none_refused = (0, codes "no fork is refused\n")
+output_of (environment text) = (0, text)
+output_of outside = (8, codes "outside\n")
+output_of (no_extra name) = (8, codes "extra: " ++ name ++ codes "\n")
+output_of accepted = (0, codes "accepted\n")
+output_of (rejected step) = (9, codes "rejected: step " ++ decimal step ++ codes "\n")
+
+-- the status and the text of an answer, or of what refused it
+abbrev pub printed : Result Answer Refused → Output
+printed (Ok a) = output_of a
+printed (Err e) = refused_output e

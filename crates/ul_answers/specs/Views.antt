@@ -1,0 +1,24 @@
+-- What the answers and outputs of the code stand for.
+use Rattle.std.specs.Prelude.{string_bytes}
+use Rattle.ul_answers.specs.Answer as answer
+use Rattle.ul_answers.specs.Printed.{Output as Printed}
+use Rattle.ul_answers.specs.declared.answer.Answer.{Answer}
+use Rattle.ul_answers.specs.declared.answer.Answer.TheVariants.{Usage, Locked, NoSelection, Derived, NoneRefused, Environment, Outside, NoExtra, Accepted, Rejected}
+use Rattle.ul_answers.specs.declared.outputs.Output.{Output}
+
+-- an answer
+abbrev pub view : Answer → answer.Answer
+view Usage = answer.usage
+view (Locked l) = answer.locked l
+view (NoSelection path region) = answer.no_selection path.items region
+view (Derived path region steps) = answer.derived path.items region steps.items
+view NoneRefused = answer.none_refused
+view (Environment text) = answer.environment text.items
+view Outside = answer.outside
+view (NoExtra name) = answer.no_extra (string_bytes name)
+view Accepted = answer.accepted
+view (Rejected step) = answer.rejected step
+
+-- a status and a text
+abbrev pub output_view : Output → Printed
+output_view o = (o.status, o.text.items)

@@ -1,0 +1,125 @@
+//! What is printed for an answer.
+ghost use Rattle.std.specs.Prelude.{◌≡◌, ◌++◌, IfOk, codes};
+ghost use Rattle.std.specs.Fmt.{decimal};
+ghost use Rattle.ul_report.specs.Texts.{refusal_text};
+ghost use Rattle.ul_lock_text.specs.Markers.{first_over, markers_of};
+ghost use Rattle.ul_lock_text.specs.Texts.{lock_text};
+ghost use Rattle.ul_answers.specs.Printed as spec;
+ghost use Rattle.ul_answers.specs.Views.{output_view, view};
+
+use crate::answer::Answer;
+use crate::refusals::limit_output;
+use std::alloc::{AllocError, Global};
+use ul_inputs::TEXT_BYTES;
+use ul_lock_lines::{Lock, Region};
+use ul_lock_text::{WriteFault, write};
+use ul_marker_text::TextFault;
+use ul_report::refusal;
+
+/// What is printed, and with which status the program ends.
+#[derive(Drop)]
+pub struct Output {
+    pub status: u8,
+    pub text: Vec<u8>,
+}
+
+// A fixed text.
+fn fixed(alloc: Global, status: u8, text: &str) -> Result<Output, AllocError>
+    ensures { IfOk result (λ o. output_view o ≡ (status, text.now)) }
+{
+    let text = Vec::from_slice(alloc, text.as_bytes())?;
+    Ok(Output { status, text })
+}
+
+// A marker has too many paths to be printed.
+fn too_many_paths(alloc: Global) -> Result<Output, AllocError>
+    ensures { IfOk result (λ o. output_view o ≡ spec.too_many_paths) }
+{
+    limit_output(alloc, "marker-paths", 4096)
+}
+
+// The text of a lock, or the limit that it passes.
+fn lock_output(alloc: Global, lock: &Lock) -> Result<Output, AllocError>
+    ensures { IfOk result (λ o. output_view o ≡ spec.lock_output (first_over (markers_of lock.now)) (lock_text lock.now)) }
+{
+    match write(alloc, lock) {
+        Ok(text) => Ok(Output { status: 0, text }),
+        Err(WriteFault::TooManyPaths { paths: _ }) => too_many_paths(alloc),
+        Err(WriteFault::TooLong) => limit_output(alloc, "text-bytes", TEXT_BYTES),
+        Err(WriteFault::NoMemory) => Err(AllocError),
+    }
+}
+
+// The text of a refused fork with steps behind it, or the limit that its region passes.
+fn fork_output(
+    alloc: Global,
+    path: &[bool],
+    region: &Region,
+    steps: &[u8],
+) -> Result<Output, AllocError>
+    ensures { IfOk result (λ o. output_view o
+        ≡ spec.refusal_output region.now (refusal_text path.now region.now ++ steps.now)) }
+{
+    match refusal(alloc, path, region.as_tree()) {
+        Ok(text) => {
+            let mut text = text;
+            text.extend_from_slice(steps)?;
+            Ok(Output { status: 1, text })
+        }
+        Err(TextFault::TooLong { paths: _ }) => too_many_paths(alloc),
+        Err(TextFault::NoMemory) => Err(AllocError),
+    }
+}
+
+// The line of an extra that isn't there.
+fn extra_output(alloc: Global, name: &str) -> Result<Output, AllocError>
+    ensures { IfOk result (λ o. output_view o ≡ (8, codes "extra: " ++ name.now ++ codes "\n")) }
+{
+    let text = format!(in alloc; "extra: {name}\n")?;
+    Ok(Output {
+        status: 8,
+        text: text.into_bytes(),
+    })
+}
+
+// The line of a derivation that is rejected.
+fn step_output(alloc: Global, step: u64) -> Result<Output, AllocError>
+    ensures { IfOk result (λ o. output_view o ≡ (9, codes "rejected: step " ++ decimal step ++ codes "\n")) }
+{
+    let text = format!(in alloc; "rejected: step {step}\n")?;
+    Ok(Output {
+        status: 9,
+        text: text.into_bytes(),
+    })
+}
+
+/// What is printed for an answer, and the status that goes with it. A lock or a refused fork that passes a limit of
+/// printing is answered by that limit.
+///
+/// # Errors
+///
+/// Only for want of memory.
+pub fn answer_output(alloc: Global, answer: Answer) -> Result<Output, AllocError>
+    ensures { IfOk result (λ o. output_view o ≡ spec.output_of (view answer)) }
+{
+    match answer {
+        Answer::Usage => fixed(
+            alloc,
+            2,
+            "usage: unilock lock|why|env|check|gen|export|verify WORDS\n",
+        ),
+        Answer::Locked(lock) => lock_output(alloc, &lock),
+        Answer::NoSelection { path, region } => fork_output(alloc, path.as_slice(), &region, &[]),
+        Answer::Derived {
+            path,
+            region,
+            steps,
+        } => fork_output(alloc, path.as_slice(), &region, steps.as_slice()),
+        Answer::NoneRefused => fixed(alloc, 0, "no fork is refused\n"),
+        Answer::Environment(text) => Ok(Output { status: 0, text }),
+        Answer::Outside => fixed(alloc, 8, "outside\n"),
+        Answer::NoExtra(name) => extra_output(alloc, name.as_str()),
+        Answer::Accepted => fixed(alloc, 0, "accepted\n"),
+        Answer::Rejected(step) => step_output(alloc, step),
+    }
+}

@@ -1,0 +1,5 @@
+pub mod ForCallers
+mod ProjectFaults
+mod LockFaults
+mod Usable
+mod LoadFaults

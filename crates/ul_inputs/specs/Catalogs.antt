@@ -1,0 +1,76 @@
+-- The catalog of a project from its index folder, adjusted by its constraints and overrides.
+use Rattle.std.specs.Prelude.{◌≡◌, ℕ, List, ◌∷◌, codes, option_map, Option, Some, None, Result, Ok, Err}
+use Rattle.ul_index.specs.Catalogs.{Packages}
+use Rattle.ul_index.specs.Documents.{DocumentFault, not_json, shape, wrong_name}
+use Rattle.ul_index.specs.Places.{place_text}
+use Rattle.ul_index.specs.declared.fault.IndexFault.{IndexFault}
+use Rattle.ul_index.specs.declared.fault.IndexFault.TheVariants.{NotJson, Shape, WrongName, NoMemory}
+use Rattle.ul_project.specs.Fields.{ProjectFields}
+use Rattle.ul_load.specs.Loading.{Beginning, Fault, Found, IsRead, LoadAnswer, beginning_of, document, too_long, too_many_bytes, too_many_packages, too_many_releases, too_many_comparisons}
+use Rattle.ul_load.specs.Faults.{fault_of}
+use Rattle.ul_load.specs.declared.fault.LoadFault.{LoadFault}
+use Rattle.ul_load.specs.declared.fault.LoadFault.TheVariants.{Read}
+use Rattle.ul_groups.specs.Adjusted.{adjusted_catalog, adjusted_package, all_on}
+use Rattle.ul_inputs.specs.Inputs.{Input, ◌>>=◌, just, file_bytes}
+use Rattle.ul_inputs.specs.Refusals.{IsRefusalFor}
+use Rattle.ul_inputs.specs.declared.refusal.Refusal.{Refusal}
+use Rattle.ul_inputs.specs.declared.refusal.Refusal.TheVariants.{ReadFault}
+use Rattle.ul_inputs.specs.Refused.{Refused, malformed, limit}
+
+-- the place of a document's fault, as it is printed
+abbrev pub document_fault_text : DocumentFault → List ℕ
+document_fault_text not_json = codes "not JSON"
+document_fault_text (shape place) = place_text place
+document_fault_text wrong_name = codes "name"
+
+-- a fault of loading, as a refusal
+abbrev pub refused_load : Fault → Refused
+refused_load (document path fault) = malformed path (document_fault_text fault)
+refused_load (too_long path) = limit (codes "file-bytes") file_bytes
+refused_load too_many_bytes = limit (codes "total-bytes") 268435456
+refused_load too_many_packages = limit (codes "packages") 20000
+refused_load too_many_releases = limit (codes "releases") 200000
+refused_load too_many_comparisons = limit (codes "comparisons") 256
+
+-- what a document's fault of the code says, if it isn't want of memory
+abbrev pub refused_document : List ℕ → IndexFault → Option Refused
+refused_document path NotJson = Some (malformed path (codes "not JSON"))
+refused_document path (Shape place) = Some (malformed path (place_text place))
+refused_document path WrongName = Some (malformed path (codes "name"))
+refused_document path NoMemory = None
+
+-- the refusal says what loading's fault says, with the path of a read that failed
+abbrev pub IsLoadRefusal : LoadFault → Refusal → Type 0
+IsLoadRefusal (Read path) e = e ≡ ReadFault path
+IsLoadRefusal f e = IsRefusalFor (option_map refused_load (fault_of f)) e
+
+-- what loading begins with
+abbrev pub beginning : ProjectFields → Beginning
+beginning p = beginning_of p.package p.environments p.constraints p.overrides
+
+-- what is found, or its fault as a refusal
+abbrev pub found_or_refused : Found Packages → Result Packages Refused
+found_or_refused (Ok c) = Ok c
+found_or_refused (Err f) = Err (refused_load f)
+
+-- what loading answers, as a refusal where it is a fault
+pub record IsLoaded (answers : Found Packages → Type 0) (r : Result Packages Refused) : Type 0 where
+  pub found : Found Packages
+  pub answered : answers found
+  pub is : r ≡ found_or_refused found
+
+-- the catalog of the documents
+abbrev pub documents : List ℕ → ProjectFields → Input Packages
+documents folder p m = record {
+  gives = IsLoaded (LoadAnswer m folder (beginning p));
+  reads = IsRead m folder (beginning p);
+}
+
+-- the catalog of the documents, adjusted
+abbrev pub catalog_in : List ℕ → ProjectFields → Input Packages
+catalog_in folder p = documents folder p >>= λ c. just (Ok (adjusted_catalog p.constraints p.overrides c))
+
+-- the catalog begins with the project's package, adjusted
+pub record BeginsAdjusted (p : ProjectFields) (c : Packages) : Type 0 where
+  pub others : Packages
+  pub is : c ≡ adjusted_package (all_on p.constraints) (all_on p.overrides) p.package ∷ others

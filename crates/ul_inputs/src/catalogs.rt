@@ -1,0 +1,84 @@
+//! The catalog of a project from its index folder.
+ghost use Rattle.std.specs.Prelude.{◌≡◌, IfOk};
+ghost use Rattle.ul_base.specs.Files.{Told};
+ghost use Rattle.ul_load.specs.Begun.{BeginsWith};
+ghost use Rattle.ul_inputs.specs.Catalogs as spec;
+ghost use Rattle.ul_inputs.specs.Refusals.{Answers, Cause, IsRefusalFor};
+
+use crate::files::FILE_BYTES;
+use crate::refusal::{Refusal, malformed, malformed_at};
+use std::alloc::Global;
+use ul_base::Files;
+use ul_groups::adjust;
+use ul_index::{Catalog, IndexFault};
+use ul_load::{COMPARISONS, LoadFault, PACKAGES, RELEASES, TOTAL_BYTES, load_project};
+use ul_project::Project;
+
+// The refusal of a document for its fault.
+fn document_refusal(alloc: Global, path: &str, fault: IndexFault) -> Refusal
+    ensures { IsRefusalFor (spec.refused_document path.now fault) result }
+{
+    match fault {
+        IndexFault::NotJson => malformed_at(alloc, path, "not JSON"),
+        IndexFault::Shape(place) => match place.text(alloc) {
+            Ok(place) => malformed(alloc, path, place),
+            Err(_) => Refusal::NoMemory,
+        },
+        IndexFault::WrongName => malformed_at(alloc, path, "name"),
+        IndexFault::NoMemory => Refusal::NoMemory,
+    }
+}
+
+// The refusal of an index folder for its fault.
+fn refusal(alloc: Global, fault: LoadFault) -> Refusal
+    ensures { spec.IsLoadRefusal fault result }
+{
+    match fault {
+        LoadFault::Read(path) => Refusal::ReadFault(path),
+        LoadFault::Document(path, fault) => document_refusal(alloc, path.as_str(), fault),
+        LoadFault::TooLong(_) => Refusal::Limit("file-bytes", FILE_BYTES),
+        LoadFault::TooManyBytes => Refusal::Limit("total-bytes", TOTAL_BYTES),
+        LoadFault::TooManyPackages => Refusal::Limit("packages", PACKAGES as u64),
+        LoadFault::TooManyReleases => Refusal::Limit("releases", RELEASES),
+        LoadFault::TooManyAtoms => Refusal::Limit("comparisons", COMPARISONS as u64),
+        LoadFault::NoMemory => Refusal::NoMemory,
+    }
+}
+
+// The catalog of the documents.
+fn documents<F: Files>(
+    alloc: Global,
+    files: &mut F,
+    folder: &str,
+    project: &Project,
+) -> Result<Catalog, Refusal>
+    ensures told { Told (F.map files.old)
+        (λ m. Answers (λ c. c) result (spec.documents folder.now project.now m)) }
+    ensures first { IfOk result (BeginsWith project.now.package) }
+    ensures same { F.map files.new ≡ F.map files.old }
+    ensures cause { Cause (F.faults files.old) (F.faults files.new) (F.last_failed files.new) result }
+{
+    match load_project(alloc, files, folder, project) {
+        Ok(catalog) => Ok(catalog),
+        Err(fault) => Err(refusal(alloc, fault)),
+    }
+}
+
+// The catalog of the documents, adjusted by the project's constraints and overrides.
+#[tactic(auto, using(crate::proofs::ForCallers::refuses, crate::proofs::ForCallers::goes_on, crate::proofs::Usable::adjusted_begins))]
+pub(crate) fn catalog_in<F: Files>(
+    alloc: Global,
+    files: &mut F,
+    folder: &str,
+    project: &Project,
+) -> Result<Catalog, Refusal>
+    ensures told { Told (F.map files.old)
+        (λ m. Answers (λ c. c) result (spec.catalog_in folder.now project.now m)) }
+    ensures first { IfOk result (spec.BeginsAdjusted project.now) }
+    ensures same { F.map files.new ≡ F.map files.old }
+    ensures cause { Cause (F.faults files.old) (F.faults files.new) (F.last_failed files.new) result }
+{
+    let documents = documents(alloc, files, folder, project)?;
+    let catalog = adjust(alloc, project, &documents)?;
+    Ok(catalog)
+}

@@ -1,0 +1,17 @@
+//! What the commands of unilock read: project files, index folders, locks and machine files, each with its refusal.
+#![tactic(auto)]
+
+mod catalogs;
+mod files;
+mod locks;
+mod machines;
+mod projects;
+mod refusal;
+mod resolutions;
+
+pub use files::{FILE_BYTES, TEXT_BYTES, large_file, small_file};
+pub use locks::lock_file;
+pub use machines::machine_file;
+pub use projects::project_file;
+pub use refusal::{Refusal, malformed};
+pub use resolutions::{Resolution, resolution_in, resolution_with};

@@ -1,0 +1,130 @@
+//! Locks that are read, and what an old one keeps.
+ghost use Rattle.std.specs.Prelude.{◌≡◌, Some, IfOk, bytes_eq, option_map};
+ghost use Rattle.ul_base.specs.Files.{Told};
+ghost use Rattle.ul_inputs.specs.Inputs.{only};
+ghost use Rattle.ul_inputs.specs.Locks as spec;
+ghost use Rattle.ul_inputs.specs.Refusals.{Answers, Cause, IsRefusalFor};
+
+use crate::files::large_file;
+use crate::refusal::{Refusal, malformed, malformed_at};
+use std::alloc::{AllocError, Global};
+use ul_base::{Files, Name};
+use ul_lock::{Lock, LockFault, Locked, read};
+use ul_version::Version;
+
+// The refusal of a lock file at a place with a number.
+fn numbered(alloc: Global, file: &str, word: &str, number: u64) -> Refusal
+    ensures { IsRefusalFor (Some (spec.numbered file.now word.now number)) result }
+{
+    match format!(in alloc; "{word} {number}") {
+        Ok(place) => malformed(alloc, file, place),
+        Err(_) => Refusal::NoMemory,
+    }
+}
+
+// The refusal of a lock file for its fault.
+fn refusal(alloc: Global, file: &str, fault: LockFault) -> Refusal
+    ensures { IsRefusalFor (spec.refused_lock file.now fault) result }
+{
+    match fault {
+        LockFault::Line(line) => numbered(alloc, file, "line", line),
+        LockFault::Root => malformed_at(alloc, file, "root"),
+        LockFault::Target(package) => numbered(alloc, file, "target", package),
+        LockFault::NoMemory => Refusal::NoMemory,
+    }
+}
+
+// The lock of a text.
+#[tactic(auto, using(crate::proofs::LockFaults::lock_found, crate::proofs::LockFaults::lock_fault))]
+fn lock_in(alloc: Global, path: &str, bytes: &[u8]) -> Result<Lock, Refusal>
+    ensures { Answers (λ l. l) result (only (spec.IsLockOf path.now bytes.now)) }
+{
+    match read(alloc, bytes) {
+        Ok(lock) => Ok(lock),
+        Err(fault) => Err(refusal(alloc, path, fault)),
+    }
+}
+
+/// The lock of the lock file at a path.
+#[tactic(auto, using(crate::proofs::ForCallers::refuses, crate::proofs::ForCallers::goes_on))]
+pub fn lock_file<F: Files>(alloc: Global, files: &mut F, path: &str) -> Result<Lock, Refusal>
+    ensures told { Told (F.map files.old) (λ m. Answers (λ l. l) result (spec.lock_at path.now m)) }
+    ensures same { F.map files.new ≡ F.map files.old }
+    ensures cause { Cause (F.faults files.old) (F.faults files.new) (F.last_failed files.new) result }
+{
+    let bytes = large_file(alloc, files, path)?;
+    lock_in(alloc, path, &bytes)
+}
+
+// The name and the version of a package.
+fn kept_one(alloc: Global, one: &Locked) -> Result<(Name, Version), AllocError>
+    ensures { IfOk result (λ k. k ≡ (one.now.name, one.now.version)) }
+{
+    let name = one.name.copy(alloc)?;
+    let version = one.version.copy(alloc)?;
+    Ok((name, version))
+}
+
+// Whether the package is the root.
+fn is_root(root: &Name, one: &Locked) -> bool
+    ensures { result ≡ bytes_eq one.now.name root.now }
+{
+    one.name == *root
+}
+
+// What packages keep beside the root.
+fn kept_in(
+    alloc: Global,
+    root: &Name,
+    packages: &[Locked],
+) -> Result<Vec<(Name, Version)>, AllocError>
+    ensures { IfOk result (λ k. k.items ≡ spec.kept_beside root.now packages.now) }
+{
+    let mut kept = Vec::new(alloc);
+    for one in packages {
+        if !is_root(root, one) {
+            kept.push(kept_one(alloc, one)?)?;
+        }
+    }
+    Ok(kept)
+}
+
+// What a lock keeps.
+fn kept(alloc: Global, lock: &Lock) -> Result<Vec<(Name, Version)>, AllocError>
+    ensures { IfOk result (λ k. k.items ≡ spec.kept_of lock.now) }
+{
+    kept_in(alloc, &lock.root, lock.packages.as_slice())
+}
+
+// What the lock at a path keeps.
+#[tactic(auto, using(crate::proofs::ForCallers::refuses, crate::proofs::ForCallers::goes_on))]
+fn kept_at<F: Files>(
+    alloc: Global,
+    files: &mut F,
+    path: &str,
+) -> Result<Vec<(Name, Version)>, Refusal>
+    ensures told { Told (F.map files.old) (λ m. Answers (λ k. k.items) result (spec.old_lock (Some path.now) m)) }
+    ensures same { F.map files.new ≡ F.map files.old }
+    ensures cause { Cause (F.faults files.old) (F.faults files.new) (F.last_failed files.new) result }
+{
+    let lock = lock_file(alloc, files, path)?;
+    let kept = kept(alloc, &lock)?;
+    Ok(kept)
+}
+
+// What an old lock keeps, if there is one.
+pub(crate) fn old_lock<F: Files>(
+    alloc: Global,
+    files: &mut F,
+    path: Option<&str>,
+) -> Result<Vec<(Name, Version)>, Refusal>
+    ensures told { Told (F.map files.old)
+        (λ m. Answers (λ k. k.items) result (spec.old_lock (option_map (λ p. p.now) path.entry) m)) }
+    ensures same { F.map files.new ≡ F.map files.old }
+    ensures cause { Cause (F.faults files.old) (F.faults files.new) (F.last_failed files.new) result }
+{
+    match path {
+        Some(path) => kept_at(alloc, files, path),
+        None => Ok(Vec::new(alloc)),
+    }
+}

@@ -1,0 +1,111 @@
+//! The project of a project file.
+ghost use Rattle.std.specs.Prelude.{◌≡◌, ◌++◌, [], IfOk, Some, string_bytes};
+ghost use Rattle.ul_base.specs.Files.{Told};
+ghost use Rattle.ul_project.specs.Paths.{path_text};
+ghost use Rattle.ul_groups.specs.Expanded.{expanded_project};
+ghost use Rattle.ul_inputs.specs.Inputs.{only};
+ghost use Rattle.ul_inputs.specs.Projects as spec;
+ghost use Rattle.ul_inputs.specs.Refused as refused;
+ghost use Rattle.ul_inputs.specs.Resolutions.{HasUsable};
+ghost use Rattle.ul_inputs.specs.Refusals.{Answers, Cause, IsRefusalFor};
+
+use crate::files::small_file;
+use crate::refusal::{Refusal, malformed, malformed_at};
+use std::alloc::{AllocError, Global};
+use ul_base::Files;
+use ul_groups::expand;
+use ul_project::{Project, ProjectFault, ProjectPath, project};
+use ul_requirement::Strategy;
+
+// The place of a fault, behind a word on it.
+fn place(alloc: Global, word: &str, path: &ProjectPath) -> Result<String, AllocError>
+    ensures { IfOk result (λ t. string_bytes t ≡ word.now ++ path_text path.now) }
+{
+    let path = path.text(alloc)?;
+    let text = format!(in alloc; "{word}{path}")?;
+    Ok(text)
+}
+
+// The refusal of a project file at a place.
+fn refused_at(alloc: Global, file: &str, word: &str, path: &ProjectPath) -> Refusal
+    ensures { IsRefusalFor (Some (refused.malformed file.now (word.now ++ path_text path.now))) result }
+{
+    match place(alloc, word, path) {
+        Ok(place) => malformed(alloc, file, place),
+        Err(_) => Refusal::NoMemory,
+    }
+}
+
+// The refusal of a project file for its fault.
+fn refusal(alloc: Global, file: &str, fault: ProjectFault) -> Refusal
+    ensures { IsRefusalFor (spec.refused_project file.now fault) result }
+{
+    match fault {
+        ProjectFault::NotToml => malformed_at(alloc, file, "not TOML"),
+        ProjectFault::Shape(path) => refused_at(alloc, file, "", &path),
+        ProjectFault::Requirement(path) => refused_at(alloc, file, "requirement ", &path),
+        ProjectFault::Unsupported(path) => refused_at(alloc, file, "unsupported ", &path),
+        ProjectFault::EmptyRegion => malformed_at(alloc, file, "empty region"),
+        ProjectFault::NoMemory => Refusal::NoMemory,
+    }
+}
+
+// The project that bytes say.
+#[tactic(auto, using(crate::proofs::ProjectFaults::said_fault, crate::proofs::Usable::said_usable))]
+fn said(alloc: Global, path: &str, bytes: &[u8]) -> Result<Project, Refusal>
+    ensures answers { Answers (λ p. p) result (only (spec.IsProjectOf path.now bytes.now)) }
+    ensures usable { IfOk result (λ p. HasUsable p.package) }
+{
+    match project(alloc, bytes) {
+        Ok(found) => Ok(found),
+        Err(fault) => Err(refusal(alloc, path, fault)),
+    }
+}
+
+// The project with its groups as extras.
+#[tactic(auto, using(crate::proofs::ProjectFaults::expanded_fault, crate::proofs::Usable::expanded_usable))]
+fn expanded(alloc: Global, path: &str, found: Project) -> Result<Project, Refusal>
+    requires { HasUsable found.package }
+    ensures answers { Answers (λ p. p) result (only (spec.IsExpanded path.now (expanded_project found))) }
+    ensures usable { IfOk result (λ p. HasUsable p.package) }
+{
+    match expand(alloc, found) {
+        Ok(found) => Ok(found),
+        Err(fault) => Err(refusal(alloc, path, fault)),
+    }
+}
+
+// A project whose strategy is built.
+fn built(found: Project) -> Result<Project, Refusal>
+    ensures answers { Answers (λ p. p) result (only (λ r. r ≡ spec.built found.strategy found)) }
+    ensures same { IfOk result (λ p. p ≡ found) }
+{
+    match found.strategy {
+        Strategy::Fewest => Ok(found),
+        Strategy::RequiresPython => Ok(found),
+        Strategy::Deep => Err(Refusal::NotBuilt("fork-strategy deep")),
+    }
+}
+
+// The project of bytes.
+#[tactic(auto, using(crate::proofs::ForCallers::refuses, crate::proofs::ForCallers::goes_on))]
+fn project_in(alloc: Global, path: &str, bytes: &[u8]) -> Result<Project, Refusal>
+    ensures answers { Answers (λ p. p) result (spec.project_said path.now bytes.now []) }
+    ensures usable { IfOk result (λ p. HasUsable p.package) }
+{
+    let found = said(alloc, path, bytes)?;
+    let found = expanded(alloc, path, found)?;
+    built(found)
+}
+
+/// The project of the project file at a path, with its groups as extras.
+#[tactic(auto, using(crate::proofs::ForCallers::refuses, crate::proofs::ForCallers::goes_on))]
+pub fn project_file<F: Files>(alloc: Global, files: &mut F, path: &str) -> Result<Project, Refusal>
+    ensures told { Told (F.map files.old) (λ m. Answers (λ p. p) result (spec.project_at path.now m)) }
+    ensures same { F.map files.new ≡ F.map files.old }
+    ensures cause { Cause (F.faults files.old) (F.faults files.new) (F.last_failed files.new) result }
+    ensures usable { IfOk result (λ p. HasUsable p.package) }
+{
+    let bytes = small_file(alloc, files, path)?;
+    project_in(alloc, path, &bytes)
+}

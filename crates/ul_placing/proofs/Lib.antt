@@ -1,0 +1,17 @@
+pub mod Lists
+pub mod Marking
+pub mod Shared
+pub mod Aiming
+pub mod Barring
+pub mod Aimed
+pub mod Reaching
+pub mod Rising
+pub mod Ranking
+pub mod Completing
+pub mod Needing
+pub mod OneNode
+pub mod Whole
+pub mod Collecting
+pub mod Agreeing
+pub mod Covering
+pub mod Equal

@@ -1,0 +1,5 @@
+pub mod Aims
+pub mod Reach
+pub mod Ranks
+pub mod Facts
+pub mod Laws

@@ -1,0 +1,13 @@
+-- The place of a reached node among the reached ones.
+use Rattle.std.specs.Prelude.{ℕ, ◌+◌, List, [], ◌∷◌, Option, Some, None, get_or}
+use Rattle.ul_placing.specs.declared.reach.NodeAims.{NodeAims}
+
+-- of each node how many are reached before it, from a number on
+abbrev pub ranks_from : ℕ → List (Option NodeAims) → List ℕ
+ranks_from r [] = []
+ranks_from r (None ∷ aims) = r ∷ ranks_from r aims
+ranks_from r (Some a ∷ aims) = r ∷ ranks_from (r + 1) aims
+
+-- the rank at a place
+abbrev pub rank_in : List ℕ → ℕ → ℕ
+rank_in ranks k = get_or ranks k 0

@@ -1,0 +1,159 @@
+//! What is known of the nodes that a region reaches.
+ghost use Rattle.std.specs.Prelude.{◌≡◌, ◌<◌, ◌^◌, IfOk, Decides, Some, length, map, slice_get};
+ghost use Rattle.ul_index.specs.Catalogs.{is_release_fit};
+ghost use Rattle.ul_index.specs.Serves.{Suits};
+ghost use Rattle.ul_region.specs.Asked.{IsAtNode, IsInRegion, region_asked};
+ghost use Rattle.ul_region.specs.Truths.{region_at};
+ghost use Rattle.ul_prepared.specs.Prepared.{IsPrepared};
+ghost use Rattle.ul_placing.specs.Aims.{AreRowsOf, lent};
+ghost use Rattle.ul_placing.specs.Facts.{AreBarred, AreFacts, IsFacts, need_ranked, needs_ranked};
+
+use crate::aims::Aims;
+use crate::ranks::{base_at, rank_at};
+use crate::reach::NodeAims;
+use std::alloc::{AllocError, Global};
+use ul_algebra::Algebra;
+use ul_prepared::{NameFacts, Planned, Prepared};
+use ul_problem::{Need, NeedRow, NeedRows, NodeFacts};
+use ul_ranges::Ordinals;
+use ul_region::{AtNode, InRegion};
+use ul_requirement::{Strategy, Wish};
+
+// A need by ranks. Its set is shared.
+fn ranked_need(alloc: Global, ranks: &[u64], need: &Need) -> Result<Need, AllocError>
+    ensures { IfOk result (λ n. n ≡ need_ranked ranks.now need.now) }
+{
+    let node = rank_at(ranks, need.node);
+    let permitted = need.permitted.copy(alloc)?;
+    Ok(Need { node, permitted })
+}
+
+// The needs of a version by ranks.
+fn ranked_row(alloc: Global, ranks: &[u64], needs: &[&Need]) -> Result<NeedRow, AllocError>
+    ensures { IfOk result (λ r. r ≡ map (need_ranked ranks.now) (lent needs.now)) }
+{
+    let mut list = Vec::with_capacity(alloc, needs.len())?;
+    for need in needs {
+        let ranked = ranked_need(alloc, ranks, need)?;
+        list.push(ranked)?;
+    }
+    Ok(NeedRow::of(list))
+}
+
+// The needs of each version by ranks.
+fn ranked_rows(alloc: Global, ranks: &[u64], versions: &[Aims<'_>]) -> Result<NeedRows, AllocError>
+    ensures { IfOk result (λ r. r ≡ map (needs_ranked ranks.now) versions.now) }
+{
+    let mut list = Vec::with_capacity(alloc, versions.len())?;
+    for aims in versions {
+        let row = ranked_row(alloc, ranks, aims.needs.as_slice())?;
+        list.push(row)?;
+    }
+    Ok(NeedRows::of(list))
+}
+
+// Whether a release is fit where the strategy asks it to be.
+fn suits(algebra: &Algebra<'_>, at: &AtNode<'_>, strategy: Strategy) -> bool
+    requires { IsAtNode algebra.now at.now }
+    ensures { Decides result (Suits strategy (region_asked at.now) (is_release_fit at.now.row.now.release.now)) }
+{
+    match strategy {
+        Strategy::Fewest => at.is_fit_throughout(algebra),
+        Strategy::RequiresPython | Strategy::Deep => at.is_fit_somewhere(algebra),
+    }
+}
+
+// The versions of a node that the strategy bars.
+fn barred_of<'p>(
+    alloc: Global,
+    algebra: &Algebra<'_>,
+    place: &'p InRegion<'p>,
+    strategy: Strategy,
+    planned: &'p Planned<'p>,
+) -> Result<Ordinals, AllocError>
+    requires place { IsInRegion algebra.now place.now }
+    requires rows { AreRowsOf algebra.now place.now.truths.now planned.now }
+    requires few { length planned.now.rows.items < 2 ^ 32 }
+    ensures { IfOk result (AreBarred strategy (region_at place.now.region.now) planned.now) }
+{
+    let size = planned.rows.len() as u32;
+    let mut barred = Vec::new(alloc);
+    for version in 0..size {
+        let at = AtNode {
+            place,
+            node: &planned.node,
+            row: &planned.rows[version as usize],
+        };
+        if suits(algebra, &at, strategy) {
+            continue;
+        }
+        barred.push(version)?;
+    }
+    let set = Ordinals::of_list(alloc, size, &barred)?;
+    Ok(set)
+}
+
+// What is known of a node in a region, by ranks.
+fn facts_of<'p>(
+    alloc: Global,
+    algebra: &Algebra<'_>,
+    prepared: &'p Prepared<'p>,
+    place: &'p InRegion<'p>,
+    ranks: &[u64],
+    planned: &'p Planned<'p>,
+    aims: &NodeAims<'_>,
+) -> Result<NodeFacts, AllocError>
+    requires place { IsInRegion algebra.now place.now }
+    requires rows { AreRowsOf algebra.now place.now.truths.now planned.now }
+    requires few { length planned.now.rows.items < 2 ^ 32 }
+    requires name { planned.now.name < length prepared.now.names.items }
+    ensures { IfOk result (IsFacts (region_at place.now.region.now) prepared.now ranks.now planned.now aims.now) }
+{
+    let name: &NameFacts = &prepared.names[planned.name];
+    let wish: &Wish = prepared.wish;
+    let node = planned.node.copy(alloc)?;
+    let versions = name.versions.copy()?;
+    let order = name.order.copy()?;
+    let barred = barred_of(alloc, algebra, place, wish.strategy, planned)?;
+    let needs = ranked_rows(alloc, ranks, aims.versions.as_slice())?;
+    Ok(NodeFacts {
+        node,
+        base: base_at(ranks, planned.base),
+        versions,
+        order,
+        barred,
+        needs,
+    })
+}
+
+/// What is known of the nodes that a region reaches, in their order.
+///
+/// # Errors
+///
+/// Only for want of memory.
+pub(crate) fn reached_facts<'p>(
+    alloc: Global,
+    algebra: &Algebra<'_>,
+    prepared: &'p Prepared<'p>,
+    place: &'p InRegion<'p>,
+    ranks: &[u64],
+    aims: &[Option<NodeAims<'_>>],
+) -> Result<Vec<NodeFacts>, AllocError>
+    requires prepared { IsPrepared algebra.now prepared.now }
+    requires place { IsInRegion algebra.now place.now }
+    requires truths { place.now.truths.now ≡ prepared.now.truths.marks.items }
+    requires size { length aims.now ≡ length prepared.now.nodes.items }
+    ensures { IfOk result (λ v. AreFacts (region_at place.now.region.now) prepared.now ranks.now
+        prepared.now.nodes.items aims.now v.items) }
+{
+    let mut nodes = Vec::with_capacity(alloc, aims.len())?;
+    for place_at in 0..aims.len() {
+        let Some(own) = &aims[place_at] else {
+            continue;
+        };
+        let planned = &prepared.nodes[place_at];
+        let facts = facts_of(alloc, algebra, prepared, place, ranks, planned, own)?;
+        nodes.push(facts)?;
+    }
+    Ok(nodes)
+}

@@ -1,0 +1,11 @@
+//! The problem of a region, by places.
+#![tactic(auto)]
+
+mod aims;
+mod facts;
+pub mod laws;
+mod placing;
+mod ranks;
+mod reach;
+
+pub use placing::{problem_in, problem_of};

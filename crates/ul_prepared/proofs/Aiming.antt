@@ -1,0 +1,101 @@
+-- Needs of requirements, one after another.
+use Rattle.std.specs.Prelude.{slice_get}
+use Rattle.std.proofs.Common.{◌≡◌, ◌<◌, ◌+◌, ℕ, zero, suc, List, [], ◌∷◌, ◌++◌, length, get_or, map, take, true, Some, arith, sym, ap, subst, ◌∙◌, refl}
+use Rattle.std.specs.Ordering.{is_eq}
+use Rattle.std.specs.declared.cmp.Ordering.{Ordering}
+use Rattle.std.specs.declared.cmp.Ordering.TheVariants.{Less, Equal, Greater}
+use Rattle.std.proofs.lemmas.List.{map_more, take_more}
+use Rattle.std.proofs.lemmas.Option.{same_Some, slice_get-get_or}
+use Rattle.ul_base.specs.declared.node.Node.{Node}
+use Rattle.ul_base.specs.Nodes.{node_cmp}
+use Rattle.ul_base.proofs.ForCallers.{node_cmp_same}
+use Rattle.ul_specifier.specs.Clauses.{ClauseFields}
+use Rattle.ul_specifier.specs.Meaning.{meets_list}
+use Rattle.ul_requirement.specs.Fields.{ReleaseFields, RequirementFields}
+use Rattle.ul_problem.specs.declared.problem.Need.{Need as PlaceNeed}
+use Rattle.ul_region.specs.Best.{Need, needs_of}
+use Rattle.ul_region.specs.Rows.{requirement_of}
+use Rattle.ul_region.specs.declared.rows.Asked.{Asked}
+use Rattle.ul_prepared.specs.Prepared.{AreAims, AreRowAims, IsAim}
+use Rattle.ul_prepared.specs.Aims.{AreReleaseAims, AreRequirementAims, HasNode, needs_on}
+use Rattle.ul_prepared.specs.Permitted.{IsPermitted}
+use Rattle.ul_prepared.specs.declared.prepared.NameFacts.{NameFacts}
+use Rattle.ul_prepared.specs.declared.prepared.Planned.{Planned}
+
+tie_is : (o : Ordering) → is_eq o ≡ true → o ≡ Equal
+tie_is Less e = cc
+tie_is Equal e = refl
+tie_is Greater e = cc
+
+pub same_node : (a b : Node) → is_eq (node_cmp a b) ≡ true → a ≡ b
+same_node a b e = node_cmp_same a b (tie_is (node_cmp a b) e)
+
+module _ (names : List NameFacts) (nodes : List Planned) where
+  -- the need of a target at its place
+  pub aim_is : (k : PlaceNeed) (t : Need) (planned : Planned) → HasNode names nodes t.node k.node → slice_get nodes k.node ≡ Some planned → IsPermitted names planned.name t.specifiers k.permitted → IsAim names nodes k t
+  aim_is k t planned h at p = let same : h.1.planned ≡ planned = same_Some h.1.planned planned (sym h.1.at ∙ at) in
+      let facts : p.facts ≡ h.0 = same_Some p.facts h.0 (sym p.at ∙ (ap (λ (q : Planned). slice_get names q.name) (sym same) ∙ h.1.facts)) in record {
+        facts = h.0;
+        at = h.1;
+        permitted = p.is ∙ ap (λ (f : NameFacts). map (meets_list t.specifiers) f.versions) facts;
+      }
+
+  aims_push : (ks : List PlaceNeed) (ts : List Need) (k : PlaceNeed) (t : Need) → AreAims names nodes ks ts → IsAim names nodes k t → AreAims names nodes (ks ++ k ∷ []) (ts ++ t ∷ [])
+  aims_push [] [] k t h i = (i, tt)
+  aims_push [] (u ∷ ts) k t h i = absurd h
+  aims_push (j ∷ ks) [] k t h i = absurd h
+  aims_push (j ∷ ks) (u ∷ ts) k t h i = (h.0, aims_push ks ts k t h.1 i)
+
+  -- one target more
+  pub aims_more : (specifiers : List ClauseFields) (done now : List PlaceNeed) (targets : List Node) (i : ℕ) (k : PlaceNeed) (t : Node) → now ≡ done ++ k ∷ [] → AreAims names nodes done (needs_on specifiers (take i targets))
+      → IsAim names nodes k (record { node = t; specifiers = specifiers }) → i < length targets → t ≡ get_or targets i t → AreAims names nodes now (needs_on specifiers (take (i + 1) targets))
+  aims_more specifiers done now targets i k t e h one l at =
+      subst (λ (zs : List PlaceNeed). AreAims names nodes zs (needs_on specifiers (take (i + 1) targets))) (sym e)
+      (subst (λ (zs : List Need). AreAims names nodes (done ++ k ∷ []) zs)
+      (ap (λ (u : Node). needs_on specifiers (take i targets) ++ record { node = u; specifiers = specifiers } ∷ []) at ∙ sym (map_more (λ (u : Node). record { node = u; specifiers = specifiers }) targets i t l))
+      (aims_push done (needs_on specifiers (take i targets)) k (record { node = t; specifiers = specifiers }) h one))
+
+  rows_push : (kss : List (List PlaceNeed)) (qs : List RequirementFields) (ks : List PlaceNeed) (q : RequirementFields) → AreRequirementAims names nodes kss qs → AreAims names nodes ks (needs_of q) → AreRequirementAims names nodes (kss ++ ks ∷ []) (qs ++ q ∷ [])
+  rows_push [] [] ks q h i = (i, tt)
+  rows_push [] (u ∷ qs) ks q h i = absurd h
+  rows_push (js ∷ kss) [] ks q h i = absurd h
+  rows_push (js ∷ kss) (u ∷ qs) ks q h i = (h.0, rows_push kss qs ks q h.1 i)
+
+  -- one requirement more
+  pub rows_more : (done now : List (List PlaceNeed)) (qs : List RequirementFields) (i : ℕ) (ks : List PlaceNeed) (q : RequirementFields) → now ≡ done ++ ks ∷ [] → AreRequirementAims names nodes done (take i qs)
+      → AreAims names nodes ks (needs_of q) → i < length qs → q ≡ get_or qs i q → AreRequirementAims names nodes now (take (i + 1) qs)
+  rows_more done now qs i ks q e h one l at =
+      subst (λ (zs : List (List PlaceNeed)). AreRequirementAims names nodes zs (take (i + 1) qs)) (sym e)
+      (subst (λ (zs : List RequirementFields). AreRequirementAims names nodes (done ++ ks ∷ []) zs) (ap (λ (u : RequirementFields). take i qs ++ u ∷ []) at ∙ sym (take_more qs i q l))
+      (rows_push done (take i qs) ks q h one))
+
+  releases_push : (done : List (List (List PlaceNeed))) (rs : List ReleaseFields) (kss : List (List PlaceNeed)) (r : ReleaseFields) → AreReleaseAims names nodes done rs → AreRequirementAims names nodes kss r.requirements → AreReleaseAims names nodes (done ++ kss ∷ []) (rs ++ r ∷ [])
+  releases_push [] [] kss r h i = (i, tt)
+  releases_push [] (u ∷ rs) kss r h i = absurd h
+  releases_push (jss ∷ done) [] kss r h i = absurd h
+  releases_push (jss ∷ done) (u ∷ rs) kss r h i = (h.0, releases_push done rs kss r h.1 i)
+
+  -- one release more, of lent ones
+  pub releases_more : {A : Type 0} (view : A → ReleaseFields) (done now : List (List (List PlaceNeed))) (ls : List A) (i : ℕ) (kss : List (List PlaceNeed)) (a : A) → now ≡ done ++ kss ∷ [] → AreReleaseAims names nodes done (map view (take i ls))
+      → AreRequirementAims names nodes kss (view a).requirements → i < length ls → a ≡ get_or ls i a → AreReleaseAims names nodes now (map view (take (i + 1) ls))
+  releases_more view done now ls i kss a e h one l at =
+      subst (λ (zs : List (List (List PlaceNeed))). AreReleaseAims names nodes zs (map view (take (i + 1) ls))) (sym e)
+      (subst (λ (zs : List ReleaseFields). AreReleaseAims names nodes (done ++ kss ∷ []) zs) (ap (λ u. map view (take i ls) ++ view u ∷ []) at ∙ sym (map_more view ls i a l))
+      (releases_push done (map view (take i ls)) kss (view a) h one))
+
+  -- the needs of a release's requirements are those of its row
+  pub row_aims : (kss : List (List PlaceNeed)) (asked : List Asked) → AreRequirementAims names nodes kss (map requirement_of asked) → AreRowAims names nodes kss asked
+  row_aims [] [] h = tt
+  row_aims [] (a ∷ asked) h = absurd h
+  row_aims (ks ∷ kss) [] h = absurd h
+  row_aims (ks ∷ kss) (a ∷ asked) h = (h.0, row_aims kss asked h.1)
+
+something : {A : Type 0} (xs : List A) (k : ℕ) → k < length xs → (x : A) × (slice_get xs k ≡ Some x)
+something [] k l = absurd (omega (arith, l))
+something (z ∷ zs) zero l = (z, refl)
+something (z ∷ zs) (suc k) l = something zs k (omega (arith, l))
+
+-- a node that is found at a place, with a name that is known
+pub found_at : (names : List NameFacts) (nodes : List Planned) (k : ℕ) (n : Node) (planned : Planned) → k < length nodes → planned ≡ get_or nodes k planned → planned.node ≡ n → planned.name < length names → HasNode names nodes n k
+found_at names nodes k n planned l at same known = let f = something names planned.name known in
+    (f.0, record { planned = planned; at = slice_get-get_or nodes k planned l ∙ ap Some (sym at); node = same; facts = f.1 })

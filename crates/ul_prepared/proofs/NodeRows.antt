@@ -1,0 +1,217 @@
+-- Nodes with the rows of their names' releases.
+use Rattle.std.specs.Prelude.{All, slice_get}
+use Rattle.std.proofs.Common.{◌≡◌, ◌<◌, ◌+◌, ℕ, zero, suc, List, [], ◌∷◌, ◌++◌, length, get_or, map, take, Option, Some, None, sym, ap, subst, ◌∙◌, refl}
+use Rattle.std.proofs.lemmas.List.{length-map, take_more}
+use Rattle.std.proofs.lemmas.List.Elements.{All-contains, All-push, All-weaker}
+use Rattle.std.proofs.lemmas.Option.{none-some, same_Some, slice_get_within, get_or_from_slice_get}
+use Rattle.ul_base.specs.declared.node.Node.{Node}
+use Rattle.ul_base.specs.Nodes.{node_cmp}
+use Rattle.ul_requirement.specs.Fields.{ReleaseFields, RequirementFields, WishFields}
+use Rattle.ul_problem.specs.Problems.{Increases, IncreasesFrom}
+use Rattle.ul_problem.specs.declared.problem.Need.{Need as PlaceNeed}
+use Rattle.ul_algebra.specs.Answers.{IsDiagram}
+use Rattle.ul_index.specs.Catalogs.{Packages, release_of}
+use Rattle.ul_region.specs.Best.{Need, needs_of}
+use Rattle.ul_region.specs.Rows.{IsRow}
+use Rattle.ul_region.specs.Truths.{DiagramMark, IsGrown, PassView}
+use Rattle.ul_region.specs.declared.rows.Asked.{Asked}
+use Rattle.ul_region.specs.declared.rows.Row.{Row}
+use Rattle.ul_region.proofs.ForCallers.{row_grown}
+use Rattle.ul_prepared.specs.Aims.{AreReleaseAims, AreRequirementAims, HasNode}
+use Rattle.ul_prepared.specs.Gathered.{AreKnown, AreSameNodes, HasOwnRows, HasRows, node_in, release_in, releases_in}
+use Rattle.ul_prepared.specs.Prepared.{AreAims, AreNodesAt, AreRowAims, HasBaseAt, IsAim, IsNodeAt, IsPlanned, IsPrepared, PlannedBefore}
+use Rattle.ul_prepared.specs.Releases.{AreReleasesOf}
+use Rattle.ul_prepared.specs.declared.gathering.Releases.{Releases}
+use Rattle.ul_prepared.specs.declared.prepared.NameFacts.{NameFacts}
+use Rattle.ul_prepared.specs.declared.prepared.Planned.{Planned}
+use Rattle.ul_prepared.specs.declared.prepared.Prepared.{Prepared}
+use Rattle.ul_prepared.proofs.Aiming.{row_aims}
+use Rattle.ul_prepared.proofs.KnownNames.{known_at, known_names}
+
+-- ---- where more is known
+
+rows_grown : (g h : PassView) (n : Node) (ms ns : List DiagramMark) (rows : List Row) → IsGrown g ms h ns → All (IsRow g n ms) rows → All (IsRow h n ns) rows
+rows_grown g h n ms ns rows more a = All-weaker (IsRow g n ms) (IsRow h n ns) (λ row k. row_grown g h n ms ns row more k) rows a
+
+-- one row more
+pub rows_more : (g h : PassView) (n : Node) (ms ns : List DiagramMark) (done now : List Row) (row : Row) → now ≡ done ++ row ∷ [] → IsGrown g ms h ns → All (IsRow g n ms) done → IsRow h n ns row → All (IsRow h n ns) now
+rows_more g h n ms ns done now row e more a k = subst (All (IsRow h n ns)) (sym e) (All-push (IsRow h n ns) done row (rows_grown g h n ms ns done more a) k)
+
+module _ (names : List NameFacts) (nodes : List Planned) (own : List Releases) where
+  planned_grown : (g h : PassView) (ms ns : List DiagramMark) (p : Planned) → IsGrown g ms h ns → HasOwnRows g names nodes ms own p → HasOwnRows h names nodes ns own p
+  planned_grown g h ms ns p more o = (
+    o.0,
+    o.1,
+    record {
+      named = o.2.named;
+      base = o.2.base;
+      rows = rows_grown g h p.node ms ns p.rows.items more o.2.rows;
+      releases = o.2.releases;
+      aims = o.2.aims;
+    },
+  )
+
+  -- one node more
+  pub planned_more : (g h : PassView) (ms ns : List DiagramMark) (done now : List Planned) (p : Planned) → now ≡ done ++ p ∷ [] → IsGrown g ms h ns
+      → All (HasOwnRows g names nodes ms own) done → HasOwnRows h names nodes ns own p → All (HasOwnRows h names nodes ns own) now
+  planned_more g h ms ns done now p e more a k = subst (All (HasOwnRows h names nodes ns own)) (sym e)
+      (All-push (HasOwnRows h names nodes ns own) done p
+      (All-weaker (HasOwnRows g names nodes ms own) (HasOwnRows h names nodes ns own) (λ q o. planned_grown g h ms ns q more o) done a) k)
+
+-- ---- nodes at equal places
+
+node_there : (ps qs : List Planned) (k : ℕ) (p : Planned) → AreSameNodes qs ps → slice_get ps k ≡ Some p → (q : Planned) × (slice_get qs k ≡ Some q) × (node_in q ≡ node_in p)
+node_there [] qs k p same at = absurd (none-some p at)
+node_there (x ∷ ps) [] k p same at = cc
+node_there (x ∷ ps) (y ∷ qs) zero p same at = let here : node_in y ≡ node_in x = cc in (y, refl, here ∙ ap node_in (same_Some x p at))
+node_there (x ∷ ps) (y ∷ qs) (suc k) p same at = let rest : AreSameNodes qs ps = cc in node_there ps qs k p rest at
+
+module _ (names : List NameFacts) (ps qs : List Planned) (same : AreSameNodes qs ps) where
+  at_over : (k : ℕ) (n : Node) (f : NameFacts) → IsNodeAt names ps k n f → IsNodeAt names qs k n f
+  at_over k n f a = let t = node_there ps qs k a.planned same a.at in record {
+    planned = t.0;
+    at = t.1;
+    node = ap (λ (x : Node × ℕ). x.0) t.2 ∙ a.node;
+    facts = ap (λ (x : Node × ℕ). slice_get names x.1) t.2 ∙ a.facts;
+  }
+
+  aim_over : (k : PlaceNeed) (t : Need) → IsAim names ps k t → IsAim names qs k t
+  aim_over k t a = record { facts = a.facts; at = at_over k.node t.node a.facts a.at; permitted = a.permitted }
+
+  aims_over : (ks : List PlaceNeed) (ts : List Need) → AreAims names ps ks ts → AreAims names qs ks ts
+  aims_over [] [] h = tt
+  aims_over [] (t ∷ ts) h = absurd h
+  aims_over (k ∷ ks) [] h = absurd h
+  aims_over (k ∷ ks) (t ∷ ts) h = (aim_over k t h.0, aims_over ks ts h.1)
+
+  row_over : (kss : List (List PlaceNeed)) (asked : List Asked) → AreRowAims names ps kss asked → AreRowAims names qs kss asked
+  row_over [] [] h = tt
+  row_over [] (a ∷ asked) h = absurd h
+  row_over (ks ∷ kss) [] h = absurd h
+  row_over (ks ∷ kss) (a ∷ asked) h = (aims_over ks (needs_of a.requirement.now) h.0, row_over kss asked h.1)
+
+  base_over : (n : Node) (b : Option ℕ) (f : NameFacts) → HasBaseAt names ps n b f → HasBaseAt names qs n b f
+  base_over n None f h = h
+  base_over n (Some b) f h = (h.0, at_over b (record { name = n.name; extra = None }) f h.1)
+
+  pub planned_over : (c : Packages) (h : PassView) (truths : List DiagramMark) (p : Planned) → IsPlanned c h names ps truths p → IsPlanned c h names qs truths p
+  planned_over c h truths p k = record {
+    facts = k.facts;
+    at = k.at;
+    named = k.named;
+    base = base_over p.node p.base k.facts k.base;
+    count = k.count;
+    aimed = k.aimed;
+    rows = λ v x row aims e d u. let r = k.rows v x row aims e d u in record {
+      found = r.found;
+      holds = r.holds;
+      aimed = row_over aims row.asked.items r.aimed;
+    };
+  }
+
+increases_over : (p q : Planned) (ps qs : List Planned) → node_in q ≡ node_in p → AreSameNodes qs ps → IncreasesFrom PlannedBefore p ps → IncreasesFrom PlannedBefore q qs
+increases_over p q [] [] e same h = tt
+increases_over p q [] (y ∷ qs) e same h = cc
+increases_over p q (x ∷ ps) [] e same h = cc
+increases_over p q (x ∷ ps) (y ∷ qs) e same h =
+    let here : node_in y ≡ node_in x = cc in
+    let rest : AreSameNodes qs ps = cc in
+    (ap (λ (z : Node × ℕ). node_cmp z.0 y.node) e ∙ (ap (λ (z : Node × ℕ). node_cmp p.node z.0) here ∙ h.0), increases_over x y ps qs here rest h.1)
+
+-- the same nodes increase
+pub same_increase : (ps qs : List Planned) → AreSameNodes qs ps → Increases PlannedBefore ps → Increases PlannedBefore qs
+same_increase [] [] same h = tt
+same_increase [] (y ∷ qs) same h = cc
+same_increase (x ∷ ps) [] same h = cc
+same_increase (x ∷ ps) (y ∷ qs) same h =
+    let here : node_in y ≡ node_in x = cc in
+    let rest : AreSameNodes qs ps = cc in
+    increases_over x y ps qs here rest h
+
+-- ---- rows of the releases of a name
+
+count_aims : (names : List NameFacts) (nodes : List Planned) (aims : List (List (List PlaceNeed))) (rs : List ReleaseFields) → AreReleaseAims names nodes aims rs → length aims ≡ length rs
+count_aims names nodes [] [] h = refl
+count_aims names nodes [] (r ∷ rs) h = absurd h
+count_aims names nodes (kss ∷ rest) [] h = absurd h
+count_aims names nodes (kss ∷ rest) (r ∷ rs) h = ap suc (count_aims names nodes rest rs h.1)
+
+aims_there : (names : List NameFacts) (nodes : List Planned) (aims : List (List (List PlaceNeed))) (rs : List ReleaseFields) (v : ℕ) (kss : List (List PlaceNeed)) (r : ReleaseFields)
+    → AreReleaseAims names nodes aims rs → slice_get aims v ≡ Some kss → slice_get rs v ≡ Some r → AreRequirementAims names nodes kss r.requirements
+aims_there names nodes [] rs v kss r h d e = absurd (none-some kss d)
+aims_there names nodes (js ∷ rest) [] v kss r h d e = absurd h
+aims_there names nodes (js ∷ rest) (s ∷ rs) zero kss r h d e =
+    subst (λ (z : List (List PlaceNeed)). AreRequirementAims names nodes z r.requirements) (same_Some js kss d)
+    (subst (λ (z : ReleaseFields). AreRequirementAims names nodes js z.requirements) (same_Some s r e) h.0)
+aims_there names nodes (js ∷ rest) (s ∷ rs) (suc v) kss r h d e = aims_there names nodes rest rs v kss r h.1 d e
+
+released : (rows : List Row) (v : ℕ) (row : Row) → slice_get rows v ≡ Some row → slice_get (map release_in rows) v ≡ Some (release_in row)
+released [] v row e = absurd (none-some row e)
+released (x ∷ rows) zero row e = ap (λ (z : Row). Some (release_in z)) (same_Some x row e)
+released (x ∷ rows) (suc v) row e = released rows v row e
+
+row_there : (P : Row → Type 0) (rows : List Row) (v : ℕ) (row : Row) → All P rows → slice_get rows v ≡ Some row → P row
+row_there P rows v row a e = All-contains P rows row a (v, slice_get_within rows v row e, get_or_from_slice_get rows v row row e)
+
+module _ (c : Packages) (wish : WishFields) (h : PassView) (names : List NameFacts) (nodes : List Planned) (truths : List DiagramMark) where
+  rows_are : (f : NameFacts) (rs : List ReleaseFields) (p : Planned) → slice_get names p.name ≡ Some f → AreReleasesOf c f.name f.versions rs → HasRows h names nodes truths rs p → IsPlanned c h names nodes truths p
+  rows_are f rs p at known has =
+      let named : f.name ≡ p.node.name = ap (λ (z : NameFacts). z.name) (same_Some f has.named.0 (sym at ∙ has.named.1)) ∙ has.named.2 in record {
+        facts = f;
+        at = at;
+        named = named;
+        base = subst (HasBaseAt names nodes p.node p.base) (same_Some has.base.0 f (sym has.base.1 ∙ at)) has.base.2;
+        count = sym (length-map p.rows.items release_in) ∙ (ap (λ (z : List ReleaseFields). length z) has.releases ∙ known.count);
+        aimed = count_aims names nodes p.aims.items rs has.aims ∙ known.count;
+        rows = λ v x row aims e d u.
+            let there : slice_get rs v ≡ Some (release_in row) = ap (λ (z : List ReleaseFields). slice_get z v) (sym has.releases) ∙ released p.rows.items v row d in
+            let holds : IsRow h p.node truths row = row_there (IsRow h p.node truths) p.rows.items v row has.rows d in record {
+              found = subst (λ (n : List ℕ). release_of c n x ≡ Some row.release.now) named (known.each v x (release_in row) e there);
+              holds = holds;
+              aimed = row_aims names nodes aims row.asked.items (subst (λ (qs : List RequirementFields). AreRequirementAims names nodes aims qs) (sym holds.same)
+                  (aims_there names nodes p.aims.items rs v aims (release_in row) has.aims u there));
+            };
+      }
+
+  own_planned : (own : List Releases) (p : Planned) → AreKnown c wish names own → HasOwnRows h names nodes truths own p → IsPlanned c h names nodes truths p
+  own_planned own p known has = rows_are has.2.named.0 (releases_in has.0) p has.2.named.1 (known_at c wish names own p.name has.2.named.0 has.0 known has.2.named.1 has.1).releases has.2
+
+  -- the nodes that were made are right among themselves
+  pub all_planned : (own : List Releases) (made : List Planned) → AreSameNodes made nodes → AreKnown c wish names own → All (HasOwnRows h names nodes truths own) made → All (IsPlanned c h names made truths) made
+  all_planned own made same known a = All-weaker (HasOwnRows h names nodes truths own) (IsPlanned c h names made truths) (λ p k. planned_over names nodes made same c h truths p (own_planned own p known k)) made a
+
+-- ---- places of nodes
+
+nodes_at_push : (nodes : List Planned) (ks : List ℕ) (ns : List Node) (k : ℕ) (n : Node) (p : Planned) → AreNodesAt nodes ks ns → slice_get nodes k ≡ Some p → p.node ≡ n → AreNodesAt nodes (ks ++ k ∷ []) (ns ++ n ∷ [])
+nodes_at_push nodes [] [] k n p h at is = record { planned = p; at = at; node = is; rest = tt }
+nodes_at_push nodes [] (m ∷ ns) k n p h at is = absurd h
+nodes_at_push nodes (j ∷ ks) [] k n p h at is = absurd h
+nodes_at_push nodes (j ∷ ks) (m ∷ ns) k n p h at is = record { planned = h.planned; at = h.at; node = h.node; rest = nodes_at_push nodes ks ns k n p h.rest at is }
+
+-- one place more
+pub nodes_at_more : (names : List NameFacts) (nodes : List Planned) (done now : List ℕ) (starts : List Node) (i k : ℕ) (n : Node) → now ≡ done ++ k ∷ [] → AreNodesAt nodes done (take i starts) → HasNode names nodes n k
+    → i < length starts → n ≡ get_or starts i n → AreNodesAt nodes now (take (i + 1) starts)
+nodes_at_more names nodes done now starts i k n e h there l at =
+    subst (λ (z : List ℕ). AreNodesAt nodes z (take (i + 1) starts)) (sym e)
+    (subst (λ (z : List Node). AreNodesAt nodes (done ++ k ∷ []) z) (ap (λ (u : Node). take i starts ++ u ∷ []) at ∙ sym (take_more starts i n l))
+    (nodes_at_push nodes done (take i starts) k n there.1.planned h there.1.at there.1.node))
+
+-- ---- the whole
+
+-- what all regions share, of its parts
+pub prepared_is : (h : PassView) (p : Prepared) (names : List NameFacts) (bare nodes made : List Planned) (own rs : List Releases)
+    → names ≡ p.names.items → nodes ≡ bare → own ≡ rs → made ≡ p.nodes.items → AreKnown p.catalog.now p.wish.now p.names.items rs → Increases PlannedBefore bare → AreSameNodes p.nodes.items nodes
+    → All (HasOwnRows h names nodes p.truths.marks.items own) p.nodes.items → AreNodesAt made p.roots.items p.starts.now → All (IsDiagram h) p.truths.marks.items → IsPrepared h p
+prepared_is h p names bare nodes made own rs ns bs os ms known rising same rows roots truths = record {
+  names = known_names p.catalog.now p.wish.now p.names.items rs known;
+  increasing = same_increase bare p.nodes.items same_bare rising;
+  nodes = all_planned p.catalog.now p.wish.now h p.names.items bare p.truths.marks.items rs p.nodes.items same_bare known
+      (subst (λ (z : List NameFacts). All (HasOwnRows h z bare p.truths.marks.items rs) p.nodes.items) ns
+      (subst (λ (z : List Planned). All (HasOwnRows h names z p.truths.marks.items rs) p.nodes.items) bs
+      (subst (λ (z : List Releases). All (HasOwnRows h names nodes p.truths.marks.items z) p.nodes.items) os rows)));
+  roots = subst (λ (z : List Planned). AreNodesAt z p.roots.items p.starts.now) ms roots;
+  truths = truths;
+}
+  where
+    same_bare : AreSameNodes p.nodes.items bare
+    same_bare = subst (λ (z : List Planned). AreSameNodes p.nodes.items z) bs same

@@ -1,0 +1,180 @@
+//! Needs of requirements by places of nodes.
+ghost use Rattle.std.specs.Prelude.{◌≡◌, All, IfOk, IsTrue, map};
+ghost use Rattle.ul_prepared.specs.Aims.{AreReleaseAims, AreRequirementAims, HasNode, needs_on};
+ghost use Rattle.ul_prepared.specs.Permitted.{IsFew, IsSetOf};
+ghost use Rattle.ul_prepared.specs.Prepared.{AreAims, IsAim};
+ghost use Rattle.ul_region.specs.Best.{needs_of};
+
+use crate::permitted::Sets;
+use crate::prepared::{NameFacts, Planned};
+use std::alloc::{AllocError, Global};
+use std::collections::HashMap;
+use ul_base::Node;
+use ul_problem::{Need, NeedRow, NeedRows};
+use ul_requirement::{Release, Requirement};
+use ul_specifier::Specifiers;
+
+#[tactic(auto, using(crate::proofs::Aiming::same_node))]
+fn is_same(one: &Node, other: &Node) -> bool
+    ensures { IsTrue result → one.now ≡ other.now }
+{
+    one.cmp(other).is_eq()
+}
+
+/// The place of a node. Each node that is asked for has a place.
+///
+/// # Errors
+///
+/// Only for want of memory.
+pub(crate) fn place_of(
+    index: &HashMap<Node, usize>,
+    names: &[NameFacts],
+    nodes: &[Planned<'_>],
+    node: &Node,
+) -> Result<usize, AllocError>
+    ensures { IfOk result (HasNode names.now nodes.now node.now) }
+{
+    let Some(found) = index.get(node) else {
+        return Err(AllocError);
+    };
+    let place = *found;
+    if place >= nodes.len() {
+        return Err(AllocError);
+    }
+    let planned: &Planned<'_> = &nodes[place];
+    if !is_same(&planned.node, node) || planned.name >= names.len() {
+        return Err(AllocError);
+    }
+    Ok(place)
+}
+
+// The need of a target.
+fn aim<'a>(
+    alloc: Global,
+    sets: &mut Sets<'a>,
+    index: &HashMap<Node, usize>,
+    names: &[NameFacts],
+    nodes: &[Planned<'_>],
+    specifiers: &'a Specifiers,
+    target: &Node,
+) -> Result<Need, AllocError>
+    requires few { All IsFew names.now }
+    requires sets { All (IsSetOf names.now) sets.old.list.items }
+    ensures sets { All (IsSetOf names.now) sets.new.list.items }
+    ensures aim { IfOk result (λ k. IsAim names.now nodes.now k
+        (record { node = target.now; specifiers = specifiers.now })) }
+{
+    let place = place_of(index, names, nodes, target)?;
+    let permitted = sets.of(alloc, names, nodes[place].name, specifiers)?;
+    Ok(Need {
+        node: place as u64,
+        permitted,
+    })
+}
+
+// The needs of a requirement, in order.
+fn aims_of<'a>(
+    alloc: Global,
+    sets: &mut Sets<'a>,
+    index: &HashMap<Node, usize>,
+    names: &[NameFacts],
+    nodes: &[Planned<'_>],
+    requirement: &'a Requirement,
+) -> Result<Vec<Need>, AllocError>
+    requires few { All IsFew names.now }
+    requires sets { All (IsSetOf names.now) sets.old.list.items }
+    ensures sets { All (IsSetOf names.now) sets.new.list.items }
+    ensures aims { IfOk result (λ v. AreAims names.now nodes.now v.items (needs_of requirement.now)) }
+{
+    let targets = requirement.targets(alloc)?;
+    let specifiers: &Specifiers = &requirement.specifiers;
+    let aims = aims_at(
+        alloc,
+        sets,
+        index,
+        names,
+        nodes,
+        specifiers,
+        targets.as_slice(),
+    )?;
+    Ok(aims)
+}
+
+// The needs of targets, in order.
+fn aims_at<'a>(
+    alloc: Global,
+    sets: &mut Sets<'a>,
+    index: &HashMap<Node, usize>,
+    names: &[NameFacts],
+    nodes: &[Planned<'_>],
+    specifiers: &'a Specifiers,
+    targets: &[Node],
+) -> Result<Vec<Need>, AllocError>
+    requires few { All IsFew names.now }
+    requires sets { All (IsSetOf names.now) sets.old.list.items }
+    ensures sets { All (IsSetOf names.now) sets.new.list.items }
+    ensures aims { IfOk result (λ v. AreAims names.now nodes.now v.items (needs_on specifiers.now targets.now)) }
+{
+    let mut aims = Vec::with_capacity(alloc, targets.len())?;
+    for target in targets {
+        let one = aim(alloc, sets, index, names, nodes, specifiers, target)?;
+        aims.push(one)?;
+    }
+    Ok(aims)
+}
+
+// The needs of each requirement, in order.
+fn requirement_aims<'a>(
+    alloc: Global,
+    sets: &mut Sets<'a>,
+    index: &HashMap<Node, usize>,
+    names: &[NameFacts],
+    nodes: &[Planned<'_>],
+    requirements: &'a [Requirement],
+) -> Result<Vec<NeedRow>, AllocError>
+    requires few { All IsFew names.now }
+    requires sets { All (IsSetOf names.now) sets.old.list.items }
+    ensures sets { All (IsSetOf names.now) sets.new.list.items }
+    ensures aims { IfOk result (λ v. AreRequirementAims names.now nodes.now v.items requirements.now) }
+{
+    let mut rows = Vec::with_capacity(alloc, requirements.len())?;
+    for requirement in requirements {
+        let aims = aims_of(alloc, sets, index, names, nodes, requirement)?;
+        rows.push(NeedRow::of(aims))?;
+    }
+    Ok(rows)
+}
+
+fn requirements_in(release: &Release) -> &[Requirement]
+    ensures { result.now ≡ release.now.requirements }
+{
+    let requirements: &Vec<Requirement> = &release.requirements;
+    requirements.as_slice()
+}
+
+/// The needs of the requirements of each release, in order.
+///
+/// # Errors
+///
+/// Only for want of memory.
+pub(crate) fn release_aims<'a>(
+    alloc: Global,
+    sets: &mut Sets<'a>,
+    index: &HashMap<Node, usize>,
+    names: &[NameFacts],
+    nodes: &[Planned<'_>],
+    releases: &[&'a Release],
+) -> Result<Vec<NeedRows>, AllocError>
+    requires few { All IsFew names.now }
+    requires sets { All (IsSetOf names.now) sets.old.list.items }
+    ensures sets { All (IsSetOf names.now) sets.new.list.items }
+    ensures aims { IfOk result (λ v. AreReleaseAims names.now nodes.now v.items (map (λ r. r.now) releases.now)) }
+{
+    let mut list = Vec::with_capacity(alloc, releases.len())?;
+    for release in releases {
+        let release: &'a Release = release;
+        let rows = requirement_aims(alloc, sets, index, names, nodes, requirements_in(release))?;
+        list.push(NeedRows::of(rows))?;
+    }
+    Ok(list)
+}

@@ -1,0 +1,12 @@
+//! What all regions of a project share: eligible versions, orders, requirements' truths and needs, made once a run.
+#![tactic(auto)]
+
+mod aims;
+mod gathering;
+mod names;
+mod permitted;
+mod planning;
+mod prepared;
+mod wish_index;
+
+pub use prepared::{NameFacts, Planned, Prepared};

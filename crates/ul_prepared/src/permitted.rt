@@ -1,0 +1,210 @@
+//! Which of a name's versions specifiers permit. Equal specifiers on one name share one set.
+ghost use Rattle.std.specs.Prelude.{◌≡◌, ◌<◌, ◌^◌, [], All, IfOk, IsTrue, MatchOption, length, map};
+ghost use Rattle.ul_specifier.specs.Meaning.{meets_list};
+ghost use Rattle.ul_prepared.specs.Permitted.{IsFew, IsPermitted, IsSetOf};
+
+use crate::names::{flagged, rising_places};
+use crate::prepared::NameFacts;
+use std::alloc::{AllocError, Global};
+use std::collections::HashMap;
+use ul_ranges::Ordinals;
+use ul_specifier::{Clause, Op, Specifiers};
+use ul_version::Version;
+
+/// The versions of a name that specifiers permit.
+#[derive(Drop)]
+pub(crate) struct SetOf<'a> {
+    pub(crate) name: usize,
+    pub(crate) specifiers: &'a Specifiers,
+    pub(crate) set: Ordinals,
+}
+
+/// Sets that were found, mostly each once.
+#[derive(Drop)]
+pub(crate) struct Sets<'a> {
+    pub(crate) list: Vec<SetOf<'a>>,
+    places: HashMap<u64, usize>,
+}
+
+// Of each version whether it meets specifiers.
+fn meeting(
+    alloc: Global,
+    specifiers: &Specifiers,
+    versions: &[Version],
+) -> Result<Vec<bool>, AllocError>
+    ensures { IfOk result (λ v. v.items ≡ map (meets_list specifiers.now) versions.now) }
+{
+    let mut flags = Vec::with_capacity(alloc, versions.len())?;
+    for version in versions {
+        flags.push(specifiers.meets(version))?;
+    }
+    Ok(flags)
+}
+
+// The set with these flags.
+#[tactic(auto, using(crate::proofs::Sets::members_below, crate::proofs::Sets::set_is))]
+fn set_of(alloc: Global, flags: &[bool]) -> Result<Ordinals, AllocError>
+    requires { length flags.now < 2 ^ 32 }
+    ensures { IfOk result (λ s. s ≡ flags.now) }
+{
+    let size = flags.len() as u32;
+    let places = rising_places(alloc, size)?;
+    let members = flagged(alloc, flags, places.as_slice())?;
+    let set = Ordinals::of_list(alloc, size, &members)?;
+    Ok(set)
+}
+
+// The versions of a name that specifiers permit.
+fn permitted_of(
+    alloc: Global,
+    facts: &NameFacts,
+    specifiers: &Specifiers,
+) -> Result<Ordinals, AllocError>
+    requires { IsFew facts.now }
+    ensures { IfOk result (λ s. s ≡ map (meets_list specifiers.now) facts.now.versions) }
+{
+    let flags = meeting(alloc, specifiers, facts.versions.as_slice())?;
+    let set = set_of(alloc, flags.as_slice())?;
+    Ok(set)
+}
+
+fn same_clause(one: &Clause, other: &Clause) -> bool
+    ensures { IsTrue result → one.now ≡ other.now }
+{
+    one.op == other.op && one.prefix == other.prefix && one.version.same(&other.version)
+}
+
+fn same_clauses(some: &[Clause], others: &[Clause]) -> bool
+    ensures { IsTrue result → some.now ≡ others.now }
+{
+    if some.len() != others.len() {
+        return false;
+    }
+    for k in 0..some.len() {
+        if !same_clause(&some[k], &others[k]) {
+            return false;
+        }
+    }
+    true
+}
+
+fn same_specifiers(some: &Specifiers, others: &Specifiers) -> bool
+    ensures { IsTrue result → some.now ≡ others.now }
+{
+    same_clauses(some.clauses.as_slice(), others.clauses.as_slice())
+}
+
+fn mixed(seed: u64, number: u64) -> u64 {
+    seed.wrapping_mul(1_099_511_628_211).wrapping_add(number)
+}
+
+fn number_of(op: Op) -> u64 {
+    match op {
+        Op::Compatible => 1,
+        Op::Equal => 2,
+        Op::Unequal => 3,
+        Op::AtMost => 4,
+        Op::AtLeast => 5,
+        Op::Less => 6,
+        Op::More => 7,
+    }
+}
+
+// A number of a clause: equal clauses have equal ones, and others mostly not.
+fn print_of(seed: u64, clause: &Clause) -> u64 {
+    let version: &Version = &clause.version;
+    let mut print = mixed(seed, number_of(clause.op));
+    for number in &version.release {
+        print = mixed(print, *number);
+    }
+    print
+}
+
+// A number of specifiers on a name: equal ones have equal ones, and others mostly not.
+fn fingerprint(name: usize, specifiers: &Specifiers) -> u64 {
+    let mut print = name as u64;
+    for clause in &specifiers.clauses {
+        print = print_of(print, clause);
+    }
+    print
+}
+
+impl<'a> Sets<'a> {
+    pub(crate) fn new(alloc: Global) -> Sets<'a>
+        ensures { result.list.items ≡ [] }
+    {
+        Sets {
+            list: Vec::new(alloc),
+            places: HashMap::new(alloc),
+        }
+    }
+
+    // The set of a name and specifiers, if it is found where their number was put last.
+    fn found(
+        &self,
+        names: &[NameFacts],
+        key: u64,
+        name: usize,
+        specifiers: &Specifiers,
+    ) -> Option<&Ordinals>
+        requires { All (IsSetOf names.now) self.now.list.items }
+        ensures { MatchOption result (Unit {0}) (λ s. IsPermitted names.now name specifiers.now s.now) }
+    {
+        let place = *self.places.get(&key)?;
+        let list: &[SetOf<'a>] = self.list.as_slice();
+        if place >= list.len() {
+            return None;
+        }
+        let one: &SetOf<'a> = &list[place];
+        if one.name != name || !same_specifiers(one.specifiers, specifiers) {
+            return None;
+        }
+        Some(&one.set)
+    }
+
+    // Puts a set that wasn't found.
+    fn put(&mut self, names: &[NameFacts], key: u64, one: SetOf<'a>) -> Result<(), AllocError>
+        requires one { IsSetOf names.now one }
+        requires sets { All (IsSetOf names.now) self.old.list.items }
+        ensures { All (IsSetOf names.now) self.new.list.items }
+    {
+        let place = self.list.len();
+        self.list.push(one)?;
+        self.places.insert(key, place)?;
+        Ok(())
+    }
+
+    /// The versions of the name at a place that specifiers permit.
+    ///
+    /// # Errors
+    ///
+    /// Only for want of memory.
+    pub(crate) fn of(
+        &mut self,
+        alloc: Global,
+        names: &[NameFacts],
+        name: usize,
+        specifiers: &'a Specifiers,
+    ) -> Result<Ordinals, AllocError>
+        requires name { name < length names.now }
+        requires few { All IsFew names.now }
+        requires sets { All (IsSetOf names.now) self.old.list.items }
+        ensures sets { All (IsSetOf names.now) self.new.list.items }
+        ensures set { IfOk result (IsPermitted names.now name specifiers.now) }
+    {
+        let key = fingerprint(name, specifiers);
+        if let Some(set) = self.found(names, key, name, specifiers) {
+            let set = set.copy(alloc)?;
+            return Ok(set);
+        }
+        let set = permitted_of(alloc, &names[name], specifiers)?;
+        let copy = set.copy(alloc)?;
+        let one = SetOf {
+            name,
+            specifiers,
+            set: copy,
+        };
+        self.put(names, key, one)?;
+        Ok(set)
+    }
+}

@@ -1,0 +1,204 @@
+//! Nodes with what their releases ask in every region.
+ghost use Rattle.std.specs.Prelude.{◌≡◌, All, IfOk, Some, map, slice_get};
+ghost use Rattle.ul_algebra.specs.Answers.{IsDiagram};
+ghost use Rattle.ul_region.specs.Rows.{IsRow};
+ghost use Rattle.ul_region.specs.Truths.{IsGrown};
+ghost use Rattle.ul_prepared.specs.Gathered.{AreSameNodes, HasBaseFor, HasOwnRows, HasRows, IsNamed};
+ghost use Rattle.ul_prepared.specs.Gathered.{node_in, release_in};
+ghost use Rattle.ul_prepared.specs.Permitted.{IsFew, IsSetOf};
+ghost use Rattle.ul_prepared.specs.Prepared.{AreNodesAt};
+
+use crate::aims::{place_of, release_aims};
+use crate::gathering::Releases;
+use crate::permitted::Sets;
+use crate::prepared::{NameFacts, Planned};
+use std::alloc::{AllocError, Global};
+use std::collections::HashMap;
+use std::sync::Wait;
+use ul_algebra::Algebra;
+use ul_base::Node;
+use ul_region::{Row, Truths, row_of};
+use ul_requirement::Release;
+
+// The rows of releases at a node, in order.
+fn rows_of<'a, R: Wait>(
+    rt: &R,
+    alloc: Global,
+    algebra: &mut Algebra<'_>,
+    truths: &mut Truths,
+    node: &Node,
+    releases: &[&'a Release],
+) -> Result<Vec<Row<'a>>, AllocError>
+    requires { All (IsDiagram algebra.old) truths.old.marks.items }
+    ensures grown { IsGrown algebra.old truths.old.marks.items algebra.new truths.new.marks.items }
+    ensures rows { IfOk result (λ v. All (IsRow algebra.new node.now truths.new.marks.items) v.items) }
+    ensures releases { IfOk result (λ v. map release_in v.items ≡ map (λ r. r.now) releases.now) }
+{
+    let mut rows = Vec::with_capacity(alloc, releases.len())?;
+    for release in releases {
+        let release: &'a Release = release;
+        let row = row_of(rt, alloc, algebra, truths, node, release)?;
+        rows.push(row)?;
+    }
+    Ok(rows)
+}
+
+// The place of a node's base, where it has an extra. Base and extras have one name's place.
+fn base_of(
+    alloc: Global,
+    index: &HashMap<Node, usize>,
+    names: &[NameFacts],
+    nodes: &[Planned<'_>],
+    planned: &Planned<'_>,
+) -> Result<Option<u64>, AllocError>
+    requires { IsNamed names.now planned.now }
+    ensures { IfOk result (HasBaseFor names.now nodes.now planned.now) }
+{
+    if planned.node.extra.is_none() {
+        return Ok(None);
+    }
+    let base = Node {
+        name: planned.node.name.copy(alloc)?,
+        extra: None,
+    };
+    let place = place_of(index, names, nodes, &base)?;
+    if nodes[place].name != planned.name {
+        return Err(AllocError);
+    }
+    Ok(Some(place as u64))
+}
+
+// A node with the rows of releases, and their needs.
+fn planned_at<'a, R: Wait>(
+    rt: &R,
+    alloc: Global,
+    algebra: &mut Algebra<'_>,
+    truths: &mut Truths,
+    sets: &mut Sets<'a>,
+    index: &HashMap<Node, usize>,
+    names: &[NameFacts],
+    nodes: &[Planned<'_>],
+    planned: &Planned<'_>,
+    releases: &[&'a Release],
+) -> Result<Planned<'a>, AllocError>
+    requires truths { All (IsDiagram algebra.old) truths.old.marks.items }
+    requires few { All IsFew names.now }
+    requires sets { All (IsSetOf names.now) sets.old.list.items }
+    requires named { IsNamed names.now planned.now }
+    ensures grown { IsGrown algebra.old truths.old.marks.items algebra.new truths.new.marks.items }
+    ensures sets { All (IsSetOf names.now) sets.new.list.items }
+    ensures node { IfOk result (λ p. node_in p ≡ node_in planned.now) }
+    ensures rows { IfOk result (HasRows algebra.new names.now nodes.now truths.new.marks.items
+        (map (λ r. r.now) releases.now)) }
+{
+    let base = base_of(alloc, index, names, nodes, planned)?;
+    let aims = release_aims(alloc, sets, index, names, nodes, releases)?;
+    let node = planned.node.copy(alloc)?;
+    let rows = rows_of(rt, alloc, algebra, truths, &node, releases)?;
+    Ok(Planned {
+        node,
+        base,
+        name: planned.name,
+        rows,
+        aims,
+    })
+}
+
+// The releases of the name at a place.
+fn own_releases<'r, 'a>(
+    releases: &'r [Releases<'a>],
+    place: usize,
+) -> Result<&'r Releases<'a>, AllocError>
+    ensures { IfOk result (λ r. slice_get releases.now place ≡ Some r.now) }
+{
+    match releases.get(place) {
+        Some(own) => Ok(own),
+        None => Err(AllocError),
+    }
+}
+
+// A node with the rows of its name's releases.
+fn own_rows<'a, R: Wait>(
+    rt: &R,
+    alloc: Global,
+    algebra: &mut Algebra<'_>,
+    truths: &mut Truths,
+    sets: &mut Sets<'a>,
+    index: &HashMap<Node, usize>,
+    names: &[NameFacts],
+    nodes: &[Planned<'_>],
+    releases: &[Releases<'a>],
+    planned: &Planned<'_>,
+) -> Result<Planned<'a>, AllocError>
+    requires truths { All (IsDiagram algebra.old) truths.old.marks.items }
+    requires few { All IsFew names.now }
+    requires sets { All (IsSetOf names.now) sets.old.list.items }
+    requires named { IsNamed names.now planned.now }
+    ensures grown { IsGrown algebra.old truths.old.marks.items algebra.new truths.new.marks.items }
+    ensures sets { All (IsSetOf names.now) sets.new.list.items }
+    ensures node { IfOk result (λ p. node_in p ≡ node_in planned.now) }
+    ensures rows { IfOk result (HasOwnRows algebra.new names.now nodes.now truths.new.marks.items releases.now) }
+{
+    let own = own_releases(releases, planned.name)?;
+    let own: &[&'a Release] = own.list.as_slice();
+    let made = planned_at(
+        rt, alloc, algebra, truths, sets, index, names, nodes, planned, own,
+    )?;
+    Ok(made)
+}
+
+/// The nodes with their rows, in the order of the bare ones.
+///
+/// # Errors
+///
+/// Only for want of memory.
+pub(crate) fn planned_nodes<'a, R: Wait>(
+    rt: &R,
+    alloc: Global,
+    algebra: &mut Algebra<'_>,
+    truths: &mut Truths,
+    index: &HashMap<Node, usize>,
+    names: &[NameFacts],
+    releases: &[Releases<'a>],
+    bare: &[Planned<'_>],
+) -> Result<Vec<Planned<'a>>, AllocError>
+    requires truths { All (IsDiagram algebra.old) truths.old.marks.items }
+    requires few { All IsFew names.now }
+    requires named { All (IsNamed names.now) bare.now }
+    ensures grown { IsGrown algebra.old truths.old.marks.items algebra.new truths.new.marks.items }
+    ensures same { IfOk result (λ v. AreSameNodes v.items bare.now) }
+    ensures rows { IfOk result (λ v. All
+        (HasOwnRows algebra.new names.now bare.now truths.new.marks.items releases.now) v.items) }
+{
+    let mut sets = Sets::new(alloc);
+    let mut nodes = Vec::with_capacity(alloc, bare.len())?;
+    for one in bare {
+        let made = own_rows(
+            rt, alloc, algebra, truths, &mut sets, index, names, bare, releases, one,
+        )?;
+        nodes.push(made)?;
+    }
+    Ok(nodes)
+}
+
+/// The places of nodes, in order.
+///
+/// # Errors
+///
+/// Only for want of memory.
+pub(crate) fn places_of(
+    alloc: Global,
+    index: &HashMap<Node, usize>,
+    names: &[NameFacts],
+    nodes: &[Planned<'_>],
+    starts: &[Node],
+) -> Result<Vec<u64>, AllocError>
+    ensures { IfOk result (λ v. AreNodesAt nodes.now v.items starts.now) }
+{
+    let mut places = Vec::with_capacity(alloc, starts.len())?;
+    for start in starts {
+        let place = place_of(index, names, nodes, start)?;
+        places.push(place as u64)?;
+    }
+    Ok(places)
+}

@@ -1,0 +1,5 @@
+pub mod Names
+pub mod Faults
+pub mod Headline
+pub mod Laws
+pub mod Front

@@ -1,0 +1,11 @@
+pub mod Cutting
+pub mod TokenLaws
+pub mod StepLaws
+pub mod LineLaws
+pub mod Worlds
+pub mod WholeTexts
+pub mod Printed
+pub mod Answered
+pub mod Ascii
+pub mod Loops
+pub mod Numbers

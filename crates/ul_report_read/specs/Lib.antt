@@ -1,0 +1,9 @@
+pub mod Proofs
+pub mod Headline
+pub mod Laws
+pub mod Tokens
+pub mod StepReading
+pub mod LineReading
+pub mod ProofLines
+pub mod Automaton
+pub mod Answers

@@ -1,0 +1,132 @@
+//! What has been read, and which line may follow.
+ghost use Rattle.std.specs.Prelude.{◌≡◌, ◌++◌, ◌∷◌, [], IfOk, bytes_eq};
+ghost use Rattle.ul_report.specs.Texts.{world_text};
+ghost use Rattle.ul_report_read.specs.Automaton as spec;
+ghost use Rattle.ul_report_read.specs.Automaton.{final, step};
+ghost use Rattle.ul_report_read.specs.declared.states.State.TheVariants.{Start, Titled, Forked, Bounded, Stepping};
+ghost use Rattle.ul_tree.specs.Sample.{sample_of};
+
+use crate::line::Line;
+use crate::proof::{Path, Proof};
+use std::alloc::{AllocError, Global};
+use ul_lines::same;
+use ul_lock_lines::{Region, Text};
+use ul_report::{Steps, TextStep, sample_text};
+
+/// What has been read of a text.
+#[derive(Drop)]
+pub enum State {
+    Start,
+    Titled,
+    Forked(Path),
+    Bounded(Path, Region),
+    Stepping(Path, Region, Steps),
+}
+
+fn after_title(line: Line) -> Option<State>
+    ensures { result ≡ step Titled line }
+{
+    match line {
+        Line::Fork(path) => Some(State::Forked(path)),
+        _ => None,
+    }
+}
+
+fn after_fork(path: Path, line: Line) -> Option<State>
+    ensures { result ≡ step (Forked path) line }
+{
+    match line {
+        Line::Region(region) => Some(State::Bounded(path, region)),
+        _ => None,
+    }
+}
+
+// Whether a text is that of the sample of a region.
+fn is_sample(alloc: Global, region: &Region, text: &Text) -> Result<bool, AllocError>
+    ensures { IfOk result (λ b. b ≡ bytes_eq text.now (world_text (sample_of region.now))) }
+{
+    let again = sample_text(alloc, region.as_tree())?;
+    let is_same = same(text.as_bytes(), again.as_str().as_bytes());
+    Ok(is_same)
+}
+
+fn after_region(
+    alloc: Global,
+    path: Path,
+    region: Region,
+    line: Line,
+) -> Result<Option<State>, AllocError>
+    ensures { IfOk result (λ o. o ≡ step (Bounded path region) line) }
+{
+    match line {
+        Line::World(text) => {
+            if is_sample(alloc, &region, &text)? {
+                Ok(Some(State::Stepping(path, region, Steps::of(Vec::new(alloc)))))
+            } else {
+                Ok(None)
+            }
+        }
+        _ => Ok(None),
+    }
+}
+
+// With one step more.
+fn with(steps: Steps, step: TextStep) -> Result<Steps, AllocError>
+    ensures { IfOk result (λ ss. ss ≡ steps ++ step ∷ []) }
+{
+    let mut list = steps.into_vec();
+    list.push(step)?;
+    Ok(Steps::of(list))
+}
+
+fn after_steps(
+    path: Path,
+    region: Region,
+    steps: Steps,
+    line: Line,
+) -> Result<Option<State>, AllocError>
+    ensures { IfOk result (λ o. o ≡ step (Stepping path region steps) line) }
+{
+    match line {
+        Line::Step(number, text) => {
+            let count = steps.as_slice().len() as u64;
+            if number == count + 1 {
+                let steps = with(steps, text)?;
+                Ok(Some(State::Stepping(path, region, steps)))
+            } else {
+                Ok(None)
+            }
+        }
+        _ => Ok(None),
+    }
+}
+
+/// The state behind the line, if it may follow.
+pub fn next(alloc: Global, state: State, line: Line) -> Result<Option<State>, AllocError>
+    ensures { IfOk result (λ o. o ≡ step state line) }
+{
+    match state {
+        State::Start => match line {
+            Line::Title => Ok(Some(State::Titled)),
+            _ => Ok(None),
+        },
+        State::Titled => Ok(after_title(line)),
+        State::Forked(path) => Ok(after_fork(path, line)),
+        State::Bounded(path, region) => after_region(alloc, path, region, line),
+        State::Stepping(path, region, steps) => after_steps(path, region, steps, line),
+    }
+}
+
+/// What has been read, where the text may end here.
+pub fn ended(state: State) -> Option<Proof>
+    ensures { result ≡ final state }
+{
+    match state {
+        State::Stepping(path, region, steps) => Some(Proof {
+            path,
+            region,
+            steps,
+        }),
+        _ => None,
+    }
+}

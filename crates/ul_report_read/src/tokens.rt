@@ -1,0 +1,309 @@
+//! Names, versions, sets and numbers in a line.
+ghost use Rattle.std.specs.Prelude.{◌≡◌, ◌+◌, ◌<◌, IfOk, drop, length, option_map, true};
+ghost use Rattle.std.specs.Char.{is_ascii, is_ascii_digit};
+ghost use Rattle.std.specs.List.{list_all};
+ghost use Rattle.ul_base.specs.Names.{name_of};
+ghost use Rattle.ul_report_read.specs.Tokens as spec;
+ghost use Rattle.ul_report_read.specs.Tokens.{ascii_at, is_decimal, name_at, node_at, number_at, placed_in, rises_from, set_at, version_at, versions_at};
+ghost use Rattle.ul_version.specs.Reading.{version_of};
+
+use std::alloc::{AllocError, Global};
+use ul_base::{Name, NameFault, Node};
+use ul_lines::{before_end, divided, same, stripped};
+use ul_report::Versions;
+use ul_version::ascii::{Only, piece_len};
+use ul_version::{Version, VersionFault};
+
+// ---- names
+
+fn are_ascii(bytes: &[u8]) -> bool
+    ensures { result ≡ list_all is_ascii bytes.now }
+{
+    for byte in bytes {
+        if *byte >= 128 {
+            return false;
+        }
+    }
+    true
+}
+
+fn text_of_ascii(bytes: &[u8]) -> &str
+    requires { list_all is_ascii bytes.now ≡ true }
+    ensures { result.now ≡ bytes.now }
+{
+    let Ok(text) = str::from_utf8(bytes) else {
+        return "";
+    };
+    text
+}
+
+fn ascii(bytes: &[u8]) -> Option<&str>
+    ensures { option_map (λ t. t.now) result ≡ ascii_at bytes.now }
+{
+    if are_ascii(bytes) {
+        Some(text_of_ascii(bytes))
+    } else {
+        None
+    }
+}
+
+fn name_of_text(alloc: Global, text: &str) -> Result<Option<Name>, AllocError>
+    ensures { IfOk result (λ found. found ≡ name_of text.now) }
+{
+    match Name::read(alloc, text) {
+        Ok(name) => Ok(Some(name)),
+        Err(fault) => match fault {
+            NameFault::NoReading => Ok(None),
+            NameFault::NoMemory => Err(AllocError),
+        },
+    }
+}
+
+// The name whose normal text this is.
+#[tactic(auto, unfolding(crate::specs::Tokens::name_at))]
+fn name(alloc: Global, bytes: &[u8]) -> Result<Option<Name>, AllocError>
+    ensures { IfOk result (λ found. found ≡ name_at bytes.now) }
+{
+    match ascii(bytes) {
+        None => Ok(None),
+        Some(text) => match name_of_text(alloc, text)? {
+            None => Ok(None),
+            Some(name) => {
+                if same(name.text().as_bytes(), bytes) {
+                    Ok(Some(name))
+                } else {
+                    Ok(None)
+                }
+            }
+        },
+    }
+}
+
+fn base(alloc: Global, bytes: &[u8]) -> Result<Option<Node>, AllocError>
+    ensures { IfOk result (λ found. found ≡ spec.base_at bytes.now) }
+{
+    match name(alloc, bytes)? {
+        None => Ok(None),
+        Some(name) => Ok(Some(Node { name, extra: None })),
+    }
+}
+
+fn extra(alloc: Global, front: &[u8], back: &[u8]) -> Result<Option<Node>, AllocError>
+    ensures { IfOk result (λ found. found ≡ spec.extra_at front.now back.now) }
+{
+    match before_end(back, b"]") {
+        None => Ok(None),
+        Some(inner) => match name(alloc, front)? {
+            None => Ok(None),
+            Some(owner) => match name(alloc, inner)? {
+                None => Ok(None),
+                Some(extra) => Ok(Some(Node {
+                    name: owner,
+                    extra: Some(extra),
+                })),
+            },
+        },
+    }
+}
+
+/// A node: `name` or `name[extra]`, both in their normal form.
+#[tactic(auto, unfolding(crate::specs::Tokens::node_at))]
+pub fn node(alloc: Global, bytes: &[u8]) -> Result<Option<Node>, AllocError>
+    ensures { IfOk result (λ found. found ≡ node_at bytes.now) }
+{
+    match divided(bytes, b'[') {
+        None => base(alloc, bytes),
+        Some((front, back)) => extra(alloc, front, back),
+    }
+}
+
+// ---- versions
+
+fn version_of_text(alloc: Global, bytes: &[u8]) -> Result<Option<Version>, AllocError>
+    ensures { IfOk result (λ found. found ≡ version_of bytes.now) }
+{
+    match Version::read_bytes(alloc, bytes) {
+        Ok(version) => Ok(Some(version)),
+        Err(fault) => match fault {
+            VersionFault::NoReading => Ok(None),
+            VersionFault::NoMemory => Err(AllocError),
+        },
+    }
+}
+
+// The version whose normal text this is.
+#[tactic(auto, unfolding(crate::specs::Tokens::version_at))]
+fn version(alloc: Global, bytes: &[u8]) -> Result<Option<Version>, AllocError>
+    ensures { IfOk result (λ found. found ≡ version_at bytes.now) }
+{
+    match version_of_text(alloc, bytes)? {
+        None => Ok(None),
+        Some(version) => {
+            let again = version.text(alloc)?;
+            if same(again.as_str().as_bytes(), bytes) {
+                Ok(Some(version))
+            } else {
+                Ok(None)
+            }
+        }
+    }
+}
+
+/// What stands behind a place.
+pub fn after(bytes: &[u8], place: usize) -> &[u8]
+    requires { place < length bytes.now }
+    ensures { result.now ≡ drop (place + 1) bytes.now }
+{
+    &bytes[place + 1..]
+}
+
+// Versions that are joined by commas, one at least.
+fn joined_versions(alloc: Global, bytes: &[u8]) -> Result<Option<Vec<Version>>, AllocError>
+    ensures { IfOk result (λ o. option_map (λ v. v.items) o ≡ spec.joined_at bytes.now) }
+{
+    let comma = Only { byte: b',' };
+    let mut versions = Vec::new(alloc);
+    let mut rest = bytes;
+    for _ in 0..usize::MAX {
+        let count = piece_len(&comma, rest);
+        match version(alloc, &rest[..count])? {
+            None => return Ok(None),
+            Some(version) => versions.push(version)?,
+        }
+        if count >= rest.len() {
+            return Ok(Some(versions));
+        }
+        rest = after(rest, count);
+    }
+    Err(AllocError)
+}
+
+// Whether the versions increase, from this one on.
+fn increase_from(first: &Version, rest: &[Version]) -> bool
+    ensures { result ≡ rises_from spec.version_less first.now rest.now }
+{
+    let mut last = first;
+    for version in rest {
+        if !last.cmp(version).is_lt() {
+            return false;
+        }
+        last = version;
+    }
+    true
+}
+
+fn increase(versions: &[Version]) -> bool
+    ensures { result ≡ spec.rises spec.version_less versions.now }
+{
+    match versions {
+        [] => true,
+        [first, rest @ ..] => increase_from(first, rest),
+    }
+}
+
+fn versions(alloc: Global, bytes: &[u8]) -> Result<Option<Vec<Version>>, AllocError>
+    ensures { IfOk result (λ o. option_map (λ v. v.items) o ≡ versions_at bytes.now) }
+{
+    if bytes.is_empty() {
+        Ok(Some(Vec::new(alloc)))
+    } else {
+        joined_versions(alloc, bytes)
+    }
+}
+
+// What stands between the braces of a set: versions that increase, joined by commas.
+#[tactic(auto, unfolding(crate::specs::Tokens::set_at))]
+fn set(alloc: Global, bytes: &[u8]) -> Result<Option<Versions>, AllocError>
+    ensures { IfOk result (λ o. o ≡ set_at bytes.now) }
+{
+    match versions(alloc, bytes)? {
+        None => Ok(None),
+        Some(versions) => {
+            if increase(versions.as_slice()) {
+                Ok(Some(Versions::of(versions)))
+            } else {
+                Ok(None)
+            }
+        }
+    }
+}
+
+// ---- a node and a set
+
+fn placed_at(
+    alloc: Global,
+    front: &[u8],
+    back: &[u8],
+) -> Result<Option<(Node, Versions)>, AllocError>
+    ensures { IfOk result (λ o. o ≡ spec.placed_at front.now back.now) }
+{
+    match stripped(back, b"{") {
+        None => Ok(None),
+        Some(inner) => match node(alloc, front)? {
+            None => Ok(None),
+            Some(node) => match set(alloc, inner)? {
+                None => Ok(None),
+                Some(set) => Ok(Some((node, set))),
+            },
+        },
+    }
+}
+
+/// A node and a set, up to the set's closing brace.
+#[tactic(auto, unfolding(crate::specs::Tokens::placed_in))]
+pub fn placed(alloc: Global, bytes: &[u8]) -> Result<Option<(Node, Versions)>, AllocError>
+    ensures { IfOk result (λ o. o ≡ placed_in bytes.now) }
+{
+    match divided(bytes, b' ') {
+        None => Ok(None),
+        Some((front, back)) => placed_at(alloc, front, back),
+    }
+}
+
+// ---- numbers
+
+fn are_digits(bytes: &[u8]) -> bool
+    ensures { result ≡ list_all is_ascii_digit bytes.now }
+{
+    for byte in bytes {
+        if !byte.is_ascii_digit() {
+            return false;
+        }
+    }
+    true
+}
+
+fn leads_well(bytes: &[u8]) -> bool
+    ensures { result ≡ spec.leads_well bytes.now }
+{
+    match bytes {
+        [] => false,
+        [_] => true,
+        [first, ..] => *first != b'0',
+    }
+}
+
+// The number of digits, if it is below 2^64.
+fn value(bytes: &[u8]) -> Option<u64>
+    requires { is_decimal bytes.now ≡ true }
+    ensures { result ≡ spec.value_at bytes.now }
+{
+    let text = text_of_ascii(bytes);
+    match text.parse::<u64>() {
+        Ok(number) => Some(number),
+        Err(_) => None,
+    }
+}
+
+/// A number below 2^64 in decimal, without a leading zero.
+#[tactic(auto, unfolding(crate::specs::Tokens::number_at))]
+pub fn number(bytes: &[u8]) -> Option<u64>
+    ensures { result ≡ number_at bytes.now }
+{
+    if are_digits(bytes) {
+        if leads_well(bytes) {
+            return value(bytes);
+        }
+    }
+    None
+}
