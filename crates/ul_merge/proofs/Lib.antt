@@ -1,3 +1,17 @@
 mod Unions
 mod ForkSteps
 mod MadeEdges
+mod Gathers
+mod Makes
+mod Places
+mod Walks
+mod RowFacts
+mod Exact
+mod LeafFacts
+mod EdgeIndex
+mod BlockIndex
+mod EdgeFacts
+mod SourceFacts
+mod ReleaseFacts
+mod BlockFacts
+mod PackageFacts

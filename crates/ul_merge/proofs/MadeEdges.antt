@@ -15,37 +15,36 @@ use Rattle.ul_algebra.specs.Truths.{HoldsJoined}
 use Rattle.ul_lock_lines.specs.declared.parts.Edge.{Edge}
 use Rattle.ul_region.specs.Truths.{PassView, DiagramMark, IsRegion, IsTruth, region_at, truth_within}
 use Rattle.ul_sound.specs.Merged.{IsSimplified}
-use Rattle.ul_merge.specs.Unions.{MeetSomewhere, some_holds}
-use Rattle.ul_merge.specs.Edges.{LieWithin, IsMadeEdge}
+use Rattle.ul_merge.specs.Unions.{MeetSomewhere}
+use Rattle.ul_merge.specs.Edges.{LiesWithin, IsMadeEdge}
 
 -- where in a region a truth holds
 pub part_truth : (g h : PassView) (d a b : DiagramMark) → IsRegion g a → IsRegion g b → IsDiagram h d → HoldsJoined both a b d → IsTruth h d (truth_within (region_at a) (region_at b))
 part_truth g h d a b r s k j = record { diagram = k; truth = has_and (tree_of a) (tree_of b) (tree_of d) (region_at a) (region_at b) r.truth s.truth k.reduced j }
 
--- a union that isn't false has a world
-pub has_world : (h : PassView) (d : DiagramMark) (ms : List DiagramMark) → IsTruth h d (some_holds ms) → (tree_of d ≡ truth false → ⊥)
-    → (w : WorldFields) × IsWorld w × (some_holds ms w ≡ true) × (region_at d w ≡ true)
-has_world h d ms t n =
-    let own : IsRegionTree (tree_of d) = region_tree (tree_of d) (some_holds ms) t.truth in
+-- a region that isn't false has a world
+pub has_world : (h : PassView) (d : DiagramMark) → IsRegion h d → (tree_of d ≡ truth false → ⊥) → (w : WorldFields) × IsWorld w × (region_at d w ≡ true)
+has_world h d t n =
+    let own : IsRegionTree (tree_of d) = region_tree (tree_of d) (region_at d) t.truth in
     let at : (w : WorldFields) × IsWorld w × ((x : List ℕ) → tree_holds (tree_of d) w x ≡ true) = holds_somewhere.without_extra (tree_of d) own.reduced n (no_extra.region (tree_of d) own) in
-    (at.0, at.1, sym (t.truth.truth at.0 [] at.1) ∙ at.2 [], at.2 [])
+    (at.0, at.1, at.2 [])
 
 -- and so meets the supported region
-pub meets_there : (h : PassView) (d s : DiagramMark) (ms : List DiagramMark) → IsTruth h d (some_holds ms) → (tree_of d ≡ truth false → ⊥) → LieWithin ms s → MeetSomewhere d s
-meets_there h d s ms t n within = let at = has_world h d ms t n in (at.0, at.3, within at.0 at.1 at.2)
+pub meets_there : (h : PassView) (d s : DiagramMark) → IsRegion h d → (tree_of d ≡ truth false → ⊥) → LiesWithin d s → MeetSomewhere d s
+meets_there h d s t n within = let at : (w : WorldFields) × IsWorld w × (region_at d w ≡ true) = has_world h d t n in (at.0, at.2, within at.0 at.1 at.2)
 
--- a union that is false has none
-pub no_world : (h : PassView) (d : DiagramMark) (ms : List DiagramMark) → IsTruth h d (some_holds ms) → tree_of d ≡ truth false → (w : WorldFields) → IsWorld w → some_holds ms w ≡ false
-no_world h d ms t e w is = sym (t.truth.truth w [] is) ∙ ap (λ (u : Plain). tree_holds u w []) e
+-- a region that is false has none
+pub no_world : (d : DiagramMark) → tree_of d ≡ truth false → (w : WorldFields) → IsWorld w → region_at d w ≡ false
+no_world d e w is = ap (λ (u : Plain). tree_holds u w []) e
 
 -- the edge
-pub made_edge : (h : PassView) (d : DiagramMark) (s : Plain) (ms : List DiagramMark) (n : Node) (v : Fields) (target : Node) (version : Fields) (m : Plain)
-    → IsTruth h d (some_holds ms) → (tree_of d ≡ truth false → ⊥) → Simplifies (tree_of d) s m → target ≡ n → version ≡ v
-    → IsMadeEdge n v ms s (record { target = target; version = version; marker = m })
-made_edge h d s ms n v target version m t not k e f = let at = has_world h d ms t not in record {
+pub made_edge : (h : PassView) (d : DiagramMark) (s : Plain) (n : Node) (v : Fields) (target : Node) (version : Fields) (m : Plain)
+    → IsRegion h d → (tree_of d ≡ truth false → ⊥) → Simplifies (tree_of d) s m → target ≡ n → version ≡ v
+    → IsMadeEdge n v (region_at d) s (record { target = target; version = version; marker = m })
+made_edge h d s n v target version m t not k e f = record {
   target = e;
   version = f;
-  somewhere = (at.0, at.1, at.2);
+  somewhere = has_world h d t not;
   marker = record {
     tree = tree_of d;
     reduced = t.truth.reduced;

@@ -1,3 +1,11 @@
+pub mod Merging
 pub mod Views
+pub mod Made
+pub mod Gathered
+pub mod Chosen
+pub mod Keys
+pub mod Rows
+pub mod Members
 pub mod Unions
 pub mod Edges
+pub mod Blocks

@@ -2,7 +2,7 @@
 use Rattle.std.specs.Prelude.{◌≡◌, List, [], ◌∷◌, Bool, true, false, ◌||◌}
 use Rattle.ul_marker.specs.Worlds.{WorldFields}
 use Rattle.ul_region.specs.Truths.{PassView, DiagramMark, IsRegion, region_at}
-use Rattle.ul_split.specs.declared.leaf.Leaf.{Leaf}
+use Rattle.ul_merge.specs.Views.{ForkLeaf}
 
 -- both regions have some world
 abbrev pub MeetSomewhere : DiagramMark → DiagramMark → Type 0
@@ -14,5 +14,5 @@ some_holds [] w = false
 some_holds (m ∷ ms) w = region_at m w || some_holds ms w
 
 -- the leaf's diagram stands for a region, which has a world of the supported one
-abbrev pub IsForkIn : PassView → DiagramMark → Leaf → Type 0
+abbrev pub IsForkIn : PassView → DiagramMark → ForkLeaf → Type 0
 IsForkIn h supported l = IsRegion h l.region × MeetSomewhere l.region supported

@@ -1,25 +1,27 @@
 //! Edges of a lock.
-ghost use Rattle.std.specs.Prelude.{IfOk, All};
+ghost use Rattle.std.specs.Prelude.{◌≡◌, ◌++◌, ◌∷◌, [], IfOk, OnOk, All, Contains, map};
 ghost use Rattle.ul_interner.specs.Known.{Knows};
 ghost use Rattle.ul_algebra.specs.Answers.{IsDiagram};
 ghost use Rattle.ul_algebra.specs.Spelled.{tree_of};
-ghost use Rattle.ul_region.specs.Truths.{IsRegion};
-ghost use Rattle.ul_merge.specs.Edges.{IsEdgeBy, IsPartIn, LieWithin};
+ghost use Rattle.ul_region.specs.Truths.{DiagramMark, IsRegion, IsTruth, region_at};
+ghost use Rattle.ul_merge.specs.Edges.{AreTruths, IsEdgeBy, IsPartIn, LiesWithin, MakesEdge, both_hold, picked};
+ghost use Rattle.ul_merge.specs.Made.{AreMade, at_most_one};
 
+use crate::gathering::Group;
+use crate::keys::PickKey;
+use crate::targets::Use;
 use crate::truths::{simplified, union_of};
 use std::alloc::{AllocError, Global};
 use std::sync::Wait;
 use ul_algebra::{Algebra, Diagram};
 use ul_base::Node;
 use ul_lock_lines::Edge;
+use ul_region::truth_at;
+use ul_requirement::Requirement;
 use ul_version::Version;
 
-/// Where in a region a truth holds.
-///
-/// # Errors
-///
-/// Only for want of memory.
-pub fn part_in<R: Wait>(
+// Where in a region a truth holds.
+fn part_in<R: Wait>(
     rt: &R,
     alloc: Global,
     algebra: &mut Algebra<'_>,
@@ -35,32 +37,26 @@ pub fn part_in<R: Wait>(
     Ok(d)
 }
 
-/// The edge to a target that is true in each of the parts, which lie in the supported region; none exactly where it is
-/// true nowhere.
-///
-/// # Errors
-///
-/// Only for want of memory.
-pub fn edge_to<R: Wait>(
+// The edge to a target that is true in a part of the supported region; none exactly where it is true nowhere.
+fn edge_to<R: Wait>(
     rt: &R,
     alloc: Global,
     algebra: &mut Algebra<'_>,
     target: &Node,
     version: &Version,
-    parts: &[Diagram],
+    truth: &Diagram,
     supported: &Diagram,
 ) -> Result<Option<Edge>, AllocError>
-    requires parts { All (IsRegion algebra.old) parts.now }
-    requires within { LieWithin parts.now supported.now }
+    requires truth { IsRegion algebra.old truth.now }
+    requires within { LiesWithin truth.now supported.now }
     requires supported { IsDiagram algebra.old supported.now }
     ensures knows { Knows algebra.old algebra.new }
-    ensures edge { IfOk result (IsEdgeBy target.now version.now parts.now (tree_of supported.now)) }
+    ensures edge { IfOk result (IsEdgeBy target.now version.now (region_at truth.now) (tree_of supported.now)) }
 {
-    let truth = union_of(rt, alloc, algebra, parts)?;
-    if algebra.is_false(&truth) {
+    if algebra.is_false(truth) {
         return Ok(None);
     }
-    let marker = simplified(rt, alloc, algebra, &truth, supported)?;
+    let marker = simplified(rt, alloc, algebra, truth, supported)?;
     let target = target.copy(alloc)?;
     let version = version.copy(alloc)?;
     Ok(Some(Edge {
@@ -68,4 +64,136 @@ pub fn edge_to<R: Wait>(
         version,
         marker,
     }))
+}
+
+// Adds the diagram at a place, if there is one.
+fn put_mark(marks: &mut Vec<Diagram>, all: &[Diagram], place: usize) -> Result<(), AllocError>
+    ensures { OnOk result (marks.new.items ≡ marks.old.items ++ picked all.now (place ∷ [])) }
+{
+    if let Some(mark) = all.get(place) {
+        let mark = mark.share()?;
+        marks.push(mark)?;
+    }
+    Ok(())
+}
+
+// The regions of the leaves.
+fn regions_at(alloc: Global, regions: &[Diagram], uses: &[Use]) -> Result<Vec<Diagram>, AllocError>
+    ensures { IfOk result (λ v. v.items ≡ picked regions.now (map (λ u. u.leaf) uses.now)) }
+{
+    let mut marks = Vec::with_capacity(alloc, uses.len())?;
+    for one in uses {
+        put_mark(&mut marks, regions, one.leaf)?;
+    }
+    Ok(marks)
+}
+
+// The truths of the requirements.
+fn truths_at(alloc: Global, truths: &[Diagram], uses: &[Use]) -> Result<Vec<Diagram>, AllocError>
+    ensures { IfOk result (λ v. v.items ≡ picked truths.now (map (λ u. u.requirement) uses.now)) }
+{
+    let mut marks = Vec::with_capacity(alloc, uses.len())?;
+    for one in uses {
+        put_mark(&mut marks, truths, one.requirement)?;
+    }
+    Ok(marks)
+}
+
+// Where some of the regions has a world and some of the truths holds there.
+fn truth_in<R: Wait>(
+    rt: &R,
+    alloc: Global,
+    algebra: &mut Algebra<'_>,
+    regions: &[Diagram],
+    truths: &[Diagram],
+) -> Result<Diagram, AllocError>
+    requires regions { All (IsRegion algebra.old) regions.now }
+    requires truths { All (IsRegion algebra.old) truths.now }
+    ensures knows { Knows algebra.old algebra.new }
+    ensures truth { IfOk result (λ d. IsTruth algebra.new d (both_hold regions.now truths.now)) }
+{
+    let region = union_of(rt, alloc, algebra, regions)?;
+    let truth = union_of(rt, alloc, algebra, truths)?;
+    let d = part_in(rt, alloc, algebra, &region, &truth)?;
+    Ok(d)
+}
+
+// The edge to a target that leaves chose.
+fn edge_of<R: Wait>(
+    rt: &R,
+    alloc: Global,
+    algebra: &mut Algebra<'_>,
+    supported: &Diagram,
+    regions: &[Diagram],
+    truths: &[Diagram],
+    group: &Group<PickKey<'_>, Use>,
+) -> Result<Option<Edge>, AllocError>
+    requires supported { IsDiagram algebra.old supported.now }
+    requires regions { All (IsRegion algebra.old) regions.now }
+    requires within { All (λ m. LiesWithin m supported.now) regions.now }
+    requires truths { All (IsRegion algebra.old) truths.now }
+    ensures knows { Knows algebra.old algebra.new }
+    ensures edge { IfOk result (MakesEdge regions.now truths.now (tree_of supported.now) group.now) }
+{
+    let uses: &Vec<Use> = &group.values;
+    let mine = regions_at(alloc, regions, uses.as_slice())?;
+    let holds = truths_at(alloc, truths, uses.as_slice())?;
+    let truth = truth_in(rt, alloc, algebra, mine.as_slice(), holds.as_slice())?;
+    let key = &group.key;
+    let edge = edge_to(rt, alloc, algebra, key.node, key.version, &truth, supported)?;
+    Ok(edge)
+}
+
+// Adds an edge, if there is one.
+fn put_edge(edges: &mut Vec<Edge>, edge: Option<Edge>) -> Result<(), AllocError>
+    ensures { OnOk result (edges.new.items ≡ edges.old.items ++ at_most_one edge) }
+{
+    if let Some(edge) = edge {
+        edges.push(edge)?;
+    }
+    Ok(())
+}
+
+/// The edges to targets that leaves chose, in order.
+pub(crate) fn made_edges<R: Wait>(
+    rt: &R,
+    alloc: Global,
+    algebra: &mut Algebra<'_>,
+    supported: &Diagram,
+    regions: &[Diagram],
+    truths: &[Diagram],
+    groups: &[Group<PickKey<'_>, Use>],
+) -> Result<Vec<Edge>, AllocError>
+    requires supported { IsDiagram algebra.old supported.now }
+    requires regions { All (IsRegion algebra.old) regions.now }
+    requires within { All (λ m. LiesWithin m supported.now) regions.now }
+    requires truths { All (IsRegion algebra.old) truths.now }
+    ensures knows { Knows algebra.old algebra.new }
+    ensures edges { IfOk result (λ v. AreMade (MakesEdge regions.now truths.now (tree_of supported.now)) groups.now v.items) }
+{
+    let mut edges = Vec::new(alloc);
+    for group in groups {
+        let edge = edge_of(rt, alloc, algebra, supported, regions, truths, group)?;
+        put_edge(&mut edges, edge)?;
+    }
+    Ok(edges)
+}
+
+/// The truths of requirements at a node, in order.
+pub(crate) fn truths_of<R: Wait>(
+    rt: &R,
+    alloc: Global,
+    algebra: &mut Algebra<'_>,
+    node: &Node,
+    requirements: &[Requirement],
+) -> Result<Vec<Diagram>, AllocError>
+    ensures knows { Knows algebra.old algebra.new }
+    ensures truths { IfOk result (λ v. AreTruths algebra.new node.now requirements.now v.items) }
+{
+    let mut truths = Vec::with_capacity(alloc, requirements.len())?;
+    for one in requirements {
+        let truth = truth_at(rt, alloc, algebra, node, one)?;
+        truths.push(truth)?;
+    }
+    Ok(truths)
 }

@@ -11,15 +11,17 @@ use crate::truths::simplified;
 use std::alloc::{AllocError, Global};
 use std::sync::Wait;
 use ul_algebra::{Algebra, Diagram};
+use ul_base::Node;
+use ul_generations::Leaf;
 use ul_lock_lines::Regions;
-use ul_split::Leaf;
+use ul_version::Version;
 
 // What each leaf's region becomes under the supported one, in order.
 fn regions_of<R: Wait>(
     rt: &R,
     alloc: Global,
     algebra: &mut Algebra<'_>,
-    leaves: &[Leaf],
+    leaves: &[Leaf<Diagram, Vec<(Node, Version)>>],
     supported: &Diagram,
 ) -> Result<Regions, AllocError>
     requires leaves { All (IsForkIn algebra.old supported.now) leaves.now }
@@ -45,7 +47,7 @@ pub fn fork_regions<R: Wait>(
     rt: &R,
     alloc: Global,
     algebra: &mut Algebra<'_>,
-    leaves: &[Leaf],
+    leaves: &[Leaf<Diagram, Vec<(Node, Version)>>],
     supported: &Diagram,
 ) -> Result<Regions, AllocError>
     requires leaves { All (IsForkIn algebra.old supported.now) leaves.now }

@@ -6,3 +6,5 @@ pub use Rattle.ul_sound.proofs.Strict.{IsStrict, strict, blocks_strict, edges_st
 pub use Rattle.ul_sound.proofs.Indexes.{before_all, increasing_same, index_once}
 -- a tree that is simplified under a region is a region, if both hold at some world
 pub use Rattle.ul_sound.proofs.NoExtra.{simplified_region}
+-- the project has one eligible version
+pub use Rattle.ul_sound.proofs.RootVersion.{only_version}

@@ -2,17 +2,16 @@ use Rattle.std.proofs.Common.{◌≡◌, ◌+◌, List, map, take, sym, subst}
 use Rattle.ul_interner.proofs.ForCallers.{knows_then}
 use Rattle.ul_tree.specs.Plain.{Plain}
 use Rattle.ul_algebra.specs.Spelled.{tree_of}
-use Rattle.ul_split.specs.declared.leaf.Leaf.{Leaf}
+use Rattle.ul_merge.specs.Views.{ForkLeaf, leaf_of}
 use Rattle.ul_region.proofs.ForCallers.{still, truth_still}
 use Rattle.ul_sound.specs.Merged.{AreSimplified}
 use Rattle.ul_merge.specs.Unions.{IsForkIn}
-use Rattle.ul_merge.specs.Views.{leaf_of}
 use Rattle.ul_merge.proofs.ForkSteps.{one_more}
 use Rattle.ul_merge.proofs.forks.regions_of.Goals as goal
 
 pub simplified-requires-clause-truth : goal.simplified-requires-clause-truth
 simplified-requires-clause-truth g c = truth_still _ _ _ _ c.loop-leaf.invariant.knows
-    (subst (λ (l : Leaf). IsForkIn c.args.algebra.now c.args.supported.now l) (sym c.leaf-item.is) (c.requires.leaves c.loop-leaf.leaf-index c.leaf-item.result c.loop-leaf-test.true)).0
+    (subst (λ (l : ForkLeaf). IsForkIn c.args.algebra.now c.args.supported.now l) (sym c.leaf-item.is) (c.requires.leaves c.loop-leaf.leaf-index c.leaf-item.result c.loop-leaf-test.true)).0
 
 pub simplified-requires-clause-supported : goal.simplified-requires-clause-supported
 simplified-requires-clause-supported g c = still _ _ _ c.loop-leaf.invariant.knows c.requires.supported

@@ -1,0 +1,15 @@
+use Rattle.ul_interner.proofs.ForCallers.{knows_then}
+use Rattle.ul_merge.proofs.EdgeFacts.{truths_more}
+use Rattle.ul_merge.proofs.edges.truths_of.Goals as goal
+
+pub returns-in_err-truth-clause-knows : goal.returns-in_err-truth-clause-knows
+returns-in_err-truth-clause-knows g c = knows_then _ _ _ c.loop-one.invariant.knows c.in_err-truth.ensures.knows
+
+pub returns-in_err-push-clause-knows : goal.returns-in_err-push-clause-knows
+returns-in_err-push-clause-knows g c = knows_then _ _ _ c.loop-one.invariant.knows c.in_ok-truth.ensures.knows
+
+pub loop-one-preserved : goal.loop-one-preserved
+loop-one-preserved g c = record {
+  knows = knows_then _ _ _ c.loop-one.invariant.knows c.in_ok-truth.ensures.knows;
+  truths = truths_more _ _ c.args.node.now c.args.requirements.now _ _ _ _ _ c.in_ok-truth.ensures.knows c.loop-one-test.true c.one-item.is c.loop-one.invariant.truths c.in_ok-truth.ensures.truth c.in_ok-push.ensures.items;
+}
