@@ -3,3 +3,7 @@ pub mod Worlds
 pub mod Answers
 pub mod Judged
 pub mod Parts
+pub mod Picking
+pub mod Judging
+pub mod Forking
+pub mod Sharing

@@ -1,4 +1,5 @@
--- What becomes of a region's diagram, as the code has it: with the decisions of a leaf, and the derivation of a refused region.
+-- What becomes of a region's diagram, as the code has it: with the decisions of a leaf, and the derivation of a refused
+-- region.
 use Rattle.std.specs.Prelude.{ℕ, List, Vec}
 use Rattle.std.specs.declared.alloc.Global.{Global}
 use Rattle.ul_base.specs.declared.node.Node.{Node}
@@ -21,9 +22,13 @@ use Rattle.ul_forks.specs.Headline.{TreeAnswer, IsAnswer}
 abbrev pub Decisions : Type 0
 Decisions = Vec (Node × Fields) Global
 
+-- the problem of a region
+abbrev pub HasProblem : Question → DiagramMark → Problem → Type 0
+HasProblem q region p = IsProblemOf q.catalog (starts_of q) q.wish (region_at region) p
+
 -- the derivation is accepted by the problem of this very region
 abbrev pub IsAccepted : Question → DiagramMark → List Step → Type 0
-IsAccepted q region steps = (p : Problem) × IsProblemOf q.catalog (starts_of q) q.wish (region_at region) p × Accepts p steps
+IsAccepted q region steps = (p : Problem) × HasProblem q region p × Accepts p steps
 
 -- what becomes of a region; a refused one has an accepted derivation
 abbrev pub IsJudged : Question → DiagramMark → Outcome DiagramMark Decisions (List Step) → Type 0
@@ -38,7 +43,8 @@ answer_of_trees a = answer_seen tree_of (λ d. d.items) (λ f. tt) a
 -- what holds of diagrams that are judged
 pub record JudgedLaws : Type 0 where
   -- an accepted derivation refuses its region
-  pub refuses : (q : Question) (region : DiagramMark) (steps : List Step) → IsAccepted q region steps → IsRefused q (tree_of region)
+  pub refuses : (q : Question) (region : DiagramMark) (steps : List Step) → IsAccepted q region steps
+      → IsRefused q (tree_of region)
   -- the fork answer of a diagram is that of its tree, with the same numbers of regions
   pub answers : (q : Question) (region : DiagramMark) (counts : List ℕ) (a : Answer DiagramMark Decisions (List Step))
       → IsForkAnswer (IsJudged q) region counts a → IsAnswer q (tree_of region) counts (answer_of_trees a)

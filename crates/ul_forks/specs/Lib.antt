@@ -1,4 +1,7 @@
 pub mod Outcome
 pub mod Headline
 pub mod Judged
+pub mod Forked
 pub mod Children
+pub mod Picks
+pub mod Judge

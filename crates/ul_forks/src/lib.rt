@@ -1,9 +1,15 @@
 //! What becomes of the supported region: the fork answer over a catalog.
 //!
-//! `specs/Outcome.antt` says what becomes of one region, and `specs/Headline.antt` what the fork answer then has.
+//! `specs/Outcome.antt` says what becomes of one region, `specs/Headline.antt` what the fork answer then has, and
+//! `specs/Forked.antt` what `fork_all` answers.
 #![tactic(auto)]
 
 mod children;
+mod fork;
 pub mod laws;
+mod picks;
+mod region_judge;
 
 pub use children::children_of;
+pub use fork::{Decisions, ForkAnswer, ForkLeaf, fork_all};
+pub use ul_generations::{ForkFault, Forked, Leaf, Path};

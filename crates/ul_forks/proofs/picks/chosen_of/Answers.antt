@@ -1,0 +1,8 @@
+use Rattle.std.proofs.lemmas.Option.{slice_get-get_or}
+use Rattle.ul_forks.specs.Picks.{IsTaken}
+use Rattle.ul_forks.proofs.Picking.{one_more_at}
+use Rattle.ul_forks.proofs.picks.chosen_of.Goals as goal
+
+pub loop-pick-preserved : goal.loop-pick-preserved
+loop-pick-preserved c = one_more_at (IsTaken c.args.prepared.now c.args.problem.now) c.args.picks.now c.loop-pick.chosen.items c.push.new.self.items c.loop-pick.pick-index _ c.in_ok-one.one
+    c.in_ok-push.ensures.items c.loop-pick.invariant c.in_ok-one.ensures (slice_get-get_or c.args.picks.now c.loop-pick.pick-index _ c.loop-pick-test.true)
