@@ -4,3 +4,5 @@
 pub use Rattle.ul_lock_lines.proofs.TypedLaws.{line_takes, line_again, line_ends}
 -- all worlds are a region
 pub use Rattle.ul_lock_lines.proofs.Markers.{all_region}
+-- names and versions in a line: what is read is spelled so, what is spelled so is read, and bytes that none has
+pub use Rattle.ul_lock_lines.proofs.TypedLaws.{name_is, name_again, name_has, version_is, version_again, version_has}

@@ -62,7 +62,7 @@ hex_is_ascii c h = grind (arith, nat_tests)
 ascii_is : (t y : List ℕ) → ascii_at t ≡ Some y → t ≡ y
 ascii_is t y e = some_is t y (pick_true (list_all is_ascii t) (Some t) y e).1
 
-name_is : (t n : List ℕ) → name_at t ≡ Some n → (n ≡ t) × IsNormalName n
+pub name_is : (t n : List ℕ) → name_at t ≡ Some n → (n ≡ t) × IsNormalName n
 unfolding name_at
 name_is t n e =
     let a = bind_some (option_and_then name_of (ascii_at t)) (kept_name t) n e in
@@ -71,7 +71,7 @@ name_is t n e =
     let q : a.0 ≡ n = some_is a.0 n k.1 in
     (sym q ∙ same_text a.0 t k.0, subst (λ z. IsNormalName z) q (name_reads_itself c.0 a.0 c.2))
 
-name_again : (n : List ℕ) → IsNormalName n → name_at n ≡ Some n
+pub name_again : (n : List ℕ) → IsNormalName n → name_at n ≡ Some n
 unfolding name_at
 name_again n h =
     let a : list_all is_ascii n ≡ true = all_weaker is_normal_byte is_ascii normal_is_ascii n (name_is_plain n h).1 in
@@ -85,14 +85,14 @@ kept_is t f v e =
     let q : f ≡ v = some_is f v a.1 in
     (ap version_text (sym q) ∙ same_text (version_text f) t a.0, q)
 
-version_is : (t : List ℕ) (v : Fields) → version_at t ≡ Some v → (version_text v ≡ t) × IsVersion v
+pub version_is : (t : List ℕ) (v : Fields) → version_at t ≡ Some v → (version_text v ≡ t) × IsVersion v
 unfolding version_at
 version_is t v e =
     let a = bind_some (version_of t) (kept_version t) v e in
     let k = kept_is t a.0 v a.2 in
     (k.0, subst (λ z. IsVersion z) k.1 (read_is_version t a.0 a.1))
 
-version_again : (v : Fields) → IsVersion v → version_at (version_text v) ≡ Some v
+pub version_again : (v : Fields) → IsVersion v → version_at (version_text v) ≡ Some v
 unfolding version_at
 version_again v h = rw (version-read v h, bytes_eq_self (version_text v)) refl
 

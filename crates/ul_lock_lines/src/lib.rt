@@ -11,4 +11,4 @@ mod typed;
 
 pub use lines::{Edition, Line, RawEdge, RawFile, RawLine, Text};
 pub use parts::{Edge, Edges, Extra, Extras, Files, Lock, Locked, Packages, Region, Regions};
-pub use typed::{escaped_text, line};
+pub use typed::{escaped_text, line, name, text_of_ascii, version};

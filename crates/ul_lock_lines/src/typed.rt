@@ -30,7 +30,8 @@ fn are_ascii(bytes: &[u8]) -> bool
     true
 }
 
-fn text_of_ascii(bytes: &[u8]) -> &str
+/// ASCII bytes as text.
+pub fn text_of_ascii(bytes: &[u8]) -> &str
     requires { list_all is_ascii bytes.now ≡ true }
     ensures { result.now ≡ bytes.now }
 {
@@ -62,8 +63,9 @@ fn name_of_text(alloc: Global, text: &str) -> Result<Option<Name>, AllocError>
     }
 }
 
+/// The name whose normal text this is.
 #[tactic(auto, unfolding(crate::specs::LineReading::name_at))]
-fn name(alloc: Global, bytes: &[u8]) -> Result<Option<Name>, AllocError>
+pub fn name(alloc: Global, bytes: &[u8]) -> Result<Option<Name>, AllocError>
     ensures { IfOk result (λ found. found ≡ name_at bytes.now) }
 {
     match ascii(bytes) {
@@ -93,8 +95,9 @@ fn version_of_text(alloc: Global, bytes: &[u8]) -> Result<Option<Version>, Alloc
     }
 }
 
+/// The version whose normal text this is.
 #[tactic(auto, unfolding(crate::specs::LineReading::version_at))]
-fn version(alloc: Global, bytes: &[u8]) -> Result<Option<Version>, AllocError>
+pub fn version(alloc: Global, bytes: &[u8]) -> Result<Option<Version>, AllocError>
     ensures { IfOk result (λ found. found ≡ version_at bytes.now) }
 {
     match version_of_text(alloc, bytes)? {

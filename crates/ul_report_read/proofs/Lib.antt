@@ -6,6 +6,5 @@ pub mod Worlds
 pub mod WholeTexts
 pub mod Printed
 pub mod Answered
-pub mod Ascii
 pub mod Loops
 pub mod Numbers

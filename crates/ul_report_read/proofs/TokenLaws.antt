@@ -21,43 +21,18 @@ use Rattle.ul_base.proofs.ForCallers.{name_is_plain, name_reads_itself}
 use Rattle.ul_lines.specs.Pieces.{cut_end, has, strip, until}
 use Rattle.ul_lines.specs.Reader.{Each}
 use Rattle.ul_lines.proofs.ForCallers.{some_is, bind_some, map_some, same_text, bytes_eq_self, has_none, inside_is, inside_again, strip_is, until_is, until_again}
+use Rattle.ul_lock_lines.proofs.ForCallers.{name_is, name_again, name_has, version_is, version_again, version_has}
 use Rattle.ul_problem.specs.Problems.{Increases, IncreasesFrom, VersionBefore}
 use Rattle.ul_report.specs.Texts.{extra_text, node_text, versions_text}
+use Rattle.ul_lock_lines.specs.LineReading.{name_at, version_at}
 use Rattle.ul_report_read.specs.Proofs.{IsNamed, IsSet}
-use Rattle.ul_report_read.specs.Tokens.{ascii_at, base_node, each_version, extra_node, extra_of, is_decimal, joined_at, kept_name, kept_version, kept_versions, leads_well, name_at, node_at, node_of_parts, number_at, onto_versions, placed_in, placed_of, placed_of_parts, rises, rises_from, set_at, version_at, version_less, versions_at, with_set}
+use Rattle.ul_report_read.specs.Tokens.{base_node, each_version, extra_node, extra_of, is_decimal, joined_at, kept_versions, leads_well, node_at, node_of_parts, number_at, onto_versions, placed_in, placed_of, placed_of_parts, rises, rises_from, set_at, version_less, versions_at, with_set}
 use Rattle.ul_report_read.proofs.Cutting.{pick_true, all_weaker, has_join, until_none, split_none, split_at}
 use Rattle.ul_version.specs.Fields.{Fields, IsVersion}
 use Rattle.ul_version.specs.Order.{version_cmp}
 use Rattle.ul_version.specs.Reading.{version_of}
 use Rattle.ul_version.specs.Texts.{version_text, is_text_byte}
 use Rattle.ul_version.proofs.ForCallers.{plain as text_is_plain, versions as read_is_version, version-read}
-
--- ---- names
-
-normal_is_ascii : (c : ℕ) → is_normal_byte c ≡ true → is_ascii c ≡ true
-normal_is_ascii c h = grind (arith, nat_tests)
-
-ascii_is : (t y : List ℕ) → ascii_at t ≡ Some y → t ≡ y
-ascii_is t y e = some_is t y (pick_true (list_all is_ascii t) (Some t) y e).1
-
-pub name_is : (t n : List ℕ) → name_at t ≡ Some n → (n ≡ t) × IsNormalName n
-unfolding name_at
-name_is t n e =
-    let a = bind_some (option_and_then name_of (ascii_at t)) (kept_name t) n e in
-    let c = bind_some (ascii_at t) name_of a.0 a.1 in
-    let k = pick_true (bytes_eq a.0 t) (Some a.0) n a.2 in
-    let q : a.0 ≡ n = some_is a.0 n k.1 in
-    (sym q ∙ same_text a.0 t k.0, subst (λ z. IsNormalName z) q (name_reads_itself c.0 a.0 c.2))
-
-pub name_again : (n : List ℕ) → IsNormalName n → name_at n ≡ Some n
-unfolding name_at
-name_again n h =
-    let a : list_all is_ascii n ≡ true = all_weaker is_normal_byte is_ascii normal_is_ascii n (name_is_plain n h).1 in
-    rw (a, h, bytes_eq_self n) refl
-
--- a byte of no name
-pub name_has : (c : ℕ) (n : List ℕ) → is_normal_byte c ≡ false → IsNormalName n → has c n ≡ false
-name_has c n k h = has_none is_normal_byte c n k (name_is_plain n h).1
 
 -- ---- nodes
 
@@ -118,29 +93,6 @@ extra_has c (Some x) k a b h = rw a (has_join c x (93 ∷ []) (name_has c x k h)
 pub node_has : (c : ℕ) (node : Node) → is_normal_byte c ≡ false → eqb 91 c ≡ false → eqb 93 c ≡ false → IsNamed node → has c (node_text node) ≡ false
 unfolding node_text
 node_has c node k a b h = has_join c node.name (extra_text node.extra) (name_has c node.name k h.name) (extra_has c node.extra k a b h.extra)
-
--- ---- versions
-
-kept_is : (t : List ℕ) (f v : Fields) → kept_version t f ≡ Some v → (version_text v ≡ t) × (f ≡ v)
-kept_is t f v e =
-    let a = pick_true (bytes_eq (version_text f) t) (Some f) v e in
-    let q : f ≡ v = some_is f v a.1 in
-    (ap version_text (sym q) ∙ same_text (version_text f) t a.0, q)
-
-version_is : (t : List ℕ) (v : Fields) → version_at t ≡ Some v → (version_text v ≡ t) × IsVersion v
-unfolding version_at
-version_is t v e =
-    let a = bind_some (version_of t) (kept_version t) v e in
-    let k = kept_is t a.0 v a.2 in
-    (k.0, subst (λ z. IsVersion z) k.1 (read_is_version t a.0 a.1))
-
-version_again : (v : Fields) → IsVersion v → version_at (version_text v) ≡ Some v
-unfolding version_at
-version_again v h = rw (version-read v h, bytes_eq_self (version_text v)) refl
-
--- a byte of no version
-version_has : (c : ℕ) (v : Fields) → is_text_byte c ≡ false → IsVersion v → has c (version_text v) ≡ false
-version_has c v k h = has_none is_text_byte c (version_text v) k (text_is_plain v h).0
 
 -- ---- versions joined by commas
 

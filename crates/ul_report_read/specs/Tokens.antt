@@ -11,20 +11,9 @@ use Rattle.ul_version.specs.Fields.{Fields}
 use Rattle.ul_version.specs.Order.{version_cmp}
 use Rattle.ul_version.specs.Reading.{version_of}
 use Rattle.ul_version.specs.Texts.{version_text}
+pub use Rattle.ul_lock_lines.specs.LineReading.{name_at, version_at}
 
 -- ---- names
-
--- the text, if it is ASCII
-abbrev pub ascii_at : List ℕ → Option (List ℕ)
-ascii_at text = if list_all is_ascii text then Some text else None
-
--- the name, if it is this text
-abbrev pub kept_name : List ℕ → List ℕ → Option (List ℕ)
-kept_name t n = cond (bytes_eq n t) (Some n) None
-
--- the name whose normal text this is
-unfoldable pub name_at : List ℕ → Option (List ℕ)
-name_at t = option_and_then (kept_name t) (option_and_then name_of (ascii_at t))
 
 -- the base of a name
 abbrev pub base_node : List ℕ → Node
@@ -56,14 +45,6 @@ unfoldable pub node_at : List ℕ → Option Node
 node_at t = node_of_parts t (until 91 t)
 
 -- ---- versions
-
--- the version, if this is its normal text
-abbrev pub kept_version : List ℕ → Fields → Option Fields
-kept_version t f = cond (bytes_eq (version_text f) t) (Some f) None
-
--- the version whose normal text this is
-unfoldable pub version_at : List ℕ → Option Fields
-version_at t = option_and_then (kept_version t) (version_of t)
 
 -- a version in front of others
 abbrev pub onto_versions : Option (List Fields) → Fields → Option (List Fields)

@@ -1,83 +1,19 @@
 //! Names, versions, sets and numbers in a line.
 ghost use Rattle.std.specs.Prelude.{◌≡◌, ◌+◌, ◌<◌, IfOk, drop, length, option_map, true};
-ghost use Rattle.std.specs.Char.{is_ascii, is_ascii_digit};
+ghost use Rattle.std.specs.Char.{is_ascii_digit};
 ghost use Rattle.std.specs.List.{list_all};
-ghost use Rattle.ul_base.specs.Names.{name_of};
 ghost use Rattle.ul_report_read.specs.Tokens as spec;
-ghost use Rattle.ul_report_read.specs.Tokens.{ascii_at, is_decimal, name_at, node_at, number_at, placed_in, rises_from, set_at, version_at, versions_at};
-ghost use Rattle.ul_version.specs.Reading.{version_of};
+ghost use Rattle.ul_report_read.specs.Tokens.{is_decimal, node_at, number_at, placed_in, rises_from, set_at, versions_at};
 
 use std::alloc::{AllocError, Global};
-use ul_base::{Name, NameFault, Node};
-use ul_lines::{before_end, divided, same, stripped};
+use ul_base::Node;
+use ul_lines::{before_end, divided, stripped};
+use ul_lock_lines::{name, text_of_ascii, version};
 use ul_report::Versions;
+use ul_version::Version;
 use ul_version::ascii::{Only, piece_len};
-use ul_version::{Version, VersionFault};
 
 // ---- names
-
-fn are_ascii(bytes: &[u8]) -> bool
-    ensures { result ≡ list_all is_ascii bytes.now }
-{
-    for byte in bytes {
-        if *byte >= 128 {
-            return false;
-        }
-    }
-    true
-}
-
-fn text_of_ascii(bytes: &[u8]) -> &str
-    requires { list_all is_ascii bytes.now ≡ true }
-    ensures { result.now ≡ bytes.now }
-{
-    let Ok(text) = str::from_utf8(bytes) else {
-        return "";
-    };
-    text
-}
-
-fn ascii(bytes: &[u8]) -> Option<&str>
-    ensures { option_map (λ t. t.now) result ≡ ascii_at bytes.now }
-{
-    if are_ascii(bytes) {
-        Some(text_of_ascii(bytes))
-    } else {
-        None
-    }
-}
-
-fn name_of_text(alloc: Global, text: &str) -> Result<Option<Name>, AllocError>
-    ensures { IfOk result (λ found. found ≡ name_of text.now) }
-{
-    match Name::read(alloc, text) {
-        Ok(name) => Ok(Some(name)),
-        Err(fault) => match fault {
-            NameFault::NoReading => Ok(None),
-            NameFault::NoMemory => Err(AllocError),
-        },
-    }
-}
-
-// The name whose normal text this is.
-#[tactic(auto, unfolding(crate::specs::Tokens::name_at))]
-fn name(alloc: Global, bytes: &[u8]) -> Result<Option<Name>, AllocError>
-    ensures { IfOk result (λ found. found ≡ name_at bytes.now) }
-{
-    match ascii(bytes) {
-        None => Ok(None),
-        Some(text) => match name_of_text(alloc, text)? {
-            None => Ok(None),
-            Some(name) => {
-                if same(name.text().as_bytes(), bytes) {
-                    Ok(Some(name))
-                } else {
-                    Ok(None)
-                }
-            }
-        },
-    }
-}
 
 fn base(alloc: Global, bytes: &[u8]) -> Result<Option<Node>, AllocError>
     ensures { IfOk result (λ found. found ≡ spec.base_at bytes.now) }
@@ -118,36 +54,6 @@ pub fn node(alloc: Global, bytes: &[u8]) -> Result<Option<Node>, AllocError>
 }
 
 // ---- versions
-
-fn version_of_text(alloc: Global, bytes: &[u8]) -> Result<Option<Version>, AllocError>
-    ensures { IfOk result (λ found. found ≡ version_of bytes.now) }
-{
-    match Version::read_bytes(alloc, bytes) {
-        Ok(version) => Ok(Some(version)),
-        Err(fault) => match fault {
-            VersionFault::NoReading => Ok(None),
-            VersionFault::NoMemory => Err(AllocError),
-        },
-    }
-}
-
-// The version whose normal text this is.
-#[tactic(auto, unfolding(crate::specs::Tokens::version_at))]
-fn version(alloc: Global, bytes: &[u8]) -> Result<Option<Version>, AllocError>
-    ensures { IfOk result (λ found. found ≡ version_at bytes.now) }
-{
-    match version_of_text(alloc, bytes)? {
-        None => Ok(None),
-        Some(version) => {
-            let again = version.text(alloc)?;
-            if same(again.as_str().as_bytes(), bytes) {
-                Ok(Some(version))
-            } else {
-                Ok(None)
-            }
-        }
-    }
-}
 
 /// What stands behind a place.
 pub fn after(bytes: &[u8], place: usize) -> &[u8]
