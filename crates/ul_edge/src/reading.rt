@@ -7,7 +7,7 @@ use std::io::{ErrorKind, Read};
 use ul_base::ReadRefused;
 
 // How many bytes one read asks for.
-const CHUNK: usize = 65_536;
+const CHUNK: usize = 16_384;
 
 /// All the bytes that a reader has left, if they are at most `limit`.
 ///

@@ -14,13 +14,15 @@ use Rattle.ul_generations.specs.Generations.{Answer, refused_at, leaves_are, IsF
 use Rattle.ul_generations.specs.Laws.{one_if, holders, AreInOrder}
 use Rattle.ul_forks.specs.Outcome.{Question, starts_of, IsRefused, TreeOutcome, IsOutcome}
 
--- an answer, a leaf and a refusal of trees
+-- the fork answer over trees: its leaves have selections
 abbrev pub TreeAnswer : Type 0
 TreeAnswer = Answer Plain Selection (Unit {0})
 
+-- a leaf of it: its path, its region and its selection
 abbrev pub TreeLeaf : Type 0
 TreeLeaf = Leaf Plain Selection
 
+-- a refused region of it, with its path
 abbrev pub TreeRefusal : Type 0
 TreeRefusal = Refusal Plain (Unit {0})
 

@@ -35,7 +35,8 @@ fn follow<F: Files>(
     ensures cause { Cause (F.faults files.old) (F.faults files.new) (F.last_failed files.new) result }
     ensures failed { FailedAt (λ p. p ≡ document_path folder.now (next_name (progress_view progress.old))) result }
     ensures kept { OnOk result (IsProgress (progress_view progress.new)) }
-    ensures first { OnOk result (KeepsFirst (progress_view progress.old).packages (progress_view progress.new).packages) }
+    ensures first { OnOk result (KeepsFirst (progress_view progress.old).packages
+        (progress_view progress.new).packages) }
 {
     let name = progress.next_name(alloc)?;
     let found = package_at(alloc, files, folder, &name, progress.bytes)?;

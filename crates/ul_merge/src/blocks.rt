@@ -36,9 +36,11 @@ fn edges_of<R: Wait>(
 ) -> Result<Edges, AllocError>
     requires sources { AreSources algebra.old sources.now }
     requires users { AreUsers sources.now.choices.now (pick_of pick.now) users.now }
-    requires required { required.now ≡ requirements (catalog_in sources.now) pick.now.node.now.name pick.now.version.now }
+    requires required { required.now
+        ≡ requirements (catalog_in sources.now) pick.now.node.now.name pick.now.version.now }
     ensures knows { Knows algebra.old algebra.new }
-    ensures edges { IfOk result (AreEdgesOf (catalog_in sources.now) (leaves_in sources.now) (supported_in sources.now) (pick_of pick.now)) }
+    ensures edges { IfOk result (AreEdgesOf (catalog_in sources.now) (leaves_in sources.now) (supported_in sources.now)
+        (pick_of pick.now)) }
 {
     ul_index::laws::eligible_rises();
     let truths = truths_of(rt, alloc, algebra, pick.node, required)?;
@@ -67,7 +69,8 @@ fn base_edges<R: Wait>(
 ) -> Result<Edges, AllocError>
     requires sources { AreSources algebra.old sources.now }
     requires group { IsPairGroup sources.now.choices.now group.now }
-    requires required { required.now ≡ requirements (catalog_in sources.now) group.now.key.name.now group.now.key.version.now }
+    requires required { required.now
+        ≡ requirements (catalog_in sources.now) group.now.key.name.now group.now.key.version.now }
     ensures knows { Knows algebra.old algebra.new }
     ensures edges { IfOk result (AreEdgesOf (catalog_in sources.now) (leaves_in sources.now) (supported_in sources.now)
         (base group.now.key.name.now, group.now.key.version.now)) }
@@ -105,7 +108,8 @@ fn extra_of<R: Wait>(
     required: &[Requirement],
 ) -> Result<Extra, AllocError>
     requires sources { AreSources algebra.old sources.now }
-    requires users { AreUsers sources.now.choices.now (with_extra pair.now.name.now group.now.key.name.now, pair.now.version.now) group.now.values.items }
+    requires users { AreUsers sources.now.choices.now (with_extra pair.now.name.now group.now.key.name.now, pair.now.version.now)
+        group.now.values.items }
     requires required { required.now ≡ requirements (catalog_in sources.now) pair.now.name.now pair.now.version.now }
     ensures knows { Knows algebra.old algebra.new }
     ensures extra { IfOk result (IsMadeExtra (catalog_in sources.now) (leaves_in sources.now) (supported_in sources.now)
@@ -144,10 +148,12 @@ fn made_extras<R: Wait>(
     required: &[Requirement],
 ) -> Result<Vec<Extra>, AllocError>
     requires sources { AreSources algebra.old sources.now }
-    requires users { All (λ g. AreUsers sources.now.choices.now (with_extra pair.now.name.now g.key.name.now, pair.now.version.now) g.values.items) groups.now }
+    requires users { All (λ g. AreUsers sources.now.choices.now (with_extra pair.now.name.now g.key.name.now, pair.now.version.now)
+        g.values.items) groups.now }
     requires required { required.now ≡ requirements (catalog_in sources.now) pair.now.name.now pair.now.version.now }
     ensures knows { Knows algebra.old algebra.new }
-    ensures extras { IfOk result (λ v. AreMade (MakesExtra (catalog_in sources.now) (leaves_in sources.now) (supported_in sources.now)
+    ensures extras { IfOk result (λ v. AreMade (MakesExtra (catalog_in sources.now) (leaves_in sources.now)
+        (supported_in sources.now)
         (pair_of pair.now)) groups.now v.items) }
 {
     let mut extras = Vec::with_capacity(alloc, groups.len())?;
@@ -169,9 +175,11 @@ fn extras_of<R: Wait>(
 ) -> Result<Extras, AllocError>
     requires sources { AreSources algebra.old sources.now }
     requires group { IsPairGroup sources.now.choices.now group.now }
-    requires required { required.now ≡ requirements (catalog_in sources.now) group.now.key.name.now group.now.key.version.now }
+    requires required { required.now
+        ≡ requirements (catalog_in sources.now) group.now.key.name.now group.now.key.version.now }
     ensures knows { Knows algebra.old algebra.new }
-    ensures extras { IfOk result (AreMadeExtras (catalog_in sources.now) (leaves_in sources.now) (supported_in sources.now) (pair_of group.now.key)) }
+    ensures extras { IfOk result (AreMadeExtras (catalog_in sources.now) (leaves_in sources.now) (supported_in sources.now)
+        (pair_of group.now.key)) }
 {
     let members: &Vec<Member<'_>> = &group.values;
     let entries = extra_entries(alloc, members.as_slice())?;
@@ -200,7 +208,8 @@ fn block_of<R: Wait>(
     requires sources { AreSources algebra.old sources.now }
     requires group { IsPairGroup sources.now.choices.now group.now }
     ensures knows { Knows algebra.old algebra.new }
-    ensures block { IfOk result (IsMadeBlock (catalog_in sources.now) (leaves_in sources.now) (supported_in sources.now) (pair_of group.now.key)) }
+    ensures block { IfOk result (IsMadeBlock (catalog_in sources.now) (leaves_in sources.now) (supported_in sources.now)
+        (pair_of group.now.key)) }
 {
     let key = &group.key;
     let release = release_at(sources.catalog, key.name, key.version);
@@ -230,7 +239,8 @@ pub(crate) fn made_blocks<R: Wait>(
     requires sources { AreSources algebra.old sources.now }
     requires groups { All (IsPairGroup sources.now.choices.now) groups.now }
     ensures knows { Knows algebra.old algebra.new }
-    ensures blocks { IfOk result (λ v. AreMade (MakesBlock (catalog_in sources.now) (leaves_in sources.now) (supported_in sources.now)) groups.now v.items) }
+    ensures blocks { IfOk result (λ v. AreMade (MakesBlock (catalog_in sources.now) (leaves_in sources.now) (supported_in sources.now))
+        groups.now v.items) }
 {
     let mut blocks = Vec::with_capacity(alloc, groups.len())?;
     for group in groups {

@@ -169,7 +169,8 @@ pub(crate) fn made_edges<R: Wait>(
     requires within { All (λ m. LiesWithin m supported.now) regions.now }
     requires truths { All (IsRegion algebra.old) truths.now }
     ensures knows { Knows algebra.old algebra.new }
-    ensures edges { IfOk result (λ v. AreMade (MakesEdge regions.now truths.now (tree_of supported.now)) groups.now v.items) }
+    ensures edges { IfOk result (λ v. AreMade (MakesEdge regions.now truths.now (tree_of supported.now))
+        groups.now v.items) }
 {
     let mut edges = Vec::new(alloc);
     for group in groups {

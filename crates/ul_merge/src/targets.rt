@@ -57,7 +57,8 @@ fn put_targets(
     one: &Requirement,
     requirement: usize,
 ) -> Result<(), AllocError>
-    ensures { OnOk result (map aim_of aims.new.items ≡ map aim_of aims.old.items ++ aims_at requirement (targets one.now)) }
+    ensures { OnOk result (map aim_of aims.new.items
+        ≡ map aim_of aims.old.items ++ aims_at requirement (targets one.now)) }
 {
     let name: &Name = &one.name;
     let extras: &Vec<Name> = &one.extras;

@@ -103,7 +103,8 @@ pub fn split_point<R: Wait>(
 ) -> Result<Option<Diagram>, AllocError>
     requires { IsRegion algebra.old region.now }
     ensures knows { Knows algebra.old algebra.new }
-    ensures split { IfOk result (λ o. (ds : List Decided) → AreDecided catalog.now picks.now ds → SplitGives algebra.new (region_at region.now) ds o) }
+    ensures split { IfOk result (λ o. (ds : List Decided) → AreDecided catalog.now picks.now ds
+        → SplitGives algebra.new (region_at region.now) ds o) }
 {
     let own = region.share()?;
     let mut truths = Truths::new(alloc);
