@@ -7,8 +7,10 @@ use Rattle.ul_lock_lines.specs.declared.parts.Lock.{Lock}
 pub data Answer : Type 0 where
   -- the words aren't one of the commands
   usage : Answer
-  -- a lock
-  locked : Lock → Answer
+  -- a lock, merged of so many forks
+  locked : Lock → (forks : ℕ) → Answer
+  -- how many packages a lock has, and of how many forks it is merged
+  counted : Lock → (forks : ℕ) → Answer
   -- the fork at a path, which is a region, that no selection serves
   no_selection : (path : List Bool) → (region : Plain) → Answer
   -- such a fork, with the lines of a derivation

@@ -1,14 +1,15 @@
 -- What is printed: one status and one text for each answer and for each refusal.
-use Rattle.std.specs.Prelude.{ℕ, List, [], ◌++◌, codes, length, nat_le, Option, Some, None, Result, Ok, Err, if◌then◌else◌}
+use Rattle.std.specs.Prelude.{ℕ, List, [], ◌++◌, codes, length, nat_eq, nat_le, Option, Some, None, Result, Ok, Err, if◌then◌else◌}
 use Rattle.std.specs.Fmt.{decimal}
 use Rattle.ul_tree.specs.Paths.{paths_of}
 use Rattle.ul_tree.specs.Plain.{Plain}
+use Rattle.ul_lock_lines.specs.declared.parts.Lock.{Lock}
 use Rattle.ul_lock_text.specs.Markers.{markers_of, first_over}
 use Rattle.ul_lock_text.specs.Texts.{lock_text}
 use Rattle.ul_report.specs.Texts.{refusal_text}
 use Rattle.ul_inputs.specs.Refused.{Refused, not_built, malformed, limit}
 use Rattle.ul_inputs.specs.Inputs.{text_bytes}
-use Rattle.ul_answers.specs.Answer.{Answer, usage, locked, no_selection, derived, none_refused, environment, outside, no_extra, accepted, rejected}
+use Rattle.ul_answers.specs.Answer.{Answer, usage, locked, counted, no_selection, derived, none_refused, environment, outside, no_extra, accepted, rejected}
 
 -- a status and a text
 abbrev pub Output : Type 0
@@ -34,6 +35,18 @@ abbrev pub lock_output : Option ℕ → List ℕ → Output
 lock_output (Some paths) text = too_many_paths
 lock_output None text = text_output text
 
+-- a lock's text, where it can be written
+abbrev pub written : Lock → Output
+written l = lock_output (first_over (markers_of l)) (lock_text l)
+
+-- another text in the place of the one that status 0 has
+abbrev pub in_place : Output → List ℕ → Output
+in_place o text = if nat_eq o.0 0 then (0, text) else o
+
+-- the line of a lock's counts
+abbrev pub counts_text : ℕ → ℕ → List ℕ
+counts_text packages forks = codes "packages " ++ decimal packages ++ codes " forks " ++ decimal forks ++ codes "\n"
+
 -- a refusal's text, where its region hasn't too many paths
 abbrev pub refusal_output : Plain → List ℕ → Output
 refusal_output region text = if nat_le (paths_of region) 4096 then (1, text) else too_many_paths
@@ -45,7 +58,8 @@ usage_text = codes "usage: unilock lock|why|env|check|gen|export|verify WORDS\n"
 -- the status and the text of an answer
 abbrev pub output_of : Answer → Output
 output_of usage = (2, usage_text)
-output_of (locked l) = lock_output (first_over (markers_of l)) (lock_text l)
+output_of (locked l forks) = written l
+output_of (counted l forks) = in_place (written l) (counts_text (length l.packages) forks)
 output_of (no_selection path region) = refusal_output region (refusal_text path region)
 output_of (derived path region steps) = refusal_output region (refusal_text path region ++ steps)
 output_of none_refused = (0, codes "no fork is refused\n")

@@ -3,13 +3,14 @@ use Rattle.std.specs.Prelude.{string_bytes}
 use Rattle.ul_answers.specs.Answer as answer
 use Rattle.ul_answers.specs.Printed.{Output as Printed}
 use Rattle.ul_answers.specs.declared.answer.Answer.{Answer}
-use Rattle.ul_answers.specs.declared.answer.Answer.TheVariants.{Usage, Locked, NoSelection, Derived, NoneRefused, Environment, Outside, NoExtra, Accepted, Rejected}
+use Rattle.ul_answers.specs.declared.answer.Answer.TheVariants.{Usage, Locked, Counted, NoSelection, Derived, NoneRefused, Environment, Outside, NoExtra, Accepted, Rejected}
 use Rattle.ul_answers.specs.declared.outputs.Output.{Output}
 
 -- an answer
 abbrev pub view : Answer → answer.Answer
 view Usage = answer.usage
-view (Locked l) = answer.locked l
+view (Locked l forks) = answer.locked l forks
+view (Counted l forks) = answer.counted l forks
 view (NoSelection path region) = answer.no_selection path.items region
 view (Derived path region steps) = answer.derived path.items region steps.items
 view NoneRefused = answer.none_refused

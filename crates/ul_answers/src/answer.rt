@@ -6,8 +6,16 @@ use ul_lock_lines::{Lock, Region};
 pub enum Answer {
     /// The words aren't one of the commands.
     Usage,
-    /// A lock.
-    Locked(Lock),
+    /// A lock, merged of so many forks.
+    Locked {
+        lock: Lock,
+        forks: u64,
+    },
+    /// How many packages a lock has, and of how many forks it is merged.
+    Counted {
+        lock: Lock,
+        forks: u64,
+    },
     /// The fork at this path, with this region, that no selection serves.
     NoSelection {
         path: Vec<bool>,

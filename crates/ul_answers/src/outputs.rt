@@ -1,9 +1,7 @@
 //! What is printed for an answer.
-ghost use Rattle.std.specs.Prelude.{◌≡◌, ◌++◌, IfOk, codes};
+ghost use Rattle.std.specs.Prelude.{◌≡◌, ◌++◌, IfOk, codes, length};
 ghost use Rattle.std.specs.Fmt.{decimal};
 ghost use Rattle.ul_report.specs.Texts.{refusal_text};
-ghost use Rattle.ul_lock_text.specs.Markers.{first_over, markers_of};
-ghost use Rattle.ul_lock_text.specs.Texts.{lock_text};
 ghost use Rattle.ul_answers.specs.Printed as spec;
 ghost use Rattle.ul_answers.specs.Views.{output_view, view};
 
@@ -11,7 +9,7 @@ use crate::answer::Answer;
 use crate::refusals::limit_output;
 use std::alloc::{AllocError, Global};
 use ul_inputs::TEXT_BYTES;
-use ul_lock_lines::{Lock, Region};
+use ul_lock_lines::{Lock, Locked, Region};
 use ul_lock_text::{WriteFault, write};
 use ul_marker_text::TextFault;
 use ul_report::refusal;
@@ -40,7 +38,7 @@ fn too_many_paths(alloc: Global) -> Result<Output, AllocError>
 
 // The text of a lock, or the limit that it passes.
 fn lock_output(alloc: Global, lock: &Lock) -> Result<Output, AllocError>
-    ensures { IfOk result (λ o. output_view o ≡ spec.lock_output (first_over (markers_of lock.now)) (lock_text lock.now)) }
+    ensures { IfOk result (λ o. output_view o ≡ spec.written lock.now) }
 {
     match write(alloc, lock) {
         Ok(text) => Ok(Output { status: 0, text }),
@@ -48,6 +46,28 @@ fn lock_output(alloc: Global, lock: &Lock) -> Result<Output, AllocError>
         Err(WriteFault::TooLong) => limit_output(alloc, "text-bytes", TEXT_BYTES),
         Err(WriteFault::NoMemory) => Err(AllocError),
     }
+}
+
+// The line of a lock's counts.
+fn counts_line(alloc: Global, packages: u64, forks: u64) -> Result<Vec<u8>, AllocError>
+    ensures { IfOk result (λ v. v.items ≡ spec.counts_text packages forks) }
+{
+    let text = format!(in alloc; "packages {packages} forks {forks}\n")?;
+    Ok(text.into_bytes())
+}
+
+// The counts of a lock that can be written, or the limit that it passes.
+fn counts_output(alloc: Global, lock: &Lock, forks: u64) -> Result<Output, AllocError>
+    ensures { IfOk result (λ o. output_view o
+        ≡ spec.in_place (spec.written lock.now) (spec.counts_text (length lock.now.packages) forks)) }
+{
+    let output = lock_output(alloc, lock)?;
+    if output.status != 0 {
+        return Ok(output);
+    }
+    let packages: &[Locked] = lock.packages.as_slice();
+    let text = counts_line(alloc, packages.len() as u64, forks)?;
+    Ok(Output { status: 0, text })
 }
 
 // The text of a refused fork with steps behind it, or the limit that its region passes.
@@ -108,7 +128,8 @@ pub fn answer_output(alloc: Global, answer: Answer) -> Result<Output, AllocError
             2,
             "usage: unilock lock|why|env|check|gen|export|verify WORDS\n",
         ),
-        Answer::Locked(lock) => lock_output(alloc, &lock),
+        Answer::Locked { lock, forks: _ } => lock_output(alloc, &lock),
+        Answer::Counted { lock, forks } => counts_output(alloc, &lock, forks),
         Answer::NoSelection { path, region } => fork_output(alloc, path.as_slice(), &region, &[]),
         Answer::Derived {
             path,

@@ -1,6 +1,7 @@
 -- Refusals of locks.
-use Rattle.std.proofs.Common.{◌≡◌, ℕ, List, Option, Some, None, Ok, Err, refl}
+use Rattle.std.proofs.Common.{◌≡◌, ℕ, List, Option, Some, None, Result, Ok, Err, IfOk, refl}
 use Rattle.ul_lock_lines.specs.declared.parts.Lock.{Lock}
+use Rattle.ul_lock_walk.specs.WellFormed.{IsWellFormed}
 use Rattle.ul_lock.specs.Headline.{ReadsLock}
 use Rattle.ul_lock.specs.declared.locks.LockFault.{LockFault}
 use Rattle.ul_lock.specs.declared.locks.LockFault.TheVariants.{Line, Root, Target, NoMemory}
@@ -23,3 +24,8 @@ lock_fault path text (Line n) e h is = refused_by own _ e (only (IsLockOf path t
 lock_fault path text Root e h is = refused_by own _ e (only (IsLockOf path text)) is (record { fault = fault.root; has = h.root refl; is = refl })
 lock_fault path text (Target k) e h is = refused_by own _ e (only (IsLockOf path text)) is (record { fault = fault.target k; has = h.target k refl; is = refl })
 lock_fault path text NoMemory e h is = refused_none own e (only (IsLockOf path text)) is
+
+-- a lock that is read is well formed
+pub well_formed_in : (path text : List ℕ) (r : Result Lock Refusal) → Answers {T = Lock} (λ x. x) r (only (IsLockOf path text)) → IfOk r IsWellFormed
+well_formed_in path text (Ok l) h = h.well_formed
+well_formed_in path text (Err e) h = tt

@@ -11,13 +11,13 @@ use Rattle.ul_inputs.specs.Refused.{Refused, malformed}
 abbrev pub machine_fault_text : MachineRefusal → List ℕ
 machine_fault_text not_json = codes "not JSON"
 machine_fault_text (missing key) = codes "missing " ++ key
-machine_fault_text python_form = codes "python_full_version"
+machine_fault_text python_form = codes "python form"
 
 -- what a fault of the code says, if it isn't want of memory
 abbrev pub refused_machine : List ℕ → EnvFault → Option Refused
 refused_machine path NotJson = Some (malformed path (codes "not JSON"))
 refused_machine path (Missing key) = Some (malformed path (codes "missing " ++ string_bytes key))
-refused_machine path PythonForm = Some (malformed path (codes "python_full_version"))
+refused_machine path PythonForm = Some (malformed path (codes "python form"))
 refused_machine path NoMemory = None
 
 -- the machine, or a refusal of the file at a path

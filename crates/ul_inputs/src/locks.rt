@@ -1,6 +1,7 @@
 //! Locks that are read, and what an old one keeps.
 ghost use Rattle.std.specs.Prelude.{◌≡◌, Some, IfOk, bytes_eq, option_map};
 ghost use Rattle.ul_base.specs.Files.{Told};
+ghost use Rattle.ul_lock_walk.specs.WellFormed.{IsWellFormed};
 ghost use Rattle.ul_inputs.specs.Inputs.{only};
 ghost use Rattle.ul_inputs.specs.Locks as spec;
 ghost use Rattle.ul_inputs.specs.Refusals.{Answers, Cause, IsRefusalFor};
@@ -45,12 +46,13 @@ fn lock_in(alloc: Global, path: &str, bytes: &[u8]) -> Result<Lock, Refusal>
     }
 }
 
-/// The lock of the lock file at a path.
+/// The lock of the lock file at a path, which is well formed.
 #[tactic(auto, using(crate::proofs::ForCallers::refuses, crate::proofs::ForCallers::goes_on))]
 pub fn lock_file<F: Files>(alloc: Global, files: &mut F, path: &str) -> Result<Lock, Refusal>
     ensures told { Told (F.map files.old) (λ m. Answers (λ l. l) result (spec.lock_at path.now m)) }
     ensures same { F.map files.new ≡ F.map files.old }
     ensures cause { Cause (F.faults files.old) (F.faults files.new) (F.last_failed files.new) result }
+    ensures well_formed { IfOk result IsWellFormed }
 {
     let bytes = large_file(alloc, files, path)?;
     lock_in(alloc, path, &bytes)

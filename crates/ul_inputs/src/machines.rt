@@ -30,7 +30,7 @@ fn refusal(alloc: Global, file: &str, fault: EnvFault) -> Refusal
             Ok(place) => malformed(alloc, file, place),
             Err(_) => Refusal::NoMemory,
         },
-        EnvFault::PythonForm => malformed_at(alloc, file, "python_full_version"),
+        EnvFault::PythonForm => malformed_at(alloc, file, "python form"),
         EnvFault::NoMemory => Refusal::NoMemory,
     }
 }

@@ -3,6 +3,7 @@ use Rattle.std.proofs.lemmas.Result.{err_from_is_err_and}
 use Rattle.ul_inputs.specs.Inputs.{large_file}
 use Rattle.ul_inputs.specs.Locks.{lock_said}
 use Rattle.ul_inputs.proofs.ForCallers.{goes_on, refuses}
+use Rattle.ul_inputs.proofs.LockFaults.{well_formed_in}
 use Rattle.ul_inputs.proofs.locks.lock_file.Goals as goal
 
 pub returns-in_err-bytes-clause-told : goal.returns-in_err-bytes-clause-told
@@ -14,3 +15,6 @@ pub returns-clause-told : goal.returns-clause-told
 returns-clause-told g c m e =
     goes_on (λ x. x) c.lock_in.result c.in_ok-bytes.bytes.items (large_file c.args.path.now m) (λ x. lock_said c.args.path.now x m)
     (c.in_ok-bytes.ensures.told m e) (rw (← c.deref.ensures.value) c.lock_in.ensures)
+
+pub returns-clause-well_formed : goal.returns-clause-well_formed
+returns-clause-well_formed g c = well_formed_in _ _ c.lock_in.result c.lock_in.ensures
