@@ -24,6 +24,11 @@ fn hash_at(alloc: Global, label: &str, leaves: &str) -> Result<u64, AllocError> 
     Ok(structural_hash(&plant))
 }
 
+// What comes before the first bar of a line, and what comes after it.
+fn cells(line: &str) -> (&str, &str) {
+    line.split_once('|').unwrap_or((line, ""))
+}
+
 // Whether the tree is `p` with the leaves `one` and `two`.
 fn is_first(alloc: Global, label: &str, leaves: &str) -> Result<bool, AllocError> {
     let plant = tree(alloc, label, leaves)?;
@@ -32,38 +37,44 @@ fn is_first(alloc: Global, label: &str, leaves: &str) -> Result<bool, AllocError
 }
 
 // Trees and their structural hashes, as another program computes them.
-const HASHES: [(&str, &str, u64); 6] = [
-    ("", "", 0),
-    ("seven..", "", 7),
-    ("p", "part-one", 6364136223846793014),
-    ("a", "bc", 6364136223846793008),
-    ("a", "bc def", 8166562322141162356),
-    ("a", "def bc", 14530698545987955360),
-];
+const HASHES: &str = "||0\n\
+    seven..||7\n\
+    p|part-one|6364136223846793014\n\
+    a|bc|6364136223846793008\n\
+    a|bc def|8166562322141162356\n\
+    a|def bc|14530698545987955360";
+
+fn is_hashed(alloc: Global, line: &str) -> Result<bool, AllocError> {
+    let (label, rest) = cells(line);
+    let (leaves, want) = cells(rest);
+    Ok(hash_at(alloc, label, leaves)? == want.parse::<u64>().unwrap_or(1))
+}
 
 #[test]
 fn hash_takes_label_then_parts(rt: HostRuntime) -> Result<(), Fail> {
-    let alloc = rt.alloc();
-    for (label, leaves, want) in HASHES {
-        assert_eq!(rt; hash_at(alloc, label, leaves)?, want);
+    for line in HASHES.split('\n') {
+        assert!(rt; is_hashed(rt.alloc(), line)?, "{line}");
     }
     Ok(())
 }
 
 // Trees, and whether they are the tree `p` with the leaves `one` and `two`.
-const OTHERS: [(&str, &str, bool); 5] = [
-    ("p", "one two", true),
-    ("q", "one two", false),
-    ("p", "two one", false),
-    ("p", "one", false),
-    ("p", "one two two", false),
-];
+const OTHERS: &str = "p|one two|same\n\
+    q|one two|other\n\
+    p|two one|other\n\
+    p|one|other\n\
+    p|one two two|other";
+
+fn is_compared(alloc: Global, line: &str) -> Result<bool, AllocError> {
+    let (label, rest) = cells(line);
+    let (leaves, want) = cells(rest);
+    Ok(is_first(alloc, label, leaves)? == (want == "same"))
+}
 
 #[test]
 fn same_compares_labels_and_parts(rt: HostRuntime) -> Result<(), Fail> {
-    let alloc = rt.alloc();
-    for (label, leaves, want) in OTHERS {
-        assert_eq!(rt; is_first(alloc, label, leaves)?, want);
+    for line in OTHERS.split('\n') {
+        assert!(rt; is_compared(rt.alloc(), line)?, "{line}");
     }
     Ok(())
 }
@@ -77,70 +88,114 @@ fn copy_is_same(rt: HostRuntime) -> Result<(), Fail> {
     Ok(())
 }
 
-// What a line of the script does: a tree is published in its own shard, or in another, or a number is
-// drawn.
-#[derive(Clone, Copy)]
-enum Act {
-    Own(&'static str, &'static str),
-    Other(&'static str),
-    Draw,
-}
+// The events in turn, and what is answered on any number of shards: a tree `LABEL LEAVES` is published in its own shard,
+// or in another, or a number is drawn. Leaf and part have 7 and 8 bytes.
+const SCRIPT: &str = "other seven..|shard\n\
+    own seven..|new\n\
+    own seven..|known\n\
+    own another|new\n\
+    draw|0\n\
+    own p part-one|part\n\
+    own part-one|new\n\
+    own p part-one|new\n\
+    own p part-one|known\n\
+    draw|1";
 
-// The events in turn, with what is answered on any number of shards. Leaf and part have 7 and 8 bytes.
-const SCRIPT: [(Act, Result<Option<u64>, EventFault>); 10] = [
-    (Act::Other("seven.."), Err(EventFault::Shard)),
-    (Act::Own("seven..", ""), Ok(None)),
-    (Act::Own("seven..", ""), Err(EventFault::Known)),
-    (Act::Own("another", ""), Ok(None)),
-    (Act::Draw, Ok(Some(0))),
-    (Act::Own("p", "part-one"), Err(EventFault::Part)),
-    (Act::Own("part-one", ""), Ok(None)),
-    (Act::Own("p", "part-one"), Ok(None)),
-    (Act::Own("p", "part-one"), Err(EventFault::Known)),
-    (Act::Draw, Ok(Some(1))),
-];
-
-fn event(alloc: Global, shards: u8, act: Act) -> Result<Event<Word>, AllocError>
+fn own(alloc: Global, shards: u8, text: &str) -> Result<Event<Word>, AllocError>
     requires { 1 ≤ shards }
 {
-    match act {
-        Act::Own(label, leaves) => {
-            let plant = tree(alloc, label, leaves)?;
-            let shard = (structural_hash(&plant) % shards as u64) as u8;
-            Ok(Event::Publish { shard, plant })
-        }
-        Act::Other(label) => {
-            let plant = tree(alloc, label, "")?;
+    let (label, leaves) = text.split_once(' ').unwrap_or((text, ""));
+    let plant = tree(alloc, label, leaves)?;
+    let shard = (structural_hash(&plant) % shards as u64) as u8;
+    Ok(Event::Publish { shard, plant })
+}
+
+fn event(alloc: Global, shards: u8, text: &str) -> Result<Event<Word>, AllocError>
+    requires { 1 ≤ shards }
+{
+    let (kind, rest) = text.split_once(' ').unwrap_or((text, ""));
+    match kind {
+        "own" => own(alloc, shards, rest),
+        "other" => {
+            let plant = tree(alloc, rest, "")?;
             Ok(Event::Publish { shard: 255, plant })
         }
-        Act::Draw => Ok(Event::Claim),
+        _ => Ok(Event::Claim),
     }
+}
+
+fn told(answer: Result<Option<u64>, EventFault>) -> &'static str {
+    match answer {
+        Ok(None) => "new",
+        Ok(Some(0)) => "0",
+        Ok(Some(1)) => "1",
+        Ok(Some(_)) => "more",
+        Err(EventFault::Shard) => "shard",
+        Err(EventFault::Known) => "known",
+        Err(EventFault::Part) => "part",
+        Err(EventFault::Full) => "full",
+        Err(EventFault::NoMemory) => "no memory",
+    }
+}
+
+fn is_answered(
+    alloc: Global,
+    state: &mut CoreState<Word>,
+    shards: u8,
+    line: &str,
+) -> Result<bool, AllocError>
+    requires { 1 ≤ shards }
+{
+    let (text, want) = cells(line);
+    let event = event(alloc, shards, text)?;
+    Ok(told(state.step(alloc, event)) == want)
+}
+
+fn are_answered(alloc: Global, shards: u8) -> Result<bool, AllocError>
+    requires { 1 ≤ shards }
+{
+    let mut state = CoreState::begin(alloc, shards)?;
+    for line in SCRIPT.split('\n') {
+        if !is_answered(alloc, &mut state, shards, line)? {
+            return Ok(false);
+        }
+    }
+    Ok(true)
 }
 
 #[test]
 fn each_step_answers(rt: HostRuntime) -> Result<(), Fail> {
-    let alloc = rt.alloc();
     for shards in 1..18 {
-        let mut state = CoreState::begin(alloc, shards)?;
-        for (act, want) in SCRIPT {
-            let event = event(alloc, shards, act)?;
-            assert_eq!(rt; state.step(alloc, event), want);
-        }
+        assert!(rt; are_answered(rt.alloc(), shards)?, "{shards}");
     }
     Ok(())
 }
 
+fn events(alloc: Global, shards: u8) -> Result<Vec<Event<Word>>, AllocError>
+    requires { 1 ≤ shards }
+{
+    let mut events = Vec::new(alloc);
+    for line in SCRIPT.split('\n') {
+        let (text, _) = cells(line);
+        events.push(event(alloc, shards, text)?)?;
+    }
+    Ok(events)
+}
+
+// Whether the script takes six of its events, and the next number drawn is 2.
+fn is_run(alloc: Global, shards: u8) -> Result<bool, AllocError>
+    requires { 1 ≤ shards }
+{
+    let events = events(alloc, shards)?;
+    let mut state = CoreState::begin(alloc, shards)?;
+    let taken = state.run(alloc, events)?;
+    Ok(taken == 6 && state.step(alloc, Event::Claim) == Ok(Some(2)))
+}
+
 #[test]
 fn run_skips_what_is_refused(rt: HostRuntime) -> Result<(), Fail> {
-    let alloc = rt.alloc();
     for shards in 1..18 {
-        let mut events = Vec::new(alloc);
-        for (act, _) in SCRIPT {
-            events.push(event(alloc, shards, act)?)?;
-        }
-        let mut state = CoreState::begin(alloc, shards)?;
-        assert_eq!(rt; state.run(alloc, events)?, 6);
-        assert_eq!(rt; state.step(alloc, Event::Claim), Ok(Some(2)));
+        assert!(rt; is_run(rt.alloc(), shards)?, "{shards}");
     }
     Ok(())
 }
@@ -196,9 +251,9 @@ fn chains_are_same(alloc: Global, left: u64, right: u64) -> Result<bool, AllocEr
 // Hashing, comparing and dropping recur once for each level.
 #[test]
 fn two_thousand_levels_are_no_depth(rt: HostRuntime) -> Result<(), Fail> {
-    let alloc = rt.alloc();
-    assert_eq!(rt; chain_hash(alloc, 2_000)?, 580571504687712903);
-    assert!(rt; chains_are_same(alloc, 2_000, 2_000)? && !chains_are_same(alloc, 2_000, 1_999)?);
+    assert!(rt; chain_hash(rt.alloc(), 2_000)? == 580571504687712903);
+    assert!(rt; chains_are_same(rt.alloc(), 2_000, 2_000)?);
+    assert!(rt; !chains_are_same(rt.alloc(), 2_000, 1_999)?);
     Ok(())
 }
 
@@ -218,11 +273,16 @@ fn leaves(alloc: Global, shards: u8, count: u64) -> Result<Vec<Event<Number>>, A
     Ok(events)
 }
 
+fn runs(alloc: Global, state: &mut CoreState<Number>, count: u64) -> Result<u64, AllocError> {
+    let events = leaves(alloc, 16, count)?;
+    let taken = state.run(alloc, events)?;
+    Ok(taken)
+}
+
 #[test]
 fn each_leaf_is_taken_once(rt: HostRuntime) -> Result<(), Fail> {
-    let alloc = rt.alloc();
-    let mut state = CoreState::begin(alloc, 16)?;
-    assert_eq!(rt; state.run(alloc, leaves(alloc, 16, 300)?)?, 300);
-    assert_eq!(rt; state.run(alloc, leaves(alloc, 16, 300)?)?, 0);
+    let mut state = CoreState::begin(rt.alloc(), 16)?;
+    assert!(rt; runs(rt.alloc(), &mut state, 300)? == 300);
+    assert!(rt; runs(rt.alloc(), &mut state, 300)? == 0);
     Ok(())
 }

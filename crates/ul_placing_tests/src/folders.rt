@@ -1,0 +1,85 @@
+//! Folders of index documents that are made as they are read.
+ghost use Rattle.std.specs.Prelude.{None};
+
+use std::alloc::{AllocError, Global};
+use ul_base::{Files, ReadRefused};
+
+/// Documents of a text: parts between `|`, each a name and a colon, and then releases between `/`, each a version and,
+/// behind an `@` each, the interpreters that it asks for and its requirements.
+#[derive(Drop)]
+pub struct Written<'a> {
+    pub alloc: Global,
+    pub text: &'a str,
+}
+
+// The name that a path asks for.
+fn name_in(path: &str) -> &str {
+    let path = path.strip_prefix("ix/").unwrap_or(path);
+    path.strip_suffix(".json").unwrap_or(path)
+}
+
+// Puts a list of texts, which commas separate.
+fn push_list(json: &mut String, list: &str) -> Result<(), AllocError> {
+    let mut first = true;
+    for text in list.split(',') {
+        if !first {
+            json.push_str(", ")?;
+        }
+        json.push('"')?;
+        json.push_str(text.trim())?;
+        json.push('"')?;
+        first = false;
+    }
+    Ok(())
+}
+
+// Puts a release.
+fn push_release(json: &mut String, release: &str) -> Result<(), AllocError> {
+    let (version, rest) = release.split_once('@').unwrap_or((release, ""));
+    let (python, requirements) = rest.split_once('@').unwrap_or((rest, ""));
+    json.push_str("{\"version\": \"")?;
+    json.push_str(version.trim())?;
+    json.push_str("\", \"requires_python\": \"")?;
+    json.push_str(python.trim())?;
+    json.push_str("\", \"requires_dist\": [")?;
+    if !requirements.is_empty() {
+        push_list(json, requirements)?;
+    }
+    json.push_str("]}")?;
+    Ok(())
+}
+
+// The document of a name and its releases.
+fn document(alloc: Global, name: &str, releases: &str) -> Result<String, AllocError> {
+    let mut json = format!(in alloc; "{{\"name\": \"{name}\", \"versions\": [")?;
+    let mut first = true;
+    for release in releases.split('/') {
+        if !first {
+            json.push_str(", ")?;
+        }
+        push_release(&mut json, release)?;
+        first = false;
+    }
+    json.push_str("]}")?;
+    Ok(json)
+}
+
+impl<'a> Files for Written<'a> {
+    ghost map = { λ _. None };
+
+    ghost faults = { λ _. 0 };
+
+    ghost last_failed = { λ _. None };
+
+    fn read(&mut self, path: &str, _limit: u64) -> Result<Option<Vec<u8>>, ReadRefused> {
+        let wanted = name_in(path);
+        for part in self.text.split('|') {
+            let (name, releases) = part.split_once(':').unwrap_or((part, ""));
+            if name.trim() == wanted {
+                let json = document(self.alloc, wanted, releases)?;
+                return Ok(Some(json.into_bytes()));
+            }
+        }
+        Ok(None)
+    }
+}

@@ -1,0 +1,71 @@
+//! Problems of small projects, and what stands in them.
+use crate::folders::Written;
+use crate::problems::told_in;
+use std::alloc::Global;
+use std::sync::Wait;
+use std::test::Fail;
+
+// A row has the problem, the region, the project's requirements, its settings, the old lock and the documents.
+//
+// The problem has its roots and then its nodes, each with the order of its versions, a flag for each version whether it
+// is barred, and the needs of each version, by places and flags.
+const ROWS: &str = "\
+    3 ; a 1 0 -00 | 1:11 | 2:1; c 1 0 -00 | |; d 0 -0 |; demo 0 -0 | 0:11 1:10#sys_platform == 'win32'#'a', 'b; sys_platform == \"linux\"', 'c<2; sys_platform == \"win32\"'###a:1@@c/2@@d;os_name=='nt'|b:1|c:1/2|d:1\n\
+    1 ; a 1 0 -01 | |; demo 0 -0 | 0:11#python_full_version >= '3.8' and python_full_version < '3.9'#'a'#fork-strategy = 'requires-python'##a:1@>=3.7/2@>=3.10\n\
+    1 ; a 1 0 -00 | |; demo 0 -0 | 0:11#python_full_version >= '3.8' and python_full_version < '3.9'#'a'#fork-strategy = 'requires-python'##a:1@>=3.7/2@>=3.8.5\n\
+    1 ; a 1 0 -01 | |; demo 0 -0 | 0:11#python_full_version >= '3.8' and python_full_version < '3.9'#'a'#fork-strategy = 'fewest'##a:1@>=3.7/2@>=3.8.5\n\
+    1 ; b 0 -0 |; demo 0 -0 | 0:1#python_version >= '0'#'a<2; sys_platform == \"linux\"', 'a>=2; sys_platform != \"linux\"', 'b'###a:1/2|b:1\n\
+    1 ; a 1 0 -00 | |; demo 0 -0 | 0:01#sys_platform == 'win32'#'a<2; sys_platform == \"linux\"', 'a>=2; sys_platform != \"linux\"'###a:1/2|b:1\n\
+    3 ; a 0 -0 |; a/x of 0 0 -0 | 2:1; b 0 -0 |; demo 0 -0 | 0:1 1:1#python_version >= '0'#'a[x]'###a:1@@b;extra=='x'|b:1\n\
+    1 ; a 2 1 3 0 -0000 | | | |; demo 0 -0 | 0:1111#python_version >= '0'#'a'##a 2.0,b 1,a 3#a:1/2/4/3\n\
+    1 ; a 1 0 2 3 -0000 | | | |; demo 0 -0 | 0:1111#python_version >= '0'#'a'#resolution = 'lowest'#a 2.0,b 1#a:1/2/4/3\n\
+    1 ; a -; demo 0 -0 | 0:#python_version >= '0'#'a'###b:1\n\
+    0 ; demo 0 -0 | 1:10; q 1 0 -00 | 2: | 2:; z -#sys_platform == 'win32'#'q<2; sys_platform == \"win32\"', 'q>=2; sys_platform != \"win32\"'###q:1@@z/2@@z\n\
+    1 ; a 0 -0 |; demo 0 -0 | 0:1 0:1#python_version >= '0'#'a; python_version > \"3.7\"', 'a; python_full_version >= \"3.8\"'###a:1\n\
+    0 ; demo 0 -0 |#python_version >= '0'#'q>=1', 'q<2; sys_platform == \"win32\"'###q:1/2\n\
+    0 ; demo 0 -0 | 1:11 1:10; q 1 0 -00 | |#sys_platform == 'win32'#'q>=1', 'q<2; sys_platform == \"win32\"'###q:1/2\n\
+    0 ; demo 0 -0 | 1:1 2:1 3:1; p 0 -0 |; p/none of 1 0 -0 |; p/x of 1 0 -0 | 4:1; q 0 -0 |#python_version >= '0'#'p[x,none]'###p:1@@q;extra=='x'|q:1\n\
+    2 ; a 0 -0 | 1:1; b 0 -0 | 0:1; demo 0 -0 | 0:1#python_version >= '0'#'a'###a:1@@b|b:1@@a;python_version>='3.8'\n\
+    1 ; a 1 0 -01 | |; demo 0 -0 | 0:11#python_full_version >= '3.9'#'a'###a:0.9@>=3.8/1@>=3.10";
+
+// The row's parts behind a `#`: the first, and the rest.
+fn cut(text: &str) -> (&str, &str) {
+    text.split_once('#').unwrap_or((text, ""))
+}
+
+// The project's file with these requirements and settings.
+fn file_of(alloc: Global, requirements: &str, settings: &str) -> Result<String, Fail> {
+    Ok(format!(in alloc;
+        "[project]\nname = 'demo'\ndependencies = [{requirements}]\n[tool.uv]\n{settings}\n"
+    )?)
+}
+
+// What is told of a row.
+fn found_in<R: Wait>(rt: &R, alloc: Global, row: &str) -> Result<String, Fail> {
+    let (region, rest) = cut(row);
+    let (requirements, rest) = cut(rest);
+    let (settings, rest) = cut(rest);
+    let (kept, text) = cut(rest);
+    let file = file_of(alloc, requirements, settings)?;
+    let mut files = Written { alloc, text };
+    told_in(rt, alloc, file.as_str(), &mut files, kept, region)
+}
+
+// The row, where something else is told than stands there.
+fn other<R: Wait>(rt: &R, alloc: Global, line: &str) -> Result<String, Fail> {
+    let (want, row) = cut(line);
+    let found = found_in(rt, alloc, row)?;
+    if found.as_str() == want {
+        return Ok(String::new(alloc));
+    }
+    Ok(format!(in alloc; "{found} in place of {line}")?)
+}
+
+#[test]
+fn small_projects(rt: HostRuntime) -> Result<(), Fail> {
+    for line in ROWS.lines() {
+        let other = other(&rt, rt.alloc(), line)?;
+        assert_eq!(rt; other.as_str(), "");
+    }
+    Ok(())
+}
