@@ -1,7 +1,7 @@
 -- What is read is spelled so, and what is spelled so is read: names, versions, sets and numbers.
 use Rattle.std.proofs.Common.{◌≡◌, ℕ, zero, suc, ◌<◌, ◌^◌, List, [], ◌∷◌, ◌++◌, map, length, get_or, Bool, true, false, cond, ◌&&◌, not, eqb, refl, sym, ap, subst, ◌∙◌, arith, Option, Some, None, rules}
-use Rattle.std.specs.Prelude.{option_and_then, option_map, codes, bytes_eq, IfSome, nat_lt}
-use Rattle.std.specs.Char.{is_ascii, is_ascii_digit}
+use Rattle.std.specs.Prelude.{option_and_then, option_map, codes, IfSome, nat_lt}
+use Rattle.std.specs.Char.{is_ascii_digit}
 use Rattle.std.specs.Cmp.{first_so, second_so}
 use Rattle.std.specs.Fmt.{decimal}
 use Rattle.std.specs.List.{join_with_byte, list_all, slice_split}
@@ -10,29 +10,26 @@ use Rattle.std.specs.Str.Parse.{digits_value}
 use Rattle.std.specs.declared.cmp.Ordering.{Ordering}
 use Rattle.std.specs.declared.cmp.Ordering.TheVariants.{Less, Equal, Greater}
 use Rattle.std.proofs.lemmas.Bool.{lt-ltb, ltb-true, eqb-true}
-use Rattle.std.proofs.lemmas.Bool.Decides.{nat_tests}
 use Rattle.std.proofs.lemmas.Fmt.{decimal-digits_value, decimal_digit, decimal_nonempty, digits_decimal, digits_value-decimal, first_decimal}
 use Rattle.std.proofs.lemmas.List.{append-nil}
 use Rattle.std.proofs.lemmas.List.Splits.{join_with_byte-slice_split}
 use Rattle.std.proofs.lemmas.Str.Parse.{IsNumeralModel, numerals_by_value}
-use Rattle.ul_base.specs.Names.{IsNormalName, is_normal_byte, name_of}
+use Rattle.ul_base.specs.Names.{IsNormalName, is_normal_byte}
 use Rattle.ul_base.specs.declared.node.Node.{Node}
-use Rattle.ul_base.proofs.ForCallers.{name_is_plain, name_reads_itself}
 use Rattle.ul_lines.specs.Pieces.{cut_end, has, strip, until}
 use Rattle.ul_lines.specs.Reader.{Each}
-use Rattle.ul_lines.proofs.ForCallers.{some_is, bind_some, map_some, same_text, bytes_eq_self, has_none, inside_is, inside_again, strip_is, until_is, until_again}
+use Rattle.ul_lines.proofs.ForCallers.{some_is, bind_some, map_some, has_none, inside_is, inside_again, strip_is, until_is, until_again}
 use Rattle.ul_lock_lines.proofs.ForCallers.{name_is, name_again, name_has, version_is, version_again, version_has}
 use Rattle.ul_problem.specs.Problems.{Increases, IncreasesFrom, VersionBefore}
 use Rattle.ul_report.specs.Texts.{extra_text, node_text, versions_text}
 use Rattle.ul_lock_lines.specs.LineReading.{name_at, version_at}
 use Rattle.ul_report_read.specs.Proofs.{IsNamed, IsSet}
 use Rattle.ul_report_read.specs.Tokens.{base_node, each_version, extra_node, extra_of, is_decimal, joined_at, kept_versions, leads_well, node_at, node_of_parts, number_at, onto_versions, placed_in, placed_of, placed_of_parts, rises, rises_from, set_at, version_less, versions_at, with_set}
-use Rattle.ul_report_read.proofs.Cutting.{pick_true, all_weaker, has_join, until_none, split_none, split_at}
+use Rattle.ul_report_read.proofs.Cutting.{pick_true, has_join, until_none, split_none, split_at}
 use Rattle.ul_version.specs.Fields.{Fields, IsVersion}
 use Rattle.ul_version.specs.Order.{version_cmp}
-use Rattle.ul_version.specs.Reading.{version_of}
 use Rattle.ul_version.specs.Texts.{version_text, is_text_byte}
-use Rattle.ul_version.proofs.ForCallers.{plain as text_is_plain, versions as read_is_version, version-read}
+use Rattle.ul_version.proofs.ForCallers.{plain as text_is_plain}
 
 -- ---- nodes
 

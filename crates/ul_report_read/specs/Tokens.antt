@@ -1,16 +1,13 @@
 -- Reading names, versions, sets and numbers in a line.
-use Rattle.std.specs.Prelude.{ℕ, ◌^◌, List, [], ◌∷◌, Bool, true, false, cond, Option, Some, None, option_and_then, option_map, bytes_eq, codes, nat_lt, not, ◌==◌, ◌&&◌, if◌then◌else◌}
-use Rattle.std.specs.Char.{is_ascii, is_ascii_digit}
+use Rattle.std.specs.Prelude.{ℕ, ◌^◌, List, [], ◌∷◌, Bool, true, false, cond, Option, Some, None, option_and_then, option_map, codes, nat_lt, not, ◌==◌, ◌&&◌, if◌then◌else◌}
+use Rattle.std.specs.Char.{is_ascii_digit}
 use Rattle.std.specs.List.{list_all, slice_split}
 use Rattle.std.specs.Ordering.{is_lt}
 use Rattle.std.specs.Str.Parse.{digits_value}
-use Rattle.ul_base.specs.Names.{name_of}
 use Rattle.ul_base.specs.declared.node.Node.{Node}
 use Rattle.ul_lines.specs.Pieces.{cut_end, strip, until}
 use Rattle.ul_version.specs.Fields.{Fields}
 use Rattle.ul_version.specs.Order.{version_cmp}
-use Rattle.ul_version.specs.Reading.{version_of}
-use Rattle.ul_version.specs.Texts.{version_text}
 pub use Rattle.ul_lock_lines.specs.LineReading.{name_at, version_at}
 
 -- ---- names
