@@ -1,5 +1,5 @@
 -- What a test asks of a project.
-use Rattle.std.specs.Prelude.{◌≡◌, ◌∷◌, [], Bool, false}
+use Rattle.std.specs.Prelude.{◌≡◌, ◌∷◌, [], false}
 use Rattle.ul_requirement.specs.Fields.{PackageFields, ReleaseFields}
 
 -- the package has one release, which isn't yanked

@@ -15,6 +15,7 @@ use ul_index::Catalog;
 use ul_interner::Interner;
 use ul_load::load_project;
 use ul_placing::problem_of;
+use ul_problem::Problem;
 use ul_project::{Project, project};
 use ul_region::truth_at;
 use ul_requirement::{Package, Release, Requirement, Wish};
@@ -56,9 +57,9 @@ fn base_nodes(alloc: Global, found: &Package) -> Result<Vec<Node>, AllocError>
     Ok(nodes)
 }
 
-/// The base of the first package, which is a project.
+// The base of the first package, which is a project.
 #[tactic(auto, using(crate::proofs::Beginning::begun))]
-pub fn starts_of(alloc: Global, catalog: &Catalog) -> Result<Vec<Node>, Fail>
+fn starts_of(alloc: Global, catalog: &Catalog) -> Result<Vec<Node>, Fail>
     ensures { IfOk result (λ v. IsProjectOf catalog.now v.items) }
 {
     match catalog.packages() {
@@ -79,8 +80,8 @@ fn requirement_in(alloc: Global, marker: &str) -> Result<Requirement, Fail> {
     Ok(Requirement::read(alloc, text.as_str())?)
 }
 
-/// The region of a marker.
-pub fn region_of<R: Wait>(
+// The region of a marker.
+fn region_of<R: Wait>(
     rt: &R,
     alloc: Global,
     algebra: &mut Algebra<'_>,
@@ -130,14 +131,14 @@ pub fn catalog_of<F: Files>(
     }
 }
 
-// The problem of a region of a catalog.
-fn told_of<R: Wait>(
+/// The problem of the region of a marker, for a catalog and what is wished.
+pub fn problem_in<R: Wait>(
     rt: &R,
     alloc: Global,
     catalog: &Catalog,
     wish: &Wish,
     marker: &str,
-) -> Result<String, Fail> {
+) -> Result<Problem, Fail> {
     let starts = starts_of(alloc, catalog)?;
     let (interner, pass) = Interner::<DiagramLabel>::begin(alloc)?;
     let mut algebra = Algebra::begin(alloc, &interner, pass);
@@ -151,7 +152,7 @@ fn told_of<R: Wait>(
         &mut algebra,
         &region,
     )?;
-    Ok(told(alloc, &problem)?)
+    Ok(problem)
 }
 
 /// The problem of a region, for a project's file, a folder and an old lock.
@@ -166,5 +167,6 @@ pub fn told_in<R: Wait, F: Files>(
     let project = project(alloc, file.as_bytes())?;
     let catalog = catalog_of(alloc, files, &project)?;
     let wish = wish_of(alloc, &project, kept)?;
-    told_of(rt, alloc, &catalog, &wish, marker)
+    let problem = problem_in(rt, alloc, &catalog, &wish, marker)?;
+    Ok(told(alloc, &problem)?)
 }

@@ -1,18 +1,13 @@
 //! Projects at size.
 ghost use Rattle.std.specs.Prelude.{None};
 
-use crate::problems::{catalog_of, region_of, starts_of, wish_of};
+use crate::problems::{catalog_of, problem_in, wish_of};
 use std::alloc::{AllocError, Global};
 use std::sync::Wait;
 use std::test::Fail;
-use ul_algebra::{Algebra, DiagramLabel};
 use ul_base::{Files, ReadRefused};
-use ul_index::Catalog;
-use ul_interner::Interner;
-use ul_placing::problem_of;
 use ul_problem::Problem;
 use ul_project::project;
-use ul_requirement::Wish;
 
 /// A folder of so many packages `p0`, `p1` and so on, each of so many releases of so many requirements.
 #[derive(Drop)]
@@ -111,34 +106,10 @@ fn need_count(problem: &Problem) -> usize {
     count
 }
 
-// The problem of a region in short: how many nodes and how many needs it has.
-fn counts_of<R: Wait>(
-    rt: &R,
-    alloc: Global,
-    catalog: &Catalog,
-    wish: &Wish,
-    marker: &str,
-) -> Result<(usize, usize), Fail> {
-    let starts = starts_of(alloc, catalog)?;
-    let (interner, pass) = Interner::<DiagramLabel>::begin(alloc)?;
-    let mut algebra = Algebra::begin(alloc, &interner, pass);
-    let region = region_of(rt, alloc, &mut algebra, marker)?;
-    let problem = problem_of(
-        rt,
-        alloc,
-        catalog,
-        starts.as_slice(),
-        wish,
-        &mut algebra,
-        &region,
-    )?;
-    Ok((problem.nodes().len(), need_count(&problem)))
-}
-
 // The file of a project that requires the first package.
 const FILE: &str = "[project]\nname = 'demo'\ndependencies = ['p0']\n";
 
-// The problem of a region of that project, in short.
+// The problem of a region of that project in short: how many nodes and how many needs it has.
 fn counts_in<R: Wait>(
     rt: &R,
     alloc: Global,
@@ -148,7 +119,8 @@ fn counts_in<R: Wait>(
     let project = project(alloc, FILE.as_bytes())?;
     let catalog = catalog_of(alloc, files, &project)?;
     let wish = wish_of(alloc, &project, "")?;
-    counts_of(rt, alloc, &catalog, &wish, marker)
+    let problem = problem_in(rt, alloc, &catalog, &wish, marker)?;
+    Ok((problem.nodes().len(), need_count(&problem)))
 }
 
 // So many packages, releases of each and requirements of each release, and how many nodes and needs the problem of a
