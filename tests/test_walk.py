@@ -1,12 +1,8 @@
-"""The whole walk: wheels, tools/index, unilock lock, pip install of what is locked, pip check.
-
-The command `env` isn't built yet, so the versions to install are read from the lock itself, and the project has pins alone.
-"""
+"""The whole walk: wheels, tools/index, unilock lock, tools/machine, unilock env, pip install of what it prints, pip check."""
 
 from __future__ import annotations
 
 import os
-import re
 import subprocess
 import sys
 import tempfile
@@ -21,14 +17,12 @@ PROGRAM = next((it for it in BUILT if it.exists()), BUILT[0])
 PROJECT = """[project]
 name = "walk"
 version = "1"
-dependencies = ["alpha==1.2", "Beta_Tools==2.0"]
+requires-python = ">=3.8"
+dependencies = ["alpha>=1.2,<2", "Beta_Tools[fast]", "winonly; sys_platform == 'no such platform'"]
+
+[project.optional-dependencies]
+dev = ["delta"]
 """
-
-
-def locked(text: str) -> list:
-    """The packages of a lock but its root, as pip takes them."""
-    pairs = re.findall(r'^\[\[package\]\]\nname = "([^"]+)"\nversion = "([^"]+)"$', text, re.MULTILINE)
-    return [f"{name}=={version}" for name, version in pairs if name != "walk"]
 
 
 class Walk(unittest.TestCase):
@@ -49,16 +43,23 @@ class Walk(unittest.TestCase):
     def test_from_wheels_to_an_installation(self) -> None:
         wheels = self.top / "wheels"
         wheels.mkdir()
-        plain_wheel(wheels, "alpha", "1.2", ["gamma==0.3"])
-        plain_wheel(wheels, "alpha", "1.3", ["gamma==0.4"])
-        plain_wheel(wheels, "beta-tools", "2.0", ["gamma==0.3"])
+        plain_wheel(wheels, "alpha", "1.2", ["gamma<0.4"])
+        plain_wheel(wheels, "alpha", "1.3", ["gamma<0.4", "epsilon; python_version < '3'"])
+        plain_wheel(wheels, "alpha", "2.0", ["gamma>=0.4"])
+        plain_wheel(wheels, "beta-tools", "2.0", ["gamma>=0.3", "delta>=1; extra == 'fast'"])
+        plain_wheel(wheels, "delta", "1.0")
         plain_wheel(wheels, "gamma", "0.3")
         plain_wheel(wheels, "gamma", "0.4")
+        plain_wheel(wheels, "winonly", "1.0")
+        plain_wheel(wheels, "epsilon", "1.0")
         (self.top / "pyproject.toml").write_text(PROJECT)
         self.ran(sys.executable, TOP / "tools" / "index", "wheels", "ix")
-        wanted = locked(self.ran(PROGRAM, "lock", "pyproject.toml", "ix", "1"))
-        self.assertEqual(wanted, ["alpha==1.2", "beta-tools==2.0", "gamma==0.3"])
-        (self.top / "requirements.txt").write_text("\n".join(wanted) + "\n")
+        (self.top / "unilock.lock").write_text(self.ran(PROGRAM, "lock", "pyproject.toml", "ix", "2"))
+        (self.top / "machine.json").write_text(self.ran(sys.executable, TOP / "tools" / "machine"))
+        printed = self.ran(PROGRAM, "env", "unilock.lock", "machine.json", "dev")
+        self.assertEqual(printed.splitlines(), ["alpha==1.3", "beta-tools[fast]==2.0", "delta==1.0", "gamma==0.3"])
+        (self.top / "requirements.txt").write_text(printed)
+        wanted = [line.replace("[fast]", "") for line in printed.splitlines()]
         self.ran(sys.executable, "-m", "venv", "venv")
         python = self.top / "venv" / "bin" / "python"
         self.ran(python, "-m", "pip", "install", "--no-index", "--no-deps", "--find-links", "wheels", "-r", "requirements.txt")

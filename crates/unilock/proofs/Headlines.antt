@@ -2,7 +2,7 @@
 use Rattle.std.proofs.Common.{◌≡◌, ◌<◌, ◌≤◌, ◌++◌, ◌⊎◌, inl, inr, take, ℕ, List, Some, refl, sym, ◌∙◌, subst, arith}
 use Rattle.ul_base.specs.Causes.{Rose}
 use Rattle.unilock.specs.Answer.{Answered}
-use Rattle.unilock.specs.Headline.{FilesSeen, SinkSeen, BytesTold, IsOutput, HasOutput, Headline, ToldAnswer}
+use Rattle.unilock.specs.Headline.{FilesSeen, SinkSeen, BytesTold, IsOutput, HasOutput, Headline, IsOwn, ToldAnswer}
 
 -- the status is that of the output, or 6, or 7
 ending_of : (words : List (List ℕ)) (before now : FilesSeen) (meant status : ℕ) (text : List ℕ) → IsOutput words before now meant text
@@ -10,17 +10,17 @@ ending_of : (words : List (List ℕ)) (before now : FilesSeen) (meant status : �
 ending_of words before now meant status text output (inl same) = inl (text, subst (λ s. IsOutput words before now s text) (sym same) output)
 ending_of words before now meant status text output (inr other) = inr other
 
--- a status below 6 is that of the output
-own_status : (meant status : ℕ) → (status ≡ meant) ⊎ (status ≡ 6) ⊎ (status ≡ 7) → status < 6 → status ≡ meant
-own_status meant status (inl same) small = same
-own_status meant status (inr (inl six)) small = absurd (omega arith)
-own_status meant status (inr (inr seven)) small = absurd (omega arith)
+-- a status of an output is the output's
+own_status : (meant status : ℕ) → (status ≡ meant) ⊎ (status ≡ 6) ⊎ (status ≡ 7) → IsOwn status → status ≡ meant
+own_status meant status (inl same) own = same
+own_status meant status (inr (inl six)) own = absurd (own.0 six)
+own_status meant status (inr (inr seven)) own = absurd (own.1 seven)
 
 -- an output was printed
 pub output_printed : (words : List (List ℕ)) (files_before files_now : FilesSeen) (sink_before sink_now : SinkSeen) (meant status : ℕ) (text : List ℕ)
     → IsOutput words files_before files_now meant text → files_now.map ≡ files_before.map → files_before.faults ≤ files_now.faults
     → (status ≡ meant) ⊎ (status ≡ 6) ⊎ (status ≡ 7)
-    → (status < 6 → BytesTold sink_before.bytes (λ had. sink_now.bytes ≡ Some (had ++ text)))
+    → (IsOwn status → BytesTold sink_before.bytes (λ had. sink_now.bytes ≡ Some (had ++ text)))
     → (status ≡ 6 → BytesTold sink_before.bytes (λ had. (n : ℕ) × (sink_now.bytes ≡ Some (had ++ take n text))))
     → (status ≡ 6 → Rose sink_before.faults sink_now.faults) → (sink_before.faults < sink_now.faults → status ≡ 6)
     → sink_before.faults ≤ sink_now.faults → (status ≡ 7 → sink_now.bytes ≡ sink_before.bytes)
@@ -42,7 +42,7 @@ pub nothing_printed : (words : List (List ℕ)) (files_before files_now : FilesS
     → files_now.map ≡ files_before.map → files_before.faults ≤ files_now.faults → Headline words files_before files_now sink sink 7
 nothing_printed words fb fn sink same reads = record {
   ending = inr (inr refl);
-  text = λ small. absurd (omega arith);
+  text = λ own. absurd (own.1 refl);
   write_fault = λ six. absurd (omega arith);
   write_rise = λ rise. absurd (omega arith);
   front = λ six. absurd (omega arith);

@@ -1,10 +1,3 @@
-pub mod Growth
 pub mod Headlines
-pub mod JobSteps
 pub mod Numbers
-pub mod OneAnswers
-pub mod OneRead
 pub mod Outputs
-pub mod Steps
-pub mod Turns
-pub mod WorkedAnswers

@@ -3,10 +3,13 @@
 -- The files and the sink are known by what they tell: files in memory tell their contents, a real folder tells none, and
 -- a promise that needs them says so. A count of faults stands still at its type's end, so `Rose` says that it rose or
 -- stands there.
-use Rattle.std.specs.Prelude.{◌≡◌, ◌≢◌, ◌<◌, ◌≤◌, ◌++◌, take, ℕ, List, Option, Some, IfSome, ◌⊎◌}
+use Rattle.std.specs.Prelude.{◌≡◌, ◌≢◌, ◌<◌, ◌≤◌, ◌++◌, take, ℕ, List, [], Option, Some, ◌⊎◌, map, string_bytes, String, Vec}
+use Rattle.std.specs.declared.alloc.Global.{Global}
 use Rattle.ul_base.specs.Files.{FileMap, Told}
 use Rattle.ul_base.specs.Causes.{Rose}
-use Rattle.unilock.specs.Answer.{IsAnswer, IsRead, IsUsage, Prints, Answered, read_fault_text, words_answer}
+use Rattle.ul_answers.specs.Refusals.{read_fault_text}
+use Rattle.unilock.specs.Answer.{IsAnswer, IsRead, IsUsage, NeedsNoFile, Answered}
+use Rattle.unilock.specs.Words.{question}
 
 -- what files tell: their contents, where they tell them; how often a read failed; and the path of the last that did,
 -- where they tell it
@@ -28,18 +31,26 @@ files_seen map faults last_failed files = record { map = map files; faults = fau
 abbrev pub sink_seen : {S : Type 0} → (S → Option (List ℕ)) → (S → ℕ) → S → SinkSeen
 sink_seen bytes faults sink = record { bytes = bytes sink; faults = faults sink }
 
+-- the texts of the words
+abbrev pub texts_of : Vec (String Global) Global → List (List ℕ)
+texts_of v = map string_bytes v.items
+
 -- where the bytes are told, this holds of them
 abbrev pub BytesTold : Option (List ℕ) → (List ℕ → Type 0) → Type 0
 BytesTold o P = (bytes : List ℕ) → o ≡ Some bytes → P bytes
 
+-- a status of an output: 6 says that a write failed, and 7 that there was no memory
+abbrev pub IsOwn : ℕ → Type 0
+IsOwn status = (status ≢ 6) × (status ≢ 7)
+
 -- Status and text are the program's output for the words, over files that told this before the call and that after it.
 pub record IsOutput (words : List (List ℕ)) (before now : FilesSeen) (status : ℕ) (text : List ℕ) : Type 0 where
-  -- the status is one of 0 to 5
-  pub range : status < 6
+  -- the status is one of an output
+  pub range : IsOwn status
   -- unless a read failed, they are the answer to the words over the contents of the files
   pub answer : status ≢ 5 → Told before.map (λ m. IsAnswer words m status text)
-  -- where the words alone decide, they are what the words decide, whatever the files tell
-  pub words_alone : IfSome (words_answer words) (λ a. Prints a status text)
+  -- where the words need no file, they are the answer whatever the files tell
+  pub no_file : NeedsNoFile (question words) → IsAnswer words [] status text
   -- status 2 comes only where the words aren't one of the commands
   pub usage : status ≡ 2 → IsUsage words
   -- status 5 comes only where a read failed
@@ -61,7 +72,7 @@ pub record Headline (words : List (List ℕ)) (files_before files_now : FilesSee
   -- the status is that of the output, or 6, or 7, whatever the sink tells
   pub ending : HasOutput words files_before files_now status ⊎ (status ≡ 6) ⊎ (status ≡ 7)
   -- with the status of the output, its text was appended
-  pub text : status < 6 → BytesTold sink_before.bytes (λ had.
+  pub text : IsOwn status → BytesTold sink_before.bytes (λ had.
       (text : List ℕ) × IsOutput words files_before files_now status text × (sink_now.bytes ≡ Some (had ++ text)))
   -- status 6 comes only where a write failed
   pub write_fault : status ≡ 6 → Rose sink_before.faults sink_now.faults

@@ -1,12 +1,3 @@
 pub mod Answer
-pub mod Answers
-pub mod Examples
-pub mod Growing
 pub mod Headline
-pub mod Jobs
-pub mod Loaded
-pub mod Loading
-pub mod Questions
-pub mod Refusals
-pub mod Refused
 pub mod Words

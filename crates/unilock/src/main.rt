@@ -10,10 +10,9 @@ ghost use Rattle.std.specs.Vec.Iter.{into_iter_items};
 #[cfg(test)]
 mod edge_tests;
 mod folder;
-mod inputs;
 pub mod laws;
-mod loading;
-mod refusal;
+#[cfg(test)]
+mod rows;
 mod standard;
 #[cfg(test)]
 mod tests;

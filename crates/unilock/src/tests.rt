@@ -1,4 +1,5 @@
-// What no clause says: that the call succeeds, and that the printed bytes are those of the format.
+// What no clause says: that the call succeeds, and that the printed bytes are those of the formats.
+use crate::rows::ROWS;
 use crate::top::run;
 use std::alloc::{AllocError, Global};
 use std::process::Abort;
@@ -7,61 +8,33 @@ use std::test::Fail;
 use std::thread::Threads;
 use ul_base::{MemFiles, MemSink, Open, Sink, SinkRefused};
 
-const PINNED: &str =
-    "version = 1\nroot = \"demo\"\n\n[[package]]\nname = \"a\"\nversion = \"1\"\n\n[[package]]\nname = \"demo\"\nversion = \"0.1\"\ndependencies = [\n    { name = \"a\", version = \"1\" },\n]\n";
-
-const SPELLED: &str =
-    "version = 1\nroot = \"demo\"\n\n[[package]]\nname = \"a\"\nversion = \"1.0\"\n\n[[package]]\nname = \"demo\"\nversion = \"0.1\"\ndependencies = [\n    { name = \"a\", version = \"1.0\" },\n]\n";
-
-const ALONE: &str =
-    "version = 1\nroot = \"demo\"\n\n[[package]]\nname = \"demo\"\nversion = \"0.1\"\n";
-
-const DIAMOND: &str =
-    "version = 1\nroot = \"demo\"\n\n[[package]]\nname = \"a\"\nversion = \"1\"\ndependencies = [\n    { name = \"c\", version = \"1\" },\n]\n\n[[package]]\nname = \"b\"\nversion = \"2\"\ndependencies = [\n    { name = \"a\", version = \"1\" },\n    { name = \"c\", version = \"1\" },\n]\n\n[[package]]\nname = \"c\"\nversion = \"1\"\n\n[[package]]\nname = \"demo\"\nversion = \"0.1\"\ndependencies = [\n    { name = \"a\", version = \"1\" },\n    { name = \"b\", version = \"2\" },\n]\n";
-
-const CYCLE: &str =
-    "version = 1\nroot = \"demo\"\n\n[[package]]\nname = \"a\"\nversion = \"1\"\ndependencies = [\n    { name = \"demo\", version = \"0.1\" },\n]\n\n[[package]]\nname = \"demo\"\nversion = \"0.1\"\ndependencies = [\n    { name = \"a\", version = \"1\" },\n]\n";
-
-const OTHER_SPELLING: &str =
-    "version = 1\nroot = \"demo\"\n\n[[package]]\nname = \"a-b\"\nversion = \"1\"\n\n[[package]]\nname = \"demo\"\nversion = \"0.1\"\ndependencies = [\n    { name = \"a-b\", version = \"1\" },\n]\n";
-
-const USAGE: &str = "usage: unilock lock|why|env|check|gen|export|verify WORDS\n";
-
-const NOTHING_SERVES: &str =
-    "no selection serves this fork\nfork: -\nregion: *\nworld: python_full_version == '0.0.0' and os_name == '' and sys_platform == '' and platform_machine == '' and platform_python_implementation == '' and platform_release == '' and platform_system == '' and platform_version == '' and implementation_name == ''\n";
-
-const LOCK: &str = "lock p.toml ix 1";
-
 const NONE: u64 = u64::MAX;
 
-const A: &str = "@ix/a.json\n{\"name\": \"a\", \"versions\": [{\"version\": \"1\"}]}";
+const PROJECT: &str =
+    "lock p.toml ix 1\n@p.toml\n[project]\nname = \"demo\"\nversion = \"0.1\"\ndependencies = [\"a\", \"b\"]\n@ix/a.json\n{\"name\": \"a\", \"versions\": [{\"version\": \"1\"}]}\n@ix/b.json\n{\"name\": \"b\", \"versions\": [{\"version\": \"1\"}]}\n";
 
-const A_TWICE: &str =
-    "@ix/a.json\n{\"name\": \"a\", \"versions\": [{\"version\": \"1\"}, {\"version\": \"2\"}]}";
+// A file of a case: its path, and what stands behind it, with the line end that the next file or the end takes away.
+fn file_of(alloc: Global, text: &str) -> Result<(String, Vec<u8>), AllocError> {
+    let (path, content) = text.split_once('\n').unwrap_or((text, ""));
+    let mut bytes = Vec::from_slice(alloc, content.as_bytes())?;
+    bytes.push(b'\n')?;
+    Ok((String::from_str(alloc, path)?, bytes))
+}
 
-// Files from one text: each begins with `@`, its path and a line end.
+// The files of a case.
 fn files_of(alloc: Global, text: &str, failing: u64) -> Result<MemFiles, AllocError> {
     let mut files = Vec::new(alloc);
-    for file in text.split('@').skip(1) {
-        if let Some((path, content)) = file.split_once('\n') {
-            let bytes = Vec::from_slice(alloc, content.as_bytes())?;
-            files.push((String::from_str(alloc, path)?, bytes))?;
-        }
+    for file in text.split("\n@").skip(1) {
+        files.push(file_of(alloc, file)?)?;
     }
     let mut reads = Vec::new(alloc);
     reads.push(failing)?;
     Ok(MemFiles::of(alloc, files, reads))
 }
 
-// A project file with these dependencies.
-fn project_of(alloc: Global, dependencies: &str, documents: &str) -> Result<String, AllocError> {
-    format!(in alloc;
-        "@p.toml\n[project]\nname = \"demo\"\nversion = \"0.1\"\ndependencies = [{dependencies}]\n{documents}"
-    )
-}
-
-// The words of a command line.
-fn words_in(alloc: Global, line: &str) -> Result<Vec<String>, AllocError> {
+// The words of a case.
+fn words_of(alloc: Global, text: &str) -> Result<Vec<String>, AllocError> {
+    let (line, _) = text.split_once('\n').unwrap_or((text, ""));
     let mut words = Vec::new(alloc);
     for word in line.split(' ') {
         words.push(String::from_str(alloc, word)?)?;
@@ -69,115 +42,88 @@ fn words_in(alloc: Global, line: &str) -> Result<Vec<String>, AllocError> {
     Ok(words)
 }
 
-// The status and what the sink took, where one read and one write of these numbers fail.
+// The status, in decimal, and what the sink took, behind a line end.
 fn answer<R: Threads + Wait + Sync>(
     rt: &R,
     alloc: Global,
-    words: &str,
-    files: &str,
+    text: &str,
     read: u64,
-    write: (u64, u64),
-) -> Result<(u8, String), Fail> {
-    let mut given = files_of(alloc, files, read)?;
-    let mut writes = Vec::new(alloc);
-    writes.push(write)?;
-    let mut out = MemSink::of(alloc, writes);
-    let list = words_in(alloc, words)?;
-    let status = run(rt, alloc, &list, &mut given, &mut out, &Open);
-    let mut text = String::new(alloc);
-    for byte in out.bytes().as_slice() {
-        text.push(char::from(*byte))?;
+    out: &mut MemSink,
+) -> Result<u8, AllocError> {
+    let words = words_of(alloc, text)?;
+    let mut files = files_of(alloc, text, read)?;
+    Ok(run(rt, alloc, &words, &mut files, out, &Open))
+}
+
+// What is printed for a case, behind its status.
+fn printed<R: Threads + Wait + Sync>(
+    rt: &R,
+    alloc: Global,
+    given: &str,
+) -> Result<Vec<u8>, AllocError> {
+    let mut out = MemSink::of(alloc, Vec::new(alloc));
+    let status = answer(rt, alloc, given, NONE, &mut out)?;
+    let head = format!(in alloc; "{status}\n")?;
+    let mut text = head.into_bytes();
+    text.extend_from_slice(out.bytes().as_slice())?;
+    Ok(text)
+}
+
+// Whether the case is answered as it says.
+fn is_row<R: Threads + Wait + Sync>(rt: &R, alloc: Global, row: &str) -> Result<bool, AllocError> {
+    match row.split_once("\n=") {
+        Some((given, wanted)) => Ok(printed(rt, alloc, given)?.as_slice() == wanted.as_bytes()),
+        None => Ok(false),
     }
-    Ok((status, text))
 }
 
 #[test]
-fn locks_pins_or_says_that_nothing_serves(rt: HostRuntime) -> Result<(), Fail> {
-    let alloc = rt.alloc();
-    for (dependencies, documents, status, text) in [
-        ("\"a==1\"", A, 0, PINNED),
-        ("", "", 0, ALONE),
-        (
-            "\"a==1\"",
-            "@ix/a.json\n{\"name\": \"A\", \"versions\": [{\"version\": \"1.0\"}, {\"version\": \"1\"}]}",
-            0,
-            SPELLED,
-        ),
-        ("\"A==1.0\", \"a==1\"", A_TWICE, 0, PINNED),
-        (
-            "\"a==1\", \"b==2\"",
-            "@ix/a.json\n{\"name\": \"a\", \"versions\": [{\"version\": \"1\", \"requires_dist\": [\"c==1\"]}]}@ix/b.json\n{\"name\": \"b\", \"versions\": [{\"version\": \"2\", \"requires_dist\": [\"c==1\", \"a==1\"]}, {\"version\": \"1\"}]}@ix/c.json\n{\"name\": \"c\", \"versions\": [{\"version\": \"1\"}]}",
-            0,
-            DIAMOND,
-        ),
-        (
-            "\"a==1\"",
-            "@ix/a.json\n{\"name\": \"a\", \"versions\": [{\"version\": \"1\", \"requires_dist\": [\"demo==0.1\"]}]}",
-            0,
-            CYCLE,
-        ),
-        (
-            "\"A.B==1\", \"a_b==1.0\"",
-            "@ix/a-b.json\n{\"name\": \"a__B\", \"versions\": [{\"version\": \"1\"}]}",
-            0,
-            OTHER_SPELLING,
-        ),
-        ("\"a==1\", \"a==2\"", A_TWICE, 1, NOTHING_SERVES),
-        ("\"a==3\"", A_TWICE, 1, NOTHING_SERVES),
-        ("\"z==1\"", A, 1, NOTHING_SERVES),
-        (
-            "\"a==1\"",
-            "@ix/a.json\n{\"name\": \"a\", \"versions\": [{\"version\": \"1\", \"requires_dist\": [\"demo==2\"]}]}",
-            1,
-            NOTHING_SERVES,
-        ),
-    ] {
-        let files = project_of(alloc, dependencies, documents)?;
-        let answered = answer(&rt, rt.alloc(), LOCK, files.as_str(), NONE, (NONE, 0))?;
-        assert_eq!(rt; answered.0, status, "at {dependencies}");
-        assert_eq!(rt; answered.1.as_str(), text, "at {dependencies}");
+fn answers_each_row(rt: HostRuntime) -> Result<(), Fail> {
+    for row in ROWS {
+        assert!(rt; is_row(&rt, rt.alloc(), row)?, "{row}");
     }
     Ok(())
 }
 
+const REFUSED: &str =
+    "@p.toml\n[project]\nname = \"demo\"\nversion = \"0.1\"\ndependencies = [\"q<2; sys_platform == 'win32'\", \"q>=2; sys_platform != 'win32'\"]\n@ix/q.json\n{\"name\": \"q\", \"versions\": [{\"version\": \"1\", \"requires_dist\": [\"z\"]}, {\"version\": \"2\", \"requires_dist\": [\"z\"]}]}";
+
+const FORK: &str =
+    "1\nno selection serves this fork\nfork: 0\nregion: sys_platform == 'win32'\nworld: python_full_version == '0.0.0' and os_name == '' and sys_platform == 'win32' and platform_machine == '' and platform_python_implementation == '' and platform_release == '' and platform_system == '' and platform_version == '' and implementation_name == ''\n";
+
+// What `why` prints of the refused project with so many workers, as a text.
+fn reason<R: Threads + Wait + Sync>(
+    rt: &R,
+    alloc: Global,
+    workers: u64,
+) -> Result<String, AllocError> {
+    let given = format!(in alloc; "why p.toml ix {workers}\n{REFUSED}")?;
+    let text = printed(rt, alloc, given.as_str())?;
+    let mut copy = String::new(alloc);
+    for byte in text.as_slice() {
+        copy.push(char::from(*byte))?;
+    }
+    Ok(copy)
+}
+
+// Whether what `why` prints is the fork and a derivation that `check` accepts.
+fn is_reason<R: Threads + Wait + Sync>(
+    rt: &R,
+    alloc: Global,
+    workers: u64,
+) -> Result<bool, AllocError> {
+    let text = reason(rt, alloc, workers)?;
+    let (_, lines) = text.as_str().split_once('\n').unwrap_or(("", ""));
+    let lines = lines.strip_suffix('\n').unwrap_or(lines);
+    let given = format!(in alloc; "check p.toml ix d\n{REFUSED}\n@d\n{lines}")?;
+    let verdict = printed(rt, alloc, given.as_str())?;
+    Ok(text.as_str().starts_with(FORK) && verdict.as_slice() == b"0\naccepted\n".as_slice())
+}
+
 #[test]
-fn names_what_it_cannot_read(rt: HostRuntime) -> Result<(), Fail> {
-    let alloc = rt.alloc();
-    for (dependencies, documents, status, text) in [
-        ("\"a>=1\"", A, 3, "not built: project\n"),
-        ("1", A, 3, "not built: project\n"),
-        ("", "[tool.uv]\n", 3, "not built: project\n"),
-        ("", "x = ", 3, "malformed: p.toml: not TOML\n"),
-        (
-            "\"a==1\"",
-            "@ix/a.json\n{]",
-            3,
-            "malformed: ix/a.json: not JSON\n",
-        ),
-        (
-            "\"a==1\", \"b==1\"",
-            "@ix/a.json\n{\"name\": \"a\", \"versions\": [{\"version\": \"1\"}]}@ix/b.json\n{]",
-            3,
-            "malformed: ix/b.json: not JSON\n",
-        ),
-        ("\"a==1\"", "@ix/a.json\n[]", 3, "not built: document\n"),
-        (
-            "\"a==1\"",
-            "@ix/a.json\n{\"name\": \"b\", \"versions\": []}",
-            3,
-            "not built: document\n",
-        ),
-        (
-            "\"a==1\", \"b==1\"",
-            "@ix/a.json\n{\"name\": \"a\", \"versions\": [{\"version\": \"1\", \"yanked\": true}]}@ix/b.json\n{]",
-            3,
-            "not built: document\n",
-        ),
-    ] {
-        let files = project_of(alloc, dependencies, documents)?;
-        let answered = answer(&rt, rt.alloc(), LOCK, files.as_str(), NONE, (NONE, 0))?;
-        assert_eq!(rt; answered.0, status, "at {documents}");
-        assert_eq!(rt; answered.1.as_str(), text, "at {documents}");
+fn gives_reasons_that_are_accepted(rt: HostRuntime) -> Result<(), Fail> {
+    for workers in [1, 2, 8] {
+        assert!(rt; is_reason(&rt, rt.alloc(), workers)?, "{workers}");
     }
     Ok(())
 }
@@ -185,80 +131,69 @@ fn names_what_it_cannot_read(rt: HostRuntime) -> Result<(), Fail> {
 #[test]
 fn names_the_limit_of_a_file(rt: HostRuntime) -> Result<(), Fail> {
     let alloc = rt.alloc();
-    let blank = Vec::from_elem(alloc, b' ', 16_777_217)?;
     let mut files = Vec::new(alloc);
-    files.push((String::from_str(alloc, "p.toml")?, blank))?;
+    files.push((
+        String::from_str(alloc, "p.toml")?,
+        Vec::from_elem(alloc, b' ', 16_777_217)?,
+    ))?;
     let mut given = MemFiles::of(alloc, files, Vec::new(alloc));
     let mut out = MemSink::of(alloc, Vec::new(alloc));
-    let words = words_in(alloc, LOCK)?;
-    let status = run(&rt, alloc, &words, &mut given, &mut out, &Open);
-    assert_eq!(rt; status, 4);
+    let words = words_of(alloc, PROJECT)?;
+    assert_eq!(rt; run(&rt, alloc, &words, &mut given, &mut out, &Open), 4);
     assert!(rt; out.bytes().as_slice() == b"limit: file-bytes 16777216\n".as_slice());
     Ok(())
 }
 
+// Whether a read that fails is named.
+fn is_fault<R: Threads + Wait + Sync>(
+    rt: &R,
+    alloc: Global,
+    read: u64,
+    line: &str,
+) -> Result<bool, AllocError> {
+    let mut out = MemSink::of(alloc, Vec::new(alloc));
+    let status = answer(rt, alloc, PROJECT, read, &mut out)?;
+    Ok(status == 5 && out.bytes().as_slice() == line.as_bytes())
+}
+
 #[test]
-fn answers_the_words(rt: HostRuntime) -> Result<(), Fail> {
-    for (words, status, text) in [
-        (LOCK, 3, "malformed: p.toml: absent\n"),
-        ("lock", 2, USAGE),
-        ("lock p.toml ix", 2, USAGE),
-        ("lock p.toml ix 0", 2, USAGE),
-        ("lock p.toml ix 65", 2, USAGE),
-        ("lock p.toml ix 01", 2, USAGE),
-        ("lock p.toml ix +1", 2, USAGE),
-        ("lock p.toml ix 1 old x", 2, USAGE),
-        ("export p.lock", 2, USAGE),
-        ("verify p.toml ix p.lock", 2, USAGE),
-        ("lock p.toml ix 64", 3, "not built: workers\n"),
-        ("lock p.toml ix 2 old", 3, "not built: workers\n"),
-        ("lock p.toml ix 1 old", 3, "not built: old lock\n"),
-        ("why p.toml ix 2", 3, "not built: why\n"),
-        ("check p.toml ix d", 3, "not built: check\n"),
-        ("env p.lock m.json", 3, "not built: env\n"),
-        ("env p.lock m.json x y z", 3, "not built: env\n"),
-        ("gen 18446744073709551615 2000 64", 3, "not built: gen\n"),
-        ("gen 18446744073709551616 1 1", 2, USAGE),
-        ("gen 0 0 1", 2, USAGE),
-        ("gen 0 2001 1", 2, USAGE),
+fn names_the_fault_of_a_read(rt: HostRuntime) -> Result<(), Fail> {
+    for (read, line) in [
+        (0, "read fault: p.toml\n"),
+        (1, "read fault: ix/a.json\n"),
+        (2, "read fault: ix/b.json\n"),
     ] {
-        let answered = answer(&rt, rt.alloc(), words, "", NONE, (NONE, 0))?;
-        assert_eq!(rt; answered.0, status, "at {words}");
-        assert_eq!(rt; answered.1.as_str(), text, "at {words}");
+        assert!(rt; is_fault(&rt, rt.alloc(), read, line)?, "{line}");
     }
     Ok(())
 }
 
+// A sink whose call of this number fails, after so many bytes.
+fn failing_sink(alloc: Global, call: u64, bytes: u64) -> Result<MemSink, AllocError> {
+    let mut failing = Vec::new(alloc);
+    failing.push((call, bytes))?;
+    Ok(MemSink::of(alloc, failing))
+}
+
 #[test]
-fn names_the_fault_of_a_read_or_a_write(rt: HostRuntime) -> Result<(), Fail> {
-    let alloc = rt.alloc();
-    let files = project_of(alloc, "\"a==1\", \"b==1\"", A)?;
-    let unread = answer(&rt, rt.alloc(), LOCK, files.as_str(), 0, (NONE, 0))?;
-    assert_eq!(rt; unread.0, 5);
-    assert_eq!(rt; unread.1.as_str(), "read fault: p.toml\n");
-    let later = answer(&rt, rt.alloc(), LOCK, files.as_str(), 2, (NONE, 0))?;
-    assert_eq!(rt; later.0, 5);
-    assert_eq!(rt; later.1.as_str(), "read fault: ix/b.json\n");
-    let project = project_of(alloc, "\"a==1\"", A)?;
-    let unwritten = answer(&rt, rt.alloc(), LOCK, project.as_str(), NONE, (0, 5))?;
-    assert_eq!(rt; unwritten.0, 6);
-    assert_eq!(rt; unwritten.1.as_str(), "versi");
+fn leaves_a_front_where_a_write_fails(rt: HostRuntime) -> Result<(), Fail> {
+    let mut out = failing_sink(rt.alloc(), 0, 5)?;
+    assert_eq!(rt; answer(&rt, rt.alloc(), PROJECT, NONE, &mut out)?, 6);
+    assert!(rt; out.bytes().as_slice() == b"versi".as_slice());
     Ok(())
 }
 
 #[test]
 fn writes_once(rt: HostRuntime) -> Result<(), Fail> {
-    let alloc = rt.alloc();
-    let files = project_of(alloc, "\"a==1\"", A)?;
-    for (words, status) in [(LOCK, 0), ("lock", 2), ("lock x.toml ix 1", 3)] {
-        let mut given = files_of(alloc, files.as_str(), NONE)?;
-        let mut failing = Vec::new(alloc);
-        failing.push((1, 0))?;
-        let mut out = MemSink::of(alloc, failing);
-        let list = words_in(alloc, words)?;
-        assert_eq!(rt; run(&rt, alloc, &list, &mut given, &mut out, &Open), status);
+    for text in [PROJECT, "lock", "lock x.toml ix 1"] {
+        let mut out = failing_sink(rt.alloc(), 1, 0)?;
+        answer(&rt, rt.alloc(), text, NONE, &mut out)?;
         // The sink's second call, which fails, is this one.
-        assert_eq!(rt; out.write_all(b"more").err(), Some(SinkRefused::Failed));
+        assert_eq!(rt;
+            out.write_all(b"more").err(),
+            Some(SinkRefused::Failed),
+            "{text}"
+        );
     }
     Ok(())
 }

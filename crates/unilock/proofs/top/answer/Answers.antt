@@ -1,15 +1,11 @@
-use Rattle.unilock.proofs.Outputs.{ok_usage, ok_unbuilt, ok_lock, count_stays}
+use Rattle.unilock.proofs.Outputs.{answered, count_stays, refused}
 use Rattle.unilock.proofs.top.answer.Goals as goal
 
-pub returns-in-Usage-clause-output : goal.returns-in-Usage-clause-output
-returns-in-Usage-clause-output g c = ok_usage _ _ c.usage.result c.in-Usage.ensures c.usage.ensures
+pub returns-in-Ok-clause-output : goal.returns-in-Ok-clause-output
+returns-in-Ok-clause-output g c =
+    answered _ c.ask-asked.result _ _ c.in-Ok.answer c.answer_output.result c.ask-asked.ensures.asked c.in-Ok.ensures.told c.in-Ok.ensures.cause c.in-Ok.ensures.by_words c.answer_output.ensures
 
-pub returns-in-Unbuilt-clause-output : goal.returns-in-Unbuilt-clause-output
-returns-in-Unbuilt-clause-output g c = ok_unbuilt _ c.in-Unbuilt.form.now _ c.unbuilt.result c.in-Unbuilt.ensures c.unbuilt.ensures
-
-pub returns-in-Lock-clause-output : goal.returns-in-Lock-clause-output
-returns-in-Lock-clause-output g c =
-    ok_lock _ c.in-Lock.project.now c.in-Lock.folder.now _ _ c.lock-job.result c.output.result c.in-Lock.ensures c.lock-job.ensures.told c.lock-job.ensures.cause c.output.ensures
-
-pub returns-in-Lock-clause-count : goal.returns-in-Lock-clause-count
-returns-in-Lock-clause-count g c = count_stays _ _ _ c.lock-job.result c.lock-job.ensures.cause
+pub returns-in-Err-clause-output : goal.returns-in-Err-clause-output
+returns-in-Err-clause-output g c =
+    refused _ c.ask-asked.result _ _ c.in-Err.refusal c.refusal_output.result c.ask-asked.ensures.asked c.in-Err.ensures.told c.in-Err.ensures.cause c.in-Err.ensures.by_words
+    c.refusal_output.ensures

@@ -1,0 +1,11 @@
+mod Ones
+mod SheetLines
+mod SheetTexts
+mod LockTexts
+mod Inputs
+mod Answers
+mod Workers
+mod Reasons
+mod Picks
+mod Environments
+mod LockFiles

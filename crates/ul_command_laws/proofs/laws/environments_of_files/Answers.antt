@@ -1,0 +1,12 @@
+use Rattle.ul_command_laws.proofs.LockFiles.{environments_of_files as law}
+use Rattle.ul_command_laws.proofs.laws.environments_of_files.Goals as goal
+
+pub returns : goal.returns
+returns c = law (record {
+  lists = c.environments_of_locks.ensures;
+  projects = c.one_project.ensures;
+  turns = c.turns_agree.ensures;
+  locks = c.text_laws.ensures.different;
+  texts = c.text_laws.ensures.locks_text;
+  lock_faults = c.lock_faults.ensures;
+})

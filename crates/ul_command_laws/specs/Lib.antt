@@ -1,0 +1,4 @@
+pub mod Answers
+pub mod Workers
+pub mod Reasons
+pub mod Environments

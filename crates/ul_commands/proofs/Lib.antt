@@ -1,0 +1,8 @@
+mod Steps
+mod Words
+mod ProofFaults
+mod Mergeable
+mod Answering
+mod Served
+mod Counting
+mod Accepted

@@ -1,0 +1,2 @@
+-- Inputs, one after another.
+pub use Rattle.ul_inputs.proofs.ForCallers.{refuses, goes_on}

@@ -1,0 +1,11 @@
+pub mod Asked
+pub mod Questions
+pub mod Locking
+pub mod Generating
+pub mod Reasons
+pub mod Checking
+pub mod Environments
+pub mod Commands
+pub mod Views
+pub mod Forking
+pub mod Laws

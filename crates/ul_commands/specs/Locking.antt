@@ -1,0 +1,38 @@
+-- What `lock` answers: the lock that the leaves of the fork answer merge into, or the fork that no selection serves.
+use Rattle.std.specs.Prelude.{◌≡◌, ℕ, List, Option, length, map, Result, Ok, Err}
+use Rattle.ul_lock_lines.specs.declared.parts.Lock.{Lock}
+use Rattle.ul_generations.specs.Generations.{leaves_are, refused_at, too_many}
+use Rattle.ul_forks.specs.Headline.{TreeAnswer, TreeLeaf}
+use Rattle.ul_sound.specs.Leaves.{LeafFields}
+use Rattle.ul_sound.specs.Merged.{IsMergedLock}
+use Rattle.ul_inputs.specs.Inputs.{Input, ◌>>=◌, answer}
+use Rattle.ul_inputs.specs.Refused.{Refused}
+use Rattle.ul_inputs.specs.Resolutions.{ResolutionFields, resolution_in}
+use Rattle.ul_answers.specs.Answer.{Answer, locked, no_selection}
+use Rattle.ul_commands.specs.Questions.{IsForked, too_many_forks}
+
+-- a leaf's region and its selection
+abbrev pub leaf_fields : TreeLeaf → LeafFields
+leaf_fields l = record { region = l.region; picks = l.done }
+
+-- the lock that leaves merge into
+pub record IsLocked (r : ResolutionFields) (leaves : List TreeLeaf) (a : Result Answer Refused) : Type 0 where
+  pub lock : Lock
+  pub merged : IsMergedLock r.catalog r.project (map leaf_fields leaves) lock
+  pub is : a ≡ Ok (locked lock (length leaves))
+
+-- the answer to a fork answer
+abbrev pub LocksFor : ResolutionFields → TreeAnswer → Result Answer Refused → Type 0
+LocksFor r (leaves_are leaves) a = IsLocked r leaves a
+LocksFor r (refused_at fork) a = a ≡ Ok (no_selection fork.path fork.region)
+LocksFor r (too_many count) a = a ≡ Err too_many_forks
+
+-- the answer of `lock` to a resolution
+pub record IsLockAnswer (r : ResolutionFields) (a : Result Answer Refused) : Type 0 where
+  pub forked : TreeAnswer
+  pub are_forks : IsForked r forked
+  pub locks : LocksFor r forked a
+
+-- the lock of a project file, an index folder and perhaps an old lock
+abbrev pub lock_of : (project folder : List ℕ) → Option (List ℕ) → Input Answer
+lock_of project folder old = resolution_in project folder old >>= λ r. answer (IsLockAnswer r)

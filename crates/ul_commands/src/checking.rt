@@ -1,0 +1,111 @@
+//! The answer of `check`.
+ghost use Rattle.std.specs.Prelude.{◌≡◌, IfOk, Ok, Some};
+ghost use Rattle.std.specs.Fmt.{decimal};
+ghost use Rattle.ul_base.specs.Files.{Told};
+ghost use Rattle.ul_answers.specs.Views.{view as answer_view};
+ghost use Rattle.ul_inputs.specs.Inputs.{only};
+ghost use Rattle.ul_inputs.specs.Refusals.{Answers, Cause, IsRefusalFor};
+ghost use Rattle.ul_inputs.specs.Resolutions.{IsResolution, view};
+ghost use Rattle.ul_commands.specs.Checking as spec;
+ghost use Rattle.ul_commands.specs.Reasons.{IsProblemIn};
+
+use crate::reasons::problem_at;
+use std::alloc::{AllocError, Global};
+use std::sync::Wait;
+use ul_algebra::Algebra;
+use ul_answers::Answer;
+use ul_base::Files;
+use ul_derivation::AcceptFault;
+use ul_inputs::{Refusal, Resolution, large_file, malformed};
+use ul_interner::Interner;
+use ul_lock_lines::Region;
+use ul_problem::Problem;
+use ul_report_judge::judge;
+use ul_report_read::{Proof, ProofFault, read};
+
+// The refusal of a derivation file for its fault.
+fn refusal(alloc: Global, path: &str, fault: ProofFault) -> Refusal
+    ensures { IsRefusalFor (spec.refused_proof path.now fault) result }
+{
+    match fault {
+        ProofFault::Line(line) => match format!(in alloc; "line {line}") {
+            Ok(place) => malformed(alloc, path, place),
+            Err(_) => Refusal::NoMemory,
+        },
+        ProofFault::NoMemory => Refusal::NoMemory,
+    }
+}
+
+// The derivation of a text.
+#[tactic(auto, using(crate::proofs::ProofFaults::proof_found, crate::proofs::ProofFaults::proof_fault))]
+fn proof_in(alloc: Global, path: &str, bytes: &[u8]) -> Result<Proof, Refusal>
+    ensures { Answers (λ x. x) result (only (spec.IsProofOf path.now bytes.now)) }
+{
+    match read(alloc, bytes) {
+        Ok(proof) => Ok(proof),
+        Err(fault) => Err(refusal(alloc, path, fault)),
+    }
+}
+
+/// The derivation of the derivation file at a path.
+#[tactic(auto, using(crate::proofs::Steps::refuses, crate::proofs::Steps::goes_on))]
+pub(crate) fn proof_file<F: Files>(
+    alloc: Global,
+    files: &mut F,
+    path: &str,
+) -> Result<Proof, Refusal>
+    ensures told { Told (F.map files.old) (λ m. Answers (λ x. x) result (spec.proof_at path.now m)) }
+    ensures same { F.map files.new ≡ F.map files.old }
+    ensures cause { Cause (F.faults files.old) (F.faults files.new) (F.last_failed files.new) result }
+{
+    let bytes = large_file(alloc, files, path)?;
+    proof_in(alloc, path, &bytes)
+}
+
+// The problem of a derivation's region.
+fn problem_in<R: Wait>(
+    rt: &R,
+    alloc: Global,
+    resolution: &Resolution,
+    region: &Region,
+) -> Result<Problem, AllocError>
+    requires { IsResolution (view resolution.now) }
+    ensures { IfOk result (IsProblemIn (view resolution.now) region.now) }
+{
+    ul_tree::laws::no_extra();
+    let (interner, pass) = Interner::begin(alloc)?;
+    let mut algebra = Algebra::begin(alloc, &interner, pass);
+    let region = algebra.of_tree(rt, alloc, region.as_tree())?;
+    problem_at(rt, alloc, &mut algebra, resolution, &region)
+}
+
+// The judgement of a derivation on the problem of its region.
+fn judged(
+    alloc: Global,
+    resolution: &Resolution,
+    problem: &Problem,
+    proof: &Proof,
+) -> Result<Answer, AllocError>
+    requires { IsProblemIn (view resolution.now) proof.now.region problem.now }
+    ensures { IfOk result (λ a. spec.IsCheckAnswer (view resolution.now) proof.now (Ok (answer_view a))) }
+{
+    match judge(alloc, problem, &proof.steps) {
+        Ok(()) => Ok(Answer::Accepted),
+        Err(AcceptFault::StepFault { step }) => Ok(Answer::Rejected(step)),
+        Err(AcceptFault::NoMemory) => Err(AllocError),
+    }
+}
+
+/// The answer of `check` to a resolution and a derivation.
+pub(crate) fn check<R: Wait>(
+    rt: &R,
+    alloc: Global,
+    resolution: &Resolution,
+    proof: &Proof,
+) -> Result<Answer, AllocError>
+    requires { IsResolution (view resolution.now) }
+    ensures { IfOk result (λ a. spec.IsCheckAnswer (view resolution.now) proof.now (Ok (answer_view a))) }
+{
+    let problem = problem_in(rt, alloc, resolution, &proof.region)?;
+    judged(alloc, resolution, &problem, proof)
+}

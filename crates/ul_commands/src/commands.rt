@@ -1,0 +1,253 @@
+//! The commands.
+ghost use Rattle.std.specs.Prelude.{◌≡◌, ◌≤◌, map, option_map, string_bytes};
+ghost use Rattle.ul_base.specs.Files.{FileMap, Told};
+ghost use Rattle.ul_answers.specs.Views.{view as answer_view};
+ghost use Rattle.ul_inputs.specs.Refusals.{Answers, Cause};
+ghost use Rattle.ul_inputs.specs.Resolutions.{HasUsable};
+ghost use Rattle.ul_commands.specs.Asked as asked;
+ghost use Rattle.ul_lock_walk.specs.WellFormed.{IsWellFormed};
+ghost use Rattle.ul_commands.specs.Checking as checking;
+ghost use Rattle.ul_commands.specs.Environments as environments;
+ghost use Rattle.ul_commands.specs.Commands as spec;
+ghost use Rattle.ul_commands.specs.Generating.{gen_said};
+ghost use Rattle.ul_commands.specs.Views.{GivesAnswer, HasWorkers, IsByWords, IsSure, view};
+
+use crate::asked::Asked;
+use crate::checking::{check, proof_file};
+use crate::environments::env;
+use crate::generating::{INDEX, PROJECT, counted, files};
+use crate::locking::lock;
+use crate::reasons::why;
+use std::alloc::Global;
+use std::sync::Wait;
+use std::thread::Threads;
+use ul_answers::Answer;
+use ul_base::{Files, Gate, SureFiles};
+use ul_inputs::{Refusal, lock_file, machine_file, project_file, resolution_in, resolution_with};
+use ul_lock_lines::Lock;
+use ul_project::Project;
+use ul_report_read::Proof;
+
+// The lock of a project.
+#[tactic(auto, using(crate::proofs::Steps::refuses, crate::proofs::Steps::goes_on, crate::proofs::Answering::lock_answers))]
+fn lock_files<R: Threads + Wait + Sync, F: Files, G: Gate + Sync>(
+    rt: &R,
+    alloc: Global,
+    files: &mut F,
+    gate: &G,
+    project: &str,
+    folder: &str,
+    workers: u64,
+    old: Option<&str>,
+) -> Result<Answer, Refusal>
+    requires { (1 ≤ workers) × (workers ≤ 64) }
+    ensures told { Told (F.map files.old) (λ m. Answers answer_view result
+        (spec.command (asked.lock project.now folder.now workers (option_map (λ p. p.now) old.entry)) m)) }
+    ensures same { F.map files.new ≡ F.map files.old }
+    ensures cause { Cause (F.faults files.old) (F.faults files.new) (F.last_failed files.new) result }
+    ensures answering { GivesAnswer result }
+{
+    let resolution = resolution_in(alloc, files, project, folder, old)?;
+    lock(rt, alloc, workers, &resolution, gate)
+}
+
+// Why a project has no lock.
+#[tactic(auto, using(crate::proofs::Steps::refuses, crate::proofs::Steps::goes_on, crate::proofs::Answering::why_answers))]
+fn why_files<R: Threads + Wait + Sync, F: Files, G: Gate + Sync>(
+    rt: &R,
+    alloc: Global,
+    files: &mut F,
+    gate: &G,
+    project: &str,
+    folder: &str,
+    workers: u64,
+    old: Option<&str>,
+) -> Result<Answer, Refusal>
+    requires { (1 ≤ workers) × (workers ≤ 64) }
+    ensures told { Told (F.map files.old) (λ m. Answers answer_view result
+        (spec.command (asked.why project.now folder.now workers (option_map (λ p. p.now) old.entry)) m)) }
+    ensures same { F.map files.new ≡ F.map files.old }
+    ensures cause { Cause (F.faults files.old) (F.faults files.new) (F.last_failed files.new) result }
+    ensures answering { GivesAnswer result }
+{
+    let resolution = resolution_in(alloc, files, project, folder, old)?;
+    why(rt, alloc, workers, &resolution, gate)
+}
+
+// The counts of a generated project's lock.
+#[tactic(auto, using(crate::proofs::Counting::counted_answer, crate::proofs::Counting::counted_refusal, crate::proofs::Counting::refusal_sure, crate::proofs::Counting::counted_answers))]
+fn gen_files<R: Threads + Wait + Sync, G: Gate + Sync>(
+    rt: &R,
+    alloc: Global,
+    gate: &G,
+    seed: u64,
+    size: u64,
+    workers: u64,
+) -> Result<Answer, Refusal>
+    requires size { (1 ≤ size) × (size ≤ 2000) }
+    requires workers { (1 ≤ workers) × (workers ≤ 64) }
+    ensures told { (m : FileMap) → Answers answer_view result (gen_said seed size m) }
+    ensures sure { IsSure result }
+    ensures answering { GivesAnswer result }
+{
+    let list = files(alloc, seed, size)?;
+    let mut files = SureFiles::of(alloc, list);
+    match lock_files(rt, alloc, &mut files, gate, PROJECT, INDEX, workers, None) {
+        Ok(answer) => Ok(counted(answer)),
+        Err(refusal) => Err(refusal),
+    }
+}
+
+// What a lock that is read gives on a machine.
+#[tactic(auto, using(crate::proofs::Steps::refuses, crate::proofs::Steps::goes_on, crate::proofs::Answering::env_answers))]
+fn env_on<F: Files>(
+    alloc: Global,
+    files: &mut F,
+    machine: &str,
+    extras: &[String],
+    lock: &Lock,
+) -> Result<Answer, Refusal>
+    requires { IsWellFormed lock.now }
+    ensures told { Told (F.map files.old)
+        (λ m. Answers answer_view result (environments.env_on machine.now (map string_bytes extras.now) lock.now m)) }
+    ensures same { F.map files.new ≡ F.map files.old }
+    ensures cause { Cause (F.faults files.old) (F.faults files.new) (F.last_failed files.new) result }
+    ensures answering { GivesAnswer result }
+{
+    let machine = machine_file(alloc, files, machine)?;
+    let answer = env(alloc, lock, &machine, extras)?;
+    Ok(answer)
+}
+
+// What a lock gives on a machine.
+#[tactic(auto, using(crate::proofs::Steps::refuses, crate::proofs::Steps::goes_on))]
+fn env_files<F: Files>(
+    alloc: Global,
+    files: &mut F,
+    lock: &str,
+    machine: &str,
+    extras: &[String],
+) -> Result<Answer, Refusal>
+    ensures told { Told (F.map files.old) (λ m. Answers answer_view result
+        (spec.command (asked.env lock.now machine.now (map string_bytes extras.now)) m)) }
+    ensures same { F.map files.new ≡ F.map files.old }
+    ensures cause { Cause (F.faults files.old) (F.faults files.new) (F.last_failed files.new) result }
+    ensures answering { GivesAnswer result }
+{
+    let lock = lock_file(alloc, files, lock)?;
+    env_on(alloc, files, machine, extras, &lock)
+}
+
+// Whether a derivation is accepted, for a project that is read.
+#[tactic(auto, using(crate::proofs::Steps::refuses, crate::proofs::Steps::goes_on, crate::proofs::Answering::check_answers))]
+fn check_with<R: Wait, F: Files>(
+    rt: &R,
+    alloc: Global,
+    files: &mut F,
+    folder: &str,
+    project: Project,
+    proof: &Proof,
+) -> Result<Answer, Refusal>
+    requires { HasUsable project.package }
+    ensures told { Told (F.map files.old)
+        (λ m. Answers answer_view result (checking.check_with folder.now project proof.now m)) }
+    ensures same { F.map files.new ≡ F.map files.old }
+    ensures cause { Cause (F.faults files.old) (F.faults files.new) (F.last_failed files.new) result }
+    ensures answering { GivesAnswer result }
+{
+    let resolution = resolution_with(alloc, files, folder, project, Vec::new(alloc))?;
+    let answer = check(rt, alloc, &resolution, proof)?;
+    Ok(answer)
+}
+
+// Whether the derivation of a file is accepted, for a project that is read.
+#[tactic(auto, using(crate::proofs::Steps::refuses, crate::proofs::Steps::goes_on))]
+fn check_on<R: Wait, F: Files>(
+    rt: &R,
+    alloc: Global,
+    files: &mut F,
+    folder: &str,
+    project: Project,
+    derivation: &str,
+) -> Result<Answer, Refusal>
+    requires { HasUsable project.package }
+    ensures told { Told (F.map files.old)
+        (λ m. Answers answer_view result (checking.check_on folder.now derivation.now project m)) }
+    ensures same { F.map files.new ≡ F.map files.old }
+    ensures cause { Cause (F.faults files.old) (F.faults files.new) (F.last_failed files.new) result }
+    ensures answering { GivesAnswer result }
+{
+    let proof = proof_file(alloc, files, derivation)?;
+    check_with(rt, alloc, files, folder, project, &proof)
+}
+
+// Whether a derivation is accepted.
+#[tactic(auto, using(crate::proofs::Steps::refuses, crate::proofs::Steps::goes_on))]
+fn check_files<R: Wait, F: Files>(
+    rt: &R,
+    alloc: Global,
+    files: &mut F,
+    project: &str,
+    folder: &str,
+    derivation: &str,
+) -> Result<Answer, Refusal>
+    ensures told { Told (F.map files.old) (λ m. Answers answer_view result
+        (spec.command (asked.check project.now folder.now derivation.now) m)) }
+    ensures same { F.map files.new ≡ F.map files.old }
+    ensures cause { Cause (F.faults files.old) (F.faults files.new) (F.last_failed files.new) result }
+    ensures answering { GivesAnswer result }
+{
+    let project = project_file(alloc, files, project)?;
+    check_on(rt, alloc, files, folder, project, derivation)
+}
+
+/// Answers what is asked: reads the files that it names, in the order in which `specs/Commands.antt` reads them.
+///
+/// Where the files tell their contents, the answer or the refusal is what they say, whatever the number of workers. A
+/// read that failed is refused by its path, and only where a read failed.
+#[tactic(auto, using(crate::proofs::Counting::sure_cause))]
+pub fn command<R: Threads + Wait + Sync, F: Files, G: Gate + Sync>(
+    rt: &R,
+    alloc: Global,
+    files: &mut F,
+    gate: &G,
+    question: &Asked<'_>,
+) -> Result<Answer, Refusal>
+    requires { HasWorkers question.now }
+    ensures told { Told (F.map files.old) (λ m. Answers answer_view result (spec.command (view question.now) m)) }
+    ensures same { F.map files.new ≡ F.map files.old }
+    ensures cause { Cause (F.faults files.old) (F.faults files.new) (F.last_failed files.new) result }
+    ensures by_words { IsByWords question.now result }
+{
+    match question {
+        Asked::Usage => Ok(Answer::Usage),
+        Asked::Unbuilt(form) => Err(Refusal::NotBuilt(form)),
+        Asked::Lock {
+            project,
+            folder,
+            workers,
+            old,
+        } => lock_files(rt, alloc, files, gate, project, folder, *workers, *old),
+        Asked::Why {
+            project,
+            folder,
+            workers,
+            old,
+        } => why_files(rt, alloc, files, gate, project, folder, *workers, *old),
+        Asked::Gen {
+            seed,
+            size,
+            workers,
+        } => gen_files(rt, alloc, gate, *seed, *size, *workers),
+        Asked::Env {
+            lock,
+            machine,
+            extras,
+        } => env_files(alloc, files, lock, machine, extras),
+        Asked::Check {
+            project,
+            folder,
+            derivation,
+        } => check_files(rt, alloc, files, project, folder, derivation),
+    }
+}

@@ -1,0 +1,17 @@
+//! The commands of unilock: each reads its files and answers.
+//!
+//! `specs/Commands.antt` has one case for each; `command` answers what it says, and the program prints it.
+#![tactic(auto)]
+
+mod asked;
+mod checking;
+mod commands;
+mod environments;
+mod forking;
+mod generating;
+pub mod laws;
+mod locking;
+mod reasons;
+
+pub use asked::Asked;
+pub use commands::command;

@@ -1,0 +1,117 @@
+//! The answer of `lock`.
+ghost use Rattle.std.specs.Prelude.{◌≡◌, ◌≢◌, ◌≤◌, IfOk, Ok, false, map};
+ghost use Rattle.ul_region.specs.Truths.{IsRegion};
+ghost use Rattle.ul_tree.specs.Plain.{truth};
+ghost use Rattle.ul_algebra.specs.Spelled.{tree_of};
+ghost use Rattle.ul_merge.specs.Merging.{AreLeaves};
+ghost use Rattle.ul_merge.specs.Views.{leaf_of};
+ghost use Rattle.ul_sound.specs.Merged.{IsMergedLock};
+ghost use Rattle.ul_answers.specs.Views.{view as answer_view};
+ghost use Rattle.ul_inputs.specs.Inputs.{only};
+ghost use Rattle.ul_inputs.specs.Refusals.{Answers};
+ghost use Rattle.ul_inputs.specs.Resolutions.{IsResolution, view};
+ghost use Rattle.ul_commands.specs.Forking.{AreForksOf};
+ghost use Rattle.ul_commands.specs.Locking.{IsLockAnswer};
+
+use crate::forking::forks_of;
+use std::alloc::{AllocError, Global};
+use std::sync::Wait;
+use std::thread::Threads;
+use ul_algebra::{Algebra, Diagram};
+use ul_answers::Answer;
+use ul_base::Gate;
+use ul_forks::{ForkAnswer, ForkLeaf, Forked};
+use ul_inputs::{Refusal, Resolution};
+use ul_interner::Interner;
+use ul_lock_lines::{Lock, Region};
+use ul_merge::merge;
+
+// The tree of a region that isn't empty.
+pub(crate) fn region_in(
+    alloc: Global,
+    algebra: &Algebra<'_>,
+    region: &Diagram,
+) -> Result<Region, AllocError>
+    requires region { IsRegion algebra.now region.now }
+    requires some { tree_of region.now ≢ truth false }
+    ensures { IfOk result (λ r. r ≡ tree_of region.now) }
+{
+    ul_tree::laws::no_extra();
+    let tree = algebra.tree(alloc, region)?;
+    Ok(Region::of(tree))
+}
+
+// The lock that leaves merge into.
+fn merged<R: Wait>(
+    rt: &R,
+    alloc: Global,
+    algebra: &mut Algebra<'_>,
+    resolution: &Resolution,
+    leaves: &[ForkLeaf],
+) -> Result<Lock, AllocError>
+    requires leaves { AreLeaves algebra.old resolution.now.catalog resolution.now.project leaves.now }
+    ensures { IfOk result (IsMergedLock resolution.now.catalog resolution.now.project (map leaf_of leaves.now)) }
+{
+    merge(
+        rt,
+        alloc,
+        algebra,
+        &resolution.catalog,
+        &resolution.project,
+        leaves,
+    )
+}
+
+// The answer to a fork answer.
+#[tactic(auto, using(crate::proofs::Mergeable::leaves_merge, crate::proofs::Mergeable::refused_not_false, crate::proofs::Mergeable::locked_answer, crate::proofs::Mergeable::refused_answer))]
+fn answer_for<R: Wait>(
+    rt: &R,
+    alloc: Global,
+    mut algebra: Algebra<'_>,
+    resolution: &Resolution,
+    forked: &ForkAnswer,
+) -> Result<Answer, AllocError>
+    requires resolution { IsResolution (view resolution.now) }
+    requires forks { AreForksOf (view resolution.now) algebra forked.now }
+    ensures { IfOk result (λ a. IsLockAnswer (view resolution.now) (Ok (answer_view a))) }
+{
+    ul_forks::laws::fork_laws();
+    ul_tree::laws::has_world();
+    ul_tree::laws::no_extra();
+    match forked {
+        Forked::Leaves(leaves) => {
+            let lock = merged(rt, alloc, &mut algebra, resolution, leaves.as_slice())?;
+            Ok(Answer::Locked {
+                lock,
+                forks: leaves.len() as u64,
+            })
+        }
+        Forked::Refused {
+            path,
+            region,
+            refusal: _,
+        } => {
+            let region = region_in(alloc, &algebra, region)?;
+            let path = Vec::from_slice(alloc, path.digits())?;
+            Ok(Answer::NoSelection { path, region })
+        }
+    }
+}
+
+/// The answer of `lock` to a resolution.
+pub(crate) fn lock<R: Threads + Wait + Sync, G: Gate + Sync>(
+    rt: &R,
+    alloc: Global,
+    workers: u64,
+    resolution: &Resolution,
+    gate: &G,
+) -> Result<Answer, Refusal>
+    requires workers { (1 ≤ workers) × (workers ≤ 64) }
+    requires resolution { IsResolution (view resolution.now) }
+    ensures { Answers answer_view result (only (IsLockAnswer (view resolution.now))) }
+{
+    let (interner, pass) = Interner::begin(alloc)?;
+    let (forked, algebra) = forks_of(rt, alloc, &interner, pass, workers, resolution, gate)?;
+    let answer = answer_for(rt, alloc, algebra, resolution, &forked)?;
+    Ok(answer)
+}

@@ -1,0 +1,163 @@
+//! The answer of `why`.
+ghost use Rattle.std.specs.Prelude.{◌≡◌, ◌≤◌, IfOk, Ok};
+ghost use Rattle.ul_region.specs.Truths.{IsRegion};
+ghost use Rattle.ul_algebra.specs.Spelled.{tree_of};
+ghost use Rattle.ul_requirement.specs.Truth.{base, with_extra};
+ghost use Rattle.ul_region.specs.Laws.{roots};
+ghost use Rattle.ul_interner.specs.Known.{Knows};
+ghost use Rattle.ul_forks.specs.Judged.{IsAccepted};
+ghost use Rattle.ul_answers.specs.Views.{view as answer_view};
+ghost use Rattle.ul_inputs.specs.Inputs.{only};
+ghost use Rattle.ul_inputs.specs.Refusals.{Answers};
+ghost use Rattle.ul_inputs.specs.Resolutions.{IsResolution, view};
+ghost use Rattle.ul_commands.specs.Forking.{AreForksOf};
+ghost use Rattle.ul_commands.specs.Questions.{question_of};
+ghost use Rattle.ul_commands.specs.Reasons.{AreStepsOf, IsProblemIn, IsWhyAnswer};
+
+use crate::forking::forks_of;
+use crate::locking::region_in;
+use std::alloc::{AllocError, Global};
+use std::sync::Wait;
+use std::thread::Threads;
+use ul_algebra::{Algebra, Diagram};
+use ul_answers::Answer;
+use ul_base::{Gate, Name, Node};
+use ul_forks::{ForkAnswer, Forked};
+use ul_inputs::{Refusal, Resolution};
+use ul_interner::Interner;
+use ul_placing::problem_of;
+use ul_problem::{Derivation, Problem};
+use ul_project::Project;
+use ul_report::steps;
+
+// The node of a name with an extra.
+fn extra_node(alloc: Global, name: &Name, extra: &Name) -> Result<Node, AllocError>
+    ensures { IfOk result (λ n. n ≡ with_extra name.now extra.now) }
+{
+    Ok(Node {
+        name: name.copy(alloc)?,
+        extra: Some(extra.copy(alloc)?),
+    })
+}
+
+// The node of a name without an extra.
+fn base_node(alloc: Global, name: &Name) -> Result<Node, AllocError>
+    ensures { IfOk result (λ n. n ≡ base name.now) }
+{
+    Ok(Node {
+        name: name.copy(alloc)?,
+        extra: None,
+    })
+}
+
+// Where each selection starts.
+fn starts_in(alloc: Global, name: &Name, extras: &[Name]) -> Result<Vec<Node>, AllocError>
+    ensures { IfOk result (λ v. v.items ≡ roots name.now extras.now) }
+{
+    let mut starts = Vec::with_capacity(alloc, extras.len())?;
+    starts.push(base_node(alloc, name)?)?;
+    for extra in extras {
+        starts.push(extra_node(alloc, name, extra)?)?;
+    }
+    Ok(starts)
+}
+
+/// The problem of a region of a resolution.
+pub(crate) fn problem_at<R: Wait>(
+    rt: &R,
+    alloc: Global,
+    algebra: &mut Algebra<'_>,
+    resolution: &Resolution,
+    region: &Diagram,
+) -> Result<Problem, AllocError>
+    requires resolution { IsResolution (view resolution.now) }
+    requires region { IsRegion algebra.old region.now }
+    ensures problem { IfOk result (IsProblemIn (view resolution.now) (tree_of region.now)) }
+    ensures knows { Knows algebra.old algebra.new }
+{
+    let project: &Project = &resolution.project;
+    let starts = starts_in(alloc, &project.package.name, project.extras.as_slice())?;
+    problem_of(
+        rt,
+        alloc,
+        &resolution.catalog,
+        starts.as_slice(),
+        &resolution.wish,
+        algebra,
+        region,
+    )
+}
+
+// The lines of a derivation that the problem of a region accepts.
+fn steps_at<R: Wait>(
+    rt: &R,
+    alloc: Global,
+    algebra: &mut Algebra<'_>,
+    resolution: &Resolution,
+    region: &Diagram,
+    derivation: &Derivation,
+) -> Result<Vec<u8>, AllocError>
+    requires resolution { IsResolution (view resolution.now) }
+    requires region { IsRegion algebra.old region.now }
+    requires accepted { IsAccepted (question_of (view resolution.now)) region.now derivation.now }
+    ensures lines { IfOk result (λ v. AreStepsOf (view resolution.now) (tree_of region.now) v.items) }
+    ensures knows { Knows algebra.old algebra.new }
+{
+    ul_report::laws::right_steps_have_names();
+    ul_placing::laws::equal_problems();
+    let problem = problem_at(rt, alloc, algebra, resolution, region)?;
+    steps(alloc, &problem, derivation)
+}
+
+// The answer to a fork answer.
+#[tactic(auto, using(crate::proofs::Mergeable::refused_not_false))]
+fn answer_for<R: Wait>(
+    rt: &R,
+    alloc: Global,
+    mut algebra: Algebra<'_>,
+    resolution: &Resolution,
+    forked: &ForkAnswer,
+) -> Result<Answer, AllocError>
+    requires resolution { IsResolution (view resolution.now) }
+    requires forks { AreForksOf (view resolution.now) algebra forked.now }
+    ensures { IfOk result (λ a. IsWhyAnswer (view resolution.now) (Ok (answer_view a))) }
+{
+    ul_forks::laws::fork_laws();
+    ul_tree::laws::has_world();
+    ul_tree::laws::no_extra();
+    match forked {
+        Forked::Leaves(_) => Ok(Answer::NoneRefused),
+        Forked::Refused {
+            path,
+            region,
+            refusal,
+        } => {
+            let tree = region_in(alloc, &algebra, region)?;
+            let steps = steps_at(rt, alloc, &mut algebra, resolution, region, refusal)?;
+            let path = Vec::from_slice(alloc, path.digits())?;
+            Ok(Answer::Derived {
+                path,
+                region: tree,
+                steps,
+            })
+        }
+    }
+}
+
+/// The answer of `why` to a resolution.
+pub(crate) fn why<R: Threads + Wait + Sync, G: Gate + Sync>(
+    rt: &R,
+    alloc: Global,
+    workers: u64,
+    resolution: &Resolution,
+    gate: &G,
+) -> Result<Answer, Refusal>
+    requires workers { (1 ≤ workers) × (workers ≤ 64) }
+    requires resolution { IsResolution (view resolution.now) }
+    ensures { Answers answer_view result (only (IsWhyAnswer (view resolution.now))) }
+{
+    let (interner, pass) = Interner::begin(alloc)?;
+    let (forked, algebra) = forks_of(rt, alloc, &interner, pass, workers, resolution, gate)?;
+    let answer = answer_for(rt, alloc, algebra, resolution, &forked)?;
+    Ok(answer)
+}

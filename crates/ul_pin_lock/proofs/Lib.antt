@@ -1,3 +1,0 @@
-pub mod OneText
-pub mod Samples
-pub mod Written

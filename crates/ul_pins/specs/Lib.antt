@@ -1,9 +1,0 @@
-pub mod Best
-pub mod ByNames
-pub mod Indexes
-pub mod Locking
-pub mod Lockings
-pub mod Samples
-pub mod Serving
-pub mod Walking
-pub mod Walks

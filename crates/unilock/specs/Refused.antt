@@ -1,8 +1,0 @@
--- Why the program has no lock to print, as far as the files' contents say it.
-use Rattle.std.specs.Prelude.{ℕ, List}
-
--- The input has a form that isn't built yet; a file has no reading, with the place in it; a count is above its limit, with the limit's name and number.
-pub data Refused : Type 0 where
-  not_built : List ℕ → Refused
-  malformed : List ℕ → List ℕ → Refused
-  limit : List ℕ → ℕ → Refused
