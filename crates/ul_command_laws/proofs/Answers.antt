@@ -82,14 +82,14 @@ proof_once laws path text (Err e) (Err f) g h =
     let same = laws.proof_faults.once (lines_of text) g.line h.line g.first h.first in
     proof_err e f (g.is ∙ (ap (wrong_line path) same ∙ sym h.is))
 
-one_proof_at : LowerLaws → (path : List ℕ) (m : FileMap) → IsOne (proof_at path m)
+pub one_proof_at : LowerLaws → (path : List ℕ) (m : FileMap) → IsOne (proof_at path m)
 one_proof_at laws path m =
     one_on (large_file path m) (λ text. proof_said path text m) (one_file (codes "text-bytes") text_bytes path m)
     (λ text. proof_once laws path text)
 
 -- ---- resolutions
 
-one_resolution : LowerLaws → (project folder : List ℕ) (old : Option (List ℕ)) (m : FileMap) → IsOne (resolution_in project folder old m)
+pub one_resolution : LowerLaws → (project folder : List ℕ) (old : Option (List ℕ)) (m : FileMap) → IsOne (resolution_in project folder old m)
 one_resolution laws project folder old m = one_resolution_in laws.projects laws.turns laws.locks laws.lock_faults project folder old m
 
 -- ---- the answers of each command

@@ -9,3 +9,4 @@ mod Reasons
 mod Picks
 mod Environments
 mod LockFiles
+mod Complete

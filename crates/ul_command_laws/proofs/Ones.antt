@@ -48,6 +48,14 @@ alike_on Same itself first next one each = related_on Same itself first next nex
 pub one_on : {A B : Type 0} (first : Said A) (next : A → Said B) → IsOne first → ((x : A) → IsOne (next x)) → IsOne (said_on first next)
 one_on {A} {B} first next one each = alike_on (λ (a b : Result B Refused). a ≡ b) (λ e. refl) first next one each
 
+-- what follows a value that is given, where the first gives at most one result
+pub given_on : {A B : Type 0} (first : Said A) (next : A → Said B) → IsOne first → (x : A) → first.gives (Ok x) → (b : Result B Refused)
+    → (said_on first next).gives b → (next x).gives b
+given_on {A} {B} first next one x gave (Ok y) (inl h) = absurd h
+given_on {A} {B} first next one x gave (Err e) (inl h) = absurd (not_both A x e (one (Ok x) (Err e) gave h))
+given_on {A} {B} first next one x gave b (inr h) =
+    subst (λ z. (next z).gives b) (ok_same A h.value x (one (Ok h.value) (Ok x) h.gave gave)) h.answers
+
 -- exactly this
 pub one_just : {A : Type 0} (r : Result A Refused) (m : FileMap) → IsOne (just r m)
 one_just r m a b g h = g ∙ sym h

@@ -2,3 +2,4 @@ pub mod Answers
 pub mod Workers
 pub mod Reasons
 pub mod Environments
+pub mod Complete

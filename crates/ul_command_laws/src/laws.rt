@@ -1,5 +1,6 @@
 //! What holds of the answers of the commands. None of these functions does anything but name the laws that it rests on.
 ghost use Rattle.ul_command_laws.specs.Answers.{AnswersAreOne, WhyFollowsLock};
+ghost use Rattle.ul_command_laws.specs.Complete.{InputsAreAnswered, LocksWithinLimits};
 ghost use Rattle.ul_command_laws.specs.Environments.{EnvironmentsOfFiles, EnvironmentsOfLocks};
 ghost use Rattle.ul_command_laws.specs.Reasons.{AcceptedAreUnserved, FilesAreAccepted, ReasonsAreAccepted};
 ghost use Rattle.ul_command_laws.specs.Workers.{OneAnswerForAll, WorkersDontMatter};
@@ -27,6 +28,27 @@ pub fn answers_are_one()
     ul_placing::laws::equal_problems();
     ul_report_judge::laws::faults();
 }
+
+/// Where each input is read, a command answers what the inputs say.
+pub fn inputs_are_answered()
+    ensures { InputsAreAnswered }
+{
+    ul_project::laws::one_project();
+    ul_load::laws::turns_agree();
+    ul_lock::laws::text_laws();
+    lock_faults();
+    ul_report_read::laws::one_text();
+    ul_report_read::laws::one_fault();
+    ul_forks::laws::fork_laws();
+    ul_sound::laws::merge_laws();
+    ul_placing::laws::equal_problems();
+    ul_report_judge::laws::faults();
+}
+
+/// `lock` ends with status 0 exactly where no fork is refused and the lock is within its limits.
+pub fn locks_within_limits()
+    ensures { LocksWithinLimits }
+{}
 
 /// On the same files `why` tells the fork that `lock` tells, or that there is none.
 pub fn why_follows_lock()

@@ -22,15 +22,18 @@ impl<'a> Key for PickKey<'a> {
     ghost total = { then_total (on_total (λ k. k.node.now.name) nat_list_cmp_total) (then_total (on_total (λ k. k.version.now) version_total) (on_total (λ k. k.node.now.extra) (options_total nat_list_cmp_total))) };
 
     fn order(&self, other: &PickKey<'a>) -> Ordering {
-        let names = self.node.name.cmp(&other.node.name);
-        let versions = self.version.cmp(other.version);
-        let extras = match (&self.node.extra, &other.node.extra) {
-            (None, None) => Ordering::Equal,
-            (None, Some(_)) => Ordering::Less,
-            (Some(_), None) => Ordering::Greater,
-            (Some(x), Some(y)) => x.cmp(y),
-        };
-        names.then(versions.then(extras))
+        match self.node.name.cmp(&other.node.name) {
+            Ordering::Equal => match self.version.cmp(other.version) {
+                Ordering::Equal => match (&self.node.extra, &other.node.extra) {
+                    (None, None) => Ordering::Equal,
+                    (None, Some(_)) => Ordering::Less,
+                    (Some(_), None) => Ordering::Greater,
+                    (Some(x), Some(y)) => x.cmp(y),
+                },
+                order => order,
+            },
+            order => order,
+        }
     }
 }
 
@@ -52,9 +55,10 @@ impl<'a> Key for PairKey<'a> {
     ghost total = { then_total (on_total (λ k. k.name.now) nat_list_cmp_total) (on_total (λ k. k.version.now) version_total) };
 
     fn order(&self, other: &PairKey<'a>) -> Ordering {
-        let names = self.name.cmp(other.name);
-        let versions = self.version.cmp(other.version);
-        names.then(versions)
+        match self.name.cmp(other.name) {
+            Ordering::Equal => self.version.cmp(other.version),
+            order => order,
+        }
     }
 }
 

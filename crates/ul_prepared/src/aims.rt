@@ -9,16 +9,24 @@ use crate::permitted::Sets;
 use crate::prepared::{NameFacts, Planned};
 use std::alloc::{AllocError, Global};
 use std::collections::HashMap;
-use ul_base::Node;
+use ul_base::{Name, Node};
 use ul_problem::{Need, NeedRow, NeedRows};
 use ul_requirement::{Release, Requirement};
 use ul_specifier::Specifiers;
 
-#[tactic(auto, using(crate::proofs::Aiming::same_node))]
 fn is_same(one: &Node, other: &Node) -> bool
     ensures { IsTrue result → one.now ≡ other.now }
 {
-    one.cmp(other).is_eq()
+    let mine: &Name = &one.name;
+    let own: &Name = &other.name;
+    if mine.text() != own.text() {
+        return false;
+    }
+    match (&one.extra, &other.extra) {
+        (None, None) => true,
+        (Some(mine), Some(own)) => mine.text() == own.text(),
+        _ => false,
+    }
 }
 
 /// The place of a node. Each node that is asked for has a place.

@@ -117,6 +117,10 @@ impl<'a> Gathered<'a> {
         requires { AreKnown catalog.now wish.now self.old.names.items self.old.releases.items }
         ensures { IfOk result (λ _. AreKnown catalog.now wish.now self.new.names.items self.new.releases.items) }
     {
+        // a name is taken in with its base
+        if requirement.extras.is_empty() && self.places.contains_key(&requirement.name) {
+            return Ok(());
+        }
         let targets = requirement.targets(alloc)?;
         for target in &targets {
             self.meet(alloc, catalog, wish, target)?;

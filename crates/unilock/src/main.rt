@@ -12,6 +12,8 @@ mod edge_tests;
 mod folder;
 pub mod laws;
 #[cfg(test)]
+mod limits;
+#[cfg(test)]
 mod rows;
 mod standard;
 #[cfg(test)]

@@ -56,7 +56,7 @@ fn answer<R: Threads + Wait + Sync>(
 }
 
 // What is printed for a case, behind its status.
-fn printed<R: Threads + Wait + Sync>(
+pub(crate) fn printed<R: Threads + Wait + Sync>(
     rt: &R,
     alloc: Global,
     given: &str,

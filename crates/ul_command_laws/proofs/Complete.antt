@@ -1,0 +1,100 @@
+-- Inputs that are read are answered, and by which status.
+use Rattle.std.proofs.Common.{◌≡◌, ◌∙◌, ◌≤◌, ◌↔◌, ℕ, List, [], Bool, true, false, length, Option, Some, None, Result, Ok, Err, refl, sym, ap, subst, arith}
+use Rattle.std.specs.Prelude.{nat_le, if◌then◌else◌}
+use Rattle.ul_base.specs.Files.{FileMap}
+use Rattle.ul_tree.specs.Paths.{paths_of}
+use Rattle.ul_tree.specs.Plain.{Plain}
+use Rattle.ul_generations.specs.Generations.{leaves_are, refused_at, too_many}
+use Rattle.ul_forks.specs.Headline.{TreeAnswer, TreeLeaf}
+use Rattle.ul_lock_lines.specs.declared.parts.Lock.{Lock}
+use Rattle.ul_lock_text.specs.Markers.{first_over, markers_of}
+use Rattle.ul_lock_text.specs.Texts.{lock_text}
+use Rattle.ul_report.specs.Texts.{refusal_text}
+use Rattle.ul_inputs.specs.Inputs.{answer, said_on, text_bytes}
+use Rattle.ul_inputs.specs.Locks.{lock_at}
+use Rattle.ul_inputs.specs.Machines.{machine_at}
+use Rattle.ul_inputs.specs.Projects.{project_at}
+use Rattle.ul_inputs.specs.Refused.{Refused}
+use Rattle.ul_inputs.specs.Resolutions.{ResolutionFields, resolution_in, resolution_with}
+use Rattle.ul_answers.specs.Answer.{Answer, locked}
+use Rattle.ul_answers.specs.Printed.{lock_output, printed, refusal_output, text_output, too_many_paths, written}
+use Rattle.ul_commands.specs.Checking.{IsCheckAnswer, check_on, check_with, proof_at}
+use Rattle.ul_commands.specs.Environments.{IsEnvAnswer, env_on}
+use Rattle.ul_commands.specs.Locking.{IsLockAnswer, IsLocked, LocksFor}
+use Rattle.ul_commands.specs.Questions.{IsForked}
+use Rattle.ul_commands.specs.Reasons.{IsWhyAnswer}
+use Rattle.ul_command_laws.specs.Complete.{InputsAreAnswered, IsWithinLimits, LocksWithinLimits}
+use Rattle.ul_command_laws.proofs.Answers.{LowerLaws, one_proof_at, one_resolution}
+use Rattle.ul_command_laws.proofs.Inputs.{one_lock_at, one_machine_at, one_project_at, one_resolution_with}
+use Rattle.ul_command_laws.proofs.Ones.{given_on}
+
+-- ---- inputs that are read
+
+pub inputs_are_answered : LowerLaws → InputsAreAnswered
+inputs_are_answered laws = record {
+  lock = λ project folder workers old m r a read gives.
+    given_on (resolution_in project folder old m) (λ s. answer (IsLockAnswer s) m) (one_resolution laws project folder old m) r read a gives;
+  why = λ project folder workers old m r a read gives.
+    given_on (resolution_in project folder old m) (λ s. answer (IsWhyAnswer s) m) (one_resolution laws project folder old m) r read a gives;
+  env = λ path machine words m l x a has_lock has_machine gives.
+    given_on (machine_at machine m) (λ y. answer (IsEnvAnswer l y words) m) (one_machine_at machine m) x has_machine a
+    (given_on (lock_at path m) (λ k. env_on machine words k m) (one_lock_at laws.locks laws.lock_faults path m) l has_lock a gives);
+  check = λ project folder derivation m p x r a has_project has_proof read gives.
+    given_on (resolution_with folder p [] m) (λ s. answer (IsCheckAnswer s x) m) (one_resolution_with laws.turns folder p [] m) r read a
+    (given_on (proof_at derivation m) (λ y. check_with folder p y m) (one_proof_at laws derivation m) x has_proof a
+    (given_on (project_at project m) (λ q. check_on folder derivation q m) (one_project_at laws.projects project m) p has_project a gives));
+}
+
+-- ---- the status of `lock`
+
+-- what a lock needs for status 0
+record Fits (paths : Option ℕ) (text : List ℕ) : Type 0 where
+  none : paths ≡ None
+  few : nat_le (length text) text_bytes ≡ true
+
+text_fits : (b : Bool) (text : List ℕ) → b ≡ nat_le (length text) text_bytes → (text_output text).0 ≡ 0 → b ≡ true
+text_fits true text same e = refl
+text_fits false text same e = absurd (cc)
+
+fits : (paths : Option ℕ) (text : List ℕ) → (lock_output paths text).0 ≡ 0 → Fits paths text
+fits (Some n) text e = absurd (cc)
+fits None text e = record { none = refl; few = text_fits (nat_le (length text) text_bytes) text refl e }
+
+zero_for : (paths : Option ℕ) (text : List ℕ) → paths ≡ None → nat_le (length text) text_bytes ≡ true → (lock_output paths text).0 ≡ 0
+zero_for paths text none few = cc
+
+at_most : (n : ℕ) → nat_le n text_bytes ≡ true → n ≤ text_bytes
+at_most n h = grind arith
+
+not_above : (n : ℕ) → n ≤ text_bytes → nat_le n text_bytes ≡ true
+not_above n h = grind arith
+
+refused_status : (b : Bool) (region : Plain) (text : List ℕ) → b ≡ nat_le (paths_of region) 4096 → (refusal_output region text).0 ≡ 0 → ⊥
+refused_status true region text same e = cc
+refused_status false region text same e = cc
+
+-- a lock that is answered
+served : (r : ResolutionFields) (a : Result Answer Refused) (leaves : List TreeLeaf) → IsForked r (leaves_are leaves) → IsLocked r leaves a
+    → (printed a).0 ≡ 0 → IsWithinLimits r a
+served r a leaves forks h e =
+    let l = h.lock in
+    let zero : (written l).0 ≡ 0 = ap (λ b. (printed b).0) (sym h.is) ∙ e in
+    let found = fits (first_over (markers_of l)) (lock_text l) zero in
+    record { leaves = leaves; are_forks = forks; locked = h; paths = found.none; bytes = at_most (length (lock_text l)) found.few }
+
+zero_where : (r : ResolutionFields) (a : Result Answer Refused) (f : TreeAnswer) → IsForked r f → LocksFor r f a → (printed a).0 ≡ 0
+    → IsWithinLimits r a
+zero_where r a (leaves_are leaves) forks h e = served r a leaves forks h e
+zero_where r a (refused_at fork) forks h e =
+    absurd (refused_status (nat_le (paths_of fork.region) 4096) fork.region (refusal_text fork.path fork.region) refl
+    (ap (λ b. (printed b).0) (sym h) ∙ e))
+zero_where r a (too_many count) forks h e = absurd (let four : 4 ≡ 0 = ap (λ b. (printed b).0) (sym h) ∙ e in cc)
+
+within_is_zero : (r : ResolutionFields) (a : Result Answer Refused) → IsWithinLimits r a → (printed a).0 ≡ 0
+within_is_zero r a h =
+    let l = h.locked.lock in
+    ap (λ b. (printed b).0) h.locked.is
+    ∙ zero_for (first_over (markers_of l)) (lock_text l) h.paths (not_above (length (lock_text l)) h.bytes)
+
+pub locks_within_limits : LocksWithinLimits
+locks_within_limits r a h = (zero_where r a h.forked h.are_forks h.locks, within_is_zero r a)

@@ -1,0 +1,59 @@
+-- Inputs that are read are answered, and by which status.
+use Rattle.std.specs.Prelude.{◌≡◌, ◌≤◌, ◌↔◌, ℕ, List, [], length, Option, None, Result, Ok}
+use Rattle.ul_base.specs.Files.{FileMap}
+use Rattle.ul_marker.specs.Machines.{MachineFields}
+use Rattle.ul_project.specs.Fields.{ProjectFields}
+use Rattle.ul_generations.specs.Generations.{leaves_are}
+use Rattle.ul_forks.specs.Headline.{TreeLeaf}
+use Rattle.ul_lock_lines.specs.declared.parts.Lock.{Lock}
+use Rattle.ul_lock_text.specs.Markers.{first_over, markers_of}
+use Rattle.ul_lock_text.specs.Texts.{lock_text}
+use Rattle.ul_report_read.specs.declared.proof.Proof.{Proof}
+use Rattle.ul_inputs.specs.Inputs.{text_bytes}
+use Rattle.ul_inputs.specs.Locks.{lock_at}
+use Rattle.ul_inputs.specs.Machines.{machine_at}
+use Rattle.ul_inputs.specs.Projects.{project_at}
+use Rattle.ul_inputs.specs.Refused.{Refused}
+use Rattle.ul_inputs.specs.Resolutions.{ResolutionFields, resolution_in, resolution_with}
+use Rattle.ul_answers.specs.Answer.{Answer}
+use Rattle.ul_answers.specs.Printed.{printed}
+use Rattle.ul_commands.specs.Asked.{check, env, lock, why}
+use Rattle.ul_commands.specs.Checking.{IsCheckAnswer, proof_at}
+use Rattle.ul_commands.specs.Commands.{command}
+use Rattle.ul_commands.specs.Environments.{IsEnvAnswer}
+use Rattle.ul_commands.specs.Locking.{IsLockAnswer, IsLocked}
+use Rattle.ul_commands.specs.Questions.{IsForked}
+use Rattle.ul_commands.specs.Reasons.{IsWhyAnswer}
+
+-- where each input of a command is read, it answers what the inputs say, and none of them is refused
+pub record InputsAreAnswered : Type 0 where
+  pub lock : (project folder : List ℕ) (workers : ℕ) (old : Option (List ℕ)) (m : FileMap) (r : ResolutionFields)
+      (a : Result Answer Refused)
+      → (resolution_in project folder old m).gives (Ok r)
+      → (command (lock project folder workers old) m).gives a → IsLockAnswer r a
+  pub why : (project folder : List ℕ) (workers : ℕ) (old : Option (List ℕ)) (m : FileMap) (r : ResolutionFields)
+      (a : Result Answer Refused)
+      → (resolution_in project folder old m).gives (Ok r)
+      → (command (why project folder workers old) m).gives a → IsWhyAnswer r a
+  pub env : (path machine : List ℕ) (words : List (List ℕ)) (m : FileMap) (l : Lock) (x : MachineFields)
+      (a : Result Answer Refused)
+      → (lock_at path m).gives (Ok l) → (machine_at machine m).gives (Ok x)
+      → (command (env path machine words) m).gives a → IsEnvAnswer l x words a
+  pub check : (project folder derivation : List ℕ) (m : FileMap) (p : ProjectFields) (x : Proof) (r : ResolutionFields)
+      (a : Result Answer Refused)
+      → (project_at project m).gives (Ok p) → (proof_at derivation m).gives (Ok x)
+      → (resolution_with folder p [] m).gives (Ok r)
+      → (command (check project folder derivation) m).gives a → IsCheckAnswer r x a
+
+-- no fork is refused, and the lock's markers and its text are within their limits
+pub record IsWithinLimits (r : ResolutionFields) (a : Result Answer Refused) : Type 0 where
+  pub leaves : List TreeLeaf
+  pub are_forks : IsForked r (leaves_are leaves)
+  pub locked : IsLocked r leaves a
+  pub paths : first_over (markers_of locked.lock) ≡ None
+  pub bytes : length (lock_text locked.lock) ≤ text_bytes
+
+-- `lock` ends with status 0 exactly where this holds
+abbrev pub LocksWithinLimits : Type 0
+LocksWithinLimits = (r : ResolutionFields) (a : Result Answer Refused) → IsLockAnswer r a
+    → ((printed a).0 ≡ 0) ↔ IsWithinLimits r a
