@@ -1,6 +1,6 @@
 //! Catalogs adjusted by a project's overrides and constraints.
 
-ghost use Rattle.std.specs.Prelude.{◌≡◌, IfOk, map};
+ghost use Rattle.std.specs.Prelude.{◌≡◌, [], IfOk, IsTrue, map};
 ghost use Rattle.ul_groups.specs.Adjusted as Adjusted;
 ghost use Rattle.ul_groups.specs.NameLists.{at_name};
 
@@ -99,17 +99,30 @@ fn adjusted_packages(
     Ok(list)
 }
 
+// Whether a project has neither constraints nor overrides.
+fn adjusts_nothing(project: &Project) -> bool
+    ensures constraints { IsTrue result → project.now.constraints ≡ [] }
+    ensures overrides { IsTrue result → project.now.overrides ≡ [] }
+{
+    let constraints: &Vec<Requirement> = &project.constraints;
+    let overrides: &Vec<Requirement> = &project.overrides;
+    constraints.is_empty() && overrides.is_empty()
+}
+
 /// The catalog whose requirements are adjusted by the project's overrides and constraints.
 ///
 /// In each release, the project's included, a requirement on a name with overrides is replaced by one for each of
 /// them, in order: with the requirement's extras, the override's specifiers, and both markers joined by `and`. After
 /// that, each requirement on a name with constraints is followed by one for each of them, in order: without extras,
 /// with the constraint's specifiers, and both markers joined by `and`. The only error is want of memory.
-#[tactic(auto, using(crate::proofs::AdjustedPackages::adjusted_by_lists))]
-pub fn adjust(alloc: Global, project: &Project, catalog: &Catalog) -> Result<Catalog, AllocError>
+#[tactic(auto, using(crate::proofs::AdjustedPackages::adjusted_by_lists, crate::proofs::AdjustedPackages::adjusted_by_none))]
+pub fn adjust(alloc: Global, project: &Project, catalog: Catalog) -> Result<Catalog, AllocError>
     ensures { IfOk result (λ c. c
-        ≡ Adjusted.adjusted_catalog project.now.constraints project.now.overrides catalog.now) }
+        ≡ Adjusted.adjusted_catalog project.now.constraints project.now.overrides catalog) }
 {
+    if adjusts_nothing(project) {
+        return Ok(catalog);
+    }
     let constraints: &Vec<Requirement> = &project.constraints;
     let constraints = by_name(alloc, constraints)?;
     let overrides: &Vec<Requirement> = &project.overrides;

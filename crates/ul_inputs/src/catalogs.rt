@@ -79,6 +79,6 @@ pub(crate) fn catalog_in<F: Files>(
     ensures cause { Cause (F.faults files.old) (F.faults files.new) (F.last_failed files.new) result }
 {
     let documents = documents(alloc, files, folder, project)?;
-    let catalog = adjust(alloc, project, &documents)?;
+    let catalog = adjust(alloc, project, documents)?;
     Ok(catalog)
 }
