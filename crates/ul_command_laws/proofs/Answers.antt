@@ -42,22 +42,9 @@ use Rattle.ul_commands.specs.Locking.{IsLockAnswer, LocksFor, leaf_fields, lock_
 use Rattle.ul_commands.specs.Questions.{question_of}
 use Rattle.ul_commands.specs.Reasons.{GivesReason, IsWhyAnswer}
 use Rattle.ul_command_laws.specs.Answers.{AnswersAreOne, SameAnswer, WhyFollowsLock, reason_of, without_steps}
+use Rattle.ul_command_laws.specs.Lower.{LowerLaws}
 use Rattle.ul_command_laws.proofs.Inputs.{one_lock_at, one_machine_at, one_project_at, one_resolution_in, one_resolution_with}
 use Rattle.ul_command_laws.proofs.Ones.{IsOne, alike_on, one_file, one_on, related_on}
-
--- the laws of lower crates on which this rests
-pub record LowerLaws : Type 0 where
-  pub projects : OneProject
-  pub turns : TurnsAgree
-  pub locks : OneTextOneLock
-  pub lock_faults : OneLockFault
-  pub proofs : OneTextOneProof
-  pub proof_faults : OneProofFault
-  pub forks : ForkLaws
-  pub merges : MergePromises
-  pub problems : EqualProblems
-  pub first_bad : FaultIsOne
-  pub none_bad : FaultRefuses
 
 -- ---- derivation files
 

@@ -24,7 +24,8 @@ use Rattle.ul_commands.specs.Locking.{IsLockAnswer, IsLocked, LocksFor}
 use Rattle.ul_commands.specs.Questions.{IsForked}
 use Rattle.ul_commands.specs.Reasons.{IsWhyAnswer}
 use Rattle.ul_command_laws.specs.Complete.{InputsAreAnswered, IsWithinLimits, LocksWithinLimits}
-use Rattle.ul_command_laws.proofs.Answers.{LowerLaws, one_proof_at, one_resolution}
+use Rattle.ul_command_laws.specs.Lower.{LowerLaws}
+use Rattle.ul_command_laws.proofs.Answers.{one_proof_at, one_resolution}
 use Rattle.ul_command_laws.proofs.Inputs.{one_lock_at, one_machine_at, one_project_at, one_resolution_with}
 use Rattle.ul_command_laws.proofs.Ones.{given_on}
 

@@ -2,6 +2,7 @@
 ghost use Rattle.ul_command_laws.specs.Answers.{AnswersAreOne, WhyFollowsLock};
 ghost use Rattle.ul_command_laws.specs.Complete.{InputsAreAnswered, LocksWithinLimits};
 ghost use Rattle.ul_command_laws.specs.Environments.{EnvironmentsOfFiles, EnvironmentsOfLocks};
+ghost use Rattle.ul_command_laws.specs.Lower.{LowerLaws};
 ghost use Rattle.ul_command_laws.specs.Reasons.{AcceptedAreUnserved, FilesAreAccepted, ReasonsAreAccepted};
 ghost use Rattle.ul_command_laws.specs.Workers.{OneAnswerForAll, WorkersDontMatter};
 ghost use Rattle.ul_lock.specs.Laws.{OneFault};
@@ -13,9 +14,9 @@ fn lock_faults()
     ul_lock::laws::one_fault();
 }
 
-/// Each question has at most one answer on the same files.
-pub fn answers_are_one()
-    ensures { AnswersAreOne }
+// Each input, each outcome and each verdict is one.
+fn lower_laws()
+    ensures { LowerLaws }
 {
     ul_project::laws::one_project();
     ul_load::laws::turns_agree();
@@ -29,20 +30,18 @@ pub fn answers_are_one()
     ul_report_judge::laws::faults();
 }
 
+/// Each question has at most one answer on the same files.
+pub fn answers_are_one()
+    ensures { AnswersAreOne }
+{
+    lower_laws();
+}
+
 /// Where each input is read, a command answers what the inputs say.
 pub fn inputs_are_answered()
     ensures { InputsAreAnswered }
 {
-    ul_project::laws::one_project();
-    ul_load::laws::turns_agree();
-    ul_lock::laws::text_laws();
-    lock_faults();
-    ul_report_read::laws::one_text();
-    ul_report_read::laws::one_fault();
-    ul_forks::laws::fork_laws();
-    ul_sound::laws::merge_laws();
-    ul_placing::laws::equal_problems();
-    ul_report_judge::laws::faults();
+    lower_laws();
 }
 
 /// `lock` ends with status 0 exactly where no fork is refused and the lock is within its limits.
