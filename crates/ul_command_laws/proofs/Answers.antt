@@ -11,20 +11,16 @@ use Rattle.ul_project.specs.Laws.{OneProject}
 use Rattle.ul_load.specs.Laws.{TurnsAgree}
 use Rattle.ul_lock.specs.Laws.{OneFault as OneLockFault, OneTextOneLock}
 use Rattle.ul_lock_lines.specs.declared.parts.Lock.{Lock}
-use Rattle.ul_placing.specs.Laws.{EqualProblems}
 use Rattle.ul_region.specs.Problem.{IsProblemOf}
 use Rattle.ul_generations.specs.Generations.{leaves_are, refused_at, too_many}
 use Rattle.ul_forks.specs.Headline.{ForkLaws, TreeAnswer}
 use Rattle.ul_forks.specs.Outcome.{starts_of}
-use Rattle.ul_sound.specs.Headline.{MergePromises}
 use Rattle.ul_filter.specs.Comparisons.{machine_world}
 use Rattle.ul_filter.specs.Headline.{is_supported_at}
 use Rattle.ul_filter.proofs.ForCallers.{one_text}
-use Rattle.ul_report_read.specs.Laws.{OneFault as OneProofFault, OneTextOneProof}
 use Rattle.ul_report_read.specs.Proofs.{AreProofLines, IsTextOf}
 use Rattle.ul_report_read.specs.declared.proof.Proof.{Proof}
 use Rattle.ul_report_judge.specs.Faults.{AcceptsNames, IsFirstBad}
-use Rattle.ul_report_judge.specs.Laws.{FaultIsOne, FaultRefuses}
 use Rattle.ul_inputs.specs.Inputs.{Said, answer, large_file, said_on, text_bytes}
 use Rattle.ul_inputs.specs.Refused.{Refused, malformed}
 use Rattle.ul_inputs.specs.Locks.{lock_at}

@@ -1,23 +1,21 @@
 -- Inputs that are read are answered, and by which status.
-use Rattle.std.proofs.Common.{◌≡◌, ◌∙◌, ◌≤◌, ◌↔◌, ℕ, List, [], Bool, true, false, length, Option, Some, None, Result, Ok, Err, refl, sym, ap, subst, arith}
-use Rattle.std.specs.Prelude.{nat_le, if◌then◌else◌}
-use Rattle.ul_base.specs.Files.{FileMap}
+use Rattle.std.proofs.Common.{◌≡◌, ◌∙◌, ◌≤◌, ℕ, List, [], Bool, true, false, length, Option, Some, None, Result, refl, sym, ap, arith}
+use Rattle.std.specs.Prelude.{nat_le}
 use Rattle.ul_tree.specs.Paths.{paths_of}
 use Rattle.ul_tree.specs.Plain.{Plain}
 use Rattle.ul_generations.specs.Generations.{leaves_are, refused_at, too_many}
 use Rattle.ul_forks.specs.Headline.{TreeAnswer, TreeLeaf}
-use Rattle.ul_lock_lines.specs.declared.parts.Lock.{Lock}
 use Rattle.ul_lock_text.specs.Markers.{first_over, markers_of}
 use Rattle.ul_lock_text.specs.Texts.{lock_text}
 use Rattle.ul_report.specs.Texts.{refusal_text}
-use Rattle.ul_inputs.specs.Inputs.{answer, said_on, text_bytes}
+use Rattle.ul_inputs.specs.Inputs.{answer, text_bytes}
 use Rattle.ul_inputs.specs.Locks.{lock_at}
 use Rattle.ul_inputs.specs.Machines.{machine_at}
 use Rattle.ul_inputs.specs.Projects.{project_at}
 use Rattle.ul_inputs.specs.Refused.{Refused}
 use Rattle.ul_inputs.specs.Resolutions.{ResolutionFields, resolution_in, resolution_with}
-use Rattle.ul_answers.specs.Answer.{Answer, locked}
-use Rattle.ul_answers.specs.Printed.{lock_output, printed, refusal_output, text_output, too_many_paths, written}
+use Rattle.ul_answers.specs.Answer.{Answer}
+use Rattle.ul_answers.specs.Printed.{lock_output, printed, refusal_output, text_output, written}
 use Rattle.ul_commands.specs.Checking.{IsCheckAnswer, check_on, check_with, proof_at}
 use Rattle.ul_commands.specs.Environments.{IsEnvAnswer, env_on}
 use Rattle.ul_commands.specs.Locking.{IsLockAnswer, IsLocked, LocksFor}
@@ -34,16 +32,16 @@ use Rattle.ul_command_laws.proofs.Ones.{given_on}
 pub inputs_are_answered : LowerLaws → InputsAreAnswered
 inputs_are_answered laws = record {
   lock = λ project folder workers old m r a read gives.
-    given_on (resolution_in project folder old m) (λ s. answer (IsLockAnswer s) m) (one_resolution laws project folder old m) r read a gives;
+      given_on (resolution_in project folder old m) (λ s. answer (IsLockAnswer s) m) (one_resolution laws project folder old m) r read a gives;
   why = λ project folder workers old m r a read gives.
-    given_on (resolution_in project folder old m) (λ s. answer (IsWhyAnswer s) m) (one_resolution laws project folder old m) r read a gives;
+      given_on (resolution_in project folder old m) (λ s. answer (IsWhyAnswer s) m) (one_resolution laws project folder old m) r read a gives;
   env = λ path machine words m l x a has_lock has_machine gives.
-    given_on (machine_at machine m) (λ y. answer (IsEnvAnswer l y words) m) (one_machine_at machine m) x has_machine a
-    (given_on (lock_at path m) (λ k. env_on machine words k m) (one_lock_at laws.locks laws.lock_faults path m) l has_lock a gives);
+      given_on (machine_at machine m) (λ y. answer (IsEnvAnswer l y words) m) (one_machine_at machine m) x has_machine a
+      (given_on (lock_at path m) (λ k. env_on machine words k m) (one_lock_at laws.locks laws.lock_faults path m) l has_lock a gives);
   check = λ project folder derivation m p x r a has_project has_proof read gives.
-    given_on (resolution_with folder p [] m) (λ s. answer (IsCheckAnswer s x) m) (one_resolution_with laws.turns folder p [] m) r read a
-    (given_on (proof_at derivation m) (λ y. check_with folder p y m) (one_proof_at laws derivation m) x has_proof a
-    (given_on (project_at project m) (λ q. check_on folder derivation q m) (one_project_at laws.projects project m) p has_project a gives));
+      given_on (resolution_with folder p [] m) (λ s. answer (IsCheckAnswer s x) m) (one_resolution_with laws.turns folder p [] m) r read a
+      (given_on (proof_at derivation m) (λ y. check_with folder p y m) (one_proof_at laws derivation m) x has_proof a
+      (given_on (project_at project m) (λ q. check_on folder derivation q m) (one_project_at laws.projects project m) p has_project a gives));
 }
 
 -- ---- the status of `lock`

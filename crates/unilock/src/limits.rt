@@ -24,7 +24,9 @@ fn parted(alloc: Global, behind: &str) -> Result<String, AllocError> {
     let mut requirements = String::new(alloc);
     let mut names = String::new(alloc);
     for letter in "abcdefghijk".chars() {
-        let two = format!(in alloc; "'p{letter}', \"p{letter}; '{letter}' in platform_version\", ")?;
+        let two = format!(in alloc;
+            "'p{letter}', \"p{letter}; '{letter}' in platform_version\", "
+        )?;
         requirements.push_str(two.as_str())?;
         names.push_str(format!(in alloc; "p{letter} ")?.as_str())?;
     }
@@ -104,7 +106,10 @@ fn a_marker_of_4096_paths(rt: HostRuntime) -> Result<(), Fail> {
         let given = joined(rt.alloc(), before, 12)?;
         assert_eq!(rt; pieces(&rt, rt.alloc(), given.as_str(), " or ")?, paths);
     }
-    for (before, pairs) in [("", 13), ("sys_platform == 'x' or sys_platform == 'y' or ", 12)] {
+    for (before, pairs) in [
+        ("", 13),
+        ("sys_platform == 'x' or sys_platform == 'y' or ", 12),
+    ] {
         let given = joined(rt.alloc(), before, pairs)?;
         assert!(rt; is_limit(&rt, rt.alloc(), given.as_str(), "marker-paths 4096")?);
     }
@@ -114,7 +119,10 @@ fn a_marker_of_4096_paths(rt: HostRuntime) -> Result<(), Fail> {
 #[test]
 fn a_project_of_256_comparisons(rt: HostRuntime) -> Result<(), Fail> {
     let given = compared(rt.alloc(), 256)?;
-    assert_eq!(rt; pieces(&rt, rt.alloc(), given.as_str(), " in os_name")?, 257);
+    assert_eq!(rt;
+        pieces(&rt, rt.alloc(), given.as_str(), " in os_name")?,
+        257
+    );
     let given = compared(rt.alloc(), 257)?;
     assert!(rt; is_limit(&rt, rt.alloc(), given.as_str(), "comparisons 256")?);
     Ok(())
