@@ -35,13 +35,13 @@ fn parted(alloc: Global, behind: &str) -> Result<String, AllocError> {
     case_of(alloc, requirements.as_str(), names.as_str())
 }
 
-const PAIRS: &str = "ab cd ef gh ij kl mn op qr st uv wx yz";
+const PAIRS: &str = "a-b c-d e-f g-h i-j k-l m-n o-p q-r s-t u-v w-x y-z";
 
 // A requirement whose marker joins what stands before and so many pairs of comparisons.
 fn joined(alloc: Global, before: &str, pairs: usize) -> Result<String, AllocError> {
     let mut marker = String::from_str(alloc, before)?;
     for pair in PAIRS.split(' ').take(pairs) {
-        let (one, other) = pair.split_at(1);
+        let (one, other) = pair.split_once('-').unwrap_or((pair, pair));
         let both = format!(in alloc; "('{one}' in os_name and '{other}' in os_name) or ")?;
         marker.push_str(both.as_str())?;
     }

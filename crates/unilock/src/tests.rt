@@ -79,7 +79,7 @@ fn is_row<R: Threads + Wait + Sync>(rt: &R, alloc: Global, row: &str) -> Result<
 
 #[test]
 fn answers_each_row(rt: HostRuntime) -> Result<(), Fail> {
-    for row in ROWS {
+    for row in ROWS.split("~\n") {
         assert!(rt; is_row(&rt, rt.alloc(), row)?, "{row}");
     }
     Ok(())
