@@ -1,4 +1,4 @@
-use Rattle.unilock.proofs.Outputs.{answered, count_stays, refused}
+use Rattle.unilock.proofs.Outputs.{answered, refused}
 use Rattle.unilock.proofs.top.answer.Goals as goal
 
 pub returns-in-Ok-clause-output : goal.returns-in-Ok-clause-output
