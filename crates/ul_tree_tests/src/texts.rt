@@ -1,11 +1,11 @@
-//! Trees of texts, which the tests share.
+//! Trees and worlds of texts, which the tests share.
 ghost use Rattle.ul_tree.specs.Reduced.{IsReduced};
 ghost use Rattle.ul_tree.specs.Views.{tree_view};
 ghost use Rattle.std.specs.Prelude.{IfOk};
 
-use std::alloc::Global;
+use std::alloc::{AllocError, Global};
 use std::test::Fail;
-use ul_marker::Marker;
+use ul_marker::{Atom, Marker, World};
 use ul_tree::{Tree, of_marker, plain_not};
 
 /// The tree of a marker's text, or of the negation of one after `not_of`.
@@ -19,4 +19,32 @@ pub(crate) fn tree_of(alloc: Global, text: &str) -> Result<Tree, Fail>
         return Ok(tree);
     }
     Ok(plain_not(alloc, &tree)?)
+}
+
+/// What comes before the first bar of a line, and what comes after it.
+pub(crate) fn cells(line: &str) -> (&str, &str) {
+    line.split_once('|').unwrap_or((line, ""))
+}
+
+// The text of a system, that of a platform, and six empty ones.
+fn world_texts(alloc: Global, system: &str, platform: &str) -> Result<Vec<String>, AllocError> {
+    let mut texts = Vec::new(alloc);
+    texts.push(String::from_str(alloc, system)?)?;
+    texts.push(String::from_str(alloc, platform)?)?;
+    for _ in 0..6 {
+        texts.push(String::new(alloc))?;
+    }
+    Ok(texts)
+}
+
+/// The world of an interpreter, of a system and a platform, and of the comparisons that hold.
+pub(crate) fn world_of(
+    alloc: Global,
+    python: (u32, u32, u32),
+    system: &str,
+    platform: &str,
+    truths: Vec<Atom>,
+) -> Result<World, Fail> {
+    let texts = world_texts(alloc, system, platform)?;
+    Ok(World::of(python, texts, truths).ok_or("no world")?)
 }
