@@ -5,7 +5,7 @@ ghost use Rattle.ul_tree.specs.Views.{tree_view};
 ghost use Rattle.ul_marker.specs.Formulas.{IsFormula};
 ghost use Rattle.ul_marker.specs.Views.{marker_view};
 
-use crate::texts::{cells, tree_of, world_of};
+use crate::texts::{is_one_tree, world_of};
 use std::alloc::Global;
 use std::test::Fail;
 use ul_marker::{Marker, World};
@@ -82,17 +82,17 @@ fn worlds(alloc: Global) -> Result<Vec<World>, Fail> {
     Ok(worlds)
 }
 
-fn python(alloc: Global, full: bool, op: Op, version: &str) -> Result<Marker, Fail>
+// The marker of a clause's line.
+fn python(alloc: Global, line: &str) -> Result<Marker, Fail>
     ensures { IfOk result (λ m. IsFormula (marker_view m)) }
 {
-    let clause = Clause::read(alloc, op, version)?;
-    Ok(Marker::Python { full, clause })
-}
-
-fn is_one_tree(alloc: Global, line: &str) -> Result<bool, Fail> {
-    let (first, second) = cells(line);
-    let first = tree_of(alloc, first)?;
-    Ok(first.same(&tree_of(alloc, second)?))
+    let (width, rest) = line.split_once(' ').unwrap_or((line, ""));
+    let (sign, version) = rest.split_once(' ').unwrap_or((rest, ""));
+    let clause = Clause::read(alloc, op(sign), version)?;
+    Ok(Marker::Python {
+        full: width == "full",
+        clause,
+    })
 }
 
 #[test]
@@ -115,9 +115,7 @@ fn agrees(tree: &Tree, marker: &Marker, worlds: &[World]) -> bool
 }
 
 fn holds_as_marker(alloc: Global, worlds: &[World], line: &str) -> Result<bool, Fail> {
-    let (width, rest) = line.split_once(' ').unwrap_or((line, ""));
-    let (sign, version) = rest.split_once(' ').unwrap_or((rest, ""));
-    let marker = python(alloc, width == "full", op(sign), version)?;
+    let marker = python(alloc, line)?;
     let tree = of_marker(alloc, &marker)?;
     Ok(agrees(&tree, &marker, worlds))
 }
@@ -148,10 +146,15 @@ fn holds_where_met(tree: &Tree, worlds: &[World]) -> bool
     true
 }
 
+fn are_held_where_met(alloc: Global, worlds: &[World]) -> Result<bool, Fail> {
+    let specifiers = Specifiers::read(alloc, ">=3.8,!=3.9.1,<4")?;
+    let tree = of_python(alloc, &specifiers)?;
+    Ok(holds_where_met(&tree, worlds))
+}
+
 #[test]
 fn specifiers_hold_where_they_are_met(rt: HostRuntime) -> Result<(), Fail> {
-    let specifiers = Specifiers::read(rt.alloc(), ">=3.8,!=3.9.1,<4")?;
-    let (worlds, tree) = (worlds(rt.alloc())?, of_python(rt.alloc(), &specifiers)?);
-    assert!(rt; worlds.len() == 180 && holds_where_met(&tree, &worlds));
+    let worlds = worlds(rt.alloc())?;
+    assert!(rt; worlds.len() == 180 && are_held_where_met(rt.alloc(), &worlds)?);
     Ok(())
 }

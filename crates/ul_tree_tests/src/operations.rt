@@ -3,7 +3,7 @@ ghost use Rattle.ul_tree.specs.Reduced.{IsReduced};
 ghost use Rattle.ul_tree.specs.Views.{tree_view};
 ghost use Rattle.std.specs.Prelude.{IfOk};
 
-use crate::texts::{tree_of, world_of};
+use crate::texts::{is_copied, is_one_tree, tree_of, world_of};
 use std::alloc::{AllocError, Global};
 use std::test::Fail;
 use ul_marker::{Atom, AtomKind, Variable, World};
@@ -77,6 +77,21 @@ fn leaf_holds(seed: u64, world: &World, extra: &str) -> bool {
     }
 }
 
+// What two trees become by an operation that the seed chooses.
+fn joined(alloc: Global, seed: u64, first: &Tree, second: &Tree) -> Result<Tree, AllocError>
+    requires first_reduced { IsReduced (tree_view first.now) }
+    requires second_reduced { IsReduced (tree_view second.now) }
+    ensures { IfOk result (λ t. IsReduced (tree_view t)) }
+{
+    if seed % 5 == 0 {
+        return plain_not(alloc, first);
+    }
+    if seed % 2 == 0 {
+        return plain_and(alloc, first, second);
+    }
+    plain_or(alloc, first, second)
+}
+
 // A tree made of leaves by operations that the seed chooses.
 fn grown(alloc: Global, seed: u64, depth: u8) -> Result<Tree, Fail>
     ensures { IfOk result (λ t. IsReduced (tree_view t)) }
@@ -85,14 +100,8 @@ fn grown(alloc: Global, seed: u64, depth: u8) -> Result<Tree, Fail>
         return tree_of(alloc, leaf(seed));
     }
     let first = grown(alloc, next(seed), depth - 1)?;
-    if seed % 5 == 0 {
-        return Ok(plain_not(alloc, &first)?);
-    }
     let second = grown(alloc, next(seed.wrapping_add(depth.into())), depth - 1)?;
-    if seed % 2 == 0 {
-        return Ok(plain_and(alloc, &first, &second)?);
-    }
-    Ok(plain_or(alloc, &first, &second)?)
+    Ok(joined(alloc, seed, &first, &second)?)
 }
 
 // Whether that tree should hold.
@@ -157,8 +166,6 @@ fn operations_join_truths(rt: HostRuntime) -> Result<(), Fail> {
 
 const EITHER: &str = "os_name == 'nt' or sys_platform == 'linux'";
 
-const NEITHER: &str = "os_name != 'nt' and sys_platform != 'linux'";
-
 // Whether a tree, its negation, and what both say have so many paths.
 fn has_paths(alloc: Global, tree: &Tree, wanted: (u128, u128, u128)) -> Result<bool, AllocError>
     requires { IsReduced (tree_view tree.now) }
@@ -168,25 +175,32 @@ fn has_paths(alloc: Global, tree: &Tree, wanted: (u128, u128, u128)) -> Result<b
     Ok((paths(tree), paths(&other), paths(&nowhere)) == wanted)
 }
 
+fn are_counted(alloc: Global) -> Result<bool, Fail> {
+    let tree = tree_of(alloc, EITHER)?;
+    Ok(has_paths(alloc, &tree, (2, 1, 0))?)
+}
+
 #[test]
 fn paths_to_true_are_counted(rt: HostRuntime) -> Result<(), Fail> {
-    let either = tree_of(rt.alloc(), EITHER)?;
-    assert!(rt; has_paths(rt.alloc(), &either, (2, 1, 0))?);
+    assert!(rt; are_counted(rt.alloc())?);
     Ok(())
 }
 
-// Whether a tree is its own copy, and another is its negation.
-fn is_one(alloc: Global, tree: &Tree, other: &Tree) -> Result<bool, AllocError>
-    requires tree_reduced { IsReduced (tree_view tree.now) }
-    requires other_reduced { IsReduced (tree_view other.now) }
-{
-    let negated = plain_not(alloc, tree)?.same(other);
-    Ok(negated && !tree.same(other) && tree.copy(alloc)?.same(tree))
+// Two texts that have one tree, and two that have two.
+const ONE: &str =
+    "not_of os_name == 'nt' or sys_platform == 'linux'|os_name != 'nt' and sys_platform != 'linux'";
+
+const TWO: &str =
+    "os_name == 'nt' or sys_platform == 'linux'|os_name != 'nt' and sys_platform != 'linux'";
+
+fn is_own_copy(alloc: Global, text: &str) -> Result<bool, Fail> {
+    let tree = tree_of(alloc, text)?;
+    Ok(is_copied(alloc, &tree)?)
 }
 
 #[test]
 fn one_truth_is_one_tree(rt: HostRuntime) -> Result<(), Fail> {
-    let (either, neither) = (tree_of(rt.alloc(), EITHER)?, tree_of(rt.alloc(), NEITHER)?);
-    assert!(rt; is_one(rt.alloc(), &either, &neither)?);
+    assert!(rt; is_one_tree(rt.alloc(), ONE)? && !is_one_tree(rt.alloc(), TWO)?);
+    assert!(rt; is_own_copy(rt.alloc(), EITHER)?);
     Ok(())
 }

@@ -2,7 +2,7 @@
 ghost use Rattle.ul_tree.specs.Reduced.{IsReduced};
 ghost use Rattle.ul_tree.specs.Views.{tree_view};
 
-use crate::texts::{cells, tree_of, world_of};
+use crate::texts::{cells, is_tree_of, tree_of, world_of};
 use std::alloc::Global;
 use std::test::Fail;
 use ul_tree::part::is_false;
@@ -50,31 +50,36 @@ fn agree(alloc: Global, made: &Tree, tree: &Tree, region: &Tree) -> Result<bool,
     Ok(true)
 }
 
-// Whether a tree becomes another under a region, and says there what it said before.
-fn becomes(alloc: Global, tree: &Tree, region: &Tree, wanted: &Tree) -> Result<bool, Fail>
+// Whether a tree becomes that of a text under a region, and says there what it said before.
+fn becomes(alloc: Global, tree: &Tree, region: &Tree, wanted: &str) -> Result<bool, Fail>
     requires tree_reduced { IsReduced (tree_view tree.now) }
     requires region_reduced { IsReduced (tree_view region.now) }
-    requires wanted_reduced { IsReduced (tree_view wanted.now) }
 {
     if is_false(region) {
         return Ok(false);
     }
     let made = plain_simplify(alloc, tree, region)?;
-    Ok(made.same(wanted) && agree(alloc, &made, tree, region)?)
+    Ok(is_tree_of(alloc, &made, wanted)? && agree(alloc, &made, tree, region)?)
 }
 
-fn is_simpler(alloc: Global, line: &str) -> Result<bool, Fail> {
-    let (text, rest) = cells(line);
+fn is_simpler(alloc: Global, tree: &Tree, rest: &str) -> Result<bool, Fail>
+    requires { IsReduced (tree_view tree.now) }
+{
     let (region, wanted) = cells(rest);
-    let (tree, region) = (tree_of(alloc, text)?, tree_of(alloc, region)?);
-    let wanted = tree_of(alloc, wanted)?;
-    becomes(alloc, &tree, &region, &wanted)
+    let region = tree_of(alloc, region)?;
+    becomes(alloc, tree, &region, wanted)
+}
+
+fn is_row(alloc: Global, line: &str) -> Result<bool, Fail> {
+    let (text, rest) = cells(line);
+    let tree = tree_of(alloc, text)?;
+    is_simpler(alloc, &tree, rest)
 }
 
 #[test]
 fn trees_under_regions(rt: HostRuntime) -> Result<(), Fail> {
     for line in SIMPLER.split('\n') {
-        assert!(rt; is_simpler(rt.alloc(), line)?, "{line}");
+        assert!(rt; is_row(rt.alloc(), line)?, "{line}");
     }
     Ok(())
 }

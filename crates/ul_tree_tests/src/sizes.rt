@@ -2,7 +2,7 @@
 ghost use Rattle.ul_tree.specs.Reduced.{IsReduced};
 ghost use Rattle.ul_tree.specs.Views.{tree_view};
 
-use crate::texts::tree_of;
+use crate::texts::{is_copied, tree_of};
 use std::alloc::{AllocError, Global};
 use std::fmt::Write;
 use std::test::Fail;
@@ -53,13 +53,22 @@ fn many_comparisons_are_joined_by_halves(rt: HostRuntime) -> Result<(), Fail> {
     Ok(())
 }
 
-// Whether a tree is the negation of its negation, and both together are false.
-fn is_negated(alloc: Global, tree: &Tree) -> Result<bool, AllocError>
+// Whether a tree is the negation of its negation.
+fn comes_back(alloc: Global, tree: &Tree) -> Result<bool, AllocError>
     requires { IsReduced (tree_view tree.now) }
 {
     let other = plain_not(alloc, tree)?;
-    let back = plain_not(alloc, &other)?.same(&tree.copy(alloc)?);
-    Ok(back && is_false(&plain_and(alloc, tree, &other)?))
+    let back = plain_not(alloc, &other)?;
+    Ok(back.same(tree))
+}
+
+// Whether a tree and its negation are false together.
+fn excludes_other(alloc: Global, tree: &Tree) -> Result<bool, AllocError>
+    requires { IsReduced (tree_view tree.now) }
+{
+    let other = plain_not(alloc, tree)?;
+    let both = plain_and(alloc, tree, &other)?;
+    Ok(is_false(&both))
 }
 
 // Whether a tree is true under itself.
@@ -84,12 +93,23 @@ fn has_sample(alloc: Global, tree: &Tree) -> Result<bool, AllocError>
     Ok(holds(tree, &world, ""))
 }
 
+fn is_handled(alloc: Global, tree: &Tree) -> Result<bool, AllocError>
+    requires { IsReduced (tree_view tree.now) }
+{
+    let negated = comes_back(alloc, tree)? && excludes_other(alloc, tree)?;
+    Ok(negated && is_copied(alloc, tree)? && is_simple(alloc, tree)? && has_sample(alloc, tree)?)
+}
+
+fn is_deepest_handled(alloc: Global) -> Result<bool, Fail> {
+    let text = opaque(alloc, DEEPEST)?;
+    let tree = tree_of(alloc, text.as_str())?;
+    Ok(paths(&tree) == 2048 && is_handled(alloc, &tree)?)
+}
+
 // A tree as deep as it may be is negated, copied, compared, made simpler, and has a sample.
 #[test]
 fn deepest_trees_are_handled(rt: HostRuntime) -> Result<(), Fail> {
-    let tree = tree_of(rt.alloc(), opaque(rt.alloc(), DEEPEST)?.as_str())?;
-    assert!(rt; paths(&tree) == 2048 && is_negated(rt.alloc(), &tree)?);
-    assert!(rt; is_simple(rt.alloc(), &tree)? && has_sample(rt.alloc(), &tree)?);
+    assert!(rt; is_deepest_handled(rt.alloc())?);
     Ok(())
 }
 
