@@ -1,4 +1,7 @@
 //! Tests of decision trees.
+//!
+//! What is tried stands in tables of text. Functions are small, and have a clause only where a call asks for one: the
+//! proof of a function grows with the square of its length.
 #![tactic(auto)]
 
 #[cfg(test)]

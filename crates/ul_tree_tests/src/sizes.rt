@@ -1,80 +1,127 @@
 //! Trees of many comparisons, wide and deep.
-use crate::texts::tree_of;
-use std::alloc::Global;
+ghost use Rattle.ul_tree.specs.Reduced.{IsReduced};
+ghost use Rattle.ul_tree.specs.Views.{tree_view};
+
+use crate::texts::{is_copied, tree_of};
+use std::alloc::{AllocError, Global};
+use std::fmt::Write;
 use std::test::Fail;
 use ul_marker::Marker;
 use ul_tree::part::{asks_extra, is_false};
-use ul_tree::{DEEPEST, holds, of_marker, paths, plain_and, plain_not, plain_simplify, sample};
+use ul_tree::{
+    DEEPEST, Tree, holds, of_marker, paths, plain_and, plain_not, plain_simplify, sample,
+};
 
-const VARIABLES: [&str; 8] = [
-    "os_name",
-    "sys_platform",
-    "platform_machine",
-    "platform_python_implementation",
-    "platform_release",
-    "platform_system",
-    "platform_version",
-    "implementation_name",
-];
+const VARIABLES: &str = "os_name sys_platform platform_machine platform_python_implementation \
+    platform_release platform_system platform_version implementation_name";
 
 // So many opaque comparisons, joined by `or`: as many levels.
 fn opaque(alloc: Global, count: usize) -> Result<String, Fail> {
     let mut text = String::from_str(alloc, "'0' in os_name")?;
     for i in 1..count {
-        let more = format!(in alloc; " or '{i}' in os_name")?;
-        text.push_str(more.as_str())?;
+        write!(text, " or '{i}' in os_name")?;
     }
     Ok(text)
+}
+
+fn push_points(text: &mut String, variable: &str, count: usize) -> Result<(), Fail> {
+    for i in 0..count {
+        write!(text, " or {variable} == 'p{i}'")?;
+    }
+    Ok(())
 }
 
 // So many points of each text variable, joined by `or`.
 fn points(alloc: Global, count: usize) -> Result<String, Fail> {
     let mut text = String::from_str(alloc, "os_name == 'none'")?;
-    for variable in VARIABLES {
-        for i in 0..count {
-            let more = format!(in alloc; " or {variable} == 'p{i}'")?;
-            text.push_str(more.as_str())?;
-        }
+    for variable in VARIABLES.split(' ') {
+        push_points(&mut text, variable, count)?;
     }
     Ok(text)
 }
 
+fn paths_of(alloc: Global, text: &str) -> Result<u128, Fail> {
+    let tree = tree_of(alloc, text)?;
+    Ok(paths(&tree))
+}
+
 #[test]
 fn many_comparisons_are_joined_by_halves(rt: HostRuntime) -> Result<(), Fail> {
-    let alloc = rt.alloc();
-    let tree = tree_of(alloc, opaque(alloc, 500)?.as_str())?;
-    assert_eq!(rt; paths(&tree), 500);
-    let tree = tree_of(alloc, points(alloc, 60)?.as_str())?;
-    assert_eq!(rt; paths(&tree), 481);
+    let (opaque, points) = (opaque(rt.alloc(), 500)?, points(rt.alloc(), 60)?);
+    assert!(rt; paths_of(rt.alloc(), opaque.as_str())? == 500);
+    assert!(rt; paths_of(rt.alloc(), points.as_str())? == 481);
     Ok(())
+}
+
+// Whether a tree is the negation of its negation.
+fn comes_back(alloc: Global, tree: &Tree) -> Result<bool, AllocError>
+    requires { IsReduced (tree_view tree.now) }
+{
+    let other = plain_not(alloc, tree)?;
+    let back = plain_not(alloc, &other)?;
+    Ok(back.same(tree))
+}
+
+// Whether a tree and its negation are false together.
+fn excludes_other(alloc: Global, tree: &Tree) -> Result<bool, AllocError>
+    requires { IsReduced (tree_view tree.now) }
+{
+    let other = plain_not(alloc, tree)?;
+    let both = plain_and(alloc, tree, &other)?;
+    Ok(is_false(&both))
+}
+
+// Whether a tree is true under itself.
+fn is_simple(alloc: Global, tree: &Tree) -> Result<bool, AllocError>
+    requires { IsReduced (tree_view tree.now) }
+{
+    if is_false(tree) {
+        return Ok(false);
+    }
+    let everywhere = plain_simplify(alloc, tree, tree)?;
+    Ok(paths(&everywhere) == 1)
+}
+
+// Whether a tree holds at its sample.
+fn has_sample(alloc: Global, tree: &Tree) -> Result<bool, AllocError>
+    requires { IsReduced (tree_view tree.now) }
+{
+    if is_false(tree) || asks_extra(tree) {
+        return Ok(false);
+    }
+    let world = sample(alloc, tree)?;
+    Ok(holds(tree, &world, ""))
+}
+
+fn is_handled(alloc: Global, tree: &Tree) -> Result<bool, AllocError>
+    requires { IsReduced (tree_view tree.now) }
+{
+    let negated = comes_back(alloc, tree)? && excludes_other(alloc, tree)?;
+    Ok(negated && is_copied(alloc, tree)? && is_simple(alloc, tree)? && has_sample(alloc, tree)?)
+}
+
+fn is_deepest_handled(alloc: Global) -> Result<bool, Fail> {
+    let text = opaque(alloc, DEEPEST)?;
+    let tree = tree_of(alloc, text.as_str())?;
+    Ok(paths(&tree) == 2048 && is_handled(alloc, &tree)?)
 }
 
 // A tree as deep as it may be is negated, copied, compared, made simpler, and has a sample.
 #[test]
 fn deepest_trees_are_handled(rt: HostRuntime) -> Result<(), Fail> {
-    let alloc = rt.alloc();
-    let tree = tree_of(alloc, opaque(alloc, DEEPEST)?.as_str())?;
-    assert_eq!(rt; paths(&tree), 2048);
-    let other = plain_not(alloc, &tree)?;
-    assert!(rt; plain_not(alloc, &other)?.same(&tree.copy(alloc)?));
-    assert!(rt; is_false(&plain_and(alloc, &tree, &other)?));
-    if is_false(&tree) || asks_extra(&tree) {
-        return Err(Fail::from("no sample"));
-    }
-    let everywhere = plain_simplify(alloc, &tree, &tree)?;
-    assert_eq!(rt; paths(&everywhere), 1);
-    let world = sample(alloc, &tree)?;
-    assert!(rt; holds(&tree, &world, ""));
+    assert!(rt; is_deepest_handled(rt.alloc())?);
     Ok(())
+}
+
+fn is_too_deep(alloc: Global, count: usize) -> Result<bool, Fail> {
+    let text = opaque(alloc, count)?;
+    let marker = Marker::read(alloc, text.as_str())?;
+    Ok(of_marker(alloc, &marker).is_err())
 }
 
 // So deep a tree, also of a hostile marker, is refused before the stack ends.
 #[test]
 fn deeper_trees_are_refused_by_want_of_memory(rt: HostRuntime) -> Result<(), Fail> {
-    let alloc = rt.alloc();
-    for count in [DEEPEST + 1, 100_000] {
-        let marker = Marker::read(alloc, opaque(alloc, count)?.as_str())?;
-        assert!(rt; of_marker(alloc, &marker).is_err(), "{count}");
-    }
+    assert!(rt; is_too_deep(rt.alloc(), DEEPEST + 1)? && is_too_deep(rt.alloc(), 100_000)?);
     Ok(())
 }
