@@ -1,0 +1,71 @@
+//! As many leaves as there may be, and one more.
+use crate::forks::{forks, input_of};
+use std::alloc::{AllocError, Global};
+use std::sync::Wait;
+use std::test::Fail;
+use std::thread::Threads;
+use ul_algebra::DiagramLabel;
+use ul_base::Open;
+use ul_forks::{ForkAnswer, ForkFault, Forked};
+use ul_interner::Interner;
+
+// Eleven packages that are each required everywhere, and again where a letter of their own stands in the platform's
+// version.
+const PAIRS: &str = r#"'pa', "pa; 'a' in platform_version",
+'pb', "pb; 'b' in platform_version",
+'pc', "pc; 'c' in platform_version",
+'pd', "pd; 'd' in platform_version",
+'pe', "pe; 'e' in platform_version",
+'pf', "pf; 'f' in platform_version",
+'pg', "pg; 'g' in platform_version",
+'ph', "ph; 'h' in platform_version",
+'pi', "pi; 'i' in platform_version",
+'pj', "pj; 'j' in platform_version",
+'pk', "pk; 'k' in platform_version""#;
+
+// A further package, which is required everywhere, and again where all letters stand there, and one more.
+const ONE_MORE: &str = ", 'z', \"z; 'a' in platform_version and 'b' in platform_version \
+    and 'c' in platform_version and 'd' in platform_version and 'e' in platform_version \
+    and 'f' in platform_version and 'g' in platform_version and 'h' in platform_version \
+    and 'i' in platform_version and 'j' in platform_version and 'k' in platform_version \
+    and 'm' in platform_version\"";
+
+const NAMES: &str = "pa,pb,pc,pd,pe,pf,pg,ph,pi,pj,pk,z";
+
+// How many leaves there are.
+fn leaf_count(forked: &ForkAnswer) -> u64 {
+    match forked {
+        Forked::Leaves(leaves) => leaves.len() as u64,
+        Forked::Refused { .. } => 0,
+    }
+}
+
+// How many leaves there are, or how many leaves and regions are too many, of the pairs and what follows them.
+fn fork_count<R: Threads + Wait + Sync>(
+    rt: &R,
+    alloc: Global,
+    more: &str,
+) -> Result<(u64, bool), Fail> {
+    let requirements = format!(in alloc; "{PAIRS}{more}")?;
+    let input = input_of(
+        alloc,
+        requirements.as_str(),
+        "",
+        NAMES,
+        "{\"version\": \"1\"}",
+    )?;
+    let (interner, pass) = Interner::<DiagramLabel>::begin(alloc)?;
+    match forks(rt, alloc, 4, &interner, pass, &input, &Open) {
+        Ok(answer) => Ok((leaf_count(&answer.0), true)),
+        Err(ForkFault::TooManyForks { count }) => Ok((count, false)),
+        Err(ForkFault::NoMemory) => Err(Fail::from(AllocError)),
+    }
+}
+
+#[test]
+fn many_leaves_and_one_too_many(rt: HostRuntime) -> Result<(), Fail> {
+    let many = fork_count(&rt, rt.alloc(), "")?;
+    let more = fork_count(&rt, rt.alloc(), ONE_MORE)?;
+    assert!(rt; many == (2048, true) && more == (2049, false));
+    Ok(())
+}
