@@ -1,5 +1,5 @@
 -- What begins with a project.
-use Rattle.std.proofs.Common.{◌≡◌, ◌∷◌, [], false, refl, tt}
+use Rattle.std.proofs.Common.{◌≡◌, ◌∷◌, [], false, refl}
 use Rattle.std.specs.List.Sorted.{IsStrictlySortedBy}
 use Rattle.ul_base.specs.Names.{name_cmp}
 use Rattle.ul_requirement.specs.Fields.{PackageFields, ReleaseFields}

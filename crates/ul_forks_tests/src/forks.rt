@@ -1,5 +1,5 @@
 //! Fork answers of small projects.
-ghost use Rattle.std.specs.Prelude.{◌≡◌, ◌∷◌, ◌≤◌, [], IsTrue};
+ghost use Rattle.std.specs.Prelude.{◌≡◌, ◌∷◌, ◌≤◌, [], IfSome, IsTrue};
 ghost use Rattle.ul_requirement.specs.Truth.{base};
 ghost use Rattle.ul_prepared.specs.Project.{IsProjectOf};
 ghost use Rattle.ul_forks.specs.Forked.{project_name};
@@ -69,20 +69,27 @@ fn wish_of(alloc: Global, project: &Project) -> Wish {
     }
 }
 
+// The release of a package that has one.
+fn only_release(found: &Package) -> Option<&Release>
+    ensures { IfSome result (λ r. found.now.releases ≡ r.now ∷ []) }
+{
+    let releases: &Vec<Release> = &found.releases;
+    match releases.as_slice() {
+        [release] => Some(release),
+        _ => None,
+    }
+}
+
 // Whether a catalog begins with a package of one release, which isn't yanked.
 #[tactic(auto, using(crate::proofs::Beginning::begun))]
 fn is_begun(catalog: &Catalog) -> bool
     ensures { IsTrue result → IsProjectOf catalog.now (base (project_name catalog.now) ∷ []) }
 {
-    let packages: &[Package] = catalog.packages();
-    match packages {
-        [project, ..] => {
-            let releases: &Vec<Release> = &project.releases;
-            match releases.as_slice() {
-                [release] => !release.yanked,
-                _ => false,
-            }
-        }
+    match catalog.packages() {
+        [project, ..] => match only_release(project) {
+            Some(release) => !release.yanked,
+            None => false,
+        },
         [] => false,
     }
 }
