@@ -33,15 +33,34 @@ fn project_of(alloc: Global, requirements: &str, settings: &str) -> Result<Proje
     Ok(project(alloc, file.as_bytes())?)
 }
 
+// The path and the document of a package that has these releases.
+fn document(alloc: Global, name: &str, releases: &str) -> Result<(String, Vec<u8>), AllocError> {
+    let path = format!(in alloc; "ix/{name}.json")?;
+    let json = format!(in alloc; "{{\"name\": \"{name}\", \"versions\": [{releases}]}}")?;
+    Ok((path, json.into_bytes()))
+}
+
 // A folder whose packages, between commas, each have these releases.
 fn folder(alloc: Global, names: &str, releases: &str) -> Result<SureFiles, AllocError> {
     let mut list = Vec::new(alloc);
     for name in names.split(',') {
-        let path = format!(in alloc; "ix/{name}.json")?;
-        let json = format!(in alloc; "{{\"name\": \"{name}\", \"versions\": [{releases}]}}")?;
-        list.push((path, json.into_bytes()))?;
+        list.push(document(alloc, name, releases)?)?;
     }
     Ok(SureFiles::of(alloc, list))
+}
+
+// The catalog of a project and of such a folder.
+fn catalog_of(
+    alloc: Global,
+    project: &Project,
+    names: &str,
+    releases: &str,
+) -> Result<Catalog, Fail> {
+    let mut files = folder(alloc, names, releases)?;
+    match load_project(alloc, &mut files, "ix", project) {
+        Ok(catalog) => Ok(catalog),
+        Err(_) => Err(Fail::from("not loaded")),
+    }
 }
 
 /// The project of these requirements and settings, with packages, between commas, that each have these releases.
@@ -53,11 +72,8 @@ pub fn input_of(
     releases: &str,
 ) -> Result<Input, Fail> {
     let project = project_of(alloc, requirements, settings)?;
-    let mut files = folder(alloc, names, releases)?;
-    match load_project(alloc, &mut files, "ix", &project) {
-        Ok(catalog) => Ok(Input { project, catalog }),
-        Err(_) => Err(Fail::from("not loaded")),
-    }
+    let catalog = catalog_of(alloc, &project, names, releases)?;
+    Ok(Input { project, catalog })
 }
 
 // What a project wishes, without an old lock.
@@ -125,4 +141,19 @@ pub fn forks<'i, R: Threads + Wait + Sync, G: Gate + Sync>(
         &project.region,
         gate,
     )
+}
+
+/// That answer alone, on an interner of its own.
+pub fn forked<R: Threads + Wait + Sync, G: Gate + Sync>(
+    rt: &R,
+    alloc: Global,
+    workers: u64,
+    input: &Input,
+    gate: &G,
+) -> Result<ForkAnswer, ForkFault>
+    requires { (1 ≤ workers) × (workers ≤ 64) }
+{
+    let (interner, pass) = Interner::<DiagramLabel>::begin(alloc)?;
+    let answer = forks(rt, alloc, workers, &interner, pass, input, gate)?;
+    Ok(answer.0)
 }

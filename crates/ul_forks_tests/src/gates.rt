@@ -1,13 +1,11 @@
 //! Jobs enter the gate side by side.
-use crate::forks::{forks, input_of};
+use crate::forks::{forked, input_of};
 use std::alloc::Global;
 use std::sync::Wait;
 use std::sync::atomic::{AtomicU64, Ordering};
 use std::test::Fail;
 use std::thread::Threads;
-use ul_algebra::DiagramLabel;
 use ul_base::Gate;
-use ul_interner::Interner;
 
 // A gate whose second entry waits for the third.
 #[derive(Drop)]
@@ -39,8 +37,7 @@ fn meet<R: Threads + Wait + Sync>(rt: &R, alloc: Global, gate: &Meeting) -> Resu
         "q",
         "{\"version\": \"1\"}, {\"version\": \"2\"}",
     )?;
-    let (interner, pass) = Interner::<DiagramLabel>::begin(alloc)?;
-    forks(rt, alloc, 2, &interner, pass, &input, gate)?;
+    forked(rt, alloc, 2, &input, gate)?;
     Ok(())
 }
 

@@ -112,6 +112,12 @@ fn leaf_text(alloc: Global, leaf: &ForkLeaf) -> Result<String, AllocError> {
     Ok(text)
 }
 
+// The requirement of a name that no package has, with this marker.
+fn requirement_in(alloc: Global, marker: &str) -> Result<Requirement, Fail> {
+    let text = format!(in alloc; "region; {marker}")?;
+    Ok(Requirement::read(alloc, text.as_str())?)
+}
+
 // The diagram of a marker.
 fn region_of<R: Wait>(
     rt: &R,
@@ -119,8 +125,7 @@ fn region_of<R: Wait>(
     algebra: &mut Algebra<'_>,
     marker: &str,
 ) -> Result<Diagram, Fail> {
-    let text = format!(in alloc; "region; {marker}")?;
-    let requirement = Requirement::read(alloc, text.as_str())?;
+    let requirement = requirement_in(alloc, marker)?;
     let node = Node {
         name: requirement.name.copy(alloc)?,
         extra: None,
@@ -247,16 +252,26 @@ fn input_in(alloc: Global, text: &str) -> Result<Input, Fail> {
     input_of(alloc, requirements, settings, names, releases)
 }
 
-// Whether a row's project has its leaves with 1, 2, 8 and 64 workers.
-fn is_row<R: Threads + Wait + Sync>(rt: &R, alloc: Global, row: &str) -> Result<bool, Fail> {
-    let (text, wanted) = row.split_once("----\n").unwrap_or((row, ""));
-    let input = input_in(alloc, text)?;
+// Whether a project has these counts and leaves with 1, 2, 8 and 64 workers.
+fn are_answered<R: Threads + Wait + Sync>(
+    rt: &R,
+    alloc: Global,
+    input: &Input,
+    wanted: &str,
+) -> Result<bool, Fail> {
     for workers in [1u64, 2, 8, 64] {
-        if !is_answered(rt, alloc, workers, &input, wanted)? {
+        if !is_answered(rt, alloc, workers, input, wanted)? {
             return Ok(false);
         }
     }
     Ok(true)
+}
+
+// Whether a row's project has its counts and leaves.
+fn is_row<R: Threads + Wait + Sync>(rt: &R, alloc: Global, row: &str) -> Result<bool, Fail> {
+    let (text, wanted) = row.split_once("----\n").unwrap_or((row, ""));
+    let input = input_in(alloc, text)?;
+    are_answered(rt, alloc, &input, wanted)
 }
 
 #[test]

@@ -1,13 +1,11 @@
 //! As many leaves as there may be, and one more.
-use crate::forks::{forks, input_of};
+use crate::forks::{Input, forked, input_of};
 use std::alloc::{AllocError, Global};
 use std::sync::Wait;
 use std::test::Fail;
 use std::thread::Threads;
-use ul_algebra::DiagramLabel;
 use ul_base::Open;
 use ul_forks::{ForkAnswer, ForkFault, Forked};
-use ul_interner::Interner;
 
 // Eleven packages that are each required everywhere, and again where a letter of their own stands in the platform's
 // version.
@@ -40,23 +38,27 @@ fn leaf_count(forked: &ForkAnswer) -> u64 {
     }
 }
 
-// How many leaves there are, or how many leaves and regions are too many, of the pairs and what follows them.
-fn fork_count<R: Threads + Wait + Sync>(
-    rt: &R,
-    alloc: Global,
-    more: &str,
-) -> Result<(u64, bool), Fail> {
+// The project of the pairs and of what follows them.
+fn pairs(alloc: Global, more: &str) -> Result<Input, Fail> {
     let requirements = format!(in alloc; "{PAIRS}{more}")?;
-    let input = input_of(
+    input_of(
         alloc,
         requirements.as_str(),
         "",
         NAMES,
         "{\"version\": \"1\"}",
-    )?;
-    let (interner, pass) = Interner::<DiagramLabel>::begin(alloc)?;
-    match forks(rt, alloc, 4, &interner, pass, &input, &Open) {
-        Ok(answer) => Ok((leaf_count(&answer.0), true)),
+    )
+}
+
+// How many leaves that project has, or how many leaves and regions are too many.
+fn fork_count<R: Threads + Wait + Sync>(
+    rt: &R,
+    alloc: Global,
+    more: &str,
+) -> Result<(u64, bool), Fail> {
+    let input = pairs(alloc, more)?;
+    match forked(rt, alloc, 4, &input, &Open) {
+        Ok(answer) => Ok((leaf_count(&answer), true)),
         Err(ForkFault::TooManyForks { count }) => Ok((count, false)),
         Err(ForkFault::NoMemory) => Err(Fail::from(AllocError)),
     }
