@@ -7,7 +7,7 @@ use std::sync::Wait;
 use std::test::Fail;
 use std::thread::Threads;
 use ul_algebra::{Algebra, Diagram, DiagramLabel};
-use ul_base::{Node, Open};
+use ul_base::{Name, Node, Open};
 use ul_forks::{ForkAnswer, ForkLeaf, Forked, Path};
 use ul_interner::Interner;
 use ul_region::truth_at;
@@ -118,6 +118,12 @@ fn requirement_in(alloc: Global, marker: &str) -> Result<Requirement, Fail> {
     Ok(Requirement::read(alloc, text.as_str())?)
 }
 
+// The node of a name without an extra.
+fn base_node(alloc: Global, name: &Name) -> Result<Node, AllocError> {
+    let name = name.copy(alloc)?;
+    Ok(Node { name, extra: None })
+}
+
 // The diagram of a marker.
 fn region_of<R: Wait>(
     rt: &R,
@@ -126,11 +132,9 @@ fn region_of<R: Wait>(
     marker: &str,
 ) -> Result<Diagram, Fail> {
     let requirement = requirement_in(alloc, marker)?;
-    let node = Node {
-        name: requirement.name.copy(alloc)?,
-        extra: None,
-    };
-    Ok(truth_at(rt, alloc, algebra, &node, &requirement)?)
+    let node = base_node(alloc, &requirement.name)?;
+    let region = truth_at(rt, alloc, algebra, &node, &requirement)?;
+    Ok(region)
 }
 
 // Whether a line has this text and this region. Diagrams of one interner are one where their truth is one.

@@ -1,6 +1,6 @@
 //! As many leaves as there may be, and one more.
 use crate::forks::{Input, forked, input_of};
-use std::alloc::{AllocError, Global};
+use std::alloc::Global;
 use std::sync::Wait;
 use std::test::Fail;
 use std::thread::Threads;
@@ -30,11 +30,12 @@ const ONE_MORE: &str = ", 'z', \"z; 'a' in platform_version and 'b' in platform_
 
 const NAMES: &str = "pa,pb,pc,pd,pe,pf,pg,ph,pi,pj,pk,z";
 
-// How many leaves there are.
-fn leaf_count(forked: &ForkAnswer) -> u64 {
-    match forked {
-        Forked::Leaves(leaves) => leaves.len() as u64,
-        Forked::Refused { .. } => 0,
+// How many leaves there are, or how many leaves and regions are too many.
+fn count_of(answer: &Result<ForkAnswer, ForkFault>) -> (u64, bool) {
+    match answer {
+        Ok(Forked::Leaves(leaves)) => (leaves.len() as u64, true),
+        Err(ForkFault::TooManyForks { count }) => (*count, false),
+        _ => (0, false),
     }
 }
 
@@ -50,18 +51,15 @@ fn pairs(alloc: Global, more: &str) -> Result<Input, Fail> {
     )
 }
 
-// How many leaves that project has, or how many leaves and regions are too many.
+// That count of that project.
 fn fork_count<R: Threads + Wait + Sync>(
     rt: &R,
     alloc: Global,
     more: &str,
 ) -> Result<(u64, bool), Fail> {
     let input = pairs(alloc, more)?;
-    match forked(rt, alloc, 4, &input, &Open) {
-        Ok(answer) => Ok((leaf_count(&answer), true)),
-        Err(ForkFault::TooManyForks { count }) => Ok((count, false)),
-        Err(ForkFault::NoMemory) => Err(Fail::from(AllocError)),
-    }
+    let answer = forked(rt, alloc, 4, &input, &Open);
+    Ok(count_of(&answer))
 }
 
 #[test]
