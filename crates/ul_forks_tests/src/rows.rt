@@ -7,7 +7,7 @@ use std::sync::Wait;
 use std::test::Fail;
 use std::thread::Threads;
 use ul_algebra::{Algebra, Diagram, DiagramLabel};
-use ul_base::{Name, Node, Open};
+use ul_base::{Node, Open};
 use ul_forks::{ForkAnswer, ForkLeaf, Forked, Path};
 use ul_interner::Interner;
 use ul_region::truth_at;
@@ -118,9 +118,9 @@ fn requirement_in(alloc: Global, marker: &str) -> Result<Requirement, Fail> {
     Ok(Requirement::read(alloc, text.as_str())?)
 }
 
-// The node of a name without an extra.
-fn base_node(alloc: Global, name: &Name) -> Result<Node, AllocError> {
-    let name = name.copy(alloc)?;
+// The node of a requirement's name, without an extra.
+fn node_of(alloc: Global, requirement: &Requirement) -> Result<Node, AllocError> {
+    let name = requirement.name.copy(alloc)?;
     Ok(Node { name, extra: None })
 }
 
@@ -132,7 +132,7 @@ fn region_of<R: Wait>(
     marker: &str,
 ) -> Result<Diagram, Fail> {
     let requirement = requirement_in(alloc, marker)?;
-    let node = base_node(alloc, &requirement.name)?;
+    let node = node_of(alloc, &requirement)?;
     let region = truth_at(rt, alloc, algebra, &node, &requirement)?;
     Ok(region)
 }
