@@ -1,5 +1,6 @@
 //! Small projects: their leaves, or the region that is refused, with each number of workers.
-ghost use Rattle.std.specs.Prelude.{◌≤◌};
+ghost use Rattle.std.specs.Prelude.{◌≤◌, IfOk};
+ghost use Rattle.ul_tree.specs.TreeFacts.{IsTree};
 
 use crate::forks::{Input, forks, input_of};
 use std::alloc::{AllocError, Global};
@@ -10,8 +11,8 @@ use ul_algebra::{Algebra, Diagram, DiagramLabel};
 use ul_base::{Node, Open};
 use ul_forks::{ForkAnswer, ForkLeaf, Forked, Path};
 use ul_interner::Interner;
-use ul_region::truth_at;
-use ul_requirement::Requirement;
+use ul_marker::Marker;
+use ul_tree::{Tree, of_marker};
 use ul_version::Version;
 use ul_workers::Round;
 
@@ -112,16 +113,13 @@ fn leaf_text(alloc: Global, leaf: &ForkLeaf) -> Result<String, AllocError> {
     Ok(text)
 }
 
-// The requirement of a name that no package has, with this marker.
-fn requirement_in(alloc: Global, marker: &str) -> Result<Requirement, Fail> {
-    let text = format!(in alloc; "region; {marker}")?;
-    Ok(Requirement::read(alloc, text.as_str())?)
-}
-
-// The node of a requirement's name, without an extra.
-fn node_of(alloc: Global, requirement: &Requirement) -> Result<Node, AllocError> {
-    let name = requirement.name.copy(alloc)?;
-    Ok(Node { name, extra: None })
+// The tree of a marker.
+fn tree_in(alloc: Global, marker: &str) -> Result<Tree, Fail>
+    ensures { IfOk result IsTree }
+{
+    let marker = Marker::read(alloc, marker)?;
+    let tree = of_marker(alloc, &marker)?;
+    Ok(tree)
 }
 
 // The diagram of a marker.
@@ -131,9 +129,8 @@ fn region_of<R: Wait>(
     algebra: &mut Algebra<'_>,
     marker: &str,
 ) -> Result<Diagram, Fail> {
-    let requirement = requirement_in(alloc, marker)?;
-    let node = node_of(alloc, &requirement)?;
-    let region = truth_at(rt, alloc, algebra, &node, &requirement)?;
+    let tree = tree_in(alloc, marker)?;
+    let region = algebra.of_tree(rt, alloc, &tree)?;
     Ok(region)
 }
 
