@@ -20,11 +20,11 @@ use ul_workers::Round;
 // line it has the number of regions of each generation, and then the leaves: the path of each, its decisions, and a
 // marker that is true where its region is.
 //
-// Three markers that don't depend on one another split three times. One marker in two spellings doesn't split, nor do
-// two that are never true in one world. A release that isn't fit everywhere splits by its interpreters where the
+// Three markers that don't depend on one another split three times. One marker in two spellings doesn't split; of two
+// others the first that fails somewhere does. A release that isn't fit everywhere splits by its interpreters where the
 // strategy lets it in, and else gives way to an older one. Of two refused regions the first is answered.
-const ROWS: &str =
-    r#"'q', "q<2; sys_platform == 'win32'", 'r', "r<2; os_name == 'nt'", 's', "s<2; python_version < '3.10'"
+const ROWS: &str = r#"
+'q', "q<2; sys_platform == 'win32'", 'r', "r<2; os_name == 'nt'", 's', "s<2; python_version < '3.10'"
 | | q,r,s | {"version": "1"}, {"version": "2"}
 ----
 1 2 4 8
@@ -144,8 +144,11 @@ fn is_line<R: Wait>(
     line: &str,
 ) -> Result<bool, Fail> {
     let (wanted, marker) = line.split_once(" in ").unwrap_or((line, ""));
+    if text != wanted {
+        return Ok(false);
+    }
     let there = region_of(rt, alloc, algebra, marker)?;
-    Ok(text == wanted && region.id() == there.id())
+    Ok(region.id() == there.id())
 }
 
 // Whether a line has this leaf.
@@ -222,7 +225,22 @@ fn are_rounds(rounds: &[Round], workers: u64, counts: &str) -> bool {
     counts.next().is_none()
 }
 
-// Whether a project has these counts and leaves with so many workers.
+// Whether these are the counts and the answer.
+fn is_right<R: Wait>(
+    rt: &R,
+    alloc: Global,
+    workers: u64,
+    algebra: &mut Algebra<'_>,
+    forked: &ForkAnswer,
+    rounds: &[Round],
+    wanted: &str,
+) -> Result<bool, Fail> {
+    let (counts, lines) = wanted.split_once('\n').unwrap_or((wanted, ""));
+    let right = is_answer(rt, alloc, algebra, forked, lines)?;
+    Ok(right && are_rounds(rounds, workers, counts))
+}
+
+// Whether a project has these counts and this answer with so many workers.
 fn is_answered<R: Threads + Wait + Sync>(
     rt: &R,
     alloc: Global,
@@ -232,11 +250,17 @@ fn is_answered<R: Threads + Wait + Sync>(
 ) -> Result<bool, Fail>
     requires { (1 ≤ workers) × (workers ≤ 64) }
 {
-    let (counts, lines) = wanted.split_once('\n').unwrap_or((wanted, ""));
     let (interner, pass) = Interner::<DiagramLabel>::begin(alloc)?;
     let (forked, rounds, mut algebra) = forks(rt, alloc, workers, &interner, pass, input, &Open)?;
-    let right = is_answer(rt, alloc, &mut algebra, &forked, lines)?;
-    Ok(right && are_rounds(rounds.as_slice(), workers, counts))
+    is_right(
+        rt,
+        alloc,
+        workers,
+        &mut algebra,
+        &forked,
+        rounds.as_slice(),
+        wanted,
+    )
 }
 
 // The first cell, and the rest.
@@ -253,7 +277,7 @@ fn input_in(alloc: Global, text: &str) -> Result<Input, Fail> {
     input_of(alloc, requirements, settings, names, releases)
 }
 
-// Whether a project has these counts and leaves with 1, 2, 8 and 64 workers.
+// Whether a project has these counts and this answer with 1, 2, 8 and 64 workers.
 fn are_answered<R: Threads + Wait + Sync>(
     rt: &R,
     alloc: Global,
@@ -268,7 +292,7 @@ fn are_answered<R: Threads + Wait + Sync>(
     Ok(true)
 }
 
-// Whether a row's project has its counts and leaves.
+// Whether a row's project has its counts and its answer.
 fn is_row<R: Threads + Wait + Sync>(rt: &R, alloc: Global, row: &str) -> Result<bool, Fail> {
     let (text, wanted) = row.split_once("----\n").unwrap_or((row, ""));
     let input = input_in(alloc, text)?;
