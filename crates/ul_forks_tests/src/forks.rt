@@ -1,0 +1,159 @@
+//! Fork answers of small projects.
+ghost use Rattle.std.specs.Prelude.{◌≡◌, ◌∷◌, ◌≤◌, [], IfSome, IsTrue};
+ghost use Rattle.ul_requirement.specs.Truth.{base};
+ghost use Rattle.ul_prepared.specs.Project.{IsProjectOf};
+ghost use Rattle.ul_forks.specs.Forked.{project_name};
+
+use std::alloc::{AllocError, Global};
+use std::sync::Wait;
+use std::test::Fail;
+use std::thread::Threads;
+use ul_algebra::{Algebra, DiagramLabel, DiagramPass};
+use ul_base::{Gate, SureFiles};
+use ul_forks::{ForkAnswer, ForkFault, fork_all};
+use ul_index::Catalog;
+use ul_interner::Interner;
+use ul_load::load_project;
+use ul_project::{Project, project};
+use ul_requirement::{Package, Release, Wish};
+use ul_workers::Round;
+
+/// A project, and the catalog of it and of a folder.
+#[derive(Drop)]
+pub struct Input {
+    project: Project,
+    catalog: Catalog,
+}
+
+// The project of a file with these requirements, and these lines behind them.
+fn project_of(alloc: Global, requirements: &str, settings: &str) -> Result<Project, Fail> {
+    let file = format!(in alloc;
+        "[project]\nname = 'demo'\nversion = '0.1'\ndependencies = [{requirements}]\n{settings}\n"
+    )?;
+    Ok(project(alloc, file.as_bytes())?)
+}
+
+// The path and the document of a package that has these releases.
+fn document(alloc: Global, name: &str, releases: &str) -> Result<(String, Vec<u8>), AllocError> {
+    let path = format!(in alloc; "ix/{name}.json")?;
+    let json = format!(in alloc; "{{\"name\": \"{name}\", \"versions\": [{releases}]}}")?;
+    Ok((path, json.into_bytes()))
+}
+
+// A folder whose packages, between commas, each have these releases.
+fn folder(alloc: Global, names: &str, releases: &str) -> Result<SureFiles, AllocError> {
+    let mut list = Vec::new(alloc);
+    for name in names.split(',') {
+        list.push(document(alloc, name, releases)?)?;
+    }
+    Ok(SureFiles::of(alloc, list))
+}
+
+// The catalog of a project and of such a folder.
+fn catalog_of(
+    alloc: Global,
+    project: &Project,
+    names: &str,
+    releases: &str,
+) -> Result<Catalog, Fail> {
+    let mut files = folder(alloc, names, releases)?;
+    match load_project(alloc, &mut files, "ix", project) {
+        Ok(catalog) => Ok(catalog),
+        Err(_) => Err(Fail::from("not loaded")),
+    }
+}
+
+/// The project of these requirements and settings, with packages, between commas, that each have these releases.
+pub fn input_of(
+    alloc: Global,
+    requirements: &str,
+    settings: &str,
+    names: &str,
+    releases: &str,
+) -> Result<Input, Fail> {
+    let project = project_of(alloc, requirements, settings)?;
+    let catalog = catalog_of(alloc, &project, names, releases)?;
+    Ok(Input { project, catalog })
+}
+
+// What a project wishes, without an old lock.
+fn wish_of(alloc: Global, project: &Project) -> Wish {
+    Wish {
+        mode: project.mode,
+        strategy: project.strategy,
+        kept: Vec::new(alloc),
+    }
+}
+
+// The release of a package that has one.
+fn only_release(found: &Package) -> Option<&Release>
+    ensures { IfSome result (λ r. found.now.releases ≡ r.now ∷ []) }
+{
+    let releases: &Vec<Release> = &found.releases;
+    match releases.as_slice() {
+        [release] => Some(release),
+        _ => None,
+    }
+}
+
+// Whether a catalog begins with a package of one release, which isn't yanked.
+#[tactic(auto, using(crate::proofs::Beginning::begun))]
+fn is_begun(catalog: &Catalog) -> bool
+    ensures { IsTrue result → IsProjectOf catalog.now (base (project_name catalog.now) ∷ []) }
+{
+    match catalog.packages() {
+        [project, ..] => match only_release(project) {
+            Some(release) => !release.yanked,
+            None => false,
+        },
+        [] => false,
+    }
+}
+
+/// The fork answer of a project without extras.
+pub fn forks<'i, R: Threads + Wait + Sync, G: Gate + Sync>(
+    rt: &R,
+    alloc: Global,
+    workers: u64,
+    interner: &'i Interner<DiagramLabel>,
+    pass: DiagramPass,
+    input: &Input,
+    gate: &G,
+) -> Result<(ForkAnswer, Vec<Round>, Algebra<'i>), ForkFault>
+    requires workers { (1 ≤ workers) × (workers ≤ 64) }
+    requires own { pass.table ≡ interner.now }
+{
+    let project: &Project = &input.project;
+    let catalog: &Catalog = &input.catalog;
+    if !is_begun(catalog) {
+        return Err(ForkFault::NoMemory);
+    }
+    let wish = wish_of(alloc, project);
+    fork_all(
+        rt,
+        alloc,
+        workers,
+        interner,
+        pass,
+        catalog,
+        &[],
+        &wish,
+        &project.region,
+        gate,
+    )
+}
+
+/// That answer alone, on an interner of its own.
+pub fn forked<R: Threads + Wait + Sync, G: Gate + Sync>(
+    rt: &R,
+    alloc: Global,
+    workers: u64,
+    input: &Input,
+    gate: &G,
+) -> Result<ForkAnswer, ForkFault>
+    requires { (1 ≤ workers) × (workers ≤ 64) }
+{
+    let (interner, pass) = Interner::<DiagramLabel>::begin(alloc)?;
+    let answer = forks(rt, alloc, workers, &interner, pass, input, gate)?;
+    Ok(answer.0)
+}
