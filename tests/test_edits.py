@@ -29,7 +29,7 @@ class Edits(unittest.TestCase):
     def test_each_crate_has_edits_that_the_gate_tries(self) -> None:
         for edits in TOP.glob("crates/*/must-fail"):
             tried = len(list(edits.glob("*.edit")))
-            self.assertTrue(1 <= tried <= 3, edits)
+            self.assertTrue(1 <= tried <= 6, edits)
 
 
 if __name__ == "__main__":
