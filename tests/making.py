@@ -12,6 +12,9 @@ from pathlib import Path
 from typing import Iterable, Optional
 
 TOP = Path(__file__).resolve().parent.parent
+# The script `unilock` keeps the program in out/; a build by hand leaves it in its crate.
+BUILT = [TOP / "out" / "unilock", TOP / "crates" / "unilock" / "out" / "unilock"]
+PROGRAM = next((it for it in BUILT if it.exists()), BUILT[0])
 
 
 def tool(name: str) -> types.ModuleType:

@@ -4,15 +4,11 @@ from __future__ import annotations
 
 import tempfile
 import unittest
-from importlib.machinery import SourceFileLoader
-from importlib.util import module_from_spec, spec_from_loader
 from pathlib import Path
 
-from making import TOP
+from making import TOP, tool
 
-LOADER = SourceFileLoader("try_edits", str(TOP / "tools" / "try-edits"))
-TRY_EDITS = module_from_spec(spec_from_loader(LOADER.name, LOADER))
-LOADER.exec_module(TRY_EDITS)
+TRY_EDITS = tool("try-edits")
 
 
 class Edits(unittest.TestCase):

@@ -5,8 +5,7 @@ from __future__ import annotations
 import subprocess
 import unittest
 
-from making import TOP
-from test_walk import PROGRAM
+from making import PROGRAM, TOP
 
 EXAMPLES = TOP / "examples"
 CASES = [

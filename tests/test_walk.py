@@ -9,11 +9,8 @@ import tempfile
 import unittest
 from pathlib import Path
 
-from making import TOP, plain_wheel
+from making import PROGRAM, TOP, plain_wheel
 
-# The script `unilock` keeps the program in out/; a build by hand leaves it in its crate.
-BUILT = [TOP / "out" / "unilock", TOP / "crates" / "unilock" / "out" / "unilock"]
-PROGRAM = next((it for it in BUILT if it.exists()), BUILT[0])
 PROJECT = """[project]
 name = "walk"
 version = "1"
