@@ -21,4 +21,4 @@ files_after calls faults last =
 -- a sink with these bytes, of which the second write fails after three bytes, after so many writes and faults
 abbrev pub sink_after : List ℕ → ℕ → ℕ → SinkState
 sink_after bytes calls faults =
-    record { written = bytes; failing = (1, 3) ∷ []; calls = calls; faults = faults }
+    record { bytes = bytes; failing = (1, 3) ∷ []; calls = calls; faults = faults }

@@ -7,14 +7,14 @@ use Rattle.ul_base.specs.declared.sink.SinkRefused.TheVariants.{Failed, NoMemory
 -- a sink in memory: the bytes written, the numbers of the calls that fail, each with the count of bytes after which
 -- it does, how many calls there were, and how many of them failed
 pub record SinkState : Type 0 where
-  pub written : List ℕ
+  pub bytes : List ℕ
   pub failing : List (ℕ × ℕ)
   pub calls : ℕ
   pub faults : ℕ
 
 -- a sink that nothing was written to
 abbrev pub empty_sink : List (ℕ × ℕ) → SinkState
-empty_sink failing = record { written = []; failing = failing; calls = 0; faults = 0 }
+empty_sink failing = record { bytes = []; failing = failing; calls = 0; faults = 0 }
 
 -- after how many bytes the call of this number fails, if it does: the first pair that begins with the number counts
 abbrev pub bytes_before : List (ℕ × ℕ) → ℕ → Option ℕ
@@ -23,7 +23,7 @@ bytes_before (pair ∷ pairs) call = if pair.0 == call then Some pair.1 else byt
 
 -- the sink after one more write, of which it took this
 abbrev pub sink_with : SinkState → List ℕ → SinkState
-sink_with before bytes = record before { written = before.written ++ bytes; calls = next_count before.calls }
+sink_with before bytes = record before { written = before.bytes ++ bytes; calls = next_count before.calls }
 
 -- the next call answers so, and leaves the sink so: it fails exactly where its number is one of those that fail, and
 -- then writes as many bytes as are said there, or the whole piece where that is less

@@ -23,7 +23,7 @@ impl Model for MemSink {
     ghost Value = { SinkState };
 
     ghost view = { λ s. record {
-      written = s.bytes.items;
+      bytes = s.bytes.items;
       failing = s.failing.items;
       calls = s.calls;
       faults = s.faults;
@@ -46,20 +46,20 @@ impl MemSink {
 
     /// What was written.
     pub fn bytes(&self) -> &Vec<u8>
-        ensures { result.now.items ≡ self.now.written }
+        ensures { result.now.items ≡ self.now.bytes }
     {
         &self.bytes
     }
 }
 
 impl Sink for MemSink {
-    ghost bytes = { λ s. Some s.written };
+    ghost bytes = { λ s. Some s.bytes };
 
     ghost faults = { λ s. s.faults };
 
     fn write_all(&mut self, piece: &[u8]) -> Result<(), SinkRefused>
         ensures cause { WriteCause self.old.faults self.new.faults
-            (Some self.old.written) (Some self.new.written) piece.now result }
+            (Some self.old.bytes) (Some self.new.bytes) piece.now result }
         ensures exact { MemWrite self.old self.new piece.now result }
     {
         let failing = failing_at(&self.failing, self.calls);

@@ -72,10 +72,10 @@ need_tested p n m s w x rows b e q t h k = (
 
 -- what a step says, as it stands in a cut or as it was made
 pub cut_said : (p : Plain) (i j m : ℕ) (ts : List Term) → IsStepWithin p (Cut i j m ts) → IsSaid p (Cut i j m ts) ts
-cut_said p i j m ts h = record { same = refl; fits = h.0; ordered = h.1.0 }
+cut_said p i j m ts h = record { same = refl; fits = h.0; is_ordered = h.1.0 }
 
 pub made_said : (p : Plain) (s : Step) (ts : List Term) → IsStepWithin p s → ts ≡ says p s → AreTermsOf p ts → IsSaid p s ts
-made_said p s ts h e f = record { same = e; fits = f; ordered = subst IsOrdered (sym e) (says_whole p s h).0 }
+made_said p s ts h e f = record { same = e; fits = f; is_ordered = subst IsOrdered (sym e) (says_whole p s h).0 }
 
 pub are_of_one : (p : Plain) (s t : Step) (l r : List Term) → IsSaid p s l → IsSaid p t r → AreOfOne l r
 are_of_one p s t l r a b = (p, a.fits, b.fits)

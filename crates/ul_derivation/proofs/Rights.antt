@@ -40,7 +40,7 @@ right_at p (suc n) earlier (x ∷ xs) (suc i) s r h e =
 -- the earlier of two first bad steps would be right
 not_before : (p : Plain) (steps : List Step) (j k : ℕ) → IsFirstBad p steps j → IsFirstBad p steps k → j < k → ⊥
 not_before p steps j k a b h = elim a.bad [
-  | inl x ↦ x.2 (right_at p (k - 1) [] steps (j - 1) x.0 b.before (omega (arith, a.counted)) x.1)
+  | inl x ↦ x.2 (right_at p (k - 1) [] steps (j - 1) x.0 b.before (omega (arith, a.is_number)) x.1)
   | inr x ↦ elim b.bad [
     | inl y ↦ (let w = slice_get_within steps (k - 1) y.0 y.1 in omega (arith, w, x.0))
     | inr y ↦ omega (arith, x.0, y.0)
@@ -64,7 +64,7 @@ fault_refuses p steps k a r = elim a.bad [
 pub bad_here : (p : Plain) (steps all : List Step) (i : ℕ) (s : Step) (b : Bool) → steps ≡ all → i < length steps → s ≡ get_or steps i s → AreRightAfter p [] (take i steps)
     → IsTrue b ↔ IsRight p (take i steps) s → b ≡ false → IsFirstBad p all (i + 1)
 bad_here p steps all i s b e l is before t f = subst (λ (x : List Step). IsFirstBad p x (i + 1)) e (record {
-  counted = omega arith;
+  is_number = omega arith;
   before = subst (λ (k : ℕ). AreRightAfter p [] (take k steps)) (sym back) before;
   bad = inl (s, ap (slice_get steps) back ∙ slice_get_read steps (length steps) i s refl l is, λ r. true≢false (sym (t.1 (subst (λ (k : ℕ). IsRight p (take k steps) s) back r)) ∙ f));
 })

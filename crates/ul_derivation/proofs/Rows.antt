@@ -41,13 +41,13 @@ beyond k h =
     rw (a, b, c) refl
 
 cut_each : IsResolvent 1 (In 0 (true ∷ []) ∷ NotIn 1 (true ∷ false ∷ []) ∷ []) (In 1 (true ∷ false ∷ []) ∷ []) (In 0 (true ∷ []) ∷ [])
-cut_each = record { ordered = tt; each = elim [ zero ↦ refl | suc k ↦ elim k as (λ j. EachAt (suc j)) [ zero ↦ refl | suc j ↦ beyond (suc (suc j)) (omega arith) ] ] }
+cut_each = record { is_ordered = tt; each = elim [ zero ↦ refl | suc k ↦ elim k as (λ j. EachAt (suc j)) [ zero ↦ refl | suc j ↦ beyond (suc (suc j)) (omega arith) ] ] }
 
 pub accepted : ClashAccepted
 accepted = ((first_right, (second_right, ((((omega arith, refl), tt), (first_step, second_step, refl, refl, (NotIn 1 (true ∷ false ∷ []), refl), (In 1 (true ∷ false ∷ []), refl), cut_each)), tt))), ((at_head 0 [] 0 refl, (omega arith, refl), refl), tt))
 
 pub short : ClashShort
-short = record { counted = omega arith; before = (first_right, (second_right, tt)); bad = inl (Cut 1 2 1 [], refl, bad_cut) }
+short = record { is_number = omega arith; before = (first_right, (second_right, tt)); bad = inl (Cut 1 2 1 [], refl, bad_cut) }
   where
     bad_cut : IsRight clash (first_step ∷ second_step ∷ []) (Cut 1 2 1 []) → ⊥
     bad_cut (of, (left, right, el, er, tl, tr, res)) =
@@ -58,7 +58,7 @@ short = record { counted = omega arith; before = (first_right, (second_right, tt
         none-some (In 0 (true ∷ [])) g
 
 pub uncut : ClashUncut
-uncut = record { counted = omega arith; before = (first_right, (second_right, tt)); bad = inr (refl, λ h. not_root h.0.0) }
+uncut = record { is_number = omega arith; before = (first_right, (second_right, tt)); bad = inr (refl, λ h. not_root h.0.0) }
   where
     not_root : Contains {X = ℕ} (0 ∷ []) 1 → ⊥
     not_root i = elim (head_or_rest 0 [] 1 i) [ inl e ↦ absurd (omega arith) | inr j ↦ in_none 1 j ]

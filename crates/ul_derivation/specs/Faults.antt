@@ -12,7 +12,7 @@ IsBadAt p steps i = (s : Step) × (slice_get steps i ≡ Some s) × (IsRight p (
 
 -- k, from 1, is the first bad step, or one past the last where all are right and the last doesn't forbid the roots
 pub record IsFirstBad (p : Plain) (steps : List Step) (k : ℕ) : Type 0 where
-  pub counted : 0 < k
+  pub is_number : 0 < k
   pub before : AreRightAfter p [] (take (k - 1) steps)
   pub bad : IsBadAt p steps (k - 1) ⊎ ((k ≡ length steps + 1) × (ClosesWith p steps → ⊥))
 

@@ -10,6 +10,6 @@ use Rattle.ul_derivation.specs.declared.accept.AcceptFault.{AcceptFault}
 -- What an answer on a derivation says: `Ok` that each step is right and the last forbids the roots, so that no selection serves the
 -- problem; `Err` where the first bad step is.
 pub record IsJudged (p : Plain) (steps : List Step) (answer : Result (Unit {0}) AcceptFault) : Type 0 where
-  pub accepted : IfOk answer (λ _. Accepts p steps)
+  pub accepts : IfOk answer (λ _. Accepts p steps)
   pub none : IfOk answer (λ _. HasNone p)
   pub fault : IfErr answer (λ e. IsFault p steps e)

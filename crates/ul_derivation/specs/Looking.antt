@@ -30,7 +30,7 @@ said_or (Cut i j m ts) None = ts
 pub record IsSaid (p : Plain) (step : Step) (terms : List Term) : Type 0 where
   pub same : terms ≡ says p step
   pub fits : AreTermsOf p terms
-  pub ordered : IsOrdered terms
+  pub is_ordered : IsOrdered terms
 
 -- both lists have a term on the node, and the terms are their resolvent on it
 abbrev pub AreCut : ℕ → List Term → List Term → List Term → Type 0

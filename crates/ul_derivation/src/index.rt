@@ -23,14 +23,14 @@ pub struct Index {
 }
 
 impl Index {
-    pub fn new(alloc: Global) -> Index {
+    pub(crate) fn new(alloc: Global) -> Index {
         Index {
             rows: HashMap::new(alloc),
         }
     }
 
     // Has the row of a node and a version in it, if the row is long.
-    pub fn prepare(
+    pub(crate) fn prepare(
         &mut self,
         alloc: Global,
         node: u64,
@@ -45,7 +45,7 @@ impl Index {
     }
 
     // What it has of the row of a node and a version.
-    pub fn entries(&self, node: u64, version: u32) -> &[Entry] {
+    pub(crate) fn entries(&self, node: u64, version: u32) -> &[Entry] {
         match self.rows.get(&(node, version)) {
             Some(entries) => entries.as_slice(),
             None => &[],

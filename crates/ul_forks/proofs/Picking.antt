@@ -50,7 +50,7 @@ there (z ∷ zs) (suc k) l = there zs k (omega (arith, l))
 
 by_facts : (p : Problem) (n v : ℕ) (o : Option NodeFacts) → node_at p n ≡ o → (i : ℕ) → slice_get (order_in o) i ≡ Some v → IsWellFormed p → HasPick p (n, v)
 by_facts p n v None e i at w = absurd (none-some v at)
-by_facts p n v (Some f) e i at w = record { facts = f; at = e; within = All-contains (λ u. u < length f.versions) f.order v (node_whole p n f w e).ordered.1 (place_one f.order i v at) }
+by_facts p n v (Some f) e i at w = record { facts = f; at = e; within = All-contains (λ u. u < length f.versions) f.order v (node_whole p n f w e).is_order.1 (place_one f.order i v at) }
 
 pub best_there : (p : Problem) (d es : Picks) → IsWellFormed p → IsBestFrom p d es → All (HasPick p) es
 best_there p d [] w h = All-nil (HasPick p)

@@ -104,7 +104,7 @@ interpreter_version major minor patch =
 
 interpreter_is : (major minor patch : ℕ) → major < 2 ^ 32 → minor < 2 ^ 32 → patch < 2 ^ 32 → IsVersion (plain (major ∷ minor ∷ patch ∷ []))
 interpreter_is major minor patch a b c = record {
-  filled = omega arith;
+  nonempty = omega arith;
   epoch_fits = lit< tt;
   release_fits =
       All-cons IsNumber64 major (minor ∷ patch ∷ []) (omega arith)

@@ -160,8 +160,8 @@ module _ (c : Packages) (starts : List Node) (wish : WishFields) (R S : Region) 
       let wg = node_whole q k g iq.well_formed ag in
       let vs = versions_same k f g af ag in
       let name : f.node ≡ g.node = same k f g af ag in
-      flags_same f.barred g.barred (wf.barred ∙ (ap length vs ∙ sym wg.barred))
-      (λ v l. let x = there f.versions v (subst (λ (m : ℕ). v < m) wf.barred l) in
+      flags_same f.barred g.barred (wf.barred_size ∙ (ap length vs ∙ sym wg.barred_size))
+      (λ v l. let x = there f.versions v (subst (λ (m : ℕ). v < m) wf.barred_size l) in
       decided_same (has v f.barred) (has v g.barred) (Suits wish.strategy R (is_fit c f.node.name x.0)) (Suits wish.strategy S (is_fit c f.node.name x.0))
       ((ip.facts k f af).barred v x.0 x.1)
       (subst (λ (n : Node). Decides (not (has v g.barred)) (Suits wish.strategy S (is_fit c n.name x.0))) (sym name) ((iq.facts k g ag).barred v x.0 (subst (λ (z : List Fields). slice_get z v ≡ Some x.0) vs x.1)))
@@ -192,8 +192,8 @@ module _ (c : Packages) (starts : List Node) (wish : WishFields) (R S : Region) 
   facts_same : (k : ℕ) (f g : NodeFacts) → node_at p k ≡ Some f → node_at q k ≡ Some g → f ≡ g
   facts_same k f g af ag =
       let node : f.node ≡ g.node = same k f g af ag in
-      let base : f.base ≡ g.base = bases_same f g f.node.extra f.base g.base node (node_whole p k f ip.well_formed af).based
-      (subst (λ (n : Node). HasBase q.nodes g n.extra g.base) (sym node) (node_whole q k g iq.well_formed ag).based) in
+      let base : f.base ≡ g.base = bases_same f g f.node.extra f.base g.base node (node_whole p k f ip.well_formed af).has_base
+      (subst (λ (n : Node). HasBase q.nodes g n.extra g.base) (sym node) (node_whole q k g iq.well_formed ag).has_base) in
       let versions : f.versions ≡ g.versions = versions_same k f g af ag in
       let order : f.order ≡ g.order = order_same k f g af ag in
       let barred : f.barred ≡ g.barred = barred_same k f g af ag in

@@ -122,9 +122,9 @@ module _ (h : PassView) (R : Region) (p : Prepared) (aims : List (Option NodeAim
   pub node_right : IsNodeOf fs f
   node_right = record {
     increasing = subst (λ (z : List Fields). Increases VersionBefore z) (sym own_versions) name.increasing;
-    based = subst (λ (z : Option ℕ). HasBase fs f f.node.extra z) (sym is.base) (base_of_base planned.base refl plan.base);
-    ordered = subst (λ (z : List Fields). IsOrderOf (length z) f.order) (sym own_versions) (subst (λ (z : List ℕ). IsOrderOf (length plan.facts.versions) z) (sym own_order) name.whole);
-    barred = is.barred.size ∙ row_count;
+    has_base = subst (λ (z : Option ℕ). HasBase fs f f.node.extra z) (sym is.base) (base_of_base planned.base refl plan.base);
+    is_order = subst (λ (z : List Fields). IsOrderOf (length z) f.order) (sym own_versions) (subst (λ (z : List ℕ). IsOrderOf (length plan.facts.versions) z) (sym own_order) name.whole);
+    barred_size = is.barred.size ∙ row_count;
     rows = ap length is.needs ∙ (long_map (needs_ranked ranks) own.versions.items ∙ ((reach.right k own looked planned at).count ∙ row_count));
     needs = subst (λ (z : List (List PlaceNeed)). AllAre (AreNeeds fs) z) (sym is.needs) (all_are_map (AreNeeds fs) (needs_ranked ranks) own.versions.items needs_right);
   }

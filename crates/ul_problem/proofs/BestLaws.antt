@@ -154,12 +154,12 @@ map_serves p d wf b (σ, s, a) =
     let same : (n v : ℕ) → IsAsked p d n → σ n ≡ Some v → version_in d n ≡ Some v = λ n v h e. (let r = decided_version d n (done n h) in r.1 ∙ (sym (has n r.0 r.1) ∙ e)) in
     record {
       within = λ n v h. s.within n v (has n v h);
-      rooted = λ n h. decided_version d n (done n (one_left n p.roots (joined_needs p d) h));
+      has_roots = λ n h. decided_version d n (done n (one_left n p.roots (joined_needs p d) h));
       fit = λ n v h. s.fit n v (has n v h);
-      based = λ n v b' h e. same b' v (asked_base p d n b' wf (asked_all p [] d n v (chain_best p [] d b) (pick_of d n v h)) e) (s.based n v b' (has n v h) e);
-      met = λ n v h need i. (let r = decided_version d need.node (done need.node (one_right need.node p.roots (joined_needs p d) (wanted_one p d n v need (pick_of d n v h) i))) in
+      same_base = λ n v b' h e. same b' v (asked_base p d n b' wf (asked_all p [] d n v (chain_best p [] d b) (pick_of d n v h)) e) (s.same_base n v b' (has n v h) e);
+      meets = λ n v h need i. (let r = decided_version d need.node (done need.node (one_right need.node p.roots (joined_needs p d) (wanted_one p d n v need (pick_of d n v h) i))) in
           let both : version_in d need.node ≡ σ need.node = r.1 ∙ sym (has need.node r.0 r.1) in
-          ap (λ (o : Option ℕ). is_among o need.permitted) both ∙ s.met n v (has n v h) need i);
+          ap (λ (o : Option ℕ). is_among o need.permitted) both ∙ s.meets n v (has n v h) need i);
     }
 
 pub best_serves : (p : Plain) (d : Picks) → IsWellFormed p → IsBest p d → Serves p (version_in d)

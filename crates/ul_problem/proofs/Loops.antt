@@ -114,9 +114,9 @@ node_tested nodes f size order versions rows b ev er eo es et el i h r q =
     let same : size ≡ length f.versions = et ∙ ap length ev in (
       λ t. record {
         increasing = subst (Increases VersionBefore) ev i;
-        based = h;
-        ordered = subst (λ (n : ℕ). IsOrderOf n f.order) same (subst (λ (o : List ℕ). IsOrderOf size o) eo (q.0 t));
-        barred = sym es ∙ same;
+        has_base = h;
+        is_order = subst (λ (n : ℕ). IsOrderOf n f.order) same (subst (λ (o : List ℕ). IsOrderOf size o) eo (q.0 t));
+        barred_size = sym es ∙ same;
         rows = sym (ap length er) ∙ (el ∙ ap length ev);
         needs = subst (AllAre (AreNeeds nodes)) er r;
       },

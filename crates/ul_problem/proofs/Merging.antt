@@ -39,7 +39,7 @@ IsOn n (Some t) = node_of t ≡ n
 pub record IsMerging (m : ℕ) (left right out l r : List Term) : Type 0 where
   pub low : ℕ
   pub below : AreBelow low out
-  pub ordered : IsOrdered out
+  pub is_ordered : IsOrdered out
   pub on_left : IsOrderedAt low l
   pub on_right : IsOrderedAt low r
   pub each : (k : ℕ) → resolvent_term m k (term_on k left) (term_on k right) ≡ or_else (term_on k out) (resolvent_term m k (term_on k l) (term_on k r))
@@ -110,7 +110,7 @@ step : (m n : ℕ) (left right out l r l' r' : List Term) (x : Option Term) → 
 step m n left right out l r l' r' x s i ol or on is sl sr = record {
   low = suc n;
   below = below_more s.low n out x s.below i on;
-  ordered = ordered_one s.low n out x s.ordered s.below i on;
+  is_ordered = ordered_one s.low n out x s.is_ordered s.below i on;
   on_left = at_from n l' ol;
   on_right = at_from n r' or;
   each = λ k. elim (cases_order n k) [ inl e ↦ here k e | inr h ↦ there k (λ e. elim h [ inl a ↦ omega arith | inr b ↦ omega arith ]) ];
@@ -243,11 +243,11 @@ at_zero [] h = tt
 at_zero (t ∷ ts) h = (omega arith, h)
 
 pub merging_starts : (m : ℕ) (left right : List Term) → IsOrdered left → IsOrdered right → IsMerging m left right [] left right
-merging_starts m left right a b = record { low = 0; below = tt; ordered = tt; on_left = at_zero left a; on_right = at_zero right b; each = λ k. refl }
+merging_starts m left right a b = record { low = 0; below = tt; is_ordered = tt; on_left = at_zero left a; on_right = at_zero right b; each = λ k. refl }
 
 pub merging_ends : (m : ℕ) (left right out : List Term) → IsMerging m left right out [] [] → IsResolvent m left right out
 merging_ends m left right out s = record {
-  ordered = s.ordered;
+  is_ordered = s.is_ordered;
   each = λ k. sym (s.each k ∙ (ap (λ (o : Option Term). or_else (term_on k out) o) (none_resolved m k) ∙ or_none (term_on k out)));
 }
 
@@ -280,7 +280,7 @@ same_terms_on (t ∷ ts) (u ∷ us) a b h = which (cases_order (node_of t) (node
 
 -- a resolvent is the only one
 pub one_resolvent : (m : ℕ) (left right ts us : List Term) → IsResolvent m left right ts → IsResolvent m left right us → ts ≡ us
-one_resolvent m left right ts us a b = same_terms_on ts us a.ordered b.ordered (λ k. a.each k ∙ sym (b.each k))
+one_resolvent m left right ts us a b = same_terms_on ts us a.is_ordered b.is_ordered (λ k. a.each k ∙ sym (b.each k))
 
 -- the resolvent compared with a list
 pub wanted_same : (m : ℕ) (left right wanted read ts : List Term) (b : Bool) → IsResolvent m left right wanted → read ≡ wanted → (IsTrue b ↔ (read ≡ ts)) → IsTrue b ↔ IsResolvent m left right ts

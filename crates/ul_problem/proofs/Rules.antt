@@ -69,7 +69,7 @@ barred_size p n wf = which (node_at p n) (λ f e. node_whole p n f wf e)
   where
     which : (o : Option NodeFacts) → ((f : NodeFacts) → o ≡ Some f → IsNodeOf p.nodes f) → length (barred_in o) ≡ size_in o
     which None h = refl
-    which (Some f) h = (h f refl).barred
+    which (Some f) h = (h f refl).barred_size
 
 -- the needs of a version
 row_whole : (nodes : List NodeFacts) (rows : List (List Need)) (v : ℕ) → AllAre (AreNeeds nodes) rows → AreNeeds nodes (get_or rows v [])
@@ -118,7 +118,7 @@ need_fits p n v need wf h = let r = need_in p.nodes [] (needs_of p n v) need (ne
 pub base_fits : (p : Plain) (n b : ℕ) → IsWellFormed p → base_of p n ≡ Some b → (b < length p.nodes) × (size_of p b ≡ size_of p n)
 base_fits p n b wf e =
     let f = node_of_base p n b e in
-    let g = at_base f.0 (f.0).node.extra (f.0).base ((node_whole p n f.0 wf f.1).based) f.2 in
+    let g = at_base f.0 (f.0).node.extra (f.0).base ((node_whole p n f.0 wf f.1).has_base) f.2 in
     let h = in_base f.0 (slice_get p.nodes b) g in
     (slice_get_within p.nodes b h.0 h.1, ap size_in h.1 ∙ (ap length h.2.2 ∙ sym (ap size_in f.1)))
   where

@@ -142,7 +142,7 @@ need_sound p n m s w r σ serves h =
     let both = pair_holds σ (In n s) (NotIn m w) h in
     let at = picked (σ n) s both.0 in
     let need = r at.0 at.2 in
-    let met : is_among (σ need.0.node) need.0.permitted ≡ true = serves.met n at.0 at.1 need.0 need.1 in
+    let met : is_among (σ need.0.node) need.0.permitted ≡ true = serves.meets n at.0 at.1 need.0 need.1 in
     let met_there : is_among (σ m) need.0.permitted ≡ true = subst (λ (k : ℕ). is_among (σ k) need.0.permitted ≡ true) need.2 met in
     not_both (is_among (σ m) w) (among_more (σ m) need.0.permitted w need.3 met_there) both.1
 
@@ -155,7 +155,7 @@ base_sound : (p : Plain) (n b : ℕ) (s : List Bool) → base_of p n ≡ Some b 
 base_sound p n b s r σ serves h =
     let both = pair_holds σ (In n s) (NotIn b s) h in
     let at = picked (σ n) s both.0 in
-    let same : σ b ≡ Some at.0 = serves.based n at.0 b at.1 r in
+    let same : σ b ≡ Some at.0 = serves.same_base n at.0 b at.1 r in
     not_both (is_among (σ b) s) (ap (λ (o : Option ℕ). is_among o s) same ∙ at.2) both.1
 
 -- what is known of a step
@@ -182,7 +182,7 @@ step_sound p earlier (Cut i j m ts) known (of, (left, right, el, er, tl, tr, res
     let kj = step_place earlier j right er in
     let l = known ki.0 left ki.1 in
     let r = known kj.0 right kj.1 in
-    (res.ordered, cut_sound p m (says p left) (says p right) ts l.0 r.0 l.1 r.1 res)
+    (res.is_ordered, cut_sound p m (says p left) (says p right) ts l.0 r.0 l.1 r.1 res)
 
 -- one more step
 at_end : {A : Type 0} (xs : List A) (y x : A) (k : ℕ) → slice_get (xs ++ y ∷ []) k ≡ Some x → (slice_get xs k ≡ Some x) ⊎ (y ≡ x)
@@ -217,7 +217,7 @@ root_holds : (p : Plain) (σ : Selection) (t : Term) → IsWellFormed p → Serv
 root_holds p σ (NotIn n s) wf serves r = absurd r
 root_holds p σ (In n s) wf serves r =
     let one : size_of p n ≡ 1 = root_single p n wf r.0 in
-    let at = serves.rooted n r.0 in
+    let at = serves.has_roots n r.0 in
     let below : at.0 < size_of p n = serves.within n at.0 at.1 in
     let some = blank_some s r.2 in
     let inside : some.0 < length s = has_within s some.0 some.1 in

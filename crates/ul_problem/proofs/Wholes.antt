@@ -182,10 +182,10 @@ comes (Some x) None t false e = inl e
 comes (Some x) (Some y) t false e = inr (inr (x, y, refl, refl, inl e))
 
 source : (m : ℕ) (left right ts : List Term) (t : Term) → IsResolvent m left right ts → Contains ts t → IsFrom (term_on (node_of t) left) (term_on (node_of t) right) t
-source m left right ts t r i = comes (term_on (node_of t) left) (term_on (node_of t) right) t (nat_eq (node_of t) m) (sym (r.each (node_of t)) ∙ one_term ts t r.ordered i)
+source m left right ts t r i = comes (term_on (node_of t) left) (term_on (node_of t) right) t (nat_eq (node_of t) m) (sym (r.each (node_of t)) ∙ one_term ts t r.is_ordered i)
 
 pub resolvent_whole : (m : ℕ) (left right ts : List Term) → IsIncompat left → IsIncompat right → IsResolvent m left right ts → IsIncompat ts
-resolvent_whole m left right ts a b r = (r.ordered, all_written ts (λ t i. from t (source m left right ts t r i)))
+resolvent_whole m left right ts a b r = (r.is_ordered, all_written ts (λ t i. from t (source m left right ts t r i)))
   where
     from : (t : Term) → IsFrom (term_on (node_of t) left) (term_on (node_of t) right) t → term_to_say t ≡ Some t
     from t (inl e) = written_at left t a.1 ((term_one (node_of t) left t e).0)

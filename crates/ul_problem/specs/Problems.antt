@@ -83,9 +83,9 @@ AreNeeds nodes needs = AreNeedsAfter nodes [] needs
 -- what is true of each node
 pub record IsNodeOf (nodes : List NodeFacts) (f : NodeFacts) : Type 0 where
   pub increasing : Increases VersionBefore f.versions
-  pub based : HasBase nodes f f.node.extra f.base
-  pub ordered : IsOrderOf (length f.versions) f.order
-  pub barred : length f.barred ≡ length f.versions
+  pub has_base : HasBase nodes f f.node.extra f.base
+  pub is_order : IsOrderOf (length f.versions) f.order
+  pub barred_size : length f.barred ≡ length f.versions
   pub rows : length f.needs ≡ length f.versions
   pub needs : AllAre (AreNeeds nodes) f.needs
 

@@ -11,10 +11,10 @@ use Rattle.ul_problem.specs.declared.problem.Need.{Need}
 -- The selection serves the problem. It has versions of the problem's nodes alone, so it is finite.
 pub record Serves (p : Plain) (σ : Selection) : Type 0 where
   pub within : (n v : ℕ) → σ n ≡ Some v → v < size_of p n
-  pub rooted : (n : ℕ) → Contains p.roots n → (v : ℕ) × (σ n ≡ Some v)
+  pub has_roots : (n : ℕ) → Contains p.roots n → (v : ℕ) × (σ n ≡ Some v)
   pub fit : (n v : ℕ) → σ n ≡ Some v → has v (barred_of p n) ≡ false
-  pub based : (n v b : ℕ) → σ n ≡ Some v → base_of p n ≡ Some b → σ b ≡ Some v
-  pub met : (n v : ℕ) → σ n ≡ Some v → (need : Need) → Contains (needs_of p n v) need → is_among (σ need.node) need.permitted ≡ true
+  pub same_base : (n v b : ℕ) → σ n ≡ Some v → base_of p n ≡ Some b → σ b ≡ Some v
+  pub meets : (n v : ℕ) → σ n ≡ Some v → (need : Need) → Contains (needs_of p n v) need → is_among (σ need.node) need.permitted ≡ true
 
 -- no serving selection has all the terms
 abbrev pub Forbids : Plain → List Term → Type 0

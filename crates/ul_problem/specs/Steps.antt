@@ -90,7 +90,7 @@ resolvent_term m k t u = cond (nat_eq k m) (joined_terms t u) (met_terms t u)
 
 -- the terms are the resolvent of two lists on a node
 pub record IsResolvent (m : ℕ) (left right ts : List Term) : Type 0 where
-  pub ordered : IsOrdered ts
+  pub is_ordered : IsOrdered ts
   pub each : (k : ℕ) → term_on k ts ≡ resolvent_term m k (term_on k left) (term_on k right)
 
 -- among the needs of a version is one of this target, whose permitted versions are all in the set

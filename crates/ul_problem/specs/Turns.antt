@@ -39,4 +39,4 @@ turn_of m (Some t) (Some u) =
 -- a term, where there is one, stands at a place of a list, and the next place follows it
 pub record IsPassed (terms : List Term) (place : ℕ) (term : Option Term) (next : ℕ) : Type 0 where
   pub within : next ≤ length terms
-  pub taken : take next terms ≡ take place terms ++ option_to_list term
+  pub front : take next terms ≡ take place terms ++ option_to_list term

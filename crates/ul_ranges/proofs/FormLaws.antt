@@ -45,11 +45,11 @@ has-flags_in size f h k = elim (cases_lt k size) [
 
 -- a set is kept so
 pub record IsKept (size : ℕ) (f : Form) (s : List Bool) : Type 0 where
-  pub kept : IsForm size f
+  pub is_form : IsForm size f
   pub view : flags_in size f ≡ s
 
 pub kept_flag : (size : ℕ) (f : Form) (s : List Bool) → IsKept size f s → (k : ℕ) → flag_in f k ≡ has k s
-kept_flag size f s h k = sym (has-flags_in size f h.kept k) ∙ ap (has k) h.view
+kept_flag size f s h k = sym (has-flags_in size f h.is_form k) ∙ ap (has k) h.view
 
 pub kept_size : (size : ℕ) (f : Form) (s : List Bool) → IsKept size f s → length s ≡ size
 kept_size size f s h = ap length (sym h.view) ∙ length-flags_in size f
@@ -76,22 +76,22 @@ module _ (m n : ℕ) (f g : Form) (s t : List Bool) (p : AreKept m n f g s t) wh
   one_size = sym (kept_size n g t p.right) ∙ sym p.sizes ∙ kept_size m f s p.left
 
   pub right_kept : IsForm m g
-  right_kept = subst (λ (k : ℕ). IsForm k g) one_size p.right.kept
+  right_kept = subst (λ (k : ℕ). IsForm k g) one_size p.right.is_form
 
   pub are_forms : AreForms f g
-  are_forms = record { size = m; left = p.left.kept; right = right_kept }
+  are_forms = record { size = m; left = p.left.is_form; right = right_kept }
 
   flags_two : (op : Bool → Bool → Bool) (k : ℕ) → op (flag_in f k) (flag_in g k) ≡ op (has k s) (has k t)
   flags_two op k = ap (λ (b : Bool). op b (flag_in g k)) (kept_flag m f s p.left k) ∙ ap (λ (b : Bool). op (has k s) b) (kept_flag n g t p.right k)
 
   pub made_both : (h : Form) → IsMade m in_both f g h → flags_in m h ≡ both s t
-  made_both h w = keeps m h (both s t) w.kept (length-both s t p.sizes ∙ kept_size m f s p.left) (λ k. w.each k ∙ flags_two in_both k ∙ sym (has-both k s t))
+  made_both h w = keeps m h (both s t) w.is_form (length-both s t p.sizes ∙ kept_size m f s p.left) (λ k. w.each k ∙ flags_two in_both k ∙ sym (has-both k s t))
 
   pub made_either : (h : Form) → IsMade m in_either f g h → flags_in m h ≡ either s t
-  made_either h w = keeps m h (either s t) w.kept (length-either s t p.sizes ∙ kept_size m f s p.left) (λ k. w.each k ∙ flags_two in_either k ∙ sym (has-either k s t))
+  made_either h w = keeps m h (either s t) w.is_form (length-either s t p.sizes ∙ kept_size m f s p.left) (λ k. w.each k ∙ flags_two in_either k ∙ sym (has-either k s t))
 
   pub made_less : (h : Form) → IsMade m in_first f g h → flags_in m h ≡ less s t
-  made_less h w = keeps m h (less s t) w.kept (length-less s t ∙ kept_size m f s p.left) (λ k. w.each k ∙ flags_two in_first k ∙ sym (has-less k s t))
+  made_less h w = keeps m h (less s t) w.is_form (length-less s t ∙ kept_size m f s p.left) (λ k. w.each k ∙ flags_two in_first k ∙ sym (has-less k s t))
 
   -- the tests
   pub same_tested : (r : Bool) → IsTrue r ↔ AreSame f g → IsTrue r ↔ (s ≡ t)
@@ -189,19 +189,19 @@ below_out size (Some m) g h = which (flag_in g m)
     which false = h
 
 pub few_meets : (size : ℕ) (o : Option ℕ) (g : Form) → IsFew size o → IsMade size in_both (Few o) g (Few (only_in o g))
-few_meets size o g h = record { kept = record { large = h.large; below = below_in size o g h.below }; each = λ k. flag_only_in o g k }
+few_meets size o g h = record { is_form = record { large = h.large; below = below_in size o g h.below }; each = λ k. flag_only_in o g k }
 
 pub meets_few : (size : ℕ) (f : Form) (o : Option ℕ) → IsFew size o → IsMade size in_both f (Few o) (Few (only_in o f))
-meets_few size f o h = record { kept = record { large = h.large; below = below_in size o f h.below }; each = λ k. flag_only_in o f k ∙ swapped (is_one o k) (flag_in f k) }
+meets_few size f o h = record { is_form = record { large = h.large; below = below_in size o f h.below }; each = λ k. flag_only_in o f k ∙ swapped (is_one o k) (flag_in f k) }
 
 pub few_lessens : (size : ℕ) (o : Option ℕ) (g : Form) → IsFew size o → IsMade size in_first (Few o) g (Few (only_out o g))
-few_lessens size o g h = record { kept = record { large = h.large; below = below_out size o g h.below }; each = λ k. flag_only_out o g k }
+few_lessens size o g h = record { is_form = record { large = h.large; below = below_out size o g h.below }; each = λ k. flag_only_out o g k }
 
 pub none_joins : (size : ℕ) (g : Form) → IsForm size g → IsMade size in_either (Few None) g g
-none_joins size g h = record { kept = h; each = λ k. refl }
+none_joins size g h = record { is_form = h; each = λ k. refl }
 
 pub joins_none : (size : ℕ) (f : Form) → IsForm size f → IsMade size in_either f (Few None) f
-joins_none size f h = record { kept = h; each = λ k. sym (or_none (flag_in f k)) }
+joins_none size f h = record { is_form = h; each = λ k. sym (or_none (flag_in f k)) }
   where
     or_none : (b : Bool) → cond b true false ≡ b
     or_none true = refl
@@ -216,7 +216,7 @@ beyond w k l = cond-false (nat_lt k 64) (flag w k) false (le-ltb k 64 l)
 
 pub word_meets : (size x y : ℕ) → IsWord size x → IsWord size y → IsMade size in_both (Word x) (Word y) (Word (bit_and x y))
 word_meets size x y a b = record {
-  kept = record {
+  is_form = record {
     small = a.small;
     fits = (let e = and_le_l x y in let f = a.fits in omega arith);
     clear = λ k l. flag-and x y k ∙ ap (λ (v : Bool). cond v (flag y k) false) (a.clear k l);
@@ -230,7 +230,7 @@ word_meets size x y a b = record {
 
 pub word_joins : (size x y : ℕ) → IsWord size x → IsWord size y → IsMade size in_either (Word x) (Word y) (Word (bit_or x y))
 word_joins size x y a b = record {
-  kept = record {
+  is_form = record {
     small = a.small;
     fits = or_lt 64 x y a.fits b.fits;
     clear = λ k l. flag-or x y k ∙ ap (λ (v : Bool). cond v true (flag y k)) (a.clear k l) ∙ b.clear k l;
@@ -244,7 +244,7 @@ word_joins size x y a b = record {
 
 pub word_lessens : (size x y : ℕ) → IsWord size x → IsWord size y → IsMade size in_first (Word x) (Word y) (Word (bit_and x (bit_not w64 y)))
 word_lessens size x y a b = record {
-  kept = record {
+  is_form = record {
     small = a.small;
     fits = (let e = and_le_l x (bit_not w64 y) in let f = a.fits in omega arith);
     clear = λ k l. flag-and x (bit_not w64 y) k ∙ ap (λ (v : Bool). cond v (flag (bit_not w64 y) k) false) (a.clear k l);
@@ -262,7 +262,7 @@ many_blocks size bs h = record { exact = h.exact; each = λ k. refl }
 pub zipped_made : (size : ℕ) (op : ℕ → ℕ → ℕ) (fb : Bool → Bool → Bool) (w : IsFlagwise op fb) (mine theirs made : Form) (xs ys r : List ℕ)
     → HasBlocks size mine xs → HasBlocks size theirs ys → r ≡ map (λ (p : ℕ × ℕ). op p.0 p.1) (zip xs ys) → IsSealed size r made → IsMade size fb mine theirs made
 zipped_made size op fb w mine theirs made xs ys r a b e s = record {
-  kept = s.kept;
+  is_form = s.is_form;
   each = λ k. s.each k ∙ ap (λ (bs : List ℕ). flag_at bs k) e ∙ zip_flag size xs ys op fb w a.exact b.exact k
       ∙ ap (λ (v : Bool). fb v (flag_at ys k)) (a.each k) ∙ ap (λ (v : Bool). fb (flag_in mine k) v) (b.each k);
 }
@@ -279,19 +279,19 @@ blocks_kept size f s bs h b =
 
 -- sets that are made of lists
 pub members_kept : (size : ℕ) (ms : List ℕ) (f : Form) → All (λ m. m < size) ms → HasMembers size ms f → flags_in size f ≡ set_of size ms
-members_kept size ms f all h = keeps size f (set_of size ms) h.kept (length-set_of size ms) (λ k. elim (cases_lt k size) [
+members_kept size ms f all h = keeps size f (set_of size ms) h.is_form (length-set_of size ms) (λ k. elim (cases_lt k size) [
   | inl l ↦ h.each k ∙ sym (has-set_of k size ms l)
-  | inr l ↦ flag_past size f k h.kept l ∙ sym (get_or_past (set_of size ms) k false (let e = length-set_of size ms in omega arith))
+  | inr l ↦ flag_past size f k h.is_form l ∙ sym (get_or_past (set_of size ms) k false (let e = length-set_of size ms in omega arith))
 ])
 
 pub none_kept : (size : ℕ) (f : Form) → HasMembers size [] f → flags_in size f ≡ replicate size false
-none_kept size f h = keeps size f (replicate size false) h.kept (length-replicate size false) (λ k. h.each k ∙ elim (cases_lt k size) [
+none_kept size f h = keeps size f (replicate size false) h.is_form (length-replicate size false) (λ k. h.each k ∙ elim (cases_lt k size) [
   | inl l ↦ sym (get_or-replicate size k false false l)
   | inr l ↦ sym (get_or_past (replicate size false) k false (let e = length-replicate size false in omega arith))
 ])
 
 pub all_kept : (size : ℕ) (f : Form) → HasAll size f → flags_in size f ≡ replicate size true
-all_kept size f h = keeps size f (replicate size true) h.kept (length-replicate size true) (λ k. h.each k ∙ elim (cases_lt k size) [
+all_kept size f h = keeps size f (replicate size true) h.is_form (length-replicate size true) (λ k. h.each k ∙ elim (cases_lt k size) [
   | inl l ↦ lt-ltb k size l ∙ sym (get_or-replicate size k true false l)
   | inr l ↦ le-ltb k size l ∙ sym (get_or_past (replicate size true) k false (let e = length-replicate size true in omega arith))
 ])

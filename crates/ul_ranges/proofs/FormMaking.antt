@@ -71,7 +71,7 @@ zipped_open size op fb w (Few o) g h a b z = absurd z
 pub zipped_resealed : (size : ℕ) (op : ℕ → ℕ → ℕ) (fb : Bool → Bool → Bool) (w : IsFlagwise op fb) (f g h made : Form) → IsForm size f → IsForm size g → IsZipped op f g h → IsResealed size h made
     → IsMade size fb f g made
 zipped_resealed size op fb w (Many xs) (Many ys) h made a b z r = record {
-  kept = r.kept;
+  is_form = r.is_form;
   each = λ k. r.each k ∙ ap (λ (v : Form). flag_in v k) z ∙ zip_flag size xs ys op fb w a.exact b.exact k;
 }
 zipped_resealed size op fb w (Many xs) (Word y) h made a b z r = absurd z
@@ -145,7 +145,7 @@ none_listed size k ms all past = list_any_none (λ m. eqb m k) ms (λ j d l. ne_
 
 pub word_members : (size w : ℕ) (ms : List ℕ) → size ≤ 64 → All (λ m. m < size) ms → IsMarkedWord w ms → HasMembers size ms (Word w)
 word_members size w ms s all h = record {
-  kept = record {
+  is_form = record {
     small = s;
     fits = h.fits;
     clear = λ k p. elim (cases_lt k 64) [
@@ -183,7 +183,7 @@ full_exact size bs h = record { count = h.count; words = h.words; clear = h.abov
 
 pub full_sealed : (size : ℕ) (bs : List ℕ) (f : Form) → IsFull size bs → IsSealed size bs f → HasAll size f
 full_sealed size bs f h s = record {
-  kept = s.kept;
+  is_form = s.is_form;
   each = λ k. s.each k ∙ elim (cases_lt k size) [
     | inl l ↦ h.below k l ∙ sym (lt-ltb k size l)
     | inr l ↦ h.above k l ∙ sym (le-ltb k size l)
@@ -192,7 +192,7 @@ full_sealed size bs f h s = record {
 
 pub full_word : (size : ℕ) → size ≤ 64 → HasAll size (Word (2 ^ size - 1))
 full_word size s = record {
-  kept = record { small = s; fits = full_fits size s; clear = λ k l. ones_above size k l };
+  is_form = record { small = s; fits = full_fits size s; clear = λ k l. ones_above size k l };
   each = λ k. elim (cases_lt k size) [
     | inl l ↦ bit_within (2 ^ size - 1) k (omega arith) ∙ ones_below size k l ∙ sym (lt-ltb k size l)
     | inr l ↦ past k l (cases_lt k 64) ∙ sym (le-ltb k size l)

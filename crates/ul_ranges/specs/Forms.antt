@@ -68,7 +68,7 @@ IsFewOf size blocks (Some one) = IsBelow size one × ((k : ℕ) → flag_at bloc
 
 -- these blocks, as they are kept
 pub record IsSealed (size : ℕ) (blocks : List ℕ) (form : Form) : Type 0 where
-  pub kept : IsForm size form
+  pub is_form : IsForm size form
   pub each : (k : ℕ) → flag_in form k ≡ flag_at blocks k
 
 -- the blocks of a set as it is kept
@@ -78,7 +78,7 @@ pub record HasBlocks (size : ℕ) (form : Form) (blocks : List ℕ) : Type 0 whe
 
 -- an operation made the set of two others, flag by flag
 pub record IsMade (size : ℕ) (op : Bool → Bool → Bool) (mine theirs made : Form) : Type 0 where
-  pub kept : IsForm size made
+  pub is_form : IsForm size made
   pub each : (k : ℕ) → flag_in made k ≡ op (flag_in mine k) (flag_in theirs k)
 
 -- the one member where it is in the other set
@@ -130,15 +130,15 @@ IsOpen size form = IsForm size form
 
 -- the same members, as they are kept
 pub record IsResealed (size : ℕ) (before now : Form) : Type 0 where
-  pub kept : IsForm size now
+  pub is_form : IsForm size now
   pub each : (k : ℕ) → flag_in now k ≡ flag_in before k
 
 -- the members of a list are those of a set as it is kept
 pub record HasMembers (size : ℕ) (members : List ℕ) (form : Form) : Type 0 where
-  pub kept : IsForm size form
+  pub is_form : IsForm size form
   pub each : (k : ℕ) → flag_in form k ≡ list_any (λ m. nat_eq m k) members
 
 -- every number below the size, and no other, is a member of a set as it is kept
 pub record HasAll (size : ℕ) (form : Form) : Type 0 where
-  pub kept : IsForm size form
+  pub is_form : IsForm size form
   pub each : (k : ℕ) → flag_in form k ≡ nat_lt k size

@@ -110,7 +110,7 @@ module _ (c : Packages) (starts : List Node) (wish : WishFields) (R : Region) (p
     based_from k v b f at e t base = let n = base_named f b base t.x t.named in based_by k v b f at e t base n (named_at b base.facts t.x base.at n)
 
     base_at : (k v b : ℕ) (f : NodeFacts) → node_at p k ≡ Some f → σ k ≡ Some v → base_place p k ≡ Some b → σ b ≡ Some v
-    base_at k v b f at e g = based_from k v b f at e (picked_at k v f at e) (based p f b f.node.extra f.base (node_whole p k f is.well_formed at).based (subst (λ (o : Option NodeFacts). base_in o ≡ Some b) at g))
+    base_at k v b f at e g = based_from k v b f at e (picked_at k v f at e) (based p f b f.node.extra f.base (node_whole p k f is.well_formed at).has_base (subst (λ (o : Option NodeFacts). base_in o ≡ Some b) at g))
 
     aim_named : (need : PlaceNeed) (t : Need) (g : IsNeedAt p need t) (y : Fields) → choice_of s t.node ≡ Some y → choice_of s g.facts.node ≡ Some y
     aim_named need t g y e = ap (choice_of s) g.node ∙ e
@@ -151,10 +151,10 @@ module _ (c : Packages) (starts : List Node) (wish : WishFields) (R : Region) (p
     pub places_serve : PlacesServe p σ
     places_serve = record {
       within = λ k v e. let w = m.within k v e in within_at k v w.0 (choice_of s w.0.node) w.1 e (picked_at k v w.0 w.1 e);
-      rooted = λ k i. rooted_by k (root_node p p.roots starts k is.roots i);
+      has_roots = λ k i. rooted_by k (root_node p p.roots starts k is.roots i);
       fit = λ k v e. let w = m.within k v e in barred_at k v w.0 w.1 (fit_at k v w.0 w.1 e (picked_at k v w.0 w.1 e));
-      based = λ k v b e g. let w = m.within k v e in base_at k v b w.0 w.1 e g;
-      met = λ k v e need i. let w = m.within k v e in met_at k v w.0 w.1 e need (row_at k v w.0 need w.1 i) (picked_at k v w.0 w.1 e);
+      same_base = λ k v b e g. let w = m.within k v e in base_at k v b w.0 w.1 e g;
+      meets = λ k v e need i. let w = m.within k v e in met_at k v w.0 w.1 e need (row_at k v w.0 need w.1 i) (picked_at k v w.0 w.1 e);
     }
 
   module _ (inside : IsWithin p s) (h : PlacesServe p σ) where
@@ -162,7 +162,7 @@ module _ (c : Packages) (starts : List Node) (wish : WishFields) (R : Region) (p
     starts_from n k v f at same e = let t = picked_at k v f at e in (t.x, ap (choice_of s) (sym same) ∙ t.named)
 
     starts_by : (n : Node) → ((k : ℕ) × Contains p.roots k × IsAt p k n) → (x : Fields) × (choice_of s n ≡ Some x)
-    starts_by n r = let v = h.rooted r.0 r.1 in starts_from n r.0 v.0 r.2.0 r.2.1 r.2.2 v.1
+    starts_by n r = let v = h.has_roots r.0 r.1 in starts_from n r.0 v.0 r.2.0 r.2.1 r.2.2 v.1
 
     stands_at : (f : NodeFacts) (k : ℕ) (x : Fields) → choice_of s f.node ≡ Some x → (t : Picked f (σ k) (choice_of s f.node)) → slice_get f.versions t.v ≡ Some x
     stands_at f k x e t = subst (λ (y : Fields). slice_get f.versions t.v ≡ Some y) (same_version f (σ k) (choice_of s f.node) x e t) t.stands
@@ -185,13 +185,13 @@ module _ (c : Packages) (starts : List Node) (wish : WishFields) (R : Region) (p
     base_with : (k : ℕ) (f : NodeFacts) (x : Fields) → node_at p k ≡ Some f → choice_of s f.node ≡ Some x → ((b : ℕ) × (f.base ≡ Some b)) → choice_of s (base_of f.node) ≡ Some x
     base_with k f x at e b =
         let t = named_at k f x at e in
-        let there : σ b.0 ≡ Some t.v = h.based k t.v b.0 t.placed (subst (λ (o : Option NodeFacts). base_in o ≡ Some b.0) (sym at) b.1) in
-        let base = based p f b.0 f.node.extra f.base (node_whole p k f is.well_formed at).based b.1 in
+        let there : σ b.0 ≡ Some t.v = h.same_base k t.v b.0 t.placed (subst (λ (o : Option NodeFacts). base_in o ≡ Some b.0) (sym at) b.1) in
+        let base = based p f b.0 f.node.extra f.base (node_whole p k f is.well_formed at).has_base b.1 in
         base_from f b.0 t.v x base (stands_at f k x e t) there (picked_at b.0 t.v base.facts base.at there)
 
     base_by : (k : ℕ) (f : NodeFacts) (x : Fields) → node_at p k ≡ Some f → choice_of s f.node ≡ Some x → (y : Option (List ℕ)) → f.node.extra ≡ y → choice_of s (base_of f.node) ≡ Some x
     base_by k f x at e None y = ap (choice_of s) (own_base f.node y) ∙ e
-    base_by k f x at e (Some z) y = base_with k f x at e (has_base p f z f.node.extra f.base (node_whole p k f is.well_formed at).based y)
+    base_by k f x at e (Some z) y = base_with k f x at e (has_base p f z f.node.extra f.base (node_whole p k f is.well_formed at).has_base y)
 
     row_of : (k v : ℕ) (f : NodeFacts) (need : PlaceNeed) → node_at p k ≡ Some f → Contains (get_or f.needs v []) need → Contains (place_needs p k v) need
     row_of k v f need at i = subst (λ (o : Option NodeFacts). Contains (needs_in o v) need) (sym at) i
@@ -208,7 +208,7 @@ module _ (c : Packages) (starts : List Node) (wish : WishFields) (R : Region) (p
     met_need q a need g u = is_met q a need g u.0 u.2 u.1 (picked_at need.node u.0 g.facts g.at u.1)
 
     met_in : (k v : ℕ) (f : NodeFacts) (q : RequirementFields) (a : Node) → node_at p k ≡ Some f → σ k ≡ Some v → ((need : PlaceNeed) × Contains (get_or f.needs v []) need × IsNeedAt p need (need_at q a)) → IsMet s q a
-    met_in k v f q a at e need = met_need q a need.0 need.2 (among_some (σ need.0.node) need.0.permitted (h.met k v e need.0 (row_of k v f need.0 at need.1)))
+    met_in k v f q a at e need = met_need q a need.0 need.2 (among_some (σ need.0.node) need.0.permitted (h.meets k v e need.0 (row_of k v f need.0 at need.1)))
 
     has_need : (n : Node) (x : Fields) (ts : List Need) → AreNeeds (requirements c n.name x) R n ts → (q : RequirementFields) → IsFirm (requirements c n.name x) R n q → (a : Node) → Contains (targets q) a → Contains ts (need_at q a)
     unfolding need_at

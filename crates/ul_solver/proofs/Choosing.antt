@@ -44,7 +44,7 @@ chosen p facts n v s order wf l eo a e =
             let k = slice_get_within r.0 j u i in
             let no' : has u s ≡ false = subst (λ (z : ℕ). has z s ≡ false) (get_or_from_slice_get r.0 j u u i) (r.4 j u k) in
             let g' : slice_get f.0.order j ≡ Some u = subst (λ (x : List ℕ). slice_get x j ≡ Some u) ef g in
-            let b : u < length f.0.versions = subst (λ (z : ℕ). z < length f.0.versions) (get_or_from_slice_get f.0.order j u u g') (w.ordered.1 j u (slice_get_within f.0.order j u g')) in
+            let b : u < length f.0.versions = subst (λ (z : ℕ). z < length f.0.versions) (get_or_from_slice_get f.0.order j u u g') (w.is_order.1 j u (slice_get_within f.0.order j u g')) in
             sym (a.each u (omega arith)) ∙ no')),
       );
     }

@@ -125,8 +125,8 @@ serves_decided p σ N out =
     let e = picked σ N out (λ n v. (need : Need) → Contains (needs_of p n v) need → is_among (σ need.node) need.permitted ≡ true)
     (λ n v. all_members (λ (need : Need). is_among (σ need.node) need.permitted ≡ true) (λ need. bool_decided (is_among (σ need.node) need.permitted) true) (needs_of p n v)) in
     elim (both_decided a (both_decided b (both_decided c (both_decided d e)))) [
-      | inl h ↦ inl (record { within = h.0; rooted = h.1.0; fit = h.1.1.0; based = λ n v b i j. h.1.1.1.0 n v i b j; met = λ n v i need j. h.1.1.1.1 n v i need j })
-      | inr z ↦ inr (λ s. z (s.within, (s.rooted, (s.fit, ((λ n v i b j. s.based n v b i j), (λ n v i need j. s.met n v i need j))))))
+      | inl h ↦ inl (record { within = h.0; has_roots = h.1.0; fit = h.1.1.0; same_base = λ n v b i j. h.1.1.1.0 n v i b j; meets = λ n v i need j. h.1.1.1.1 n v i need j })
+      | inr z ↦ inr (λ s. z (s.within, (s.has_roots, (s.fit, ((λ n v i b j. s.same_base n v b i j), (λ n v i need j. s.meets n v i need j))))))
     ]
 
 agrees_decided : (σ : Selection) (d : Picks) → Decided (Agrees σ d)
@@ -188,10 +188,10 @@ options_length σ (s ∷ ss) n = ap suc (options_length σ ss (suc n))
 serves_same : (p : Plain) (σ τ : Selection) → ((n : ℕ) → σ n ≡ τ n) → Serves p σ → Serves p τ
 serves_same p σ τ same s = record {
   within = λ n v e. s.within n v (same n ∙ e);
-  rooted = λ n h. (let r = s.rooted n h in (r.0, sym (same n) ∙ r.1));
+  has_roots = λ n h. (let r = s.has_roots n h in (r.0, sym (same n) ∙ r.1));
   fit = λ n v e. s.fit n v (same n ∙ e);
-  based = λ n v b e f. sym (same b) ∙ s.based n v b (same n ∙ e) f;
-  met = λ n v e need i. ap (λ (o : Option ℕ). is_among o need.permitted) (sym (same need.node)) ∙ s.met n v (same n ∙ e) need i;
+  same_base = λ n v b e f. sym (same b) ∙ s.same_base n v b (same n ∙ e) f;
+  meets = λ n v e need i. ap (λ (o : Option ℕ). is_among o need.permitted) (sym (same need.node)) ∙ s.meets n v (same n ∙ e) need i;
 }
 
 agrees_same : (σ τ : Selection) (d : Picks) → ((n : ℕ) → σ n ≡ τ n) → Agrees σ d → Agrees τ d
@@ -240,9 +240,9 @@ agreed σ (x ∷ d) e a h = elim (head_or_rest x d e h) [
 
 next_picked : (p : Plain) (d : Picks) (n : ℕ) (σ : Selection) → Serves p σ → Agrees σ d → next_of p d ≡ Some n → (v : ℕ) × (σ n ≡ Some v)
 next_picked p d n σ s a e = elim (one_cases n p.roots (joined_needs p d) (open_one d (p.roots ++ joined_needs p d) n e)) [
-  | inl i ↦ s.rooted n i
+  | inl i ↦ s.has_roots n i
   | inr i ↦ (let w = asked_by p d n i in
-      let m = s.met w.0.0 w.0.1 (agreed σ d w.0 a w.1) w.2.0 w.2.1 in
+      let m = s.meets w.0.0 w.0.1 (agreed σ d w.0 a w.1) w.2.0 w.2.1 in
       subst (λ (k : ℕ). (v : ℕ) × (σ k ≡ Some v)) w.2.2 (among_some (σ w.2.0.node) w.2.0.permitted m))
 ]
 
@@ -256,7 +256,7 @@ order_place p n v wf l h =
     let f = at_node p n l in
     let w = node_whole p n f.0 wf f.1 in
     let es : size_of p n ≡ length f.0.versions = ap size_in f.1 in
-    let c : Contains f.0.order v = w.ordered.2 v (omega arith) in
+    let c : Contains f.0.order v = w.is_order.2 v (omega arith) in
     (c.0, subst (λ (x : List ℕ). slice_get x c.0 ≡ Some v) (sym (ap order_in f.1)) (slice_get_read f.0.order (length f.0.order) c.0 v refl c.1 (sym c.2)))
 
 abbrev pub CanTake : Plain → Picks → ℕ → ℕ → Type 0

@@ -80,9 +80,9 @@ first_order p n wf i =
     let w = node_whole p n f.0 wf f.1 in
     let es : length f.0.versions ≡ 1 = sym (ap size_in f.1) ∙ r.1 in
     let eo : order_of p n ≡ f.0.order = ap order_in f.1 in
-    let lo = w.ordered.0 in
+    let lo = w.is_order.0 in
     let l : 0 < length f.0.order = omega arith in
-    let b : get_or f.0.order 0 0 < length f.0.versions = w.ordered.1 0 0 l in
+    let b : get_or f.0.order 0 0 < length f.0.versions = w.is_order.1 0 0 l in
     ap (λ (x : List ℕ). slice_get x 0) eo ∙ (slice_get-get_or f.0.order 0 0 l ∙ ap Some (zero_of (get_or f.0.order 0 0) (omega arith)))
 
 pub roots_steered : (p : Plain) (front rest : List ℕ) → IsWellFormed p → p.roots ≡ front ++ rest → IsSteered p (root_facts p front) (root_facts p rest)

@@ -60,7 +60,7 @@ no_readings = record {
   first_comma = refl;
   no_operator = refl;
   no_version = refl;
-  parted = refl;
+  inner_space = refl;
   inner_line = refl;
   line_before_version = refl;
   operator_twice = refl;
@@ -75,7 +75,7 @@ summaries = record {
   pre = refl;
   dev = refl;
   not_pre = refl;
-  pinned = refl;
+  pin = refl;
   local_not_pinned = refl;
   front_not_pinned = refl;
 }

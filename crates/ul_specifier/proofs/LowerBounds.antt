@@ -12,7 +12,7 @@ use Rattle.ul_version.specs.Fields.{IsSegment}
 
 local_free : (f : Fields) → IsVersion f → IsVersion (without_local f)
 local_free f v = record {
-  filled = v.filled;
+  nonempty = v.nonempty;
   epoch_fits = v.epoch_fits;
   release_fits = v.release_fits;
   pre_fits = v.pre_fits;

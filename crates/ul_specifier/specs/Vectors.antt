@@ -68,7 +68,7 @@ pub record NoReadings : Type 0 where
   pub first_comma : specifiers_of (codes ",>=1") ≡ None
   pub no_operator : specifiers_of (codes "1.0") ≡ None
   pub no_version : specifiers_of (codes ">=") ≡ None
-  pub parted : specifiers_of (codes "== 1 .*") ≡ None
+  pub inner_space : specifiers_of (codes "== 1 .*") ≡ None
   pub inner_line : specifiers_of (codes ">=1\n,<2") ≡ None
   pub line_before_version : specifiers_of (codes ">=\n1") ≡ None
   pub operator_twice : clause_with Equal (codes "==1.0") ≡ None
@@ -93,6 +93,6 @@ pub record Summaries : Type 0 where
   pub pre : names_pre_in (codes ">=1,<2.0rc1") ≡ Some true
   pub dev : names_pre_in (codes "==1.dev0") ≡ Some true
   pub not_pre : names_pre_in (codes "!=1.0a1,>=1.0.post1") ≡ Some false
-  pub pinned : pins_in (codes ">0,==1.0") (codes "1") ≡ Some true
+  pub pin : pins_in (codes ">0,==1.0") (codes "1") ≡ Some true
   pub local_not_pinned : pins_in (codes "==1.0") (codes "1.0+x") ≡ Some false
   pub front_not_pinned : pins_in (codes "==1.0.*") (codes "1.0") ≡ Some false

@@ -111,7 +111,7 @@ cut_held front f left right ts t u ol or is but held on r =
     let m : ℕ = node_of u in
     let node : node_of f.term ≡ m = ap node_of is ∙ negation_node u in
     let mine : term_on m right ≡ Some u = but_on front u right or but in
-    covers_held front ts r.ordered (λ k o x. subst (λ (q : Option Term). may_hold q o ≡ true) (sym (r.each k)) (elim (cases_eq k m) [
+    covers_held front ts r.is_ordered (λ k o x. subst (λ (q : Option Term). may_hold q o ≡ true) (sym (r.each k)) (elim (cases_eq k m) [
       | inl e ↦ (let b : nat_eq k m ≡ true = eq-eqb k m e in
           let tk : term_on k left ≡ Some t = ap (λ (j : ℕ). term_on j left) e ∙ on in
           let uk : term_on k right ≡ Some u = ap (λ (j : ℕ). term_on j right) e ∙ mine in

@@ -139,9 +139,9 @@ finished_serves p t wf w steps none chain end =
     let done : (n : ℕ) → IsAsked p d n → (v : ℕ) × (version_in d n ≡ Some v) = λ n h. decided_version d n (none_open d (p.roots ++ joined_needs p d) n end h) in
     record {
       within = λ n v h. (fact n v h).0;
-      rooted = λ n h. done n (one_left n p.roots (joined_needs p d) h);
+      has_roots = λ n h. done n (one_left n p.roots (joined_needs p d) h);
       fit = λ n v h. false_unless (has v (barred_of p n)) (λ e. clash p t (Python n (barred_of p n)) none (steps.pythons n v e) (held_in p t.facts n v (barred_of p n) (fact n v h) e, tt));
-      based = λ n v b h e.
+      same_base = λ n v b h e.
           (let u = done b (asked_base p d n b wf (asked_all p [] d n v chain (pick_of d n v h)) e) in
           let below : v < size_of p n = (fact n v h).0 in
           let in' : IsHeld t.facts (In n (one_of (size_of p n) v)) = held_in p t.facts n v (one_of (size_of p n) v) (fact n v h) (one_has (size_of p n) v below) in
@@ -149,7 +149,7 @@ finished_serves p t wf w steps none chain end =
           λ k. clash p t (Base n (one_of (size_of p n) v)) none (steps.bases n v b below e) (subst (λ (o : Option ℕ). AreHeld t.facts (pair_of (In n (one_of (size_of p n) v)) (NotIn (base_or o n) (one_of (size_of p n) v)))) (sym e) k) in
           let is : has u.0 (one_of (size_of p n) v) ≡ true = true_unless (has u.0 (one_of (size_of p n) v)) (λ k. says' (pair_held t.facts (In n (one_of (size_of p n) v)) (NotIn b (one_of (size_of p n) v)) in' (held_not p t.facts b u.0 (one_of (size_of p n) v) (fact b u.0 u.1) k))) in
           u.1 ∙ ap Some (one_only (size_of p n) v u.0 is));
-      met = λ n v h need i.
+      meets = λ n v h need i.
           (let u = done need.node (one_right need.node p.roots (joined_needs p d) (wanted_one p d n v need (pick_of d n v h) i)) in
           let below : v < size_of p n = (fact n v h).0 in
           let in' : IsHeld t.facts (In n (one_of (size_of p n) v)) = held_in p t.facts n v (one_of (size_of p n) v) (fact n v h) (one_has (size_of p n) v below) in

@@ -32,7 +32,7 @@ size_append (g ∷ fs) f = ap (λ (l : List ℕ). length g.versions ∷ l) (size
 pub sizes_next : (p : Plain) (nodes : List NodeFacts) (i size : ℕ) (f : NodeFacts) (sizes now : List ℕ) → IsWellFormed p → nodes ≡ p.nodes → slice_get nodes i ≡ Some f → sizes ≡ size_list (take i nodes) → size ≡ length f.barred → now ≡ sizes ++ size ∷ [] → now ≡ size_list (take (i + 1) nodes)
 sizes_next p nodes i size f sizes now wf e g s b n =
     let w = node_whole p i f wf (subst (λ (x : List NodeFacts). slice_get x i ≡ Some f) e g) in
-    n ∙ (ap (λ (x : List ℕ). x ++ size ∷ []) s ∙ (ap (λ (k : ℕ). size_list (take i nodes) ++ k ∷ []) (b ∙ w.barred) ∙ sym (ap size_list (take_next nodes f i g) ∙ size_append (take i nodes) f)))
+    n ∙ (ap (λ (x : List ℕ). x ++ size ∷ []) s ∙ (ap (λ (k : ℕ). size_list (take i nodes) ++ k ∷ []) (b ∙ w.barred_size) ∙ sym (ap size_list (take_next nodes f i g) ∙ size_append (take i nodes) f)))
 
 -- what is known of each node before any fact
 has_none : (n v : ℕ) → has v (replicate n false) ≡ false

@@ -72,7 +72,7 @@ local-fits text (s ∷ ss) (rest, more, whole) = segments-fit rest (s ∷ ss) mo
 
 pub spelled-version : (text : List ℕ) (f : Fields) → IsSpelled text f → IsVersion f
 spelled-version text f h = record {
-  filled = release-filled h.release f.release h.is_release;
+  nonempty = release-filled h.release f.release h.is_release;
   epoch_fits = epoch-fits h.epoch f.epoch h.is_epoch;
   release_fits = release-fits h.release f.release h.is_release;
   pre_fits = pre-fits h.pre f.pre h.is_pre;

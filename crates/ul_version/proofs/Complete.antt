@@ -100,7 +100,7 @@ Lettered-ends text l = rw l.shape (record { digit = digit l.before l.is_before; 
 
 -- a part that begins with a word
 suffix-shape : (words : List (List ℕ)) (part rest : List ℕ) (n : ℕ) (h : IsSuffix words part n) → part ++ rest ≡ h.before ++ (h.word ++ (h.between ++ (h.digits ++ rest)))
-suffix-shape words part rest n h = ap (λ (l : List ℕ). l ++ rest) h.spelled ∙ simp append_assoc
+suffix-shape words part rest n h = ap (λ (l : List ℕ). l ++ rest) h.spelling ∙ simp append_assoc
 
 -- ---- the number after a word
 
@@ -121,7 +121,7 @@ suffix-reads T f between digits rest n (inr (c, one, sep)) d t =
 suffix-reads T f between digits rest n (inl none) (inl (empty, absent)) t =
     let r = f.trims rest t in record { value = r.value; rest = r.rest; is = rw (none, empty) r.is; holds = r.holds; shorter = r.shorter }
 suffix-reads T f between digits rest n (inl none) (inr num) t =
-    let d = first_digit digits num.filled num.digits in
+    let d = first_digit digits num.nonempty num.digits in
     let kept : after_optional is_separator (digits ++ rest) ≡ digits ++ rest = rw (d.shape, digit-separator d.first d.digit) refl in
     record { value = n; rest = rest; is = rw (none, kept) (number-digits digits rest n num.digits num.value num.fits (f.stops rest t)); holds = t; shorter = omega arith }
 
@@ -131,7 +131,7 @@ pub word-opens : (between digits rest : List ℕ) (n : ℕ) → IsOptionalSepara
 word-opens between digits rest n (inr (c, one, sep)) d o = rw one (separator-next c _ sep)
 word-opens between digits rest n (inl none) (inl (empty, absent)) o = rw (none, empty) o
 word-opens between digits rest n (inl none) (inr num) o =
-    let d = first_digit digits num.filled num.digits in rw (none, d.shape) (digit-next d.first d.digit)
+    let d = first_digit digits num.nonempty num.digits in rw (none, d.shape) (digit-next d.first d.digit)
 
 -- ---- the local part
 
@@ -144,7 +144,7 @@ unfolding segment
 piece-read piece (Number n) h =
     let alone : piece ++ [] ≡ piece = append-nil piece in
     let read : number piece ≡ Some (n, []) = rw alone at (number-digits piece [] n h.digits h.value h.fits refl) in
-    rw (nonempty-test piece h.filled, digits-word piece h.digits, h.digits, read) refl
+    rw (nonempty-test piece h.nonempty, digits-word piece h.digits, h.digits, read) refl
 piece-read piece (Word word) (same, is) =
     let (words, letter) = and_parts (list_all is_word_byte word) _ is in
     let (filled, other) = any-letter word letter in
@@ -263,7 +263,7 @@ moved words part n h = record {
   is_word = h.is_word;
   is_between = h.is_between;
   are_digits = h.are_digits;
-  spelled = refl;
+  spelling = refl;
 }
 
 -- a word in front is no digit
@@ -445,7 +445,7 @@ post-none text (Some n) part rest h last whole =
     )
 
 num-begins : (digits rest : List ℕ) (n : ℕ) → IsNum digits n → begins is_ascii_digit (digits ++ rest) ≡ true
-num-begins digits rest n num = let d = first_digit digits num.filled num.digits in rw d.shape d.digit
+num-begins digits rest n num = let d = first_digit digits num.nonempty num.digits in rw d.shape d.digit
 
 pub marked-dash : (digits rest : List ℕ) (n : ℕ) → IsNum digits n → marked_digits (codes "-") (45 ∷ (digits ++ rest)) ≡ Some (digits ++ rest)
 unfolding marked_digits after_word
@@ -540,7 +540,7 @@ digit-no_kind b text h =
 post-no_kind : (text : List ℕ) (value : Option ℕ) (part rest : List ℕ) → IsPost part value → FromDev rest → text ≡ part ++ rest → any_kind (after_optional is_separator text) ≡ None
 post-no_kind text None part rest h later whole = rw (whole, h) (dev-no_kind rest later.value later.part later.rest later.is_part later.last later.whole)
 post-no_kind text (Some n) part rest (inl (digits, num, dash)) later whole =
-    let d = first_digit digits num.filled num.digits in
+    let d = first_digit digits num.nonempty num.digits in
     rw (whole, dash, d.shape) (digit-no_kind d.first (d.others ++ rest) d.digit)
 post-no_kind text (Some n) part rest (inr h) later whole =
     rw (whole, suffix-optional post_words part rest n refl h)
@@ -643,7 +643,7 @@ epoch-read part n release_part (m ∷ ns) text (inr (digits, num, mark)) r e =
     ) refl
 
 no_letter : (digits rest : List ℕ) (n : ℕ) → IsNum digits n → after_optional (λ b. b == 118) (digits ++ rest) ≡ digits ++ rest
-no_letter digits rest n num = let d = first_digit digits num.filled num.digits in rw (d.shape, digit-other d.first 118 d.digit (omega arith)) refl
+no_letter digits rest n num = let d = first_digit digits num.nonempty num.digits in rw (d.shape, digit-other d.first 118 d.digit (omega arith)) refl
 
 epoch-letter : (part : List ℕ) (n : ℕ) (release_part ns text : List ℕ) → IsEpoch part n → IsRelease release_part ns
     → after_optional (λ b. b == 118) (part ++ (release_part ++ text)) ≡ part ++ (release_part ++ text)
@@ -675,7 +675,7 @@ fields-complete text f h =
     let rq = post-reads rp.rest rp.holds in
     let rd = dev-reads rq.rest rq.holds in
     rw (
-      h.spelled,
+      h.spelling,
       letter-read h.letter h.epoch f.epoch h.release f.release tail h.is_letter h.is_epoch h.is_release,
       epoch-read h.epoch f.epoch h.release f.release tail h.is_epoch h.is_release ends,
       release-read h.release f.release tail h.is_release ends,

@@ -15,7 +15,7 @@ use Rattle.ul_version.proofs.Bounds.{spelled-version}
 pub order : IsOrder
 order = record {
   reflexive = tied_itself version_total;
-  reversed = version_total.antisymm;
+  antisymmetric = version_total.antisymm;
   transitive = upto version_total;
   strict = version_total.trans;
   alike = version_total.congr;

@@ -110,11 +110,11 @@ parts-longest text f s t1 t2 t3 t4 t5 n ns p q v ss g h1 h2 h3 h4 h5 h6 e =
     let t : FromPre tail = record { value = f.pre; part = s.pre; rest = s.post ++ (s.dev ++ s.local); is_part = s.is_pre; later = o; whole = refl } in
     let ends = FromPre-ends tail t in
     let x0 : t0 ≡ s.epoch ++ (s.release ++ tail) =
-    ap (λ (l : List ℕ). after_optional (λ b. b == 118) l) s.spelled ∙ letter-read s.letter s.epoch f.epoch s.release f.release tail s.is_letter s.is_epoch s.is_release in
+    ap (λ (l : List ℕ). after_optional (λ b. b == 118) l) s.spelling ∙ letter-read s.letter s.epoch f.epoch s.release f.release tail s.is_letter s.is_epoch s.is_release in
     let x1 : t1 ≡ s.release ++ tail =
     (cut_same n f.epoch t1 (s.release ++ tail) (sym h1 ∙ ap (λ (l : List ℕ). epoch l) x0 ∙ epoch-read s.epoch f.epoch s.release f.release tail s.is_epoch s.is_release ends)).1 in
     let x2 : t2 ≡ tail = (cut_same ns f.release t2 tail (sym h2 ∙ ap (λ (l : List ℕ). release l) x1 ∙ release-read s.release f.release tail s.is_release ends)).1 in
-    let l0 = front-same fl.front t0 s.letter (s.epoch ++ (s.release ++ tail)) (sym fl.whole ∙ s.spelled) x0 in
+    let l0 = front-same fl.front t0 s.letter (s.epoch ++ (s.release ++ tail)) (sym fl.whole ∙ s.spelling) x0 in
     let l1 = front-same fe.front t1 s.epoch (s.release ++ tail) (sym fe.whole ∙ x0) x1 in
     let l2 = front-same fr.front t2 s.release tail (sym fr.whole ∙ x1) x2 in
     let later = pre-longest t2 t3 t4 t5 p q v fp.front fq.front fd.front s.pre s.post s.dev s.local f.pre f.post f.dev h3 h4 h5 fp.whole fq.whole fd.whole x2 s.is_pre s.is_post s.is_dev last in
@@ -134,7 +134,7 @@ parts-longest text f s t1 t2 t3 t4 t5 n ns p q v ss g h1 h2 h3 h4 h5 h6 e =
         is_post = fq.holds;
         is_dev = fd.holds;
         is_local = local-spelled t5 ss h6;
-        spelled = fl.whole ∙ ap (λ (l : List ℕ). fl.front ++ l) (fe.whole ∙ ap (λ (l : List ℕ). fe.front ++ l) (fr.whole ∙ ap (λ (l : List ℕ). fr.front ++ l)
+        spelling = fl.whole ∙ ap (λ (l : List ℕ). fl.front ++ l) (fe.whole ∙ ap (λ (l : List ℕ). fe.front ++ l) (fr.whole ∙ ap (λ (l : List ℕ). fr.front ++ l)
             (fp.whole ∙ ap (λ (l : List ℕ). fp.front ++ l) (fq.whole ∙ ap (λ (l : List ℕ). fq.front ++ l) fd.whole))));
       },
       longer-first (length fl.front) (length s.letter)

@@ -18,7 +18,7 @@ number-alone between digits n (inr (c, one, sep)) d = rw (one, sep) (optional-nu
 number-alone between digits n (inl none) (inl (empty, absent)) =
     rw (none, empty, absent) (optional-number [] [] 0 (inl (refl, refl)) refl)
 number-alone between digits n (inl none) (inr num) =
-    let d = first_digit digits num.filled num.digits in
+    let d = first_digit digits num.nonempty num.digits in
     let kept : after_optional is_separator (digits ++ []) ≡ digits ++ [] = rw (d.shape, digit-separator d.first d.digit) refl in
     rw (none, kept) (number-digits digits [] n num.digits num.value num.fits refl)
 
@@ -96,7 +96,7 @@ spellings text f g s o e =
     let l3 : length s.pre ≡ length o.pre = cc in
     let l4 : length s.post ≡ length o.post = cc in
     let l5 : length s.dev ≡ length o.dev = cc in
-    let c0 = same_cut s.letter (s.epoch ++ (s.release ++ tail)) o.letter (o.epoch ++ (o.release ++ tail2)) (sym s.spelled ∙ o.spelled) l0 in
+    let c0 = same_cut s.letter (s.epoch ++ (s.release ++ tail)) o.letter (o.epoch ++ (o.release ++ tail2)) (sym s.spelling ∙ o.spelling) l0 in
     let c1 = same_cut s.epoch (s.release ++ tail) o.epoch (o.release ++ tail2) c0.1 l1 in
     let c2 = same_cut s.release tail o.release tail2 c1.1 l2 in
     let c3 = same_cut s.pre (s.post ++ (s.dev ++ s.local)) o.pre (o.post ++ (o.dev ++ o.local)) c2.1 l3 in

@@ -338,9 +338,9 @@ fields-read f v =
     let rest = after_release f.pre f.post f.dev f.local in
     let ends = after_release-ends f.pre f.post f.dev f.local in
     rw (
-      letter-read f.epoch f.release rest v.epoch_fits v.release_fits v.filled,
-      epoch-read f.epoch f.release rest v.epoch_fits ends v.release_fits v.filled,
-      release-read f.release rest ends v.release_fits v.filled,
+      letter-read f.epoch f.release rest v.epoch_fits v.release_fits v.nonempty,
+      epoch-read f.epoch f.release rest v.epoch_fits ends v.release_fits v.nonempty,
+      release-read f.release rest ends v.release_fits v.nonempty,
       pre-read f.pre f.post f.dev f.local (pre-fits f.pre v.pre_fits),
       post-read f.post f.dev f.local (some-fits f.post v.post_fits),
       dev-read f.dev f.local (some-fits f.dev v.dev_fits),
@@ -446,7 +446,7 @@ release-length (n ∷ ns) text a k =
 pub version-filled : (f : Fields) → IsVersion f → 0 < length (version_text f)
 unfolding version_text
 version-filled f v =
-    let some = release-length f.release (after_release f.pre f.post f.dev f.local) v.release_fits v.filled in
+    let some = release-length f.release (after_release f.pre f.post f.dev f.local) v.release_fits v.nonempty in
     let whole = length-append (epoch_text f.epoch) (release_text f.release ++ after_release f.pre f.post f.dev f.local) in
     omega arith
 

@@ -64,7 +64,7 @@ digits-begin (b ∷ rest) h = rw h (omega arith)
 num_from : (ds : List ℕ) (n : ℕ) → list_all is_ascii_digit ds ≡ true → value_after 0 ds ≡ n → n < 2 ^ 64 → IsOptionalNum ds n
 unfolding value_after
 num_from [] n h v fits = inl (refl, sym v)
-num_from (d ∷ ds) n h v fits = inr (record { filled = omega arith; digits = h; value = v; fits = fits })
+num_from (d ∷ ds) n h v fits = inr (record { nonempty = omega arith; digits = h; value = v; fits = fits })
 
 number-parts : (text : List ℕ) (n : ℕ) (rest : List ℕ) → number text ≡ Some (n, rest)
     → (value_after 0 (digits text) ≡ n) × (after_digits text ≡ rest) × (n < 2 ^ 64)
@@ -86,7 +86,7 @@ number-there text n rest b e =
     record {
       front = digits text;
       whole = rw (← left) (digits-split text);
-      holds = record { filled = digits-begin text b; digits = digits-all text; value = value; fits = fits };
+      holds = record { nonempty = digits-begin text b; digits = digits-all text; value = value; fits = fits };
     }
 
 pub needed-spelled : (text : List ℕ) (n : ℕ) (rest : List ℕ) → required_number text ≡ Some (n, rest) → Front text rest (λ front. IsNum front n)
@@ -139,7 +139,7 @@ suffix-spelled words text after rest n w e =
         is_word = contains_word words w.front w.holds;
         is_between = t.holds;
         are_digits = d.holds;
-        spelled = refl;
+        spelling = refl;
       };
     }
 
@@ -332,7 +332,7 @@ segment-number piece s all filled e =
     let (n, is, same) = bind_some (number piece) _ _ e in
     let (value, left, fits) = number-parts piece n.0 n.1 is in
     subst (λ x. IsSpelledSegment piece x) (inside (Number n.0) s same)
-    (record { filled = filled; digits = all; value = rw (digits-whole piece all) at value; fits = fits })
+    (record { nonempty = filled; digits = all; value = rw (digits-whole piece all) at value; fits = fits })
 
 pub segment-spelled : (piece : List ℕ) (s : Segment) → segment piece ≡ Some s → IsSpelledSegment piece s
 unfolding segment
@@ -427,7 +427,7 @@ all-spelled text a b c d e n ns p q v ss f fl fe fr fp fq fd l same = subst (λ 
   is_post = fq.holds;
   is_dev = fd.holds;
   is_local = l;
-  spelled = fl.whole ∙ ap (λ (l : List ℕ). fl.front ++ l) (fe.whole ∙ ap (λ (l : List ℕ). fe.front ++ l) (fr.whole ∙ ap (λ (l : List ℕ). fr.front ++ l)
+  spelling = fl.whole ∙ ap (λ (l : List ℕ). fl.front ++ l) (fe.whole ∙ ap (λ (l : List ℕ). fe.front ++ l) (fr.whole ∙ ap (λ (l : List ℕ). fr.front ++ l)
       (fp.whole ∙ ap (λ (l : List ℕ). fp.front ++ l) (fq.whole ∙ ap (λ (l : List ℕ). fq.front ++ l) fd.whole))));
 })
 

@@ -22,7 +22,7 @@ zero_is_segment = All-cons IsSegment (Number 0) [] number_zero (All-nil IsSegmen
 
 -- what stands above a version is a version
 pub above_is_version : (f : Fields) → IsVersion f → IsVersion (version_above f)
-above_is_version f h = record { filled = h.filled; epoch_fits = h.epoch_fits; release_fits = h.release_fits; pre_fits = h.pre_fits; post_fits = h.post_fits; dev_fits = h.dev_fits; segments = All-append IsSegment f.local (Number 0 ∷ []) h.segments zero_is_segment }
+above_is_version f h = record { nonempty = h.nonempty; epoch_fits = h.epoch_fits; release_fits = h.release_fits; pre_fits = h.pre_fits; post_fits = h.post_fits; dev_fits = h.dev_fits; segments = All-append IsSegment f.local (Number 0 ∷ []) h.segments zero_is_segment }
 
 local_below : (xs : List Segment) → local_cmp xs (xs ++ Number 0 ∷ []) ≡ Less
 local_below [] = refl
@@ -45,7 +45,7 @@ version_below f =
 
 -- the release 0 alone is a version
 pub zero_is_version : IsVersion (plain (0 ∷ []))
-zero_is_version = record { filled = omega arith; epoch_fits = omega arith; release_fits = All-cons IsNumber64 0 [] zero_fits (All-nil IsNumber64); pre_fits = tt; post_fits = tt; dev_fits = tt; segments = All-nil IsSegment }
+zero_is_version = record { nonempty = omega arith; epoch_fits = omega arith; release_fits = All-cons IsNumber64 0 [] zero_fits (All-nil IsNumber64); pre_fits = tt; post_fits = tt; dev_fits = tt; segments = All-nil IsSegment }
   where
     zero_fits : IsNumber64 0
     zero_fits = omega arith

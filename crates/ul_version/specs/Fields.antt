@@ -36,7 +36,7 @@ IsSegment (Word text) = IsTrue (is_word text)
 
 -- fields that some text spells: a release that isn't empty, numbers of 64 bits, and words
 pub record IsVersion (f : Fields) : Type 0 where
-  pub filled : 0 < length f.release
+  pub nonempty : 0 < length f.release
   pub epoch_fits : f.epoch < 2 ^ 64
   pub release_fits : All IsNumber64 f.release
   pub pre_fits : IfSome f.pre (λ p. p.number < 2 ^ 64)

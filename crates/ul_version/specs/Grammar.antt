@@ -20,7 +20,7 @@ value_after n (b ∷ rest) = value_after (n * 10 + (b - 48)) rest
 
 -- num: one digit or more, of a value below 2^64
 pub record IsNum (text : List ℕ) (n : ℕ) : Type 0 where
-  pub filled : 0 < length text
+  pub nonempty : 0 < length text
   pub digits : IsTrue (list_all is_ascii_digit text)
   pub value : value_after 0 text ≡ n
   pub fits : n < 2 ^ 64
@@ -43,7 +43,7 @@ pub record IsSuffix (words : List (List ℕ)) (text : List ℕ) (n : ℕ) : Type
   pub is_word : Contains words word
   pub is_between : IsOptionalSeparator between
   pub are_digits : IsOptionalNum digits n
-  pub spelled : text ≡ before ++ (word ++ (between ++ digits))
+  pub spelling : text ≡ before ++ (word ++ (between ++ digits))
 
 -- [num "!"], which is 0 where it is empty
 abbrev pub IsEpoch : List ℕ → ℕ → Type 0
@@ -120,4 +120,4 @@ pub record IsSpelled (text : List ℕ) (f : Fields) : Type 0 where
   pub is_post : IsPost post f.post
   pub is_dev : IsDev dev f.dev
   pub is_local : IsLocal local f.local
-  pub spelled : text ≡ letter ++ (epoch ++ (release ++ (pre ++ (post ++ (dev ++ local)))))
+  pub spelling : text ≡ letter ++ (epoch ++ (release ++ (pre ++ (post ++ (dev ++ local)))))

@@ -12,7 +12,7 @@ use Rattle.ul_version.specs.Texts.{version_text, is_text_byte}
 -- the order is total; each two versions compare one way, as each answer is one of three
 pub record IsOrder : Type 0 where
   pub reflexive : (f : Fields) → version_cmp f f ≡ Equal
-  pub reversed : (f g : Fields) → version_cmp f g ≡ ordering_reverse (version_cmp g f)
+  pub antisymmetric : (f g : Fields) → version_cmp f g ≡ ordering_reverse (version_cmp g f)
   pub transitive : (f g h : Fields) → is_gt (version_cmp f g) ≡ false → is_gt (version_cmp g h) ≡ false → is_gt (version_cmp f h) ≡ false
   pub strict : (f g h : Fields) → version_cmp f g ≡ Less → version_cmp g h ≡ Less → version_cmp f h ≡ Less
   pub alike : (f g h : Fields) → version_cmp f g ≡ Equal → version_cmp f h ≡ version_cmp g h

@@ -8,6 +8,7 @@ use Rattle.std.specs.List.{list_all, slice_split}
 use Rattle.std.specs.Option.{option_map_or}
 pub use Rattle.ul_version.specs.Ascii.{begins, is_separator, is_white}
 pub use Rattle.ul_version.specs.Grammar.{kind_words, post_words}
+-- the value of a part's number, as the grammar has it
 unfoldable pub use Rattle.ul_version.specs.Grammar.{value_after}
 use Rattle.ul_version.specs.Ascii.{after_all, before_all, letter_v, plus}
 use Rattle.ul_version.specs.Fields.{Fields, is_word_byte}
