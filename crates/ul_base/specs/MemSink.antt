@@ -23,7 +23,7 @@ bytes_before (pair ∷ pairs) call = if pair.0 == call then Some pair.1 else byt
 
 -- the sink after one more write, of which it took this
 abbrev pub sink_with : SinkState → List ℕ → SinkState
-sink_with before bytes = record before { written = before.bytes ++ bytes; calls = next_count before.calls }
+sink_with before bytes = record before { bytes = before.bytes ++ bytes; calls = next_count before.calls }
 
 -- the next call answers so, and leaves the sink so: it fails exactly where its number is one of those that fail, and
 -- then writes as many bytes as are said there, or the whole piece where that is less
