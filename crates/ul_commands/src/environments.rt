@@ -1,7 +1,6 @@
 //! The answer of `env`.
 ghost use Rattle.std.specs.Prelude.{◌≡◌, IfOk, None, Ok, map, option_map, string_bytes, true};
 ghost use Rattle.ul_base.specs.Names.{name_of};
-ghost use Rattle.ul_lock_walk.specs.Targets as targets;
 ghost use Rattle.ul_lock_walk.specs.WellFormed.{IsWellFormed};
 ghost use Rattle.ul_filter.specs.Comparisons.{machine_world};
 ghost use Rattle.ul_filter.specs.Headline as given;
@@ -11,29 +10,10 @@ ghost use Rattle.ul_commands.specs.Environments as spec;
 use std::alloc::{AllocError, Global};
 use ul_answers::Answer;
 use ul_base::{Name, NameFault};
-use ul_filter::{WalkFault, atoms, environment};
-use ul_lock_lines::{Extra, Lock, Locked};
+use ul_filter::{WalkFault, atoms, environment, root_lists};
+use ul_lock_lines::{Lock, Locked};
 use ul_marker::{Machine, World, world_of};
 use ul_tree::holds;
-
-// Whether one of the extras has the name.
-fn lists(extras: &[Extra], name: &Name) -> bool
-    ensures { result ≡ targets.lists extras.now name.now }
-{
-    extras.iter().any(|extra| extra.name == *name)
-}
-
-// Whether the lock's root has the extra.
-fn root_lists(lock: &Lock, name: &Name) -> bool
-    ensures { result ≡ given.root_lists lock.now name.now }
-{
-    for one in lock.packages.as_slice() {
-        if one.name == lock.root && lists(one.extras.as_slice(), name) {
-            return true;
-        }
-    }
-    false
-}
 
 // The name that a word is, if it is one.
 fn name_in(alloc: Global, word: &str) -> Result<Option<Name>, AllocError>

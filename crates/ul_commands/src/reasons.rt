@@ -2,8 +2,6 @@
 ghost use Rattle.std.specs.Prelude.{◌≡◌, ◌≤◌, IfOk, Ok};
 ghost use Rattle.ul_region.specs.Truths.{IsRegion};
 ghost use Rattle.ul_algebra.specs.Spelled.{tree_of};
-ghost use Rattle.ul_requirement.specs.Truth.{base, with_extra};
-ghost use Rattle.ul_region.specs.Laws.{roots};
 ghost use Rattle.ul_interner.specs.Known.{Knows};
 ghost use Rattle.ul_forks.specs.Judged.{IsAccepted};
 ghost use Rattle.ul_answers.specs.Views.{view as answer_view};
@@ -21,46 +19,14 @@ use std::sync::Wait;
 use std::thread::Threads;
 use ul_algebra::{Algebra, Diagram};
 use ul_answers::Answer;
-use ul_base::{Gate, Name, Node};
-use ul_forks::{ForkAnswer, Forked};
+use ul_base::Gate;
+use ul_forks::{ForkAnswer, Forked, start_nodes};
 use ul_inputs::{Refusal, Resolution};
 use ul_interner::Interner;
 use ul_placing::problem_of;
 use ul_problem::{Derivation, Problem};
 use ul_project::Project;
 use ul_report::steps;
-
-// The node of a name with an extra.
-fn extra_node(alloc: Global, name: &Name, extra: &Name) -> Result<Node, AllocError>
-    ensures { IfOk result (λ n. n ≡ with_extra name.now extra.now) }
-{
-    Ok(Node {
-        name: name.copy(alloc)?,
-        extra: Some(extra.copy(alloc)?),
-    })
-}
-
-// The node of a name without an extra.
-fn base_node(alloc: Global, name: &Name) -> Result<Node, AllocError>
-    ensures { IfOk result (λ n. n ≡ base name.now) }
-{
-    Ok(Node {
-        name: name.copy(alloc)?,
-        extra: None,
-    })
-}
-
-// Where each selection starts.
-fn starts_in(alloc: Global, name: &Name, extras: &[Name]) -> Result<Vec<Node>, AllocError>
-    ensures { IfOk result (λ v. v.items ≡ roots name.now extras.now) }
-{
-    let mut starts = Vec::with_capacity(alloc, extras.len())?;
-    starts.push(base_node(alloc, name)?)?;
-    for extra in extras {
-        starts.push(extra_node(alloc, name, extra)?)?;
-    }
-    Ok(starts)
-}
 
 /// The problem of a region of a resolution.
 pub(crate) fn problem_at<R: Wait>(
@@ -76,7 +42,7 @@ pub(crate) fn problem_at<R: Wait>(
     ensures knows { Knows algebra.old algebra.new }
 {
     let project: &Project = &resolution.project;
-    let starts = starts_in(alloc, &project.package.name, project.extras.as_slice())?;
+    let starts = start_nodes(alloc, &project.package.name, project.extras.as_slice())?;
     problem_of(
         rt,
         alloc,

@@ -25,8 +25,8 @@ fn is_listed(extras: &[Extra], name: &Name) -> bool
     false
 }
 
-// Whether the root has an extra.
-fn root_lists(lock: &Lock, name: &Name) -> bool
+/// Whether a lock's root has an extra of this name.
+pub fn root_lists(lock: &Lock, name: &Name) -> bool
     ensures { result ≡ spec.root_lists lock.now name.now }
 {
     for block in lock.packages.as_slice() {

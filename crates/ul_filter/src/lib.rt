@@ -9,7 +9,7 @@ mod picks;
 mod texts;
 mod walking;
 
-pub use asking::walk;
+pub use asking::{root_lists, walk};
 pub use comparisons::atoms;
 pub use picks::{Pick, WalkFault};
 pub use texts::{environment, environment_text};

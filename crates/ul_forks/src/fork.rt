@@ -59,8 +59,12 @@ fn base_node(alloc: Global, name: &Name) -> Result<Node, AllocError>
     Ok(Node { name, extra: None })
 }
 
-// The nodes of a project: its base, and then its extras.
-fn nodes_of(alloc: Global, name: &Name, extras: &[Name]) -> Result<Vec<Node>, AllocError>
+/// The nodes that each selection of a project starts from: its base, and then its extras.
+///
+/// # Errors
+///
+/// Only for want of memory.
+pub fn start_nodes(alloc: Global, name: &Name, extras: &[Name]) -> Result<Vec<Node>, AllocError>
     ensures { IfOk result (λ v. v.items ≡ roots name.now extras.now) }
 {
     let mut nodes = Vec::new(alloc);
@@ -85,7 +89,7 @@ fn project_nodes(alloc: Global, catalog: &Catalog, extras: &[Name]) -> Result<Ve
     ensures { IfOk result (λ v. v.items ≡ roots (project_name catalog.now) extras.now) }
 {
     let packages: &[Package] = catalog.packages();
-    let nodes = nodes_of(alloc, name_of(&packages[0]), extras)?;
+    let nodes = start_nodes(alloc, name_of(&packages[0]), extras)?;
     Ok(nodes)
 }
 

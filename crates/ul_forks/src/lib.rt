@@ -11,5 +11,5 @@ mod picks;
 mod region_judge;
 
 pub use children::children_of;
-pub use fork::{Decisions, ForkAnswer, ForkLeaf, fork_all};
+pub use fork::{Decisions, ForkAnswer, ForkLeaf, fork_all, start_nodes};
 pub use ul_generations::{ForkFault, Forked, Leaf, Path};
