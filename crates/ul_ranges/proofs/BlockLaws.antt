@@ -1,9 +1,9 @@
 -- Laws of sets in blocks of 64 bits.
-use Rattle.std.proofs.Common.{◌≡◌, ℕ, zero, suc, List, [], ◌∷◌, Bool, true, false, cond, refl, ap, ◌∙◌, sym, get_or, ◌+◌, ◌-◌, ◌*◌, ◌/◌, ◌%◌, ◌^◌, ◌<◌, ◌≤◌, length, arith, eqb, inl, inr, w64, replicate, zero-add, lit<, set}
+use Rattle.std.proofs.Common.{◌≡◌, ℕ, zero, suc, List, [], ◌∷◌, Bool, true, false, cond, refl, ap, ◌∙◌, sym, get_or, ◌+◌, ◌-◌, ◌*◌, ◌/◌, ◌%◌, ◌^◌, ◌<◌, ◌≤◌, length, arith, eqb, inl, inr, w64, replicate, zero-add, lit<, set, nat_lt}
 use Rattle.std.specs.Prelude.{bit_and, bit_or, map, zip, min, max, ◌↔◌, ◌&&◌, ◌||◌, All, ◌++◌}
 use Rattle.std.specs.Int.{bit_at, bit_not}
 use Rattle.std.specs.List.{range_with_len, list_all, list_any}
-use Rattle.std.proofs.lemmas.Bool.{cases_lt, cases_Bool, eqb-true, eq-eqb, cases_eq, cases_order, ne_eqb, or_right, and_parts, both_ways, false_from_ne_true}
+use Rattle.std.proofs.lemmas.Bool.{cases_lt, cases_Bool, eqb-true, eq-eqb, cases_eq, ne_eqb, or_right, and_parts, lt-ltb, le-ltb, both_ways, false_from_ne_true}
 use Rattle.std.proofs.lemmas.Bool.Decides.{same_from_decides, Decides-like, Decides-eqb}
 use Rattle.std.proofs.lemmas.Slice.Eq.{slice_eq-Decides}
 use Rattle.std.proofs.lemmas.List.Folds.{list_any-append, list_any_none}
@@ -18,7 +18,7 @@ use Rattle.ul_ranges.specs.declared.words.Operation.{Operation}
 use Rattle.ul_ranges.specs.declared.words.Operation.TheVariants.{Meet, Join, Less}
 use Rattle.ul_ranges.specs.Flags.{has, both, either, less, is_blank, is_within, set_of}
 use Rattle.ul_ranges.specs.Blocks.{flag, flag_at, flags_of, block_count, IsExact, AreBlocksOf}
-use Rattle.ul_ranges.specs.Marks.{HasMarked, IsFull}
+use Rattle.ul_ranges.specs.Marks.{HasMarked, front_word}
 use Rattle.ul_ranges.proofs.FlagLaws.{has-both, has-either, has-less, length-both, length-either, length-less, blank_some, blank_none, same_sets}
 
 -- ---- one bit
@@ -393,7 +393,7 @@ equal_blocks m n a b s t x y p q r e h =
 pub unequal_sizes : (m n : ℕ) (a b : List ℕ) (s t : List Bool) → flags_of m a ≡ s → flags_of n b ≡ t → s ≡ t → m ≡ n
 unequal_sizes m n a b s t p q f = sym (length-flags_of m a) ∙ ap length (p ∙ f ∙ sym q) ∙ length-flags_of n b
 
--- ---- the set of all
+-- ---- the bits below a count
 pub ones_below : (b i : ℕ) → i < b → flag (2 ^ b - 1) i ≡ true
 unfolding flag
 ones_below b i h = eq-eqb (bit_at (2 ^ b - 1) i) 1 (bit_at_ones b i h)
@@ -405,66 +405,57 @@ ones_above b i h = ap (λ v. eqb v 1) (bit_at_ones_above b i h)
 pub low_mask : (b : ℕ) → b < 64 → 1 * 2 ^ b % 2 ^ 64 - 1 ≡ 2 ^ b - 1
 low_mask b h = let p = pow_below b 64 h in omega arith
 
--- whole blocks alone
-pub full_blocks : (size n : ℕ) (bs : List ℕ) → n ≡ block_count size → size % 64 ≡ 0 → bs ≡ replicate n 18446744073709551615 → IsFull size bs
-unfolding flag_at
-full_blocks size n bs count even is =
-    let long : length bs ≡ n = ap length is ∙ length-replicate n 18446744073709551615 in
-    let inside : (j : ℕ) → j < n → get_or bs j 0 ≡ 18446744073709551615 =
-    λ j h. ap (λ (l : List ℕ). get_or l j 0) is ∙ get_or-replicate n j 18446744073709551615 0 h in
-    let past : (j : ℕ) → n ≤ j → get_or bs j 0 ≡ 0 = λ j h. get_or_past bs j 0 (omega arith) in
-    record {
-      count = long ∙ count;
-      words = λ j. elim (cases_lt j n) [ inl h ↦ rw (inside j h) (lit< tt) | inr h ↦ rw (past j h) (lit< tt) ];
-      below = λ k h. ap (λ v. flag v (k % 64)) (inside (k / 64) (omega arith)) ∙ ones_below 64 (k % 64) (omega arith);
-      above = λ k h. ap (λ v. flag v (k % 64)) (past (k / 64) (omega arith)) ∙ flag-zero (k % 64);
-    }
+pub flag-front_word : (count place i : ℕ) → i < 64 → flag (front_word count place) i ≡ nat_lt (64 * place + i) count
+flag-front_word count place i l = elim (cases_lt (64 * place + i) count) [
+  | inl a ↦ ones_below (min (count - 64 * place) 64) i (below a) ∙ sym (lt-ltb (64 * place + i) count a)
+  | inr a ↦ ones_above (min (count - 64 * place) 64) i (above a) ∙ sym (le-ltb (64 * place + i) count a)
+]
+  where
+    below : 64 * place + i < count → i < min (count - 64 * place) 64
+    below a = omega (arith, a, l)
 
--- and a part of the last one
-pub full_but_last : (size n : ℕ) (bs : List ℕ) (w : ℕ) → n ≡ block_count size → 0 < size % 64 → w ≡ 2 ^ (size % 64) - 1
-    → bs ≡ set (replicate n 18446744073709551615) (size / 64) w → IsFull size bs
-unfolding flag_at
-full_but_last size n bs w count odd mask is =
-    let last : size / 64 < length (replicate {A = ℕ} n 18446744073709551615) = let e = length-replicate {A = ℕ} n 18446744073709551615 in omega arith in
-    let long : length bs ≡ n = ap length is ∙ length-set (replicate n 18446744073709551615) (size / 64) w ∙ length-replicate n 18446744073709551615 in
-    let at : get_or bs (size / 64) 0 ≡ w =
-    ap (λ (l : List ℕ). get_or l (size / 64) 0) is ∙ get_or-set_same (replicate n 18446744073709551615) (size / 64) w 0 last in
-    let inside : (j : ℕ) → j < size / 64 → get_or bs j 0 ≡ 18446744073709551615 =
-    λ j h. ap (λ (l : List ℕ). get_or l j 0) is
-    ∙ get_or-set_other (replicate n 18446744073709551615) (size / 64) j w 0 (λ e. absurd (omega arith))
-    ∙ get_or-replicate n j 18446744073709551615 0 (omega arith) in
-    let past : (j : ℕ) → n ≤ j → get_or bs j 0 ≡ 0 = λ j h. get_or_past bs j 0 (omega arith) in
-    record {
-      count = long ∙ count;
-      words = λ j. elim (cases_order j (size / 64)) [
-        | inl e ↦ rw (e, at, mask) (let p = pow_below (size % 64) 64 (omega arith) in omega arith)
-        | inr (inl h) ↦ rw (inside j h) (lit< tt)
-        | inr (inr h) ↦ rw (past j (omega arith)) (lit< tt)
-      ];
-      below = λ k h. elim (cases_lt (k / 64) (size / 64)) [
-        | inl l ↦ ap (λ v. flag v (k % 64)) (inside (k / 64) l) ∙ ones_below 64 (k % 64) (omega arith)
-        | inr l ↦
-            let same : k / 64 ≡ size / 64 = omega arith in
-            rw (same, at, mask) (ones_below (size % 64) (k % 64) (omega arith))
-      ];
-      above = λ k h. elim (cases_lt (size / 64) (k / 64)) [
-        | inl l ↦ ap (λ v. flag v (k % 64)) (past (k / 64) (omega arith)) ∙ flag-zero (k % 64)
-        | inr l ↦
-            let same : k / 64 ≡ size / 64 = omega arith in
-            rw (same, at, mask) (ones_above (size % 64) (k % 64) (omega arith))
-      ];
-    }
+    above : count ≤ 64 * place + i → min (count - 64 * place) 64 ≤ i
+    above a = omega (arith, a)
 
-pub of_full : (size : ℕ) (bs : List ℕ) → IsFull size bs → IsExact size bs × (flags_of size bs ≡ replicate size true)
-of_full size bs h = (
-  record { count = h.count; words = h.words; clear = h.above },
-  ext_get_or
-      false
-      (flags_of size bs)
-      (replicate size true)
-      (length-flags_of size bs ∙ sym (length-replicate size true))
-      (
-      λ k l. let l2 : k < size = let e = length-flags_of size bs in omega arith in
-      flag_within size bs k l2 ∙ h.below k l2 ∙ sym (get_or-replicate size k true false l2)
-      ),
-)
+pub flag-first_word : (count i : ℕ) → i < 64 → flag (front_word count 0) i ≡ nat_lt i count
+flag-first_word count i l =
+    let e : 64 * 0 + i ≡ i = omega arith in
+    flag-front_word count 0 i l ∙ ap (λ (v : ℕ). nat_lt v count) e
+
+pub front_word_fits : (count place : ℕ) → front_word count place < 2 ^ 64
+front_word_fits count place = fits (min (count - 64 * place) 64) (omega arith)
+  where
+    fits : (n : ℕ) → n ≤ 64 → 2 ^ n - 1 < 2 ^ 64
+    fits n l = elim (cases_lt n 64) [
+      | inl a ↦ (let p = pow_below n 64 a in omega arith)
+      | inr a ↦ (let e : n ≡ 64 = omega arith in rw e (lit< tt))
+    ]
+
+-- the blocks of the numbers below a count
+pub flag_at-front : (size count k : ℕ) (bs : List ℕ) → count ≤ size → bs ≡ map (λ j. front_word count j) (range_with_len 0 (block_count size))
+    → flag_at bs k ≡ nat_lt k count
+unfolding flag_at
+flag_at-front size count k bs c is = elim (cases_lt (k / 64) (block_count size)) [
+  | inl l ↦
+      let whole : 64 * (k / 64) + k % 64 ≡ k = omega arith in
+      ap (λ (b : List ℕ). flag (get_or b (k / 64) 0) (k % 64)) is
+      ∙ ap (λ (v : ℕ). flag v (k % 64)) (get_or-map-range_with_len (λ j. front_word count j) 0 (block_count size) (k / 64) (k / 64) 0 l (zero-add (k / 64)))
+      ∙ flag-front_word count (k / 64) (k % 64) (omega arith)
+      ∙ ap (λ (v : ℕ). nat_lt v count) whole
+  | inr l ↦
+      let n : length bs ≡ block_count size = ap length is ∙ length-map-range_with_len (λ j. front_word count j) 0 (block_count size) in
+      ap (λ (v : ℕ). flag v (k % 64)) (get_or_past bs (k / 64) 0 (omega (arith, n, l))) ∙ flag-zero (k % 64) ∙ sym (le-ltb k count (omega (arith, l, c)))
+]
+
+pub front_exact : (size count : ℕ) (bs : List ℕ) → count ≤ size → bs ≡ map (λ j. front_word count j) (range_with_len 0 (block_count size)) → IsExact size bs
+front_exact size count bs c is =
+    let n : length bs ≡ block_count size = ap length is ∙ length-map-range_with_len (λ j. front_word count j) 0 (block_count size) in
+    record {
+      count = n;
+      words = λ j. elim (cases_lt j (block_count size)) [
+        | inl l ↦
+            rw (is, get_or-map-range_with_len (λ j. front_word count j) 0 (block_count size) j j 0 l (zero-add j)) (front_word_fits count j)
+        | inr l ↦ rw (get_or_past bs j 0 (omega (arith, n, l))) (lit< tt)
+      ];
+      clear = λ k l. flag_at-front size count k bs c is ∙ le-ltb k count (omega (arith, l, c));
+    }

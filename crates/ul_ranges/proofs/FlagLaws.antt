@@ -1,13 +1,13 @@
 -- Laws of sets as lists of flags.
-use Rattle.std.proofs.Common.{◌≡◌, ℕ, zero, suc, List, [], ◌∷◌, ◌++◌, Bool, true, false, cond, refl, ap, ◌∙◌, sym, get_or, ◌<◌, length, arith, eqb, inl, inr, None, Some, zero-add}
+use Rattle.std.proofs.Common.{◌≡◌, ℕ, zero, suc, List, [], ◌∷◌, ◌++◌, Bool, true, false, cond, refl, ap, ◌∙◌, sym, get_or, ◌<◌, length, arith, eqb, inl, inr, None, Some, zero-add, nat_lt}
 use Rattle.std.specs.Prelude.{IsTrue, ◌↔◌, Contains, All, find}
 use Rattle.std.specs.List.{list_any}
-use Rattle.std.proofs.lemmas.Bool.{cases_lt, cases_Bool, or_cases, eqb-true, eq-eqb, both_ways, cond-true, cond-false}
+use Rattle.std.proofs.lemmas.Bool.{cases_lt, cases_Bool, or_cases, eqb-true, eq-eqb, ltb-true, lt-ltb, both_ways, cond-true, cond-false}
 use Rattle.std.proofs.lemmas.List.Elements.{All-nil, All-cons, All-head, All-tail}
 use Rattle.std.proofs.lemmas.List.{ext_get_or, get_or_past}
 use Rattle.std.proofs.lemmas.List.FromFn.{length-map-range_with_len, get_or-map-range_with_len}
 use Rattle.std.proofs.lemmas.List.Folds.{list_any_at}
-use Rattle.ul_ranges.specs.Flags.{has, both, either, less, is_apart, is_blank, is_within, set_of}
+use Rattle.ul_ranges.specs.Flags.{has, both, either, less, is_apart, is_blank, is_within, set_of, front}
 
 pub cond_same : (b : Bool) → cond b false false ≡ false
 cond_same true = refl
@@ -131,6 +131,27 @@ set_members k size members = (
         absurd (both_ways (has k (set_of size members)) past e)
   ],
   λ p. has-set_of k size members p.0 ∙ in_any k members p.1,
+)
+
+-- ---- the numbers below a count
+pub length-front : (size count : ℕ) → length (front size count) ≡ size
+unfolding front
+length-front size count = length-map-range_with_len (λ k. nat_lt k count) 0 size
+
+pub has-front : (k size count : ℕ) → k < size → has k (front size count) ≡ nat_lt k count
+unfolding front
+has-front k size count h = get_or-map-range_with_len (λ k. nat_lt k count) 0 size k k false h (zero-add k)
+
+pub front_members : (k size count : ℕ) → IsTrue (has k (front size count)) ↔ ((k < size) × (k < count))
+front_members k size count = (
+  λ e. elim (cases_lt k size) [
+    | inl h ↦ (h, ltb-true k count (sym (has-front k size count h) ∙ e))
+    | inr h ↦
+        let past : has k (front size count) ≡ false =
+        get_or_past (front size count) k false (let l = length-front size count in omega arith) in
+        absurd (both_ways (has k (front size count)) past e)
+  ],
+  λ p. has-front k size count p.0 ∙ lt-ltb k count p.1,
 )
 
 -- ---- the first of a list

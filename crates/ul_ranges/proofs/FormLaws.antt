@@ -6,13 +6,13 @@ use Rattle.std.proofs.lemmas.Bool.{cases_lt, eqb-true, ne_eqb, cond-true, cond-f
 use Rattle.std.proofs.lemmas.List.{get_or_past, get_or-replicate, length-replicate}
 use Rattle.std.proofs.lemmas.List.FromFn.{length-map-range_with_len, get_or-map-range_with_len}
 use Rattle.std.proofs.lemmas.Nat.{and_le_l, or_lt}
-use Rattle.ul_ranges.specs.Flags.{has, both, either, less, is_apart, is_blank, is_within, set_of, IsNext}
+use Rattle.ul_ranges.specs.Flags.{has, both, either, less, is_apart, is_blank, is_within, set_of, front, IsNext}
 use Rattle.ul_ranges.specs.Blocks.{flag, flag_at, block_count, AreBlocksOf}
 use Rattle.ul_ranges.specs.Operations.{in_both, in_either, in_first}
-use Rattle.ul_ranges.specs.Forms.{bit_in, is_one, flag_in, flags_in, IsWord, IsBelow, IsFew, IsMany, IsForm, IsSealed, HasBlocks, IsMade, only_in, only_out, AreForms, AreSame, AreWithin, AreApart, HasMembers, HasAll}
+use Rattle.ul_ranges.specs.Forms.{bit_in, is_one, flag_in, flags_in, IsWord, IsBelow, IsFew, IsMany, IsForm, IsSealed, HasBlocks, IsMade, only_in, only_out, AreForms, AreSame, AreWithin, AreApart, HasMembers, HasFront}
 use Rattle.ul_ranges.specs.declared.forms.Form.{Form}
 use Rattle.ul_ranges.specs.declared.forms.Form.TheVariants.{Word, Few, Many}
-use Rattle.ul_ranges.proofs.FlagLaws.{has-both, has-either, has-less, length-both, length-either, length-less, blank_none, none_blank, same_sets, cond_same, length-set_of, has-set_of}
+use Rattle.ul_ranges.proofs.FlagLaws.{has-both, has-either, has-less, length-both, length-either, length-less, blank_none, none_blank, same_sets, cond_same, length-set_of, has-set_of, length-front, has-front}
 use Rattle.ul_ranges.proofs.BlockLaws.{flag-and, flag-or, flag-and_not, flag-true, flag_at-place, IsFlagwise, zip_flag}
 
 -- ---- the flags of a form
@@ -290,7 +290,13 @@ none_kept size f h = keeps size f (replicate size false) h.is_form (length-repli
   | inr l ↦ sym (get_or_past (replicate size false) k false (let e = length-replicate size false in omega arith))
 ])
 
-pub all_kept : (size : ℕ) (f : Form) → HasAll size f → flags_in size f ≡ replicate size true
+pub front_kept : (size count : ℕ) (f : Form) → count ≤ size → HasFront size count f → flags_in size f ≡ front size count
+front_kept size count f c h = keeps size f (front size count) h.is_form (length-front size count) (λ k. h.each k ∙ elim (cases_lt k size) [
+  | inl l ↦ sym (has-front k size count l)
+  | inr l ↦ le-ltb k count (omega (arith, l, c)) ∙ sym (get_or_past (front size count) k false (let e = length-front size count in omega arith))
+])
+
+pub all_kept : (size : ℕ) (f : Form) → HasFront size size f → flags_in size f ≡ replicate size true
 all_kept size f h = keeps size f (replicate size true) h.is_form (length-replicate size true) (λ k. h.each k ∙ elim (cases_lt k size) [
   | inl l ↦ lt-ltb k size l ∙ sym (get_or-replicate size k true false l)
   | inr l ↦ le-ltb k size l ∙ sym (get_or_past (replicate size true) k false (let e = length-replicate size true in omega arith))

@@ -1,19 +1,19 @@
 -- Laws of sets as they are made and written to.
-use Rattle.std.proofs.Common.{◌≡◌, ℕ, List, [], ◌∷◌, Bool, false, ap, ◌∙◌, sym, subst, get_or, ◌-◌, ◌*◌, ◌/◌, ◌%◌, ◌^◌, ◌<◌, ◌≤◌, length, arith, eqb, inl, inr, Some, None, lit<, replicate, ◌++◌, Result, Ok, Err, ◌⊎◌}
+use Rattle.std.proofs.Common.{◌≡◌, ℕ, List, [], ◌∷◌, Bool, false, ap, ◌∙◌, sym, subst, get_or, ◌*◌, ◌/◌, ◌%◌, ◌^◌, ◌<◌, ◌≤◌, length, arith, eqb, inl, inr, Some, None, lit<, replicate, ◌++◌, Result, Ok, Err}
 use Rattle.std.specs.Prelude.{bit_or, map, zip, All, IfOk, ◌||◌}
-use Rattle.std.specs.List.{list_any}
-use Rattle.std.proofs.lemmas.Bool.{cases_lt, cases_eq, ne_eqb, eq-eqb, lt-ltb, le-ltb}
+use Rattle.std.specs.List.{range_with_len, list_any}
+use Rattle.std.proofs.lemmas.Bool.{cases_lt, cases_eq, ne_eqb, eq-eqb, le-ltb}
 use Rattle.std.proofs.lemmas.List.{get_or_past, get_or-replicate, length-replicate}
 use Rattle.std.proofs.lemmas.List.Folds.{list_any-append, list_any_none}
 use Rattle.std.proofs.lemmas.Nat.{or_lt, pow_below}
 use Rattle.std.proofs.lemmas.Nat.Bits.{bit_at-pow_same, bit_at-pow_other}
 use Rattle.std.proofs.Math.Nat.{mod-lt}
 use Rattle.ul_ranges.specs.Blocks.{flag, flag_at, block_count, IsExact}
-use Rattle.ul_ranges.specs.Marks.{HasMarked, IsMarkedWord, IsFull}
-use Rattle.ul_ranges.specs.Forms.{bit_in, flag_in, IsWord, IsForm, IsSealed, HasBlocks, IsMade, IsZipped, IsOpen, IsResealed, HasMembers, HasAll}
+use Rattle.ul_ranges.specs.Marks.{HasMarked, IsMarkedWord, front_word}
+use Rattle.ul_ranges.specs.Forms.{bit_in, flag_in, IsWord, IsForm, IsSealed, HasBlocks, IsMade, IsZipped, IsOpen, IsResealed, HasMembers, HasFront}
 use Rattle.ul_ranges.specs.declared.forms.Form.{Form}
 use Rattle.ul_ranges.specs.declared.forms.Form.TheVariants.{Word, Few, Many}
-use Rattle.ul_ranges.proofs.BlockLaws.{flag-zero, flag-true, IsFlagwise, zip_exact, zip_flag, word_marked, or_false, ones_below, ones_above}
+use Rattle.ul_ranges.proofs.BlockLaws.{flag-zero, flag-true, IsFlagwise, zip_exact, zip_flag, word_marked, or_false, flag-first_word, front_word_fits, flag_at-front}
 use Rattle.ul_ranges.proofs.WordLaws.{flag_high, flag_none}
 use Rattle.ul_ranges.proofs.FormLaws.{bit_within, bit_past, beyond, few_past, many_blocks, zipped_made}
 
@@ -177,34 +177,23 @@ pow_word m l =
 pub marked_exact : (size : ℕ) (bs ms : List ℕ) → All (λ m. m < size) ms → HasMarked size bs ms → IsExact size bs
 marked_exact size bs ms all h = record { count = h.count; words = h.words; clear = λ k past. h.flags k ∙ none_listed size k ms all past }
 
--- ---- the set of all
-pub full_exact : (size : ℕ) (bs : List ℕ) → IsFull size bs → IsExact size bs
-full_exact size bs h = record { count = h.count; words = h.words; clear = h.above }
+-- ---- the set of the numbers below a count
+pub front_sealed : (size count : ℕ) (bs : List ℕ) (f : Form) → count ≤ size → bs ≡ map (λ j. front_word count j) (range_with_len 0 (block_count size))
+    → IsSealed size bs f → HasFront size count f
+front_sealed size count bs f c is s = record { is_form = s.is_form; each = λ k. s.each k ∙ flag_at-front size count k bs c is }
 
-pub full_sealed : (size : ℕ) (bs : List ℕ) (f : Form) → IsFull size bs → IsSealed size bs f → HasAll size f
-full_sealed size bs f h s = record {
-  is_form = s.is_form;
-  each = λ k. s.each k ∙ elim (cases_lt k size) [
-    | inl l ↦ h.below k l ∙ sym (lt-ltb k size l)
-    | inr l ↦ h.above k l ∙ sym (le-ltb k size l)
+pub front_small : (size count : ℕ) → size ≤ 64 → count ≤ size → HasFront size count (Word (front_word count 0))
+front_small size count s c = record {
+  is_form = record {
+    small = s;
+    fits = front_word_fits count 0;
+    clear = λ k l. elim (cases_lt k 64) [
+      | inl a ↦ flag-first_word count k a ∙ le-ltb k count (omega (arith, c, l))
+      | inr a ↦ flag_high (front_word count 0) k (front_word_fits count 0) a
+    ];
+  };
+  each = λ k. elim (cases_lt k 64) [
+    | inl a ↦ bit_within (front_word count 0) k a ∙ flag-first_word count k a
+    | inr a ↦ beyond (front_word count 0) k a ∙ sym (le-ltb k count (omega (arith, a, s, c)))
   ];
 }
-
-pub full_word : (size : ℕ) → size ≤ 64 → HasAll size (Word (2 ^ size - 1))
-full_word size s = record {
-  is_form = record { small = s; fits = full_fits size s; clear = λ k l. ones_above size k l };
-  each = λ k. elim (cases_lt k size) [
-    | inl l ↦ bit_within (2 ^ size - 1) k (omega arith) ∙ ones_below size k l ∙ sym (lt-ltb k size l)
-    | inr l ↦ past k l (cases_lt k 64) ∙ sym (le-ltb k size l)
-  ];
-}
-  where
-    past : (k : ℕ) → size ≤ k → (k < 64) ⊎ (64 ≤ k) → bit_in (2 ^ size - 1) k ≡ false
-    past k l (inl a) = bit_within (2 ^ size - 1) k a ∙ ones_above size k l
-    past k l (inr a) = beyond (2 ^ size - 1) k a
-
-    full_fits : (n : ℕ) → n ≤ 64 → 2 ^ n - 1 < 2 ^ 64
-    full_fits n l = elim (cases_lt n 64) [
-      | inl a ↦ (let p = pow_below n 64 a in omega arith)
-      | inr a ↦ (let e : n ≡ 64 = omega arith in subst (λ (v : ℕ). 2 ^ v - 1 < 2 ^ 64) (sym e) (lit< tt))
-    ]

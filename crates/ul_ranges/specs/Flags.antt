@@ -1,6 +1,6 @@
 -- A finite set of numbers below a size, as its list of flags: flag k says whether k is in the set. So the size is the list's length,
 -- and two sets of one size are equal exactly where their lists are. The operations are those of sets, flag by flag.
-use Rattle.std.specs.Prelude.{◌≡◌, ℕ, ◌==◌, ◌<◌, ◌≤◌, List, [], ◌∷◌, Bool, true, false, cond, Option, Some, None, get_or, map, find}
+use Rattle.std.specs.Prelude.{◌≡◌, ℕ, ◌==◌, ◌<◌, ◌≤◌, List, [], ◌∷◌, Bool, true, false, cond, Option, Some, None, get_or, map, find, nat_lt}
 use Rattle.std.specs.List.{range_with_len, list_any}
 
 -- whether the set has k; no set has a number past its size
@@ -37,6 +37,10 @@ is_within s t = is_blank (less s t)
 -- the set, of this size, of the numbers of a list
 unfoldable pub set_of : ℕ → List ℕ → List Bool
 set_of size members = map (λ k. list_any (λ m. m == k) members) (range_with_len 0 size)
+
+-- the set, of this size, of the numbers below a count
+unfoldable pub front : ℕ → ℕ → List Bool
+front size count = map (λ k. nat_lt k count) (range_with_len 0 size)
 
 -- the first of a list of numbers that is in the set
 abbrev pub first_in : List ℕ → List Bool → Option ℕ

@@ -138,7 +138,7 @@ pub record HasMembers (size : ℕ) (members : List ℕ) (form : Form) : Type 0 w
   pub is_form : IsForm size form
   pub each : (k : ℕ) → flag_in form k ≡ list_any (λ m. nat_eq m k) members
 
--- every number below the size, and no other, is a member of a set as it is kept
-pub record HasAll (size : ℕ) (form : Form) : Type 0 where
+-- every number below a count, and no other, is a member of a set as it is kept
+pub record HasFront (size count : ℕ) (form : Form) : Type 0 where
   pub is_form : IsForm size form
-  pub each : (k : ℕ) → flag_in form k ≡ nat_lt k size
+  pub each : (k : ℕ) → flag_in form k ≡ nat_lt k count

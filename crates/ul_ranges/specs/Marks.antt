@@ -1,5 +1,5 @@
 -- Blocks in which the bits of some numbers are set.
-use Rattle.std.specs.Prelude.{◌≡◌, ℕ, ◌<◌, ◌≤◌, ◌^◌, List, length, true, false, nat_eq, get_or}
+use Rattle.std.specs.Prelude.{◌≡◌, ℕ, ◌-◌, ◌*◌, ◌^◌, ◌<◌, List, length, nat_eq, get_or, min}
 use Rattle.std.specs.List.{list_any}
 use Rattle.ul_ranges.specs.Blocks.{block_count, flag, flag_at}
 
@@ -14,9 +14,6 @@ pub record IsMarkedWord (word : ℕ) (members : List ℕ) : Type 0 where
   pub fits : word < 2 ^ 64
   pub flags : (k : ℕ) → k < 64 → flag word k ≡ list_any (λ m. nat_eq m k) members
 
--- the flags of these blocks are those below the size
-pub record IsFull (size : ℕ) (blocks : List ℕ) : Type 0 where
-  pub count : length blocks ≡ block_count size
-  pub words : (j : ℕ) → get_or blocks j 0 < 2 ^ 64
-  pub below : (k : ℕ) → k < size → flag_at blocks k ≡ true
-  pub above : (k : ℕ) → size ≤ k → flag_at blocks k ≡ false
+-- a block of the numbers below a count: its lowest bits are set, as many as there are such numbers from its first on, and 64 at most
+abbrev pub front_word : ℕ → ℕ → ℕ
+front_word count place = 2 ^ min (count - 64 * place) 64 - 1

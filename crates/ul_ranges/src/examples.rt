@@ -1,6 +1,6 @@
 //! Worked examples of the definitions. None of these functions does anything.
 ghost use Rattle.std.specs.Prelude.{◌≡◌, ◌+◌, ◌*◌, ◌^◌, ◌-◌, [], ◌∷◌, true, false, Some, None, map, replicate};
-ghost use Rattle.ul_ranges.specs.Flags.{has, both, either, less, is_apart, is_blank, is_within, set_of, first_in};
+ghost use Rattle.ul_ranges.specs.Flags.{has, both, either, less, is_apart, is_blank, is_within, set_of, front, first_in};
 ghost use Rattle.ul_ranges.specs.Blocks.{block_count, flags_of, IsExact};
 ghost use Rattle.ul_ranges.specs.Pieces.{AreStarts, IsPiece, IsRefinement};
 ghost use Rattle.ul_ranges.specs.Examples.{from_3_8, interpreters};
@@ -12,6 +12,8 @@ pub fn sets()
     ensures join { either (set_of 5 (1 ∷ 3 ∷ [])) (set_of 5 (3 ∷ 4 ∷ [])) ≡ set_of 5 (1 ∷ 3 ∷ 4 ∷ []) }
     ensures left { less (set_of 5 (1 ∷ 3 ∷ [])) (set_of 5 (3 ∷ 4 ∷ [])) ≡ set_of 5 (1 ∷ []) }
     ensures right { less (set_of 5 (3 ∷ 4 ∷ [])) (set_of 5 (1 ∷ 3 ∷ [])) ≡ set_of 5 (4 ∷ []) }
+    ensures front { front 5 2 ≡ true ∷ true ∷ false ∷ false ∷ false ∷ [] }
+    ensures fronts { map (front 2) (0 ∷ 1 ∷ 2 ∷ []) ≡ set_of 2 [] ∷ set_of 2 (0 ∷ []) ∷ set_of 2 (0 ∷ 1 ∷ []) ∷ [] }
     ensures blank { is_blank (set_of 5 []) ≡ true }
     ensures filled { is_blank (set_of 65 (64 ∷ [])) ≡ false }
     ensures within { is_within (set_of 5 (3 ∷ [])) (set_of 5 (1 ∷ 3 ∷ [])) ≡ true }

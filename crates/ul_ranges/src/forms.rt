@@ -1,10 +1,11 @@
 //! How a set is kept, and the operations on what is kept.
 ghost use Rattle.std.specs.Prelude.{◌≡◌, ◌<◌, ◌≤◌, ◌↔◌, ℕ, [], ◌∷◌, true, false, All, IfOk, IfErr, IsTrue, IsFalse, map, zip, bit_and, bit_or, length};
 ghost use Rattle.std.specs.Int.{bit_not, w64};
-ghost use Rattle.ul_ranges.specs.Blocks.{IsExact, flag_at};
+ghost use Rattle.std.specs.List.{range_with_len};
+ghost use Rattle.ul_ranges.specs.Blocks.{IsExact, block_count, flag_at};
 ghost use Rattle.ul_ranges.specs.Flags.{IsNext};
-ghost use Rattle.ul_ranges.specs.Marks.{HasMarked, IsFull, IsMarkedWord};
-ghost use Rattle.ul_ranges.specs.Forms.{AreApart, AreForms, AreLevel, AreSame, AreWithin, HasAll, HasMembers, IsOpen, IsResealed, IsSomeForm, IsZipped, flag_in, bit_in, IsBelow, IsFew, IsFewOf, IsForm, IsMade, IsSealed, HasBlocks, only_in, only_out};
+ghost use Rattle.ul_ranges.specs.Marks.{HasMarked, IsMarkedWord, front_word};
+ghost use Rattle.ul_ranges.specs.Forms.{AreApart, AreForms, AreLevel, AreSame, AreWithin, HasFront, HasMembers, IsOpen, IsResealed, IsSomeForm, IsZipped, flag_in, bit_in, IsBelow, IsFew, IsFewOf, IsForm, IsMade, IsSealed, HasBlocks, only_in, only_out};
 ghost use Rattle.ul_ranges.specs.Operations.{flag_by, in_both, in_either, in_first, word_by};
 
 use crate::shared::{SharedList, put_shared};
@@ -428,26 +429,36 @@ fn blocks_of(alloc: Global, size: u32, members: &Vec<u32>) -> Result<Vec<u64>, A
     Ok(blocks)
 }
 
-// The set of all the numbers below a size.
-pub fn all(alloc: Global, size: u32) -> Result<Form, AllocError>
-    ensures { IfOk result (λ f. HasAll size f) }
+// The set of the numbers below a count.
+pub fn front(alloc: Global, size: u32, count: u32) -> Result<Form, AllocError>
+    requires { count ≤ size }
+    ensures { IfOk result (λ f. HasFront size count f) }
 {
-    if size == 64 {
-        return Ok(Form::Word(u64::MAX));
+    if size <= 64 {
+        return Ok(Form::Word(front_word(count, 0)));
     }
-    if size < 64 {
-        return Ok(Form::Word((1u64 << size) - 1));
-    }
-    let blocks = full_blocks(alloc, size)?;
+    let blocks = front_blocks(alloc, size, count)?;
     sealed(alloc, size, blocks)
 }
 
-fn full_blocks(alloc: Global, size: u32) -> Result<Vec<u64>, AllocError>
-    ensures { IfOk result (λ v. IsFull size v.items) }
+// A block of the numbers below a count.
+fn front_word(count: u32, place: u32) -> u64
+    ensures { result ≡ front_word count place }
 {
-    let mut blocks = vec![in alloc; u64::MAX; size.div_ceil(64) as usize]?;
-    if size % 64 != 0 {
-        blocks[size as usize / 64] = (1u64 << (size % 64)) - 1;
+    let whole = count / 64;
+    if place < whole {
+        return u64::MAX;
     }
-    Ok(blocks)
+    if place > whole {
+        return 0;
+    }
+    (1u64 << (count % 64)) - 1
+}
+
+fn front_blocks(alloc: Global, size: u32, count: u32) -> Result<Vec<u64>, AllocError>
+    ensures { IfOk result (λ v. v.items ≡ map (λ j. front_word count j) (range_with_len 0 (block_count size))) }
+{
+    (0..size.div_ceil(64))
+        .map(|place| front_word(count, place))
+        .collect(alloc)
 }

@@ -1,6 +1,6 @@
 //! What the definitions of sets and pieces say, as laws for all values. None of these functions does anything.
 ghost use Rattle.std.specs.Prelude.{◌≡◌, ◌+◌, ◌*◌, ◌<◌, ◌≤◌, ◌↔◌, ℕ, List, [], ◌∷◌, Bool, true, false, cond, length, Contains, IsTrue, Option, Some, None, All, ◌++◌, ◌^◌};
-ghost use Rattle.ul_ranges.specs.Flags.{has, both, either, less, is_apart, is_blank, is_within, set_of, first_in};
+ghost use Rattle.ul_ranges.specs.Flags.{has, both, either, less, is_apart, is_blank, is_within, set_of, front, first_in};
 ghost use Rattle.ul_ranges.specs.Pieces.{AreStarts, IsPiece, IsRefinement};
 
 /// No member is past the size, and two sets of one size with the same members are equal.
@@ -34,6 +34,12 @@ pub fn listed()
     ensures size { (size : ℕ) (members : List ℕ) → length (set_of size members) ≡ size }
     ensures members { (k size : ℕ) (members : List ℕ)
         → IsTrue (has k (set_of size members)) ↔ ((k < size) × Contains members k) }
+{}
+
+/// The set of the numbers below a count has its size, and its members are the numbers below both.
+pub fn fronts()
+    ensures size { (size count : ℕ) → length (front size count) ≡ size }
+    ensures members { (k size count : ℕ) → IsTrue (has k (front size count)) ↔ ((k < size) × (k < count)) }
 {}
 
 /// The first of a list in a set is a member, no earlier number of the list is, and it is missing exactly where none is a member.

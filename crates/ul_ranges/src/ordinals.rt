@@ -1,6 +1,6 @@
 //! Sets of the numbers below a size. Contracts see a set as its list of flags.
-ghost use Rattle.std.specs.Prelude.{◌≡◌, ◌<◌, ◌↔◌, ℕ, List, [], ◌∷◌, Bool, true, false, length, IfOk, IfErr, All, IsTrue, replicate};
-ghost use Rattle.ul_ranges.specs.Flags.{has, both, either, less, is_apart, is_blank, is_within, set_of, first_in, IsNextMember};
+ghost use Rattle.std.specs.Prelude.{◌≡◌, ◌<◌, ◌≤◌, ◌↔◌, ℕ, List, [], ◌∷◌, Bool, true, false, length, IfOk, IfErr, All, IsTrue, replicate};
+ghost use Rattle.ul_ranges.specs.Flags.{has, both, either, less, is_apart, is_blank, is_within, set_of, front, first_in, IsNextMember};
 ghost use Rattle.ul_ranges.specs.Blocks.{AreBlocksOf};
 
 use crate::forms;
@@ -224,7 +224,16 @@ impl Ordinals {
     pub fn all(alloc: Global, size: u32) -> Result<Ordinals, AllocError>
         ensures { IfOk result (λ s. s ≡ replicate size true) }
     {
-        let form = forms::all(alloc, size)?;
+        let form = forms::front(alloc, size, size)?;
+        Ok(Ordinals { size, form })
+    }
+
+    /// The set, of this size, of the numbers below `count`.
+    pub fn front(alloc: Global, size: u32, count: u32) -> Result<Ordinals, AllocError>
+        requires { count ≤ size }
+        ensures { IfOk result (λ s. s ≡ front size count) }
+    {
+        let form = forms::front(alloc, size, count)?;
         Ok(Ordinals { size, form })
     }
 }
