@@ -11,15 +11,13 @@ use Rattle.ul_core.specs.declared.trees.Tree.TheViews.{out-Tree, roll-Tree, roll
 use Rattle.ul_core.specs.declared.trees.Tree.TheFolds.{fold-roll-Tree, fold_out-Tree, ind-Tree}
 use Rattle.ul_core.specs.Trees.{tree_with}
 use Rattle.ul_interner.specs.Marked.{Marked, plain, plain_step, label_of, parts_of}
-use Rattle.ul_tree.specs.Levels.{extra_level, python_level, text_level, atom_level, IsKey}
-use Rattle.ul_tree.specs.Plain.{Plain, truth, node, Branches, done, branch, text_cmp, carries, carried_part}
-use Rattle.ul_tree.specs.Reduced.{IsReduced, Fits, FitsAll, HasBranch}
-use Rattle.ul_tree.specs.Apply.{keys, same}
-use Rattle.ul_tree.proofs.ForCallers.{same_true, same_itself}
+use Rattle.ul_nodes.specs.Levels.{extra_level, python_level, text_level, atom_level, IsKey}
+use Rattle.ul_nodes.specs.Plain.{Plain, truth, node, Branches, done, branch, text_cmp, carries, carried_part}
+use Rattle.ul_nodes.specs.Reduced.{IsReduced, Fits, FitsAll, HasBranch}
+use Rattle.ul_nodes.specs.Apply.{keys, same}
+use Rattle.ul_nodes.proofs.ForCallers.{same_true, same_itself, cmp_equal, cmp_itself, fits_weaker}
 use Rattle.ul_tree.specs.Views.{pieces_of}
 use Rattle.std.specs.Ordering.{is_eq}
-use Rattle.ul_tree.proofs.ForCallers.{cmp_equal, cmp_itself}
-use Rattle.ul_tree.proofs.ForCallers.{fits_weaker}
 use Rattle.ul_algebra.specs.declared.labels.DiagramLabel.{DiagramLabel}
 use Rattle.ul_algebra.specs.declared.labels.DiagramLabel.TheVariants.{Truth, Extra, Python, Text, Opaque}
 use Rattle.ul_algebra.specs.Spelled.{other_of, branches_by, keyed_node, spelling, spell_step, spells, tree_of}

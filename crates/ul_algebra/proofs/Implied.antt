@@ -3,8 +3,8 @@ use Rattle.std.proofs.Common.{◌≡◌, Bool, sym, ◌∙◌, ap, IsTrue, ◌�
 use Rattle.ul_tree.specs.FirstParts.{is_false}
 use Rattle.ul_tree.specs.JoinSteps.{first_alone, Implies}
 use Rattle.ul_tree.specs.Laws.{joined_by}
-use Rattle.ul_tree.specs.Plain.{Plain}
-use Rattle.ul_tree.specs.Reduced.{IsReduced}
+use Rattle.ul_nodes.specs.Plain.{Plain}
+use Rattle.ul_nodes.specs.Reduced.{IsReduced}
 use Rattle.ul_tree.proofs.ForCallers.{false_is, implies_by_join}
 
 -- exactly where the first without the second is false

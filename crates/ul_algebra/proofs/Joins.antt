@@ -1,11 +1,11 @@
 -- When the join of two diagrams is known at once, and when the two sides may change places.
 use Rattle.std.proofs.Common.{◌≡◌, suc, ◌+◌, Bool, true, false, Option, Some, None, refl, ap, sym, ◌∙◌, arith, if◌then◌else◌}
-use Rattle.ul_tree.specs.Apply.{size, truth_value}
+use Rattle.ul_nodes.specs.Apply.{size, truth_value}
 use Rattle.ul_tree.specs.JoinSteps.{HasJoinedTruth, JoinsTo}
 use Rattle.ul_tree.specs.Laws.{joined_by}
-use Rattle.ul_tree.specs.Plain.{Plain, truth, node}
-use Rattle.ul_tree.specs.Reduced.{IsReduced}
-use Rattle.ul_tree.specs.SimplifyViews.{IfSome}
+use Rattle.ul_nodes.specs.Plain.{Plain, truth, node}
+use Rattle.ul_nodes.specs.Reduced.{IsReduced}
+use Rattle.ul_nodes.specs.Rows.{IfSome}
 use Rattle.ul_tree.specs.Values.{tree_holds}
 use Rattle.ul_tree.proofs.ForCallers.{at_once, operations}
 use Rattle.ul_algebra.specs.Joinings.{Commutes, FollowsSide, IsJoinedBy, at_once_tree}

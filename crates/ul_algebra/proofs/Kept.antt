@@ -7,11 +7,11 @@ use Rattle.ul_core.specs.declared.trees.Tree.{Tree}
 use Rattle.ul_interner.specs.Marked.{plain, id_of}
 use Rattle.ul_interner.specs.Known.{Held, Known, Knows, tree_at}
 use Rattle.ul_interner.proofs.ForCallers.{known_here, stays, known_stays}
-use Rattle.ul_tree.specs.Plain.{Plain, truth}
+use Rattle.ul_nodes.specs.Plain.{Plain, truth}
 use Rattle.ul_algebra.specs.declared.labels.DiagramLabel.{DiagramLabel}
 use Rattle.ul_algebra.specs.declared.questions.Question.{Question}
 use Rattle.ul_algebra.specs.Spelled.{spells, tree_of}
-use Rattle.ul_tree.specs.Reduced.{IsReduced}
+use Rattle.ul_nodes.specs.Reduced.{IsReduced}
 use Rattle.ul_algebra.specs.Answers.{IsAnswer, Answer, IsDiagram, IsKeptTruth}
 use Rattle.ul_algebra.specs.Made.{OwnKnown}
 use Rattle.ul_algebra.specs.Made.{Seen}

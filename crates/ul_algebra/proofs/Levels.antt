@@ -3,13 +3,13 @@ use Rattle.std.proofs.Common.{◌≡◌, ℕ, zero, suc, ◌<◌, List, [], ◌�
 use Rattle.std.specs.List.{slice_get}
 use Rattle.std.proofs.lemmas.List.{length-map}
 use Rattle.ul_interner.specs.Marked.{label_of, parts_of}
-use Rattle.ul_tree.specs.Levels.{python_level}
-use Rattle.ul_tree.specs.Plain.{Plain, truth, Branches, done, branch}
-use Rattle.ul_tree.specs.Reduced.{IsReduced, Fits}
-use Rattle.ul_tree.specs.Apply.{keys, leaf_truth, truth_value}
+use Rattle.ul_nodes.specs.Levels.{python_level}
+use Rattle.ul_nodes.specs.Plain.{Plain, truth, Branches, done, branch}
+use Rattle.ul_nodes.specs.Reduced.{IsReduced, Fits}
+use Rattle.ul_nodes.specs.Apply.{keys, leaf_truth, truth_value}
 use Rattle.ul_tree.specs.FirstParts.{is_false}
-use Rattle.ul_tree.specs.Keys.{top_of, rest_of, branches_of, branch_count, branches_from, is_key_of}
-use Rattle.ul_tree.specs.declared.level.Key.TheVariants.{Number}
+use Rattle.ul_nodes.specs.Keys.{top_of, rest_of, branches_of, branch_count, branches_from, is_key_of}
+use Rattle.ul_nodes.specs.declared.level.Key.TheVariants.{Number}
 use Rattle.ul_tree.specs.Views.{python_of, pieces_of}
 use Rattle.ul_algebra.specs.declared.labels.DiagramLabel.{DiagramLabel}
 use Rattle.ul_algebra.specs.declared.labels.DiagramLabel.TheVariants.{Truth}

@@ -1,18 +1,17 @@
 -- The nodes that are being made.
 use Rattle.std.specs.List.{All}
-use Rattle.ul_tree.specs.Keys.{is_number_key}
-use Rattle.ul_tree.specs.declared.level.Key.TheVariants.{Literal, Number, Holds}
+use Rattle.ul_nodes.specs.Keys.{is_number_key, key_view}
+use Rattle.ul_nodes.specs.declared.level.Key.TheVariants.{Literal, Number, Holds}
 use Rattle.std.proofs.lemmas.List.{append-nil}
 use Rattle.std.proofs.Common.{true, Global, String, string_bytes, arith, ◌≡◌, ℕ, suc, List, [], ◌∷◌, ◌++◌, map, length, refl, ap, sym, ◌∙◌}
-use Rattle.ul_tree.specs.Plain.{Plain, node, Branches, done, branch}
-use Rattle.ul_tree.specs.Levels.{python_level}
-use Rattle.ul_tree.specs.Keys.{key_view}
+use Rattle.ul_nodes.specs.Plain.{Plain, node, Branches, done, branch}
+use Rattle.ul_nodes.specs.Levels.{python_level}
 use Rattle.ul_algebra.specs.Made.{diagrams_made}
 use Rattle.ul_tree.specs.Views.{python_of, pieces_of}
-use Rattle.ul_tree.specs.Apply.{keys}
+use Rattle.ul_nodes.specs.Apply.{keys}
 use Rattle.ul_algebra.specs.Spelled.{tree_of, keyed_node, branches_by, other_of}
 use Rattle.ul_algebra.proofs.Decoded.{parts_in, numbers_in, first_number}
-use Rattle.ul_tree.specs.declared.level.Key.{Key}
+use Rattle.ul_nodes.specs.declared.level.Key.{Key}
 use Rattle.ul_algebra.specs.Made.{Seen}
 
 -- ---- a node of the keys and the parts of branches

@@ -4,9 +4,9 @@ use Rattle.ul_interner.specs.Headline.{InternerPromises}
 use Rattle.ul_interner.specs.Known.{Held}
 use Rattle.ul_interner.specs.Logs.{AreSeen}
 use Rattle.ul_interner.specs.Marked.{id_of}
-use Rattle.ul_tree.specs.Apply.{size}
-use Rattle.ul_tree.specs.Plain.{Plain}
-use Rattle.ul_tree.specs.Reduced.{IsReduced}
+use Rattle.ul_nodes.specs.Apply.{size}
+use Rattle.ul_nodes.specs.Plain.{Plain}
+use Rattle.ul_nodes.specs.Reduced.{IsReduced}
 use Rattle.ul_tree.specs.Values.{tree_holds}
 use Rattle.ul_tree.proofs.ForCallers.{one_truth_one_tree, operations, simplify_laws}
 use Rattle.ul_algebra.specs.declared.labels.DiagramLabel.{DiagramLabel}

@@ -3,10 +3,10 @@ use Rattle.ul_interner.specs.Marked.{Marked}
 use Rattle.std.specs.Prelude.{◌≡◌, Bool, Option, Some}
 use Rattle.ul_core.specs.declared.trees.Tree.{Tree}
 use Rattle.ul_interner.specs.Known.{Held, Known, tree_at}
-use Rattle.ul_tree.specs.Plain.{Plain, truth}
-use Rattle.ul_tree.specs.Reduced.{IsReduced}
+use Rattle.ul_nodes.specs.Plain.{Plain, truth}
+use Rattle.ul_nodes.specs.Reduced.{IsReduced}
 use Rattle.ul_tree.specs.Simplify.{Simplifies}
-use Rattle.ul_tree.specs.SimplifyViews.{IfSome}
+use Rattle.ul_nodes.specs.Rows.{IfSome}
 use Rattle.ul_algebra.specs.declared.labels.DiagramLabel.{DiagramLabel}
 use Rattle.ul_algebra.specs.declared.questions.Operation.{Operation}
 use Rattle.ul_algebra.specs.declared.questions.Operation.TheVariants.{Joined, Simplified, Union}

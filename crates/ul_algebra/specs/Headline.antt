@@ -3,7 +3,7 @@ use Rattle.std.specs.Prelude.{◌≡◌, ◌↔◌, ℕ}
 use Rattle.ul_interner.specs.Known.{Held, Knows}
 use Rattle.ul_interner.specs.Logs.{AreSeen}
 use Rattle.ul_interner.specs.Marked.{Marked, id_of}
-use Rattle.ul_tree.specs.Reduced.{IsReduced}
+use Rattle.ul_nodes.specs.Reduced.{IsReduced}
 use Rattle.ul_tree.specs.Simplify.{Simplifies}
 use Rattle.ul_algebra.specs.declared.labels.DiagramLabel.{DiagramLabel}
 use Rattle.ul_algebra.specs.declared.questions.Joining.{Joining}

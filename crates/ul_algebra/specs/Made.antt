@@ -3,16 +3,17 @@ use Rattle.std.specs.Prelude.{ℕ, suc, ◌+◌, ◌<◌, ◌≡◌, List, [], �
 use Rattle.ul_interner.specs.Known.{Held, Known}
 use Rattle.ul_interner.specs.Marked.{Marked}
 use Rattle.ul_marker.specs.Atoms.{AtomFields}
-use Rattle.ul_tree.specs.Levels.{python_level, atom_level}
-use Rattle.ul_tree.specs.Plain.{Plain, Branches, node, carries}
-use Rattle.ul_tree.specs.Apply.{apply, close, outs, part_at, same, size}
-use Rattle.ul_tree.specs.Joins.{made_view, stands, more_branches}
-use Rattle.ul_tree.specs.Keys.{level_view, key_view, keys_view, has_kind, branches_of, rest_of, KeysOf}
-use Rattle.ul_tree.specs.Simplify.{Results, Pieces, Piece, filled_results, reduced_branches, settled_level, union_in}
-use Rattle.ul_tree.specs.SimplifyViews.{results_view, parts_view, region_view, IfSome, Lowered}
+use Rattle.ul_nodes.specs.Levels.{python_level, atom_level}
+use Rattle.ul_nodes.specs.Plain.{Plain, Branches, node, carries}
+use Rattle.ul_nodes.specs.Apply.{apply, close, outs, part_at, same, size}
+use Rattle.ul_nodes.specs.Rows.{made_view, stands, Results, results_view, parts_view, IfSome}
+use Rattle.ul_tree.specs.Joins.{more_branches}
+use Rattle.ul_nodes.specs.Keys.{level_view, key_view, keys_view, has_kind, branches_of, rest_of, KeysOf}
+use Rattle.ul_tree.specs.Simplify.{Pieces, Piece, filled_results, reduced_branches, settled_level, union_in}
+use Rattle.ul_tree.specs.SimplifyViews.{region_view, Lowered}
 use Rattle.ul_tree.specs.Views.{python_of}
-use Rattle.ul_tree.specs.declared.level.Key.{Key}
-use Rattle.ul_tree.specs.declared.level.Level.{Level}
+use Rattle.ul_nodes.specs.declared.level.Key.{Key}
+use Rattle.ul_nodes.specs.declared.level.Level.{Level}
 use Rattle.ul_algebra.specs.Joinings.{truth_of}
 use Rattle.ul_algebra.specs.Spelled.{keyed_node, tree_of}
 use Rattle.ul_algebra.specs.declared.labels.DiagramLabel.{DiagramLabel}

@@ -2,7 +2,7 @@
 use Rattle.std.specs.Prelude.{ℕ, List, Bool, not, ◌≡◌}
 use Rattle.ul_interner.specs.Marked.{Marked}
 use Rattle.ul_marker.specs.Worlds.{WorldFields, IsWorld}
-use Rattle.ul_tree.specs.Levels.{IsExtra}
+use Rattle.ul_nodes.specs.Levels.{IsExtra}
 use Rattle.ul_tree.specs.Values.{tree_holds}
 use Rattle.ul_algebra.specs.Spelled.{tree_of}
 use Rattle.ul_algebra.specs.declared.labels.DiagramLabel.{DiagramLabel}

@@ -1,7 +1,7 @@
 -- Worked examples of diagrams' trees and of labels' hashes.
 use Rattle.std.specs.Prelude.{◌≡◌, [], ◌∷◌, true, false}
-use Rattle.ul_tree.specs.Levels.{extra_level, python_level}
-use Rattle.ul_tree.specs.Plain.{truth, node, done, branch}
+use Rattle.ul_nodes.specs.Levels.{extra_level, python_level}
+use Rattle.ul_nodes.specs.Plain.{truth, node, done, branch}
 use Rattle.ul_tree.specs.Views.{shapeless}
 use Rattle.ul_algebra.specs.declared.labels.DiagramLabel.TheVariants.{Truth, Extra, Python}
 use Rattle.ul_algebra.specs.Hashes.{label_hash}

@@ -1,9 +1,9 @@
 //! Diagrams of trees, and trees of diagrams.
 ghost use Rattle.std.specs.Prelude.{◌≡◌, IfOk, Some};
 ghost use Rattle.ul_interner.specs.Known.{Known, Knows};
-ghost use Rattle.ul_tree.specs.Reduced.{IsReduced};
+ghost use Rattle.ul_nodes.specs.Reduced.{IsReduced};
 ghost use Rattle.ul_tree.specs.Views.{tree_view};
-ghost use Rattle.ul_tree.specs.Keys.{level_view, top_of, branches_of, KeysOf};
+ghost use Rattle.ul_nodes.specs.Keys.{level_view, top_of, branches_of, KeysOf};
 ghost use Rattle.ul_tree.specs.Joins.{trees_made};
 ghost use Rattle.ul_algebra.specs.Made.{diagrams_made, PartsKnown};
 ghost use Rattle.ul_algebra.specs.Spelled.{tree_of};
@@ -15,8 +15,8 @@ use crate::join::closed;
 use crate::{Diagram, nodes};
 use std::alloc::{AllocError, Global};
 use std::sync::Wait;
+use ul_nodes::level::{Key, Level};
 use ul_tree::join::closed as closed_tree;
-use ul_tree::level::{Key, Level};
 use ul_tree::{Tree, part};
 
 impl<'a> Algebra<'a> {

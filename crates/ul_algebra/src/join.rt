@@ -1,13 +1,12 @@
 //! A diagram made of two, part by part.
 ghost use Rattle.std.specs.Prelude.{◌≡◌, ℕ, List, Some, IfOk, All, true};
 ghost use Rattle.ul_interner.specs.Known.{Known, Knows};
-ghost use Rattle.ul_tree.specs.Plain.{node};
-ghost use Rattle.ul_tree.specs.Levels.{atom_level};
-ghost use Rattle.ul_tree.specs.Reduced.{IsReduced};
-ghost use Rattle.ul_tree.specs.Apply.{first_of};
-ghost use Rattle.ul_tree.specs.Joins.{stands};
-ghost use Rattle.ul_tree.specs.Keys.{level_view, is_literal_key, is_number_key, AreKeysOf, KeysOf};
-ghost use Rattle.ul_tree.specs.SimplifyViews.{IfSome};
+ghost use Rattle.ul_nodes.specs.Plain.{node};
+ghost use Rattle.ul_nodes.specs.Levels.{atom_level};
+ghost use Rattle.ul_nodes.specs.Reduced.{IsReduced};
+ghost use Rattle.ul_nodes.specs.Apply.{first_of};
+ghost use Rattle.ul_nodes.specs.Rows.{stands, IfSome};
+ghost use Rattle.ul_nodes.specs.Keys.{level_view, is_literal_key, is_number_key, AreKeysOf, KeysOf};
 ghost use Rattle.ul_algebra.specs.Answers.{IsDiagram};
 ghost use Rattle.ul_algebra.specs.Joinings.{IsJoin, IsJoinAtOnce, at_once_tree, FollowsSide};
 ghost use Rattle.ul_algebra.specs.Made.{diagrams_made, PartsKnown, PartsKnownWith, IsAdded, KeepsKeys, AreKeyed, ArePieces, AreHalves, AreJoined, closed_tree};
@@ -23,9 +22,9 @@ use crate::questions::{AtOnce, Joining, Operation};
 use std::alloc::{AllocError, Global};
 use std::sync::Wait;
 use ul_marker::Atom;
-use ul_tree::level::{Key, Level};
-use ul_tree::nodes::{first_level, level_keys, part_at, rest_at};
-use ul_tree::results::standing;
+use ul_nodes::level::{Key, Level};
+use ul_nodes::nodes::{first_level, level_keys, part_at, rest_at};
+use ul_nodes::results::standing;
 
 // A branch more, unless its part is the one that stands.
 pub(crate) fn add<'a>(

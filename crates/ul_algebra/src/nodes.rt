@@ -1,17 +1,16 @@
 //! Diagrams as nodes of decision trees: the top level, the part without a key, and the branches.
 ghost use Rattle.std.specs.Prelude.{◌≡◌, ◌<◌, option_map, true};
-ghost use Rattle.ul_tree.specs.Reduced.{IsReduced};
-ghost use Rattle.ul_tree.specs.TreeFacts.{IsBranchAt};
-ghost use Rattle.ul_tree.specs.Apply.{leaf_truth as known_plain, truth_value as truth_value_plain};
+ghost use Rattle.ul_nodes.specs.Reduced.{IsReduced};
+ghost use Rattle.ul_nodes.specs.Keys.{IsBranchAt, level_view, key_view, top_of, rest_of, branches_of, branch_count, is_key_of};
+ghost use Rattle.ul_nodes.specs.Apply.{leaf_truth as known_plain, truth_value as truth_value_plain};
 ghost use Rattle.ul_tree.specs.FirstParts.{is_false as is_false_plain};
-ghost use Rattle.ul_tree.specs.Keys.{level_view, key_view, top_of, rest_of, branches_of, branch_count, is_key_of};
 ghost use Rattle.ul_algebra.specs.Made.{KnownWith};
 ghost use Rattle.ul_algebra.specs.Spelled.{tree_of};
 
 use crate::Diagram;
 use crate::labels::DiagramLabel;
-use ul_tree::level::{Key, Level};
-use ul_tree::nodes::{Branch, Nodes};
+use ul_nodes::level::{Key, Level};
+use ul_nodes::nodes::{Branch, Nodes};
 
 /// The truth that a diagram is; false for a node.
 pub(crate) fn known(d: &Diagram) -> bool

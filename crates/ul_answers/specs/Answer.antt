@@ -1,6 +1,6 @@
 -- What the program answers, where its inputs are read.
 use Rattle.std.specs.Prelude.{ℕ, List, Bool}
-use Rattle.ul_tree.specs.Plain.{Plain}
+use Rattle.ul_nodes.specs.Plain.{Plain}
 use Rattle.ul_lock_lines.specs.declared.parts.Lock.{Lock}
 
 -- what is answered

@@ -2,7 +2,7 @@
 use Rattle.std.specs.Prelude.{ℕ, List, [], ◌++◌, codes, length, nat_eq, nat_le, Option, Some, None, Result, Ok, Err, if◌then◌else◌}
 use Rattle.std.specs.Fmt.{decimal}
 use Rattle.ul_tree.specs.Paths.{paths_of}
-use Rattle.ul_tree.specs.Plain.{Plain}
+use Rattle.ul_nodes.specs.Plain.{Plain}
 use Rattle.ul_lock_lines.specs.declared.parts.Lock.{Lock}
 use Rattle.ul_lock_text.specs.Markers.{markers_of, first_over}
 use Rattle.ul_lock_text.specs.Texts.{lock_text}

@@ -2,7 +2,7 @@
 use Rattle.std.proofs.Common.{◌≡◌, ◌∙◌, ◌≤◌, ℕ, List, [], Bool, true, false, length, Option, Some, None, Result, refl, sym, ap, arith}
 use Rattle.std.specs.Prelude.{nat_le}
 use Rattle.ul_tree.specs.Paths.{paths_of}
-use Rattle.ul_tree.specs.Plain.{Plain}
+use Rattle.ul_nodes.specs.Plain.{Plain}
 use Rattle.ul_generations.specs.Generations.{leaves_are, refused_at, too_many}
 use Rattle.ul_forks.specs.Headline.{TreeAnswer, TreeLeaf}
 use Rattle.ul_lock_text.specs.Markers.{first_over, markers_of}

@@ -13,7 +13,7 @@ use Rattle.ul_marker.specs.Machines.{MachineFields, world_of}
 use Rattle.ul_marker.specs.Worlds.{WorldFields}
 use Rattle.ul_requirement.specs.Fields.{RequirementFields}
 use Rattle.ul_requirement.specs.Truth.{base, targets, with_extra}
-use Rattle.ul_tree.specs.Plain.{Plain}
+use Rattle.ul_nodes.specs.Plain.{Plain}
 use Rattle.ul_tree.specs.Values.{tree_holds}
 use Rattle.ul_index.specs.Eligible.{eligible}
 use Rattle.ul_lines.specs.Reader.{Each}

@@ -8,7 +8,7 @@ use Rattle.ul_base.proofs.ForCallers.{contains_cases, contains_first, contains_f
 use Rattle.ul_version.specs.Fields.{IsVersion}
 use Rattle.ul_marker.specs.Worlds.{WorldFields}
 use Rattle.ul_requirement.specs.Truth.{base, with_extra}
-use Rattle.ul_tree.specs.Plain.{Plain, truth}
+use Rattle.ul_nodes.specs.Plain.{Plain, truth}
 use Rattle.ul_tree.specs.Regions.{IsRegionTree, NoExtra, region_of}
 use Rattle.ul_tree.specs.Values.{tree_holds}
 use Rattle.ul_index.specs.Regions.{HasWorld}

@@ -2,7 +2,7 @@
 use Rattle.std.proofs.Common.{◌≡◌, ◌∙◌, ℕ, List, [], ◌∷◌, ◌++◌, map, Bool, true, false, cond, refl, sym, ap, ap₂, subst, append_assoc}
 use Rattle.std.specs.Prelude.{flat_map, bytes_eq}
 use Rattle.ul_version.specs.Fields.{Fields}
-use Rattle.ul_tree.specs.Plain.{Plain, truth, node}
+use Rattle.ul_nodes.specs.Plain.{Plain, truth, node}
 use Rattle.ul_requirement.specs.Fields.{FileFields}
 use Rattle.ul_lock_lines.specs.declared.parts.Edge.{Edge}
 use Rattle.ul_lock_lines.specs.declared.parts.Extra.{Extra}

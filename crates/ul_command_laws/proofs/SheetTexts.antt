@@ -4,7 +4,7 @@ use Rattle.std.specs.Prelude.{flat_map, ◌==◌}
 use Rattle.std.proofs.lemmas.Bool.{eqb-true}
 use Rattle.std.proofs.lemmas.Grind.{common_steps}
 use Rattle.ul_base.specs.Names.{IsNormalName, name_of, is_name, normal_form}
-use Rattle.ul_tree.specs.Plain.{Plain, truth, node}
+use Rattle.ul_nodes.specs.Plain.{Plain, truth, node}
 use Rattle.ul_requirement.specs.Fields.{FileFields, IsFile}
 use Rattle.ul_lines.specs.Lines.{onto_first, lines_of, ends_line}
 use Rattle.ul_lines.specs.Reader.{Each}

@@ -1,7 +1,7 @@
 -- What holds of the answers of the commands.
 use Rattle.std.specs.Prelude.{ℕ, List, Bool, Ok}
 use Rattle.ul_lock_lines.specs.declared.parts.Lock.{Lock}
-use Rattle.ul_tree.specs.Plain.{Plain}
+use Rattle.ul_nodes.specs.Plain.{Plain}
 use Rattle.ul_tree.specs.Regions.{region_of}
 use Rattle.ul_index.specs.Regions.{HasWorld}
 use Rattle.ul_index.specs.Serves.{Selection, Serves}

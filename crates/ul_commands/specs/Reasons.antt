@@ -1,6 +1,6 @@
 -- What `why` answers: that no fork is refused, or the fork that no selection serves with a derivation that is accepted.
 use Rattle.std.specs.Prelude.{◌≡◌, ℕ, List, Result, Ok, Err}
-use Rattle.ul_tree.specs.Plain.{Plain}
+use Rattle.ul_nodes.specs.Plain.{Plain}
 use Rattle.ul_tree.specs.Regions.{region_of}
 use Rattle.ul_problem.specs.Plain.{Plain as Problem}
 use Rattle.ul_problem.specs.Steps.{Accepts}

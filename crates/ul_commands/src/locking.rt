@@ -1,7 +1,7 @@
 //! The answer of `lock`.
 ghost use Rattle.std.specs.Prelude.{◌≡◌, ◌≢◌, ◌≤◌, IfOk, Ok, false, map};
 ghost use Rattle.ul_region.specs.Truths.{IsRegion};
-ghost use Rattle.ul_tree.specs.Plain.{truth};
+ghost use Rattle.ul_nodes.specs.Plain.{truth};
 ghost use Rattle.ul_algebra.specs.Spelled.{tree_of};
 ghost use Rattle.ul_merge.specs.Merging.{AreLeaves};
 ghost use Rattle.ul_merge.specs.Views.{leaf_of};

@@ -15,12 +15,13 @@ use Rattle.ul_lock_walk.proofs.ForCallers.{holds_alike}
 use Rattle.ul_marker.specs.Atoms.{AtomFields, atom_cmp, has_atom}
 use Rattle.ul_marker.specs.Machines.{MachineFields, atom_holds, world_of}
 use Rattle.ul_marker.proofs.ForCallers.{truths_are}
-use Rattle.ul_tree.specs.Levels.{IsKey, atom_level}
-use Rattle.ul_tree.specs.Plain.{Plain, truth, node, Branches, done, branch, carried_part, carries}
-use Rattle.ul_tree.specs.Reduced.{Fits, FitsAll, HasBranch}
+use Rattle.ul_nodes.specs.Levels.{IsKey, atom_level}
+use Rattle.ul_nodes.specs.Plain.{Plain, truth, node, Branches, done, branch, carried_part, carries}
+use Rattle.ul_nodes.specs.Reduced.{Fits, FitsAll, HasBranch}
 use Rattle.ul_tree.specs.Sample.{atom_of}
 use Rattle.ul_tree.specs.Values.{has_level, mark_of, value_of}
-use Rattle.ul_tree.proofs.ForCallers.{atom_back, cmp_itself}
+use Rattle.ul_nodes.proofs.ForCallers.{cmp_itself}
+use Rattle.ul_tree.proofs.ForCallers.{atom_back}
 use Rattle.ul_filter.specs.Comparisons.{HasAll, branch_atoms, edge_atoms, extra_atoms, level_atoms, lock_atoms, package_atoms, tree_atoms}
 use Rattle.ul_filter.specs.Headline.{MoreAgrees}
 use Rattle.ul_filter.proofs.Ends.{each_at}

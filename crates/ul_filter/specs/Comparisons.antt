@@ -7,7 +7,7 @@ use Rattle.ul_lock_lines.specs.declared.parts.Locked.{Locked}
 use Rattle.ul_marker.specs.Atoms.{AtomFields, has_atom}
 use Rattle.ul_marker.specs.Machines.{MachineFields, world_of}
 use Rattle.ul_marker.specs.Worlds.{WorldFields}
-use Rattle.ul_tree.specs.Plain.{Plain, truth, node, Branches, done, branch}
+use Rattle.ul_nodes.specs.Plain.{Plain, truth, node, Branches, done, branch}
 use Rattle.ul_tree.specs.Sample.{atom_of}
 
 -- the comparison of a level, where it is one: the levels of an extra, the interpreter and a text have one number

@@ -4,8 +4,8 @@ use Rattle.ul_version.specs.Fields.{Fields, plain}
 use Rattle.ul_marker.specs.Atoms.{AtomFields, atom_fields}
 use Rattle.ul_marker.specs.declared.variable.AtomKind.TheVariants.{Contains, Below}
 use Rattle.ul_marker.specs.declared.variable.Variable.TheVariants.{OsName, SysPlatform, ImplementationVersion}
-use Rattle.ul_tree.specs.Levels.{atom_level, text_level}
-use Rattle.ul_tree.specs.Plain.{Plain, truth, node, done, branch}
+use Rattle.ul_nodes.specs.Levels.{atom_level, text_level}
+use Rattle.ul_nodes.specs.Plain.{Plain, truth, node, done, branch}
 
 -- p 1, of which no extra is reached
 abbrev pub base_alone : List ℕ × Fields × List (List ℕ)

@@ -3,7 +3,7 @@ use Rattle.std.proofs.Common.{◌≡◌, ◌∙◌, List, [], ◌∷◌, Bool, n
 use Rattle.std.proofs.lemmas.Option.{same_Some}
 use Rattle.ul_marker.specs.Worlds.{WorldFields}
 use Rattle.ul_tree.specs.Laws.{OneTruthOneTree}
-use Rattle.ul_tree.specs.Plain.{Plain}
+use Rattle.ul_nodes.specs.Plain.{Plain}
 use Rattle.ul_tree.specs.Regions.{HasTruth, region_of}
 use Rattle.ul_index.specs.Catalogs.{Packages}
 use Rattle.ul_index.specs.Serves.{Selection}

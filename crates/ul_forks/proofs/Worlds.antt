@@ -8,7 +8,7 @@ use Rattle.ul_marker.specs.Worlds.{WorldFields, IsWorld}
 use Rattle.ul_requirement.specs.Fields.{ReleaseFields, WishFields}
 use Rattle.ul_requirement.specs.declared.wish.Strategy.{Strategy}
 use Rattle.ul_requirement.specs.declared.wish.Strategy.TheVariants.{Fewest, RequiresPython, Deep}
-use Rattle.ul_tree.specs.Plain.{Plain}
+use Rattle.ul_nodes.specs.Plain.{Plain}
 use Rattle.ul_tree.specs.Regions.{HasTruth, region_of}
 use Rattle.ul_index.specs.Regions.{Region, Somewhere, HasWorld}
 use Rattle.ul_index.specs.Catalogs.{Packages, release_of, is_fit, is_fit_in, is_release_fit}

@@ -1,7 +1,7 @@
 -- What `fork_all` answers: the fork answer, with a round for each generation.
 use Rattle.std.specs.Prelude.{◌≡◌, ℕ, List, [], ◌∷◌, map}
 use Rattle.ul_requirement.specs.Fields.{WishFields}
-use Rattle.ul_tree.specs.Plain.{Plain}
+use Rattle.ul_nodes.specs.Plain.{Plain}
 use Rattle.ul_index.specs.Catalogs.{Packages}
 use Rattle.ul_problem.specs.declared.step.Step.{Step}
 use Rattle.ul_region.specs.Truths.{DiagramMark, PassView, IsRegion}

@@ -4,7 +4,7 @@ use Rattle.std.specs.Prelude.{ℕ, List, Bool, not, ◌&&◌}
 use Rattle.ul_base.specs.declared.node.Node.{Node}
 use Rattle.ul_marker.specs.Worlds.{WorldFields}
 use Rattle.ul_requirement.specs.Fields.{WishFields}
-use Rattle.ul_tree.specs.Plain.{Plain}
+use Rattle.ul_nodes.specs.Plain.{Plain}
 use Rattle.ul_tree.specs.Regions.{HasTruth, region_of}
 use Rattle.ul_index.specs.Catalogs.{Packages}
 use Rattle.ul_index.specs.Serves.{Selection, Serves}

@@ -4,7 +4,7 @@ use Rattle.std.specs.Prelude.{option_and_then, flat_map}
 use Rattle.std.proofs.lemmas.List.{append-nil}
 use Rattle.ul_base.specs.Names.{IsNormalName, name_of, is_name, normal_form}
 use Rattle.ul_version.specs.Fields.{IsVersion, plain}
-use Rattle.ul_tree.specs.Plain.{Plain}
+use Rattle.ul_nodes.specs.Plain.{Plain}
 use Rattle.ul_version.specs.Fields.{Fields}
 use Rattle.ul_requirement.specs.Fields.{FileFields}
 use Rattle.ul_lock_lines.specs.declared.parts.Edge.{Edge}

@@ -3,7 +3,7 @@ use Rattle.std.proofs.Common.{◌≡◌, ℕ, List, [], ◌∷◌, ◌++◌, map
 use Rattle.std.specs.Prelude.{flat_map}
 use Rattle.ul_base.specs.Names.{IsNormalName, name_of, is_name, normal_form}
 use Rattle.ul_version.specs.Fields.{Fields, IsVersion}
-use Rattle.ul_tree.specs.Plain.{Plain, truth, node}
+use Rattle.ul_nodes.specs.Plain.{Plain, truth, node}
 use Rattle.ul_requirement.specs.Fields.{FileFields, IsFile}
 use Rattle.ul_lines.specs.Reader.{Each, HasText}
 use Rattle.ul_lines.proofs.ForCallers.{Each-left, Each-right, Each-join}

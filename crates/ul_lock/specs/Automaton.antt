@@ -2,7 +2,7 @@
 use Rattle.std.specs.Prelude.{ℕ, List, [], ◌∷◌, ◌++◌, Bool, true, false, cond, Option, Some, None, option_and_then, bytes_eq}
 use Rattle.std.specs.Ordering.{is_le}
 use Rattle.ul_base.specs.Names.{name_cmp}
-use Rattle.ul_tree.specs.Plain.{Plain}
+use Rattle.ul_nodes.specs.Plain.{Plain}
 use Rattle.ul_version.specs.Fields.{Fields}
 use Rattle.ul_requirement.specs.Fields.{FileFields}
 use Rattle.ul_lock_lines.specs.declared.parts.Edge.{Edge}

@@ -1,6 +1,6 @@
 -- Markers of regions: a text is read as one tree, and a tree's text is read as the tree.
 use Rattle.std.proofs.Common.{◌≡◌, ◌≢◌, ℕ, List, Bool, true, false, refl, sym, ap, subst, ◌∙◌, Some}
-use Rattle.ul_tree.specs.Plain.{Plain, truth, node}
+use Rattle.ul_nodes.specs.Plain.{Plain, truth, node}
 use Rattle.ul_marker_text.specs.MarkerText.{marker_text}
 use Rattle.ul_marker_text.specs.MarkerOfText.{marker_of_text, IsMarker}
 use Rattle.ul_marker_text.proofs.ForCallers.{text_again, read_is_marker, truth_is_none, marker_10, marker_92, marker_reduced, marker_no_extra, tree_is_marker}

@@ -12,12 +12,11 @@ use Rattle.ul_version.specs.Fields.{IsVersion}
 use Rattle.ul_version.specs.Reading.{version_of}
 use Rattle.ul_version.specs.Texts.{version_text, is_text_byte}
 use Rattle.ul_version.proofs.ForCallers.{plain as text_is_plain, versions as read_is_version, version-read}
-use Rattle.ul_tree.specs.Plain.{truth, node}
+use Rattle.ul_nodes.specs.Plain.{truth, node, Plain}
 use Rattle.ul_marker_text.specs.MarkerText.{marker_text}
 use Rattle.ul_marker_text.specs.MarkerOfText.{marker_of_text}
 use Rattle.ul_marker_text.proofs.ForCallers.{star_is_none}
 use Rattle.ul_lock_lines.proofs.Markers.{all_region, region_is, region_again, region_10, region_92}
-use Rattle.ul_tree.specs.Plain.{Plain}
 use Rattle.ul_version.specs.Fields.{Fields}
 use Rattle.ul_requirement.specs.Fields.{FileFields, IsFile, is_file_byte, is_file_name, is_hex, is_digest}
 use Rattle.ul_lines.specs.Pieces.{has}

@@ -3,7 +3,7 @@ use Rattle.std.specs.Prelude.{ℕ, List, [], ◌∷◌, ◌++◌, Bool, cond, Op
 use Rattle.ul_base.specs.Names.{name_of}
 use Rattle.ul_version.specs.Reading.{version_of}
 use Rattle.ul_version.specs.Texts.{version_text}
-use Rattle.ul_tree.specs.Plain.{Plain}
+use Rattle.ul_nodes.specs.Plain.{Plain}
 use Rattle.ul_version.specs.Fields.{Fields}
 use Rattle.ul_requirement.specs.Fields.{is_file_name, is_digest}
 use Rattle.ul_lines.specs.Pieces.{strip, until, inside, inner_and_rest, optional_part}

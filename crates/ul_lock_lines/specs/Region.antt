@@ -1,8 +1,8 @@
 -- Trees on a line.
 use Rattle.std.specs.Prelude.{◌≡◌, ◌≢◌, Bool, true, false}
-use Rattle.ul_tree.specs.Apply.{leaf_truth}
-use Rattle.ul_tree.specs.Plain.{Plain, truth}
-use Rattle.ul_tree.specs.Reduced.{IsReduced}
+use Rattle.ul_nodes.specs.Apply.{leaf_truth}
+use Rattle.ul_nodes.specs.Plain.{Plain, truth}
+use Rattle.ul_nodes.specs.Reduced.{IsReduced}
 use Rattle.ul_tree.specs.Sample.{asks_extra}
 
 -- all worlds

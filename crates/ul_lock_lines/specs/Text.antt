@@ -4,7 +4,7 @@ use Rattle.ul_base.specs.Names.{IsNormalName}
 use Rattle.ul_version.specs.Fields.{IsVersion}
 use Rattle.ul_version.specs.Texts.{version_text}
 use Rattle.ul_marker_text.specs.MarkerText.{marker_text}
-use Rattle.ul_tree.specs.Plain.{Plain}
+use Rattle.ul_nodes.specs.Plain.{Plain}
 use Rattle.ul_requirement.specs.Fields.{FileFields, IsFile}
 use Rattle.ul_lock_lines.specs.declared.parts.Edge.{Edge}
 use Rattle.ul_lock_lines.specs.declared.lines.Line.{Line}

@@ -5,7 +5,7 @@
 
 ghost use Rattle.std.specs.Prelude.{◌≡◌, ℕ, List, [], ◌∷◌, ◌++◌, IfOk, true};
 ghost use Rattle.ul_lock_lines.specs.Region.{is_true, IsRegion};
-ghost use Rattle.ul_tree.specs.Plain;
+ghost use Rattle.ul_nodes.specs.Plain;
 ghost use Rattle.ul_tree.specs.Views.{tree_view};
 
 use std::alloc::{AllocError, Global};
@@ -26,7 +26,7 @@ pub struct Region {
 
 impl Model for Region {
     ghost use Rattle.ul_tree.specs.PlainCode.{plain_code};
-    ghost use Rattle.ul_tree.specs.Plain.{Plain};
+    ghost use Rattle.ul_nodes.specs.Plain.{Plain};
     ghost use Rattle.ul_tree.specs.Views.{tree_view};
     ghost use Rattle.ul_lock_lines.specs.Region.{IsRegion};
 
@@ -140,7 +140,7 @@ impl Model for Regions {
     ghost use Rattle.std.specs.Prelude.{List};
     ghost use Rattle.std.specs.Coded.{coded_list};
     ghost use Rattle.ul_tree.specs.PlainCode.{plain_code};
-    ghost use Rattle.ul_tree.specs.Plain.{Plain};
+    ghost use Rattle.ul_nodes.specs.Plain.{Plain};
 
     ghost Value = { List Plain };
 

@@ -6,7 +6,7 @@ use Rattle.std.proofs.lemmas.List.Concat.{flat_map-append}
 use Rattle.std.proofs.lemmas.List.Folds.{flat_map-map}
 use Rattle.ul_version.specs.Texts.{version_text}
 use Rattle.ul_lock_lines.specs.declared.parts.Lock.{Lock}
-use Rattle.ul_tree.specs.Plain.{Plain}
+use Rattle.ul_nodes.specs.Plain.{Plain}
 use Rattle.ul_requirement.specs.Fields.{FileFields}
 use Rattle.ul_lock_lines.specs.declared.parts.Edge.{Edge}
 use Rattle.ul_lock_lines.specs.declared.parts.Extra.{Extra}

@@ -1,6 +1,6 @@
 -- The markers of a lock, and the first with too many paths.
 use Rattle.std.specs.Prelude.{ℕ, ◌^◌, List, [], ◌∷◌, ◌++◌, flat_map, min, Option, Some, None, nat_lt, if◌then◌else◌}
-use Rattle.ul_tree.specs.Plain.{Plain}
+use Rattle.ul_nodes.specs.Plain.{Plain}
 use Rattle.ul_tree.specs.Paths.{paths_of}
 use Rattle.ul_lock_lines.specs.declared.parts.Edge.{Edge}
 use Rattle.ul_lock_lines.specs.declared.parts.Extra.{Extra}

@@ -1,7 +1,7 @@
 -- The text of a lock, part by part, as it is written.
 use Rattle.std.specs.Prelude.{ℕ, List, [], ◌∷◌, ◌++◌, flat_map, cond, codes, Option, Some, None}
 use Rattle.ul_version.specs.Texts.{version_text}
-use Rattle.ul_tree.specs.Plain.{Plain}
+use Rattle.ul_nodes.specs.Plain.{Plain}
 use Rattle.ul_requirement.specs.Fields.{FileFields}
 use Rattle.ul_lock_lines.specs.declared.parts.Edge.{Edge}
 use Rattle.ul_lock_lines.specs.declared.parts.Extra.{Extra}

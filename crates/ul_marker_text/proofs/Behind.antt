@@ -4,14 +4,14 @@ use Rattle.std.specs.Prelude.{codes, option_map}
 use Rattle.std.proofs.lemmas.Bool.{eqb-true}
 use Rattle.std.proofs.lemmas.List.{map-append}
 use Rattle.ul_marker.specs.Printed.{comparison_text}
-use Rattle.ul_tree.specs.Plain.{Plain, truth, node, Branches, done, branch, carries}
-use Rattle.ul_tree.specs.Apply.{keys, leaf_truth}
+use Rattle.ul_nodes.specs.Plain.{Plain, truth, node, Branches, done, branch, carries}
+use Rattle.ul_nodes.specs.Apply.{keys, leaf_truth}
 use Rattle.ul_tree.specs.FirstParts.{is_false}
-use Rattle.ul_tree.specs.declared.level.Level.{Level}
-use Rattle.ul_tree.specs.declared.level.Key.{Key}
-use Rattle.ul_tree.specs.declared.level.Key.TheVariants.{Literal, Number, Holds}
-use Rattle.ul_tree.specs.Keys.{level_view, is_key_of, has_kind, is_number_key, top_of, rest_of, branches_of}
-use Rattle.ul_tree.specs.Levels.{python_level}
+use Rattle.ul_nodes.specs.declared.level.Level.{Level}
+use Rattle.ul_nodes.specs.declared.level.Key.{Key}
+use Rattle.ul_nodes.specs.declared.level.Key.TheVariants.{Literal, Number, Holds}
+use Rattle.ul_nodes.specs.Keys.{level_view, is_key_of, has_kind, is_number_key, top_of, rest_of, branches_of}
+use Rattle.ul_nodes.specs.Levels.{python_level}
 use Rattle.ul_tree.specs.PathList.{Step, interval, point, others, longer_paths, paths_to_true, paths_from, paths_at}
 use Rattle.ul_tree.specs.Comparisons.{Comparison, at_least, below, lower, upper, comparisons_of, path_comparisons}
 use Rattle.ul_tree.proofs.ForCallers.{is_python}

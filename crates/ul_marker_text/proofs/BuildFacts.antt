@@ -6,7 +6,7 @@ use Rattle.std.proofs.lemmas.List.{drop-drop, take_all, length-drop}
 use Rattle.ul_tree.specs.Fans.{Fan, edge, tree_of, parts_of, node_of}
 use Rattle.ul_tree.specs.PathLaws.{step_level}
 use Rattle.ul_tree.specs.PathList as PathList
-use Rattle.ul_tree.specs.Plain.{Plain}
+use Rattle.ul_nodes.specs.Plain.{Plain}
 use Rattle.ul_marker_text.specs.NodeViews.{first_level}
 use Rattle.ul_marker_text.specs.Nodes.{Part, Keeps, KeepParts, KeepFirst, front_count}
 use Rattle.ul_marker_text.specs.StepViews.{paths_from, fan_from, step_view}

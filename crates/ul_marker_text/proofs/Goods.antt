@@ -1,11 +1,11 @@
 -- The paths to true of a reduced tree are steps by increasing level, each with keys of its level.
 use Rattle.std.proofs.Common.{◌≡◌, ℕ, ◌<◌, ◌≤◌, ◌^◌, List, [], ◌∷◌, ◌++◌, Bool, true, false, refl, subst, arith, Less, if◌then◌else◌}
-use Rattle.ul_tree.specs.Plain.{Plain, truth, node, Branches, done, branch, text_cmp, carries, carried_part}
-use Rattle.ul_tree.specs.Apply.{keys}
-use Rattle.ul_tree.specs.Levels.{python_level, IsKey}
+use Rattle.ul_nodes.specs.Plain.{Plain, truth, node, Branches, done, branch, text_cmp, carries, carried_part}
+use Rattle.ul_nodes.specs.Apply.{keys}
+use Rattle.ul_nodes.specs.Levels.{python_level, IsKey}
 use Rattle.ul_tree.specs.PathLaws.{step_level}
 use Rattle.ul_tree.specs.PathList.{Step, interval, point, others, start_of, longer_paths, paths_to_true, paths_from, paths_at}
-use Rattle.ul_tree.specs.Reduced.{Fits, FitsAll}
+use Rattle.ul_nodes.specs.Reduced.{Fits, FitsAll}
 use Rattle.ul_tree.proofs.ForCallers.{Each, Rising, is_python, rising_fits, first_positive}
 
 -- ---- good steps

@@ -5,13 +5,13 @@ use Rattle.std.specs.Ordering.{is_eq}
 use Rattle.std.specs.declared.cmp.Ordering.{Ordering}
 use Rattle.ul_base.specs.Names.{is_name, name_of}
 use Rattle.ul_marker.specs.Atoms.{AtomFields, IsAtom}
-use Rattle.ul_tree.specs.Keys.{level_view}
-use Rattle.ul_tree.specs.Levels.{IsKey, IsExtra}
-use Rattle.ul_tree.specs.Plain.{text_cmp}
-use Rattle.ul_tree.specs.declared.level.Key.TheVariants.{Holds}
-use Rattle.ul_tree.specs.declared.level.Level.{Level}
-use Rattle.ul_tree.specs.declared.level.Level.TheVariants.{Extra, Opaque}
-use Rattle.ul_tree.proofs.ForCallers.{cmp_equal}
+use Rattle.ul_nodes.specs.Keys.{level_view}
+use Rattle.ul_nodes.specs.Levels.{IsKey, IsExtra}
+use Rattle.ul_nodes.specs.Plain.{text_cmp}
+use Rattle.ul_nodes.specs.declared.level.Key.TheVariants.{Holds}
+use Rattle.ul_nodes.specs.declared.level.Level.{Level}
+use Rattle.ul_nodes.specs.declared.level.Level.TheVariants.{Extra, Opaque}
+use Rattle.ul_nodes.proofs.ForCallers.{cmp_equal}
 use Rattle.ul_marker_text.specs.NodeViews.{IsKeyOf}
 
 tied : (o : Ordering) → is_eq o ≡ true → o ≡ Equal

@@ -19,15 +19,15 @@ use Rattle.ul_marker.specs.Words.{tokens_of, tokens_in, front_token, front_word,
 use Rattle.ul_marker.proofs.ForCallers.{marker-formula}
 use Rattle.ul_marker.specs.Truth.{is_empty, as_asked, marker_holds}
 use Rattle.ul_marker.specs.Worlds.{WorldFields}
-use Rattle.ul_tree.specs.Apply.{both, either}
+use Rattle.ul_nodes.specs.Apply.{both, either}
 use Rattle.ul_tree.specs.Comparisons.{Comparison, at_least, below, equals, differs, path_comparisons}
 use Rattle.ul_tree.specs.Leaves.{point_tree}
-use Rattle.ul_tree.specs.Levels.{IsExtra, IsKey, extra_level, python_level}
+use Rattle.ul_nodes.specs.Levels.{IsExtra, IsKey, extra_level, python_level}
 use Rattle.ul_tree.specs.PathList.{Step, paths_to_true}
 use Rattle.ul_tree.specs.PathTruth.{is_before, comparison_holds, path_holds, some_path_holds}
 use Rattle.ul_tree.specs.Pieces.{packed_number}
-use Rattle.ul_tree.specs.Plain.{Plain, truth, node, Branches, text_cmp, carries, by_order, holds_of}
-use Rattle.ul_tree.specs.Reduced.{IsReduced}
+use Rattle.ul_nodes.specs.Plain.{Plain, truth, node, Branches, text_cmp, carries, by_order, holds_of}
+use Rattle.ul_nodes.specs.Reduced.{IsReduced}
 use Rattle.ul_tree.specs.Sample.{asks_extra}
 use Rattle.ul_tree.specs.Values.{value_of, tree_holds}
 use Rattle.ul_tree.proofs.ForCallers.{Each, operations, one_truth_one_tree, extra_reduced, text_reduced, opaque_reduced, bytes_self, paths_truth, number_back, level_back}

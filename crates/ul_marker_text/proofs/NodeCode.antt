@@ -4,20 +4,20 @@ use Rattle.std.specs.Prelude.{All}
 use Rattle.std.specs.List.{remove}
 use Rattle.std.proofs.lemmas.List.{drop_more}
 use Rattle.std.proofs.lemmas.List.Elements.{All-cons, All-nil}
-use Rattle.ul_tree.specs.Apply.{same}
+use Rattle.ul_nodes.specs.Apply.{same}
 use Rattle.ul_marker.specs.declared.printed.Comparison.{Comparison}
 use Rattle.ul_marker.specs.declared.printed.Comparison.TheVariants.{Bound, Extra as Ask, Text as Words, Opaque as Atomic}
 use Rattle.ul_tree.specs.Joins.{trees_made}
-use Rattle.ul_tree.specs.Keys.{level_view, key_view}
-use Rattle.ul_tree.specs.Levels.{python_level}
-use Rattle.ul_tree.specs.Plain.{Plain, done, branch, text_cmp, carries, carried_part}
-use Rattle.ul_tree.specs.Reduced.{Fits, IsReduced}
+use Rattle.ul_nodes.specs.Keys.{level_view, key_view}
+use Rattle.ul_nodes.specs.Levels.{python_level}
+use Rattle.ul_nodes.specs.Plain.{Plain, done, branch, text_cmp, carries, carried_part}
+use Rattle.ul_nodes.specs.Reduced.{Fits, IsReduced}
 use Rattle.ul_tree.specs.Views.{tree_view}
-use Rattle.ul_tree.specs.declared.level.Key.{Key}
-use Rattle.ul_tree.specs.declared.level.Level.{Level}
-use Rattle.ul_tree.specs.declared.level.Level.TheVariants.{Extra, Python, Text, Opaque}
+use Rattle.ul_nodes.specs.declared.level.Key.{Key}
+use Rattle.ul_nodes.specs.declared.level.Level.{Level}
+use Rattle.ul_nodes.specs.declared.level.Level.TheVariants.{Extra, Python, Text, Opaque}
 use Rattle.ul_tree.specs.declared.tree.Tree.{Tree}
-use Rattle.ul_tree.proofs.ForCallers.{fits_weaker}
+use Rattle.ul_nodes.proofs.ForCallers.{fits_weaker}
 use Rattle.ul_marker_text.specs.NodeViews.{first_level, has_interval}
 use Rattle.ul_marker_text.specs.Nodes.{BranchesFit, PartsFit, parts_view, number_branches, is_after, are_apart}
 use Rattle.ul_marker_text.specs.StepViews.{comparison_level}

@@ -4,14 +4,14 @@ use Rattle.std.specs.Ordering.{is_lt}
 use Rattle.std.specs.Str.{bytes_eq}
 use Rattle.std.specs.declared.cmp.Ordering.{Ordering}
 use Rattle.std.proofs.lemmas.Bool.{and_parts}
-use Rattle.ul_tree.specs.Apply.{same, close}
+use Rattle.ul_nodes.specs.Apply.{same, close}
 use Rattle.ul_tree.specs.Fans.{pieces_from, opening_node, other_part, listed_points, filled_points, pointed_at, node_of}
-use Rattle.ul_tree.specs.Levels.{python_level}
+use Rattle.ul_nodes.specs.Levels.{python_level}
 use Rattle.ul_tree.specs.PathLaws.{step_level}
 use Rattle.ul_tree.specs.PathList.{Step, interval, point, others}
-use Rattle.ul_tree.specs.Plain.{Plain, truth, node, Branches, done, branch, text_cmp, carries, carried_part}
-use Rattle.ul_tree.specs.Reduced.{Fits, FitsAll, StartsAfter, IsAfter, HasBranch}
-use Rattle.ul_tree.proofs.ForCallers.{same_true, same_false}
+use Rattle.ul_nodes.specs.Plain.{Plain, truth, node, Branches, done, branch, text_cmp, carries, carried_part}
+use Rattle.ul_nodes.specs.Reduced.{Fits, FitsAll, StartsAfter, IsAfter, HasBranch}
+use Rattle.ul_nodes.proofs.ForCallers.{same_true, same_false}
 use Rattle.ul_marker_text.specs.NodeViews.{first_level, has_interval}
 use Rattle.ul_marker_text.specs.Nodes.{Keeps, Part, KeepParts, KeepFirst, PartsFit, BranchesFit, AreKeys, is_after, are_apart}
 

@@ -7,13 +7,13 @@ use Rattle.std.specs.Borrow.{Bor}
 use Rattle.ul_marker.specs.declared.printed.Comparison.{Comparison}
 use Rattle.ul_tree.specs.Fans.{pieces_from, other_part, listed_points, filled_points, pointed_at}
 use Rattle.ul_tree.specs.Joins.{trees_made}
-use Rattle.ul_tree.specs.Keys.{then_branches, has_kind, KeysOf}
+use Rattle.ul_nodes.specs.Keys.{then_branches, has_kind, KeysOf}
 use Rattle.ul_tree.specs.PathList as PathList
-use Rattle.ul_tree.specs.Plain.{Plain, truth, node, Branches, done, branch}
+use Rattle.ul_nodes.specs.Plain.{Plain, truth, node, Branches, done, branch}
 use Rattle.ul_tree.specs.Views.{tree_view}
-use Rattle.ul_tree.specs.Levels.{IsKey, python_level}
-use Rattle.ul_tree.specs.declared.level.Key.{Key}
-use Rattle.ul_tree.specs.declared.level.Key.TheVariants.{Number}
+use Rattle.ul_nodes.specs.Levels.{IsKey, python_level}
+use Rattle.ul_nodes.specs.declared.level.Key.{Key}
+use Rattle.ul_nodes.specs.declared.level.Key.TheVariants.{Number}
 use Rattle.ul_tree.specs.declared.tree.Tree.{Tree}
 use Rattle.ul_tree.proofs.ForCallers.{made_push, then_none}
 use Rattle.ul_marker_text.specs.NodeViews.{IsKeyOf, AreKeysIn, has_point, keys_of_other}

@@ -6,8 +6,8 @@ use Rattle.ul_marker.specs.Formulas.{IsExtraLiteral}
 use Rattle.ul_marker.specs.Printed.{IsComparison}
 use Rattle.ul_marker.proofs.ForCallers.{names_are_literals}
 use Rattle.ul_tree.specs.Comparisons.{Comparison, at_least, below, equals, differs}
-use Rattle.ul_tree.specs.Levels.{IsKey, IsExtra}
-use Rattle.ul_tree.specs.Plain.{carries}
+use Rattle.ul_nodes.specs.Levels.{IsKey, IsExtra}
+use Rattle.ul_nodes.specs.Plain.{carries}
 use Rattle.ul_tree.proofs.ForCallers.{number_back, level_back, atom_found}
 use Rattle.ul_marker_text.specs.MarkerText.{text_variable, key_comparison, printed_form}
 use Rattle.ul_marker_text.specs.Rows.{comparison_asked, has_key_comparison}

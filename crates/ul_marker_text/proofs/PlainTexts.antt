@@ -21,8 +21,8 @@ use Rattle.ul_marker.specs.declared.variable.Variable.{Variable}
 use Rattle.ul_marker.specs.declared.variable.Variable.TheVariants.{OsName, SysPlatform, PlatformMachine, PlatformPythonImplementation, PlatformRelease, PlatformSystem, PlatformVersion, PythonVersion, PythonFullVersion, ImplementationName, ImplementationVersion}
 use Rattle.ul_tree.specs.Comparisons.{Comparison, path_comparisons}
 use Rattle.ul_tree.specs.PathList.{Step, paths_to_true}
-use Rattle.ul_tree.specs.Plain.{Plain, truth, node}
-use Rattle.ul_tree.specs.Reduced.{IsReduced}
+use Rattle.ul_nodes.specs.Plain.{Plain, truth, node}
+use Rattle.ul_nodes.specs.Reduced.{IsReduced}
 use Rattle.ul_tree.proofs.ForCallers.{Each}
 use Rattle.ul_marker_text.specs.MarkerOfText.{IsMarker}
 use Rattle.ul_marker_text.specs.MarkerText.{marker_text, has, printed_form, printed_path}

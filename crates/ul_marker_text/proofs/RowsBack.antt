@@ -16,7 +16,7 @@ use Rattle.ul_marker.specs.declared.marker.Marker.{Marker, All as Joined, Any as
 use Rattle.ul_marker.specs.declared.printed.Comparison.{Comparison}
 use Rattle.ul_tree.specs.Comparisons as Plain
 use Rattle.ul_tree.specs.Comparisons.{path_comparisons}
-use Rattle.ul_tree.specs.Levels.{extra_level, text_level, atom_level}
+use Rattle.ul_nodes.specs.Levels.{extra_level, text_level, atom_level}
 use Rattle.ul_tree.specs.PathList.{Step}
 use Rattle.ul_tree.specs.Pieces.{packed_number}
 use Rattle.ul_tree.proofs.ForCallers.{Each}

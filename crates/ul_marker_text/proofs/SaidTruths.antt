@@ -21,15 +21,16 @@ use Rattle.ul_marker.specs.Truth.{marker_holds, all_hold, any_holds, as_asked, i
 use Rattle.ul_marker.specs.Worlds.{WorldFields, IsWorld}
 use Rattle.ul_marker.proofs.ForCallers.{paths-read}
 use Rattle.ul_tree.specs.Comparisons.{Comparison, at_least, below, equals, differs, path_comparisons}
-use Rattle.ul_tree.specs.Levels.{IsKey, IsExtra, IsAtomLevel}
+use Rattle.ul_nodes.specs.Levels.{IsKey, IsExtra, IsAtomLevel}
 use Rattle.ul_tree.specs.PathList.{Step, paths_to_true}
 use Rattle.ul_tree.specs.PathTruth.{is_before, comparison_holds, path_holds, some_path_holds}
 use Rattle.ul_tree.specs.Pieces.{packed_number, major_of, minor_of, patch_of}
-use Rattle.ul_tree.specs.Plain.{Plain, truth, node, Branches, text_cmp, carries}
-use Rattle.ul_tree.specs.Reduced.{IsReduced}
+use Rattle.ul_nodes.specs.Plain.{Plain, truth, node, Branches, text_cmp, carries}
+use Rattle.ul_nodes.specs.Reduced.{IsReduced}
 use Rattle.ul_tree.specs.Sample.{atom_of}
 use Rattle.ul_tree.specs.Values.{value_of, number_of, has_level, mark_of}
-use Rattle.ul_tree.proofs.ForCallers.{Each, number_back, level_back, turned, mark_eq, cmp_less, cmp_more, paths_truth}
+use Rattle.ul_nodes.proofs.ForCallers.{cmp_less, cmp_more}
+use Rattle.ul_tree.proofs.ForCallers.{Each, number_back, level_back, turned, mark_eq, paths_truth}
 use Rattle.ul_marker_text.specs.Headline.{IsNoTruth, ReadsAs}
 use Rattle.ul_marker_text.specs.MarkerText.{marker_text, key_comparison, printed_form, printed_path, printed_paths}
 use Rattle.ul_marker_text.proofs.Placed.{GoodComparison, variable_place}

@@ -2,11 +2,12 @@
 use Rattle.std.proofs.Common.{◌≡◌, ◌≢◌, ℕ, zero, suc, ◌<◌, ◌≤◌, ◌^◌, List, [], ◌∷◌, ◌++◌, map, length, Bool, true, false, eqb, refl, ap, sym, ◌∙◌, subst, arith, length-append, Less, Equal, Some, if◌then◌else◌}
 use Rattle.std.proofs.lemmas.Bool.{eqb-true}
 use Rattle.ul_tree.specs.Comparisons.{Comparison, at_least, below, differs, upper, comparisons_of, path_comparisons}
-use Rattle.ul_tree.specs.Levels.{python_level}
+use Rattle.ul_nodes.specs.Levels.{python_level}
 use Rattle.ul_tree.specs.PathLaws.{step_level}
 use Rattle.ul_tree.specs.PathList.{Step, interval, point, others}
-use Rattle.ul_tree.specs.Plain.{text_cmp, carries}
-use Rattle.ul_tree.proofs.ForCallers.{Each, cmp_itself, eqb_self, eqb_less, eqb_positive, bytes_self, less_differs}
+use Rattle.ul_nodes.specs.Plain.{text_cmp, carries}
+use Rattle.ul_nodes.proofs.ForCallers.{cmp_itself}
+use Rattle.ul_tree.proofs.ForCallers.{Each, eqb_self, eqb_less, eqb_positive, bytes_self, less_differs}
 use Rattle.ul_marker_text.specs.Rows.{front_keys, after_keys, interval_from, front_step, steps_with, steps_of}
 use Rattle.ul_marker_text.proofs.Goods.{GoodStep, Good, KeysAre}
 use Rattle.ul_marker_text.proofs.Placed.{GoodComparison}

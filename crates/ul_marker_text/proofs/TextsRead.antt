@@ -15,8 +15,8 @@ use Rattle.ul_marker.specs.declared.printed.Comparison.{Comparison}
 use Rattle.ul_tree.specs.Fans.{fan_of, tree_of}
 use Rattle.ul_tree.specs.FirstParts.{is_false}
 use Rattle.ul_tree.specs.PathList.{paths_to_true}
-use Rattle.ul_tree.specs.Plain.{Plain, truth, node}
-use Rattle.ul_tree.specs.Reduced.{IsReduced}
+use Rattle.ul_nodes.specs.Plain.{Plain, truth, node}
+use Rattle.ul_nodes.specs.Reduced.{IsReduced}
 use Rattle.ul_tree.proofs.ForCallers.{tree_back, bytes_self}
 use Rattle.ul_marker_text.specs.Headline.{IsNoTruth}
 use Rattle.ul_marker_text.specs.MarkerText.{marker_text, printed_path, printed_paths}

@@ -10,12 +10,12 @@ use Rattle.ul_marker.specs.declared.variable.AtomKind.{AtomKind}
 use Rattle.ul_marker.specs.declared.variable.AtomKind.TheVariants.{Contains, Within, Below, AtMost, Same}
 use Rattle.ul_marker.specs.declared.variable.Variable.{Variable}
 use Rattle.ul_marker.specs.declared.variable.Variable.TheVariants.{OsName, SysPlatform, PlatformMachine, PlatformPythonImplementation, PlatformRelease, PlatformSystem, PlatformVersion, PythonVersion, PythonFullVersion, ImplementationName, ImplementationVersion}
-use Rattle.ul_tree.specs.Apply.{keys, leaf_truth}
+use Rattle.ul_nodes.specs.Apply.{keys, leaf_truth}
 use Rattle.ul_tree.specs.Comparisons.{Comparison, path_comparisons}
 use Rattle.ul_tree.specs.Fans.{fan_of, tree_of}
 use Rattle.ul_tree.specs.PathList.{Step, interval, point, others, start_of, longer_paths, paths_to_true, paths_from, paths_at}
-use Rattle.ul_tree.specs.Plain.{Plain, truth, node, Branches, done, branch, carries}
-use Rattle.ul_tree.specs.Reduced.{IsReduced}
+use Rattle.ul_nodes.specs.Plain.{Plain, truth, node, Branches, done, branch, carries}
+use Rattle.ul_nodes.specs.Reduced.{IsReduced}
 use Rattle.ul_tree.proofs.ForCallers.{Each, tree_back}
 use Rattle.ul_marker_text.specs.MarkerText.{marker_text, printed_form, printed_path, printed_paths}
 use Rattle.ul_marker_text.specs.Printing.{joined_onto, and_joined, path_behind, paths_behind}

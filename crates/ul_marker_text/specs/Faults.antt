@@ -1,7 +1,7 @@
 -- When there is no text of a tree.
 use Rattle.std.specs.Prelude.{◌≡◌, ◌<◌, ◌^◌, min}
 use Rattle.ul_tree.specs.Paths.{paths_of}
-use Rattle.ul_tree.specs.Plain.{Plain}
+use Rattle.ul_nodes.specs.Plain.{Plain}
 use Rattle.ul_marker_text.specs.declared.fault.TextFault.{TextFault}
 use Rattle.ul_marker_text.specs.declared.fault.TextFault.TheVariants.{TooLong, NoMemory}
 

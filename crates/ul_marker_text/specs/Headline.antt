@@ -4,8 +4,8 @@ use Rattle.ul_marker.specs.Formulas.{Formula}
 use Rattle.ul_marker.specs.Reading.{marker_of}
 use Rattle.ul_marker.specs.Truth.{marker_holds}
 use Rattle.ul_marker.specs.Worlds.{WorldFields, IsWorld}
-use Rattle.ul_tree.specs.Plain.{Plain, truth}
-use Rattle.ul_tree.specs.Reduced.{IsReduced}
+use Rattle.ul_nodes.specs.Plain.{Plain, truth}
+use Rattle.ul_nodes.specs.Reduced.{IsReduced}
 use Rattle.ul_tree.specs.Sample.{asks_extra}
 use Rattle.ul_tree.specs.Values.{tree_holds}
 use Rattle.ul_marker_text.specs.MarkerText.{marker_text}

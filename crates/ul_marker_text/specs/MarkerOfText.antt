@@ -11,9 +11,9 @@ use Rattle.ul_marker.specs.Reading.{marker_of}
 use Rattle.ul_marker.specs.Truth.{is_empty}
 use Rattle.ul_tree.specs.Laws.{and_of, or_of}
 use Rattle.ul_tree.specs.Leaves.{point_tree}
-use Rattle.ul_tree.specs.Levels.{extra_level, python_level, text_level, atom_level}
+use Rattle.ul_nodes.specs.Levels.{extra_level, python_level, text_level, atom_level}
 use Rattle.ul_tree.specs.Pieces.{packed_number}
-use Rattle.ul_tree.specs.Plain.{Plain, truth, node}
+use Rattle.ul_nodes.specs.Plain.{Plain, truth, node}
 use Rattle.ul_tree.specs.Sample.{asks_extra}
 use Rattle.ul_marker_text.specs.MarkerText.{marker_text}
 

@@ -6,11 +6,11 @@ use Rattle.ul_marker.specs.Printed.{bound, extra_is, text_is, atom_is}
 use Rattle.ul_marker.specs.PrintedPaths.{paths_text}
 use Rattle.ul_marker.specs.declared.variable.Variable.{Variable}
 use Rattle.ul_marker.specs.declared.variable.Variable.TheVariants.{OsName, SysPlatform, PlatformMachine, PlatformPythonImplementation, PlatformRelease, PlatformSystem, PlatformVersion, ImplementationName}
-use Rattle.ul_tree.specs.Apply.{leaf_truth}
+use Rattle.ul_nodes.specs.Apply.{leaf_truth}
 use Rattle.ul_tree.specs.Comparisons.{Comparison, at_least, below, equals, differs, path_comparisons}
 use Rattle.ul_tree.specs.PathList.{Step, paths_to_true}
 use Rattle.ul_tree.specs.Pieces.{major_of, minor_of, patch_of}
-use Rattle.ul_tree.specs.Plain.{Plain}
+use Rattle.ul_nodes.specs.Plain.{Plain}
 use Rattle.ul_tree.specs.Sample.{atom_of}
 
 -- the text variable at a place among the eight

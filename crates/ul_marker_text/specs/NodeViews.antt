@@ -5,12 +5,12 @@ use Rattle.std.specs.Str.{bytes_eq}
 use Rattle.std.specs.declared.alloc.Global.{Global}
 use Rattle.ul_marker.specs.declared.printed.Comparison.{Comparison}
 use Rattle.ul_tree.specs.Joins.{trees_made}
-use Rattle.ul_tree.specs.Keys.{key_view, has_kind, KeysOf}
-use Rattle.ul_tree.specs.Levels.{IsKey}
+use Rattle.ul_nodes.specs.Keys.{key_view, has_kind, KeysOf}
+use Rattle.ul_nodes.specs.Levels.{IsKey}
 use Rattle.ul_tree.specs.PathLaws.{step_level}
 use Rattle.ul_tree.specs.PathList.{interval, point, others}
-use Rattle.ul_tree.specs.Plain.{Plain, Branches}
-use Rattle.ul_tree.specs.declared.level.Key.{Key}
+use Rattle.ul_nodes.specs.Plain.{Plain, Branches}
+use Rattle.ul_nodes.specs.declared.level.Key.{Key}
 use Rattle.ul_tree.specs.declared.tree.Tree.{Tree}
 use Rattle.ul_marker_text.specs.Nodes.{Part, AreKeys}
 use Rattle.ul_marker_text.specs.StepViews.{comparison_key}

@@ -2,13 +2,13 @@
 use Rattle.std.specs.Prelude.{◌≡◌, ℕ, suc, List, [], ◌∷◌, map, Bool, true, false, not, ◌&&◌, ◌==◌, Option, Some, None, if◌then◌else◌}
 use Rattle.std.specs.Ordering.{is_lt}
 use Rattle.ul_marker.specs.declared.printed.Comparison.{Comparison}
-use Rattle.ul_tree.specs.Apply.{same}
+use Rattle.ul_nodes.specs.Apply.{same}
 use Rattle.ul_tree.specs.Fans.{same_step}
-use Rattle.ul_tree.specs.Levels.{IsKey}
+use Rattle.ul_nodes.specs.Levels.{IsKey}
 use Rattle.ul_tree.specs.PathList as PathList
 use Rattle.ul_tree.specs.PathList.{interval, point, others}
-use Rattle.ul_tree.specs.Plain.{Plain, truth, Branches, done, branch, text_cmp, carried_part}
-use Rattle.ul_tree.specs.Reduced.{Fits}
+use Rattle.ul_nodes.specs.Plain.{Plain, truth, Branches, done, branch, text_cmp, carried_part}
+use Rattle.ul_nodes.specs.Reduced.{Fits}
 use Rattle.ul_tree.specs.Views.{tree_view}
 use Rattle.ul_tree.specs.declared.tree.Tree.{Tree}
 use Rattle.ul_marker_text.specs.StepViews.{step_view, comparison_key}

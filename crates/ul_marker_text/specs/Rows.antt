@@ -6,7 +6,7 @@ use Rattle.ul_marker.specs.Printed as Printed
 use Rattle.ul_marker.specs.Printed.{bound, extra_is, text_is, atom_is, comparison_formula, IsComparison}
 use Rattle.ul_marker.specs.PrintedPaths.{IsPath, path_formula, paths_formula}
 use Rattle.ul_tree.specs.Comparisons.{Comparison, at_least, below, equals, differs}
-use Rattle.ul_tree.specs.Levels.{extra_level, text_level, atom_level}
+use Rattle.ul_nodes.specs.Levels.{extra_level, text_level, atom_level}
 use Rattle.ul_tree.specs.PathList.{Step, interval, point, others}
 use Rattle.ul_tree.specs.Pieces.{packed_number}
 

@@ -8,11 +8,11 @@ use Rattle.ul_marker.specs.Printed.{comparison_formula}
 use Rattle.ul_marker.specs.PrintedViews.{comparison_view}
 use Rattle.ul_tree.specs.Comparisons as Plain
 use Rattle.ul_tree.specs.Fans.{Fan, fan_of, tree_of}
-use Rattle.ul_tree.specs.Keys.{level_view}
-use Rattle.ul_tree.specs.Levels.{extra_level, text_level, atom_level}
+use Rattle.ul_nodes.specs.Keys.{level_view}
+use Rattle.ul_nodes.specs.Levels.{extra_level, text_level, atom_level}
 use Rattle.ul_tree.specs.PathList as PathList
-use Rattle.ul_tree.specs.Plain as Trees
-use Rattle.ul_tree.specs.declared.level.Level.{Level}
+use Rattle.ul_nodes.specs.Plain as Trees
+use Rattle.ul_nodes.specs.declared.level.Level.{Level}
 use Rattle.ul_marker_text.specs.Rows.{comparison_asked, Front, steps_of}
 use Rattle.ul_marker_text.specs.declared.steps.Step.{Step}
 use Rattle.ul_marker_text.specs.declared.steps.Step.TheVariants.{Interval, Point, Others}

@@ -1,7 +1,7 @@
 -- What contracts say of texts.
 use Rattle.std.specs.Prelude.{◌≡◌, ℕ, List}
-use Rattle.ul_tree.specs.Plain.{Plain}
-use Rattle.ul_tree.specs.Reduced.{IsReduced}
+use Rattle.ul_nodes.specs.Plain.{Plain}
+use Rattle.ul_nodes.specs.Reduced.{IsReduced}
 use Rattle.ul_marker_text.specs.Headline.{IsNoTruth}
 use Rattle.ul_marker_text.specs.MarkerText.{marker_text}
 

@@ -1,7 +1,7 @@
 //! The tree of paths, level by level: paths with one step lead to one part.
 ghost use Rattle.std.specs.Prelude.{◌≡◌, ◌≤◌, suc, IfOk, length};
 ghost use Rattle.ul_tree.specs.Fans.{parts_of, tree_of};
-ghost use Rattle.ul_tree.specs.Keys.{level_view};
+ghost use Rattle.ul_nodes.specs.Keys.{level_view};
 ghost use Rattle.ul_tree.specs.Views.{tree_view};
 ghost use Rattle.ul_marker_text.specs.Nodes.{front_count, parts_view, starts, KeepFirst, KeepParts, Keeps};
 ghost use Rattle.ul_marker_text.specs.StepViews.{above_view, fan_from, path_from, paths_from, step_view};
@@ -10,8 +10,8 @@ use crate::nodes::node_of;
 use crate::steps::{Step, same_step, step_level};
 use std::alloc::{AllocError, Global};
 use std::collections::VecDeque;
+use ul_nodes::level::Level;
 use ul_tree::Tree;
-use ul_tree::level::Level;
 
 // The room that is left a level further down; want of memory where there is none.
 fn deeper(room: usize) -> Result<usize, AllocError>

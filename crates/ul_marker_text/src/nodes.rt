@@ -4,10 +4,10 @@ ghost use Rattle.std.specs.Ordering.{is_lt};
 ghost use Rattle.ul_marker.specs.Atoms.{IsAtom};
 ghost use Rattle.ul_tree.specs.Fans.{filled_points, listed_points, node_of as node_of_parts, opening_node, other_part, pieces_from, pointed_at};
 ghost use Rattle.ul_tree.specs.Joins.{trees_made};
-ghost use Rattle.ul_tree.specs.Keys.{level_view, key_view, then_branches, KeysOf};
-ghost use Rattle.ul_tree.specs.Levels.{IsExtra, python_level};
-ghost use Rattle.ul_tree.specs.Plain.{Plain, branch, node, carries, text_cmp};
-ghost use Rattle.ul_tree.specs.Reduced.{Fits};
+ghost use Rattle.ul_nodes.specs.Keys.{level_view, key_view, then_branches, KeysOf};
+ghost use Rattle.ul_nodes.specs.Levels.{IsExtra, python_level};
+ghost use Rattle.ul_nodes.specs.Plain.{Plain, branch, node, carries, text_cmp};
+ghost use Rattle.ul_nodes.specs.Reduced.{Fits};
 ghost use Rattle.ul_tree.specs.TreeFacts.{IsTree};
 ghost use Rattle.ul_tree.specs.Views.{tree_view};
 ghost use Rattle.ul_marker_text.specs.NodeViews as Views;
@@ -23,10 +23,10 @@ use std::collections::VecDeque;
 use ul_base::{Name, NameFault};
 use ul_marker::printed::Comparison;
 use ul_marker::{Atom, is_literal};
+use ul_nodes::level::{Key, Level};
 use ul_tree::Tree;
 use ul_tree::copy::same;
 use ul_tree::join::closed;
-use ul_tree::level::{Key, Level};
 
 // ---- keys
 

@@ -2,13 +2,13 @@
 ghost use Rattle.std.specs.Prelude.{◌≡◌, ◌++◌, ◌∷◌, [], OnOk, IfOk, Some, false, true, codes, string_bytes};
 ghost use Rattle.ul_marker.specs.Atoms.{text_number};
 ghost use Rattle.ul_marker.specs.Printed.{bound, IsWritten};
-ghost use Rattle.ul_tree.specs.Apply.{keys};
+ghost use Rattle.ul_nodes.specs.Apply.{keys};
 ghost use Rattle.ul_tree.specs.Comparisons.{lower, upper};
-ghost use Rattle.ul_tree.specs.Keys.{level_view, key_view, has_kind, is_number_key, top_of, branches_of};
-ghost use Rattle.ul_tree.specs.Levels.{python_level};
+ghost use Rattle.ul_nodes.specs.Keys.{level_view, key_view, has_kind, is_number_key, top_of, branches_of};
+ghost use Rattle.ul_nodes.specs.Levels.{python_level};
 ghost use Rattle.ul_tree.specs.PathList.{interval, point, longer_paths, paths_to_true};
 ghost use Rattle.ul_tree.specs.Pieces.{major_of, minor_of, patch_of};
-ghost use Rattle.ul_tree.specs.Plain.{carries};
+ghost use Rattle.ul_nodes.specs.Plain.{carries};
 ghost use Rattle.ul_tree.specs.TreeFacts.{IsTree};
 ghost use Rattle.ul_tree.specs.Views.{tree_view};
 ghost use Rattle.ul_marker_text.specs.MarkerText as spec;
@@ -18,8 +18,8 @@ ghost use Rattle.ul_marker_text.specs.Printing.{separated_text, and_joined, othe
 use std::alloc::{AllocError, Global};
 use ul_marker::Variable;
 use ul_marker::printed::{push_atom, push_bound, push_extra, push_text};
+use ul_nodes::level::{Key, Level};
 use ul_tree::Tree;
-use ul_tree::level::{Key, Level};
 use ul_tree::part::{branch_at, branch_count, is_false, known, level_of, rest_of};
 
 // One above the greatest number that an interpreter's numbers may have.

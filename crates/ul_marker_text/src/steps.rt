@@ -1,10 +1,10 @@
 //! The comparisons of a path, cut into steps: each asks one level of a tree.
 ghost use Rattle.std.specs.Prelude.{◌≡◌, ◌≤◌, IfOk, IfSome, Some, map, take, drop, length, false};
 ghost use Rattle.ul_tree.specs.Fans.{same_keys as same_plain_keys, same_step as same_plain_step};
-ghost use Rattle.ul_tree.specs.Keys.{level_view, key_view};
+ghost use Rattle.ul_nodes.specs.Keys.{level_view, key_view};
 ghost use Rattle.ul_tree.specs.PathLaws as PathLaws;
 ghost use Rattle.ul_tree.specs.Pieces.{packed_number};
-ghost use Rattle.ul_tree.specs.Plain.{carries};
+ghost use Rattle.ul_nodes.specs.Plain.{carries};
 ghost use Rattle.std.specs.Str.{bytes_eq};
 ghost use Rattle.ul_marker_text.specs.Rows as Rows;
 ghost use Rattle.ul_marker_text.specs.Rows.{after_keys, front_keys, steps_of};
@@ -13,7 +13,7 @@ ghost use Rattle.ul_marker_text.specs.StepViews.{plain_comparison, asked_view, c
 use crate::printing::END;
 use std::alloc::{AllocError, Global};
 use ul_marker::printed::Comparison;
-use ul_tree::level::{Key, Level};
+use ul_nodes::level::{Key, Level};
 
 /// A step of a path: what it asks of one level.
 #[derive(Clone, Copy)]

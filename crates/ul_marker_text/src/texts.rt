@@ -2,8 +2,8 @@
 ghost use Rattle.std.specs.Prelude.{◌≡◌, ◌≢◌, ◌≤◌, [], IfOk, IfErr, Err, false, string_bytes, option_map};
 ghost use Rattle.ul_marker.specs.declared.fault.MarkerFault.TheVariants.{NoReading};
 ghost use Rattle.ul_tree.specs.Paths.{paths_of};
-ghost use Rattle.ul_tree.specs.Plain.{Plain, truth};
-ghost use Rattle.ul_tree.specs.Reduced.{IsReduced};
+ghost use Rattle.ul_nodes.specs.Plain.{Plain, truth};
+ghost use Rattle.ul_nodes.specs.Reduced.{IsReduced};
 ghost use Rattle.ul_tree.specs.TreeFacts.{IsTree};
 ghost use Rattle.ul_tree.specs.Views.{tree_view};
 ghost use Rattle.ul_marker_text.specs.Faults.{IsTextFault};

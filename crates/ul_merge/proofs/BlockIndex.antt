@@ -11,7 +11,7 @@ use Rattle.ul_version.specs.Fields.{Fields}
 use Rattle.ul_version.specs.Order.{version_cmp}
 use Rattle.ul_requirement.specs.Fields.{VersionsDiffer}
 use Rattle.ul_requirement.specs.Truth.{base, with_extra}
-use Rattle.ul_tree.specs.Plain.{Plain}
+use Rattle.ul_nodes.specs.Plain.{Plain}
 use Rattle.ul_index.specs.Catalogs.{Packages, releases_of}
 use Rattle.ul_index.specs.Eligible.{eligible}
 use Rattle.ul_index.specs.Laws.{EligibleRises}

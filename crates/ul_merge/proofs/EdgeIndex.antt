@@ -13,7 +13,7 @@ use Rattle.ul_version.specs.Order.{version_cmp}
 use Rattle.ul_marker.specs.Worlds.{WorldFields, IsWorld}
 use Rattle.ul_requirement.specs.Fields.{RequirementFields, VersionsDiffer}
 use Rattle.ul_requirement.specs.Truth.{applies_at, targets}
-use Rattle.ul_tree.specs.Plain.{Plain}
+use Rattle.ul_nodes.specs.Plain.{Plain}
 use Rattle.ul_tree.specs.Regions.{region_of}
 use Rattle.ul_algebra.specs.Spelled.{tree_of}
 use Rattle.ul_index.specs.Catalogs.{Packages, releases_of, requirements}

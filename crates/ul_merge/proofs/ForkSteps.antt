@@ -1,7 +1,7 @@
 -- Forks, leaf by leaf.
 use Rattle.std.proofs.Common.{◌≡◌, ℕ, suc, ◌+◌, ◌<◌, List, [], ◌∷◌, ◌++◌, map, length, get_or, take, refl, sym, ap, subst, ◌∙◌, arith}
 use Rattle.std.proofs.lemmas.List.{take_more}
-use Rattle.ul_tree.specs.Plain.{Plain}
+use Rattle.ul_nodes.specs.Plain.{Plain}
 use Rattle.ul_tree.specs.Simplify.{Simplifies}
 use Rattle.ul_algebra.specs.Spelled.{tree_of}
 use Rattle.ul_sound.specs.Merged.{AreForks, AreSimplified}

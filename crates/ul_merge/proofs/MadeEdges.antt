@@ -3,8 +3,8 @@ use Rattle.std.proofs.Common.{◌≡◌, ◌≢◌, ℕ, List, [], Bool, true, f
 use Rattle.ul_base.specs.declared.node.Node.{Node}
 use Rattle.ul_version.specs.Fields.{Fields}
 use Rattle.ul_marker.specs.Worlds.{WorldFields, IsWorld}
-use Rattle.ul_tree.specs.Apply.{both}
-use Rattle.ul_tree.specs.Plain.{Plain, truth}
+use Rattle.ul_nodes.specs.Apply.{both}
+use Rattle.ul_nodes.specs.Plain.{Plain, truth}
 use Rattle.ul_tree.specs.Regions.{HasTruth, IsRegionTree}
 use Rattle.ul_tree.specs.Simplify.{Simplifies}
 use Rattle.ul_tree.specs.Values.{tree_holds}

@@ -4,7 +4,7 @@ use Rattle.std.specs.Prelude.{All}
 use Rattle.std.proofs.lemmas.List.Elements.{All-contains_itself, All-weaker}
 use Rattle.ul_version.specs.Fields.{Fields}
 use Rattle.ul_requirement.specs.Fields.{VersionsDiffer}
-use Rattle.ul_tree.specs.Plain.{Plain, truth}
+use Rattle.ul_nodes.specs.Plain.{Plain, truth}
 use Rattle.ul_tree.specs.Regions.{IsRegionTree}
 use Rattle.ul_tree.proofs.ForCallers.{no_extra}
 use Rattle.ul_algebra.specs.Spelled.{tree_of}

@@ -3,8 +3,8 @@ use Rattle.std.proofs.Common.{◌≡◌, ℕ, zero, suc, ◌<◌, ◌||◌, List
 use Rattle.std.proofs.lemmas.List.Elements.{All-drop, All-weaker}
 use Rattle.ul_interner.specs.Known.{Knows}
 use Rattle.ul_marker.specs.Worlds.{WorldFields, IsWorld}
-use Rattle.ul_tree.specs.Apply.{either}
-use Rattle.ul_tree.specs.Plain.{Plain}
+use Rattle.ul_nodes.specs.Apply.{either}
+use Rattle.ul_nodes.specs.Plain.{Plain}
 use Rattle.ul_tree.specs.Regions.{HasTruth}
 use Rattle.ul_tree.specs.Simplify.{Simplifies}
 use Rattle.ul_tree.specs.Views.{tree_view}

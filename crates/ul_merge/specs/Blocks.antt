@@ -4,7 +4,7 @@ use Rattle.ul_base.specs.declared.node.Node.{Node}
 use Rattle.ul_version.specs.Fields.{Fields}
 use Rattle.ul_requirement.specs.Fields.{VersionsDiffer}
 use Rattle.ul_requirement.specs.Truth.{base, with_extra}
-use Rattle.ul_tree.specs.Plain.{Plain}
+use Rattle.ul_nodes.specs.Plain.{Plain}
 use Rattle.ul_algebra.specs.Answers.{IsDiagram}
 use Rattle.ul_algebra.specs.Spelled.{tree_of}
 use Rattle.ul_index.specs.Catalogs.{Packages, release_of, releases_of}

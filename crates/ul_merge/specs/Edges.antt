@@ -7,7 +7,7 @@ use Rattle.ul_version.specs.Fields.{Fields}
 use Rattle.ul_marker.specs.Worlds.{WorldFields, IsWorld}
 use Rattle.ul_requirement.specs.Fields.{RequirementFields}
 use Rattle.ul_requirement.specs.Truth.{applies_at}
-use Rattle.ul_tree.specs.Plain.{Plain}
+use Rattle.ul_nodes.specs.Plain.{Plain}
 use Rattle.ul_algebra.specs.Spelled.{tree_of}
 use Rattle.ul_lock_lines.specs.declared.parts.Edge.{Edge}
 use Rattle.ul_region.specs.Truths.{PassView, DiagramMark, IsTruth, region_at, truth_within}

@@ -11,8 +11,8 @@ use Rattle.ul_marker.specs.Views.{marker_view}
 use Rattle.ul_marker.specs.Worlds.{WorldFields, IsWorld}
 use Rattle.ul_marker.specs.declared.marker.Marker.{Marker}
 use Rattle.ul_specifier.specs.Clauses.{ClauseFields}
-use Rattle.ul_tree.specs.Apply.{both}
-use Rattle.ul_tree.specs.Reduced.{IsReduced}
+use Rattle.ul_nodes.specs.Apply.{both}
+use Rattle.ul_nodes.specs.Reduced.{IsReduced}
 use Rattle.ul_tree.specs.Regions.{HasTruth}
 use Rattle.ul_tree.specs.Values.{tree_holds}
 use Rattle.ul_tree.specs.Views.{tree_view}

@@ -6,7 +6,7 @@ use Rattle.ul_marker.specs.Formulas.{Formula, AreFormulas, formulas_of}
 use Rattle.ul_requirement.specs.Fields.{PackageFields, RequirementFields}
 use Rattle.ul_requirement.specs.declared.wish.Mode.{Mode}
 use Rattle.ul_requirement.specs.declared.wish.Strategy.{Strategy}
-use Rattle.ul_tree.specs.Plain.{Plain, truth}
+use Rattle.ul_nodes.specs.Plain.{Plain, truth}
 use Rattle.ul_tree.specs.Regions.{IsRegionTree}
 use Rattle.ul_project.specs.Groups.{GroupFields}
 

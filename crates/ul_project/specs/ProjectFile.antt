@@ -6,7 +6,7 @@ use Rattle.toml.specs.Data.{Members, get_member}
 use Rattle.ul_base.specs.Names.{name_cmp}
 use Rattle.ul_version.specs.Fields.{Fields}
 use Rattle.ul_requirement.specs.Fields.{PackageFields, RequirementFields}
-use Rattle.ul_tree.specs.Plain.{Plain}
+use Rattle.ul_nodes.specs.Plain.{Plain}
 use Rattle.ul_project.specs.Extras.{extra_requirements, extra_size, extras_at}
 use Rattle.ul_project.specs.Fields.{ProjectFields}
 use Rattle.ul_project.specs.GroupLists.{groups_at}

@@ -2,7 +2,7 @@
 
 ghost use Rattle.std.specs.Prelude.{◌≡◌, IfOk, false};
 ghost use Rattle.toml.specs.View.{table_view};
-ghost use Rattle.ul_tree.specs.Plain.{truth};
+ghost use Rattle.ul_nodes.specs.Plain.{truth};
 ghost use Rattle.ul_tree.specs.Regions.{HasTruth, IsRegionTree};
 ghost use Rattle.ul_tree.specs.Views.{tree_view};
 ghost use Rattle.ul_project.specs.Answers.{Gives, IsAnswerOf};

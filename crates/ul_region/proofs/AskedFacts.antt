@@ -8,9 +8,9 @@ use Rattle.ul_base.specs.Kept.{IsFirst}
 use Rattle.ul_base.specs.declared.node.Node.{Node}
 use Rattle.ul_base.proofs.ForCallers.{contains_map, first_holds}
 use Rattle.ul_marker.specs.Worlds.{WorldFields}
-use Rattle.ul_tree.specs.Apply.{both}
+use Rattle.ul_nodes.specs.Apply.{both}
 use Rattle.ul_tree.specs.Laws.{and_of}
-use Rattle.ul_tree.specs.Plain.{Plain}
+use Rattle.ul_nodes.specs.Plain.{Plain}
 use Rattle.ul_tree.specs.Regions.{HasTruth}
 use Rattle.ul_tree.proofs.ForCallers.{operations, has_and}
 use Rattle.ul_algebra.specs.Answers.{IsDiagram}

@@ -2,14 +2,15 @@
 use Rattle.std.specs.Prelude.{◌↔◌, IsTrue}
 use Rattle.std.proofs.Common.{◌≡◌, ◌⊎◌, [], Bool, true, false, not, ◌&&◌, Decides, refl, sym, ap, ◌∙◌, inl, inr}
 use Rattle.ul_marker.specs.Worlds.{WorldFields, IsWorld}
-use Rattle.ul_tree.specs.Apply.{both, same}
+use Rattle.ul_nodes.specs.Apply.{both, same}
 use Rattle.ul_tree.specs.FirstParts.{is_false}
 use Rattle.ul_tree.specs.Laws.{and_of, not_of}
-use Rattle.ul_tree.specs.Plain.{Plain, truth}
-use Rattle.ul_tree.specs.Reduced.{IsReduced}
+use Rattle.ul_nodes.specs.Plain.{Plain, truth}
+use Rattle.ul_nodes.specs.Reduced.{IsReduced}
 use Rattle.ul_tree.specs.Regions.{HasTruth}
 use Rattle.ul_tree.specs.Values.{tree_holds}
-use Rattle.ul_tree.proofs.ForCallers.{operations, holds_somewhere, no_extra, region_tree, has_and, has_not, false_is, not_false_is, same_true, same_itself, one_truth_one_tree}
+use Rattle.ul_nodes.proofs.ForCallers.{same_true, same_itself}
+use Rattle.ul_tree.proofs.ForCallers.{operations, holds_somewhere, no_extra, region_tree, has_and, has_not, false_is, not_false_is, one_truth_one_tree}
 use Rattle.ul_algebra.specs.Spelled.{tree_of}
 use Rattle.ul_index.specs.Regions.{Region, Somewhere, Throughout}
 use Rattle.ul_region.specs.Truths.{PassView, DiagramMark, IsTruth, truth_within, Apart}

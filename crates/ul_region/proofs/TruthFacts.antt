@@ -12,8 +12,8 @@ use Rattle.ul_marker.specs.Worlds.{WorldFields, IsWorld}
 use Rattle.ul_specifier.specs.Clauses.{ClauseFields}
 use Rattle.ul_specifier.specs.Meaning.{meets_list, lower_list}
 use Rattle.ul_tree.specs.Laws.{and_of, not_of, at_extra_of}
-use Rattle.ul_tree.specs.Plain.{Plain}
-use Rattle.ul_tree.specs.Reduced.{IsReduced}
+use Rattle.ul_nodes.specs.Plain.{Plain}
+use Rattle.ul_nodes.specs.Reduced.{IsReduced}
 use Rattle.ul_tree.specs.Regions.{HasTruth}
 use Rattle.ul_tree.specs.TreeFacts.{HoldsAtWorlds}
 use Rattle.ul_tree.specs.Values.{tree_holds}

@@ -4,7 +4,7 @@ use Rattle.ul_marker.specs.Worlds.{WorldFields, IsWorld}
 use Rattle.ul_interner.specs.Known.{Held, Knows}
 use Rattle.ul_interner.specs.Marked.{Marked}
 use Rattle.ul_tree.specs.Laws.{and_of}
-use Rattle.ul_tree.specs.Plain.{Plain}
+use Rattle.ul_nodes.specs.Plain.{Plain}
 use Rattle.ul_tree.specs.Regions.{HasTruth, region_of}
 use Rattle.ul_tree.specs.Values.{tree_holds}
 use Rattle.ul_algebra.specs.Answers.{IsDiagram}

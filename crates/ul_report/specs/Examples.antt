@@ -5,8 +5,8 @@ use Rattle.ul_version.specs.Fields.{Fields, plain}
 use Rattle.ul_marker.specs.Atoms.{atom_fields}
 use Rattle.ul_marker.specs.declared.variable.AtomKind.TheVariants.{Contains}
 use Rattle.ul_marker.specs.declared.variable.Variable.TheVariants.{SysPlatform, PlatformVersion}
-use Rattle.ul_tree.specs.Levels.{text_level, atom_level}
-use Rattle.ul_tree.specs.Plain.{Plain, truth, node, done, branch}
+use Rattle.ul_nodes.specs.Levels.{text_level, atom_level}
+use Rattle.ul_nodes.specs.Plain.{Plain, truth, node, done, branch}
 use Rattle.ul_problem.specs.declared.term.Term.TheVariants.{In, NotIn}
 use Rattle.ul_problem.specs.declared.step.Step.{Step}
 use Rattle.ul_problem.specs.declared.step.Step.TheVariants.{Need, Python, Base, Cut}

@@ -9,7 +9,7 @@ use Rattle.ul_marker.specs.Worlds.{WorldFields, text_at}
 use Rattle.ul_marker.specs.Printed.{comparison_text, text_is, atom_is}
 use Rattle.ul_marker.specs.declared.variable.Variable.{Variable}
 use Rattle.ul_marker.specs.declared.variable.Variable.TheVariants.{OsName, SysPlatform, PlatformMachine, PlatformPythonImplementation, PlatformRelease, PlatformSystem, PlatformVersion, ImplementationName}
-use Rattle.ul_tree.specs.Plain.{Plain}
+use Rattle.ul_nodes.specs.Plain.{Plain}
 use Rattle.ul_tree.specs.Sample.{sample_of}
 use Rattle.ul_marker_text.specs.MarkerText.{marker_text}
 use Rattle.ul_report.specs.declared.text_steps.TextTerm.{TextTerm}

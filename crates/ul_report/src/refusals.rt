@@ -6,8 +6,8 @@ ghost use Rattle.ul_marker_text.specs.Faults.{IsTextFault};
 ghost use Rattle.ul_report.specs.Texts as spec;
 ghost use Rattle.ul_report.specs.Texts.{lines_text, path_text, python_part, refusal_text, text_part, text_variables, truth_part, world_text};
 ghost use Rattle.ul_tree.specs.Paths.{paths_of};
-ghost use Rattle.ul_tree.specs.Plain.{truth};
-ghost use Rattle.ul_tree.specs.Reduced.{IsReduced};
+ghost use Rattle.ul_nodes.specs.Plain.{truth};
+ghost use Rattle.ul_nodes.specs.Reduced.{IsReduced};
 ghost use Rattle.ul_tree.specs.Sample.{asks_extra, sample_of};
 ghost use Rattle.ul_tree.specs.Views.{tree_view};
 

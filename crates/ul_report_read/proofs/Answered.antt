@@ -20,7 +20,7 @@ use Rattle.ul_report_read.specs.declared.reading.ProofFault.{ProofFault}
 use Rattle.ul_report_read.specs.declared.reading.ProofFault.TheVariants.{Line as LineAt, NoMemory}
 use Rattle.ul_report_read.proofs.Printed.{printed_proof}
 use Rattle.ul_report_read.proofs.WholeTexts.{again, fault, taken}
-use Rattle.ul_tree.specs.Plain as Trees
+use Rattle.ul_nodes.specs.Plain as Trees
 use Rattle.ul_tree.specs.Sample.{SampleHolds}
 
 ok_is : (x y : Proof) (r : Result Proof ℕ) → r ≡ Ok x → r ≡ Ok y → x ≡ y

@@ -24,7 +24,7 @@ use Rattle.ul_report_read.specs.declared.line.Line.TheVariants.{Title as title, 
 use Rattle.ul_report_read.proofs.Cutting.{has_join}
 use Rattle.ul_report_read.proofs.StepLaws.{number_front_again, number_front_is, step_10, step_again, step_body, step_is, step_spelled}
 use Rattle.ul_report_read.proofs.TokenLaws.{decimal_digits, number_has}
-use Rattle.ul_tree.specs.Plain.{Plain, truth, node, Branches}
+use Rattle.ul_nodes.specs.Plain.{Plain, truth, node, Branches}
 
 -- ---- paths
 

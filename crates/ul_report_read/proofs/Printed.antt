@@ -22,7 +22,7 @@ use Rattle.ul_report.specs.declared.text_steps.TextTerm.{TextTerm}
 use Rattle.ul_report.proofs.ForCallers.{right_named}
 use Rattle.ul_report_read.specs.Laws.{HasTexts, printed}
 use Rattle.ul_report_read.specs.Proofs.{AreTerms, IsNamed, IsProof, IsSet, IsStep, IsTerm, TermBefore}
-use Rattle.ul_tree.specs.Plain as Trees
+use Rattle.ul_nodes.specs.Plain as Trees
 use Rattle.ul_version.specs.Fields.{Fields, IsVersion}
 use Rattle.ul_version.proofs.ForCallers.{version_total}
 

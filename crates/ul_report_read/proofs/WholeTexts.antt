@@ -24,7 +24,7 @@ use Rattle.ul_report_read.specs.declared.states.State.{State}
 use Rattle.ul_report_read.specs.declared.states.State.TheVariants.{Start as start, Titled as titled, Forked as forked, Bounded as bounded, Stepping as stepping}
 use Rattle.ul_report_read.proofs.LineLaws.{body_10, body_text, line_again, line_ends, line_takes, spelled}
 use Rattle.ul_report_read.proofs.Worlds.{sample_10}
-use Rattle.ul_tree.specs.Plain.{Plain}
+use Rattle.ul_nodes.specs.Plain.{Plain}
 use Rattle.ul_tree.specs.Sample.{SampleHolds, sample_of}
 
 -- ---- what a state says

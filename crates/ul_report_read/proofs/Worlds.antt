@@ -18,9 +18,9 @@ use Rattle.ul_marker.specs.declared.variable.Variable.TheVariants.{OsName, SysPl
 use Rattle.ul_report.specs.Texts.{python_part, text_part, text_variables, truth_part, world_text}
 use Rattle.ul_report_read.proofs.Cutting.{has_join}
 use Rattle.ul_report_read.proofs.TokenLaws.{number_has}
-use Rattle.ul_tree.specs.Levels.{IsKey}
-use Rattle.ul_tree.specs.Plain.{Plain, truth, node, Branches, done, branch, carried_part, carries}
-use Rattle.ul_tree.specs.Reduced.{Fits, FitsAll}
+use Rattle.ul_nodes.specs.Levels.{IsKey}
+use Rattle.ul_nodes.specs.Plain.{Plain, truth, node, Branches, done, branch, carried_part, carries}
+use Rattle.ul_nodes.specs.Reduced.{Fits, FitsAll}
 use Rattle.ul_tree.specs.Sample.{SampleHolds, Step, beside, empty_world, first_in, first_path, fresh_from, has_key, key_lengths, longer_path, or_else, sample_of, with_level, with_path, with_steps}
 
 -- ---- texts without LF

@@ -10,7 +10,7 @@ use Rattle.ul_report_read.specs.declared.line.Line.TheVariants.{Title as title, 
 use Rattle.ul_report_read.specs.declared.proof.Proof.{Proof}
 use Rattle.ul_report_read.specs.declared.states.State.{State}
 use Rattle.ul_report_read.specs.declared.states.State.TheVariants.{Start as start, Titled as titled, Forked as forked, Bounded as bounded, Stepping as stepping}
-use Rattle.ul_tree.specs.Plain.{Plain}
+use Rattle.ul_nodes.specs.Plain.{Plain}
 use Rattle.ul_tree.specs.Sample.{sample_of}
 
 -- the state, where the test holds

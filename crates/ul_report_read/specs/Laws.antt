@@ -13,7 +13,7 @@ use Rattle.ul_report_read.specs.Headline.{IsAnswer, ReadsProof}
 use Rattle.ul_report_read.specs.Proofs.{AreProofLines, IsNamed, IsProof, IsTextOf, proof_text}
 use Rattle.ul_report_read.specs.declared.proof.Proof.{Proof}
 use Rattle.ul_report_read.specs.declared.reading.ProofFault.{ProofFault}
-use Rattle.ul_tree.specs.Plain as Trees
+use Rattle.ul_nodes.specs.Plain as Trees
 use Rattle.ul_version.specs.Fields.{IsVersion}
 
 -- different proofs have different texts

@@ -7,7 +7,7 @@ use Rattle.ul_marker_text.specs.MarkerOfText.{marker_of_text}
 use Rattle.ul_report_read.specs.StepReading.{number_front_at, or_else, step_at}
 use Rattle.ul_report_read.specs.declared.line.Line.{Line}
 use Rattle.ul_report_read.specs.declared.line.Line.TheVariants.{Title as title, Fork as fork, Region as region, World as world, Step as numbered}
-use Rattle.ul_tree.specs.Plain.{Plain}
+use Rattle.ul_nodes.specs.Plain.{Plain}
 
 -- the step of a path that a digit says
 abbrev pub digit_at : ℕ → Option Bool

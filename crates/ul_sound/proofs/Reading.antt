@@ -3,8 +3,8 @@ use Rattle.std.proofs.Common.{◌≡◌, ℕ, List, [], true, Option, Some, None
 use Rattle.ul_version.specs.Fields.{Fields}
 use Rattle.ul_marker.specs.Worlds.{WorldFields, IsWorld}
 use Rattle.ul_requirement.specs.Truth.{with_extra}
-use Rattle.ul_tree.specs.Plain.{Plain}
-use Rattle.ul_tree.specs.Reduced.{IsReduced}
+use Rattle.ul_nodes.specs.Plain.{Plain}
+use Rattle.ul_nodes.specs.Reduced.{IsReduced}
 use Rattle.ul_tree.specs.Values.{tree_holds, value_of}
 use Rattle.ul_tree.proofs.ForCallers.{simplify_laws}
 use Rattle.ul_index.specs.Catalogs.{Packages}

@@ -7,7 +7,7 @@ use Rattle.ul_version.specs.Fields.{Fields}
 use Rattle.ul_marker.specs.Worlds.{WorldFields, IsWorld}
 use Rattle.ul_requirement.specs.Fields.{RequirementFields}
 use Rattle.ul_requirement.specs.Truth.{applies_at, base, meets, targets, with_extra}
-use Rattle.ul_tree.specs.Reduced.{IsReduced}
+use Rattle.ul_nodes.specs.Reduced.{IsReduced}
 use Rattle.ul_index.specs.Applied.{IsApplied}
 use Rattle.ul_index.specs.Catalogs.{Packages, requirements}
 use Rattle.ul_index.specs.Eligible.{eligible}

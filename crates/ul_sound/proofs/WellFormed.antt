@@ -13,8 +13,8 @@ use Rattle.ul_version.specs.Texts.{version_text}
 use Rattle.ul_marker.specs.Worlds.{WorldFields, IsWorld}
 use Rattle.ul_requirement.specs.Fields.{ReleaseFields, FileFields, IsFile}
 use Rattle.ul_requirement.specs.Truth.{base, with_extra}
-use Rattle.ul_tree.specs.Plain.{Plain}
-use Rattle.ul_tree.specs.Reduced.{IsReduced}
+use Rattle.ul_nodes.specs.Plain.{Plain}
+use Rattle.ul_nodes.specs.Reduced.{IsReduced}
 use Rattle.ul_tree.specs.Regions.{IsRegionTree}
 use Rattle.ul_tree.specs.Simplify.{Simplifies}
 use Rattle.ul_tree.specs.Values.{tree_holds}

@@ -5,7 +5,7 @@ use Rattle.ul_base.specs.declared.node.Node.{Node}
 use Rattle.ul_version.specs.Fields.{Fields, IsVersion}
 use Rattle.ul_marker.specs.Worlds.{WorldFields, IsWorld}
 use Rattle.ul_requirement.specs.Fields.{ReleaseFields, IsFile}
-use Rattle.ul_tree.specs.Plain.{truth}
+use Rattle.ul_nodes.specs.Plain.{truth}
 use Rattle.ul_tree.specs.Regions.{IsRegionTree}
 use Rattle.ul_lines.specs.Reader.{Each}
 use Rattle.ul_index.specs.Catalogs.{Packages, release_of}

@@ -1,13 +1,11 @@
 -- A tree made of two has their truths joined, and is reduced.
 use Rattle.std.proofs.Common.{◌≡◌, ◌≢◌, ℕ, suc, zero, ◌+◌, ◌≤◌, ◌<◌, List, Bool, refl, ap, sym, ◌∙◌, subst, arith, Less, Equal, Greater, Ordering, Some, None}
-use Rattle.ul_tree.specs.Plain.{Plain, truth, node, Branches, done, text_cmp, carries, by_order, pick, holds_of, holds_in}
-use Rattle.ul_tree.specs.Reduced.{Fits, FitsAll}
-use Rattle.ul_tree.specs.Apply.{outs, keys, key_union, rest_at, branches_at, part_at, apply_at, apply}
-use Rattle.ul_tree.proofs.Order.{cmp_itself, cmp_equal, cmp_over}
-use Rattle.ul_tree.specs.Apply.{size, sizes}
+use Rattle.ul_nodes.specs.Plain.{Plain, truth, node, Branches, done, text_cmp, carries, by_order, pick, holds_of, holds_in}
+use Rattle.ul_nodes.specs.Reduced.{Fits, FitsAll}
+use Rattle.ul_nodes.specs.Apply.{outs, keys, key_union, rest_at, branches_at, part_at, apply_at, apply, size, sizes}
+use Rattle.ul_nodes.proofs.ForCallers.{cmp_itself, cmp_equal, cmp_over, Rise, part_among, among_both, outs_pick, outs_fit, pick_among, within_left, within_right, rise_merged, rise_keys, close_fits, close_holds}
 use Rattle.ul_tree.proofs.Picks.{holds_pick, size_pick, fits_pick}
 use Rattle.ul_tree.proofs.Unique.{from_nothing}
-use Rattle.ul_tree.proofs.PartsByKeys.{Rise, part_among, among_both, outs_pick, outs_fit, pick_among, within_left, within_right, rise_merged, rise_keys, close_fits, close_holds}
 
 -- what a tree is from a level at or above its first
 pub record Seen (l : List ℕ) (t : Plain) : Type 0 where

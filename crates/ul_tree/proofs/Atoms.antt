@@ -4,10 +4,10 @@ use Rattle.std.specs.List.{All}
 use Rattle.std.specs.Ordering.{is_eq}
 use Rattle.ul_marker.specs.Atoms.{AtomFields, IsAtom, atom_cmp, atom_key}
 use Rattle.ul_marker.specs.Worlds.{IsAfter, Rise}
-use Rattle.ul_tree.specs.Levels.{atom_level}
-use Rattle.ul_tree.specs.Plain.{text_cmp, by_order}
+use Rattle.ul_nodes.specs.Levels.{atom_level}
+use Rattle.ul_nodes.specs.Plain.{text_cmp, by_order}
 use Rattle.ul_tree.specs.Values.{has_level}
-use Rattle.ul_tree.proofs.Order.{cmp_itself, cmp_equal, cmp_over, cmp_trans}
+use Rattle.ul_nodes.proofs.ForCallers.{cmp_itself, cmp_equal, cmp_over, cmp_trans}
 
 -- each element has a property
 abbrev pub Each : {X : Type 0} → (X → Type 0) → List X → Type 0

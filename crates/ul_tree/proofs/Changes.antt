@@ -2,7 +2,7 @@
 use Rattle.std.proofs.Common.{◌≡◌, ℕ, ◌^◌, ◌≤◌, ◌<◌, List, [], ◌∷◌, Bool, true, false, true≢false, refl, sym, ap, ◌∙◌, arith, subst, inl, inr, nat_lt}
 use Rattle.std.specs.Prelude.{not, if◌then◌else◌}
 use Rattle.std.proofs.lemmas.Bool.{cases_lt, lt-ltb, le-ltb}
-use Rattle.ul_tree.specs.Apply.{same_bool}
+use Rattle.ul_nodes.specs.Apply.{same_bool}
 use Rattle.ul_specifier.specs.Clauses.{ClauseFields}
 use Rattle.ul_tree.specs.Pieces.{changes_of, cuts_at, cuts_of, digit, meets_at, starts_of}
 use Rattle.ul_tree.proofs.Cuts.{EachApart, meets_steady}

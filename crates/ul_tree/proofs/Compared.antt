@@ -4,10 +4,10 @@ use Rattle.std.specs.Ordering.{is_eq}
 use Rattle.std.specs.Option.{is_some, option_map}
 use Rattle.std.specs.Str.{bytes_eq}
 use Rattle.std.proofs.lemmas.Map.Text.{is_eq-slice_cmp}
-use Rattle.ul_tree.specs.Plain.{Plain, truth, node, Branches, done, branch, text_cmp}
-use Rattle.ul_tree.specs.Apply.{size, sizes, both, same, sames}
-use Rattle.ul_tree.specs.Keys.{top_of, rest_of, branches_of, branch_count, branches_from, same_tops, level_view}
-use Rattle.ul_tree.specs.declared.level.Level.{Level}
+use Rattle.ul_nodes.specs.Plain.{Plain, truth, node, Branches, done, branch, text_cmp}
+use Rattle.ul_nodes.specs.Apply.{size, sizes, both, same, sames}
+use Rattle.ul_nodes.specs.Keys.{top_of, rest_of, branches_of, branch_count, branches_from, same_tops, level_view}
+use Rattle.ul_nodes.specs.declared.level.Level.{Level}
 
 -- ---- sizes
 

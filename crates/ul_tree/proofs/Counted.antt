@@ -1,9 +1,9 @@
 -- As many paths are listed as are counted.
 use Rattle.std.proofs.Common.{◌≡◌, ℕ, ◌+◌, ◌^◌, List, ◌∷◌, ◌++◌, length, Bool, true, false, refl, ◌∙◌, arith, length-append, if◌then◌else◌}
 use Rattle.std.proofs.lemmas.List.{length-map}
-use Rattle.ul_tree.specs.Apply.{keys}
+use Rattle.ul_nodes.specs.Apply.{keys}
 use Rattle.ul_tree.specs.Paths.{paths_of, paths_in}
-use Rattle.ul_tree.specs.Plain.{Plain, truth, node, Branches, done, branch, carries}
+use Rattle.ul_nodes.specs.Plain.{Plain, truth, node, Branches, done, branch, carries}
 use Rattle.ul_tree.specs.PathList.{Step, interval, point, others, start_of, longer_paths, paths_to_true, paths_from, paths_at}
 use Rattle.ul_tree.specs.PathLaws.{ListedAreCounted}
 

@@ -6,7 +6,7 @@ use Rattle.std.proofs.lemmas.Bool.{cases_lt}
 use Rattle.ul_specifier.specs.Clauses.{ClauseFields}
 use Rattle.ul_marker.specs.Truth.{python_numbers}
 use Rattle.ul_tree.specs.Pieces.{packed_number, major_of, minor_of, patch_of, meets_at, digit, capped_number, cuts_at, cuts_of}
-use Rattle.ul_tree.proofs.Order.{cmp_less, cmp_more}
+use Rattle.ul_nodes.proofs.ForCallers.{cmp_less, cmp_more}
 use Rattle.ul_tree.proofs.Digits.{Alike, alike_meets, cmp_equal}
 
 -- no start stands after one number and at or before another

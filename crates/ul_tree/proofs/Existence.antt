@@ -1,12 +1,12 @@
 -- A reduced tree that isn't false holds somewhere.
 use Rattle.std.proofs.Common.{◌≡◌, ◌≢◌, ℕ, zero, suc, List, [], ◌∷◌, true, false, refl, ap, sym, ◌∙◌, arith, inl}
 use Rattle.ul_marker.specs.Worlds.{WorldFields, IsWorld}
-use Rattle.ul_tree.specs.Levels.{IsExtra, extra_level}
-use Rattle.ul_tree.specs.Plain.{Plain, truth, node, Branches, done, branch, pick, holds_of}
-use Rattle.ul_tree.specs.Reduced.{IsReduced, Fits}
+use Rattle.ul_nodes.specs.Levels.{IsExtra, extra_level}
+use Rattle.ul_nodes.specs.Plain.{Plain, truth, node, Branches, done, branch, pick, holds_of}
+use Rattle.ul_nodes.specs.Reduced.{IsReduced, Fits}
 use Rattle.ul_tree.specs.Sample.{key_lengths, sample_of, asks_extra, HoldsSomewhere}
 use Rattle.ul_tree.specs.Values.{value_of, tree_holds}
-use Rattle.ul_tree.proofs.Branchwise.{at_key}
+use Rattle.ul_nodes.proofs.ForCallers.{at_key}
 use Rattle.ul_tree.proofs.Extras.{pick_beside, zs, zs_extra, zs_fresh}
 use Rattle.ul_tree.proofs.JoinedTrees.{seen_extra}
 use Rattle.ul_tree.proofs.Walks.{sample_below, sample_law}

@@ -1,15 +1,15 @@
 -- Each tree has a simpler one under each region that isn't false.
 use Rattle.std.proofs.Common.{◌≡◌, ◌≢◌, ℕ, suc, zero, ◌+◌, ◌≤◌, ◌<◌, List, [], ◌∷◌, Bool, true, false, refl, ap, sym, ◌∙◌, subst, arith, Less, Equal, Greater, Ordering, Option, Some, None, ◌⊎◌, inl, inr, cond}
-use Rattle.ul_tree.specs.Plain.{Plain, truth, node, Branches, done, branch, text_cmp, carries, carried_part, by_order, pick, holds_of}
-use Rattle.ul_tree.specs.Reduced.{IsReduced, Fits}
-use Rattle.ul_tree.specs.Apply.{size, same, outs, close, keys, key_union, rest_at, branches_at, part_at, apply_at, apply, either}
+use Rattle.ul_nodes.specs.Plain.{Plain, truth, node, Branches, done, branch, text_cmp, carries, carried_part, by_order, pick, holds_of}
+use Rattle.ul_nodes.specs.Reduced.{IsReduced, Fits}
+use Rattle.ul_nodes.specs.Apply.{size, same, outs, close, keys, key_union, rest_at, branches_at, part_at, apply_at, apply, either}
 use Rattle.ul_tree.specs.Laws.{or_of}
 use Rattle.ul_tree.specs.Values.{value_of}
-use Rattle.ul_tree.specs.Simplify.{Simplifies, Pieces, Piece, at_truth, anywhere, above, by_pieces, no_piece, piece, outside, inside, Results, union_in, settled_level}
+use Rattle.ul_nodes.specs.Rows.{Results}
+use Rattle.ul_tree.specs.Simplify.{Simplifies, Pieces, Piece, at_truth, anywhere, above, by_pieces, no_piece, piece, outside, inside, union_in, settled_level}
 use Rattle.ul_tree.specs.SimplifyLaws.{SimplifyLaws}
-use Rattle.ul_tree.proofs.Order.{cmp_itself, cmp_trans}
+use Rattle.ul_nodes.proofs.ForCallers.{cmp_itself, cmp_trans, fits_weaker}
 use Rattle.ul_tree.proofs.Picks.{size_pick}
-use Rattle.ul_tree.proofs.PartsByKeys.{fits_weaker}
 use Rattle.ul_tree.proofs.Applied.{top_smaller}
 use Rattle.ul_tree.proofs.Extras.{one_truth_one_tree}
 use Rattle.ul_tree.proofs.Unions.{union_fits, union_holds}

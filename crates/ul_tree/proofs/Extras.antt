@@ -5,14 +5,14 @@ use Rattle.std.specs.Str.{str_to_ascii_lowercase}
 use Rattle.ul_base.proofs.ForCallers.{name_reads}
 use Rattle.ul_base.specs.Names.{normal_form, single_hyphens, has_ends, is_name_byte}
 use Rattle.ul_marker.specs.Worlds.{WorldFields}
-use Rattle.ul_tree.specs.Apply.{branches_at, rest_at}
+use Rattle.ul_nodes.specs.Apply.{branches_at, rest_at}
 use Rattle.ul_tree.specs.Laws.{OneTruthOneTree}
-use Rattle.ul_tree.specs.Levels.{IsExtra, extra_level}
-use Rattle.ul_tree.specs.Plain.{Plain, Branches, done, branch, text_cmp, by_order, pick, holds_of}
-use Rattle.ul_tree.specs.Reduced.{IsReduced, FitsAll}
+use Rattle.ul_nodes.specs.Levels.{IsExtra, extra_level}
+use Rattle.ul_nodes.specs.Plain.{Plain, Branches, done, branch, text_cmp, by_order, pick, holds_of}
+use Rattle.ul_nodes.specs.Reduced.{IsReduced, FitsAll}
 use Rattle.ul_tree.specs.Sample.{key_lengths}
 use Rattle.ul_tree.specs.Values.{value_of, tree_holds}
-use Rattle.ul_tree.proofs.Order.{cmp_equal, cmp_itself}
+use Rattle.ul_nodes.proofs.ForCallers.{cmp_equal, cmp_itself}
 use Rattle.ul_tree.proofs.Picks.{holds_alike}
 use Rattle.ul_tree.proofs.JoinedTrees.{seen_extra, below_extra}
 use Rattle.ul_tree.proofs.RealWorlds.{unique_at_ascii}

@@ -2,11 +2,11 @@
 use Rattle.std.proofs.Common.{◌≡◌, ◌≢◌, ℕ, zero, suc, ◌<◌, ◌^◌, List, [], ◌∷◌, ◌++◌, Bool, true, false, refl, ap, sym, ◌∙◌, subst, arith, Less, Some, None, if◌then◌else◌, Equal, Greater}
 use Rattle.std.specs.Ordering.{nat_cmp, ordering_then}
 use Rattle.std.proofs.lemmas.Cmp.{ranked, by_ranked}
-use Rattle.ul_tree.specs.Plain.{Plain, truth, node, Branches, done, branch, text_cmp, carries, carried_part}
-use Rattle.ul_tree.specs.Apply.{keys}
-use Rattle.ul_tree.specs.Levels.{python_level}
-use Rattle.ul_tree.specs.Reduced.{Fits, FitsAll, StartsAfter}
-use Rattle.ul_tree.proofs.Order.{cmp_trans, cmp_less}
+use Rattle.ul_nodes.specs.Plain.{Plain, truth, node, Branches, done, branch, text_cmp, carries, carried_part}
+use Rattle.ul_nodes.specs.Apply.{keys}
+use Rattle.ul_nodes.specs.Levels.{python_level}
+use Rattle.ul_nodes.specs.Reduced.{Fits, FitsAll, StartsAfter}
+use Rattle.ul_nodes.proofs.ForCallers.{cmp_trans, cmp_less}
 use Rattle.ul_tree.specs.PathList.{Step, interval, point, others, start_of, longer_paths, paths_to_true, paths_from, paths_at}
 use Rattle.ul_tree.specs.Fans.{Fan, stop, end, edge, same_step, begins, put_path, put_paths, fan_of, inner_of, rest_of, pieces_from, opening_node, other_part, listed_points, filled_points, pointed_at, node_of, tree_of, parts_of}
 use Rattle.ul_tree.proofs.Tools.{eqb_self, eqb_less, bytes_self, less_differs, step_self}

@@ -1,12 +1,12 @@
 -- The path of a tree's sample is the first of its paths to true.
 use Rattle.std.proofs.Common.{◌≡◌, ◌^◌, ℕ, zero, suc, List, [], ◌∷◌, ◌++◌, length, ◌+◌, ◌||◌, Bool, true, false, Option, Some, None, refl, ap, sym, ◌∙◌, subst, if◌then◌else◌}
 use Rattle.std.specs.Str.{bytes_eq}
-use Rattle.ul_tree.specs.Apply.{keys}
-use Rattle.ul_tree.specs.Levels.{python_level}
+use Rattle.ul_nodes.specs.Apply.{keys}
+use Rattle.ul_nodes.specs.Levels.{python_level}
 use Rattle.ul_tree.specs.PathLaws.{blank_branches, step_level, step_value, first_of_paths, SampleIsFirst}
 use Rattle.ul_tree.specs.PathList.{Step, interval, point, others, start_of, longer_paths, paths_to_true, paths_from, paths_at}
-use Rattle.ul_tree.specs.Plain.{Plain, truth, node, Branches, done, branch, carries, carried_part}
-use Rattle.ul_tree.specs.Reduced.{Fits, FitsAll}
+use Rattle.ul_nodes.specs.Plain.{Plain, truth, node, Branches, done, branch, carries, carried_part}
+use Rattle.ul_nodes.specs.Reduced.{Fits, FitsAll}
 use Rattle.ul_tree.specs.Sample as sampled
 use Rattle.ul_tree.specs.Sample.{has_key, key_lengths, fresh_from, fresh, beside, or_else, longer_path, first_path, first_in}
 use Rattle.ul_tree.proofs.FanTrees.{is_python}

@@ -4,9 +4,9 @@ use Rattle.ul_marker.specs.Atoms.{AtomFields}
 use Rattle.ul_marker.specs.Worlds.{WorldFields}
 use Rattle.ul_marker.specs.declared.variable.Variable.{Variable}
 use Rattle.ul_tree.specs.FirstParts.{is_false, first_branch}
-use Rattle.ul_tree.specs.Levels.{extra_level, python_level, text_level, atom_level}
-use Rattle.ul_tree.specs.Plain.{Plain, node, Branches, done, branch, carries}
-use Rattle.ul_tree.specs.Reduced.{Fits}
+use Rattle.ul_nodes.specs.Levels.{extra_level, python_level, text_level, atom_level}
+use Rattle.ul_nodes.specs.Plain.{Plain, node, Branches, done, branch, carries}
+use Rattle.ul_nodes.specs.Reduced.{Fits}
 use Rattle.ul_tree.specs.Sample.{with_level, beside, sample_from}
 use Rattle.ul_tree.specs.Views.{tree_view, points_view, pieces_view, python_of}
 use Rattle.ul_tree.specs.declared.tree.Tree.{Tree, Extra, Python, Text, Opaque, the_lemmas}

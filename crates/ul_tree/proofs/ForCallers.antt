@@ -1,13 +1,9 @@
 -- The lemmas that crates above cite: all else here may change.
 
--- ---- order, and equal trees
-pub use Rattle.ul_tree.proofs.Order.{cmp_itself, cmp_equal, cmp_back, cmp_over, cmp_trans, cmp_less, cmp_more}
-pub use Rattle.ul_tree.proofs.Sameness.{same_true, same_itself, same_false}
-pub use Rattle.ul_tree.proofs.PartsByKeys.{fits_weaker}
+-- ---- equal trees
 pub use Rattle.ul_tree.proofs.Extras.{one_truth_one_tree}
 pub use Rattle.ul_tree.proofs.Existence.{holds_somewhere}
 -- ---- parts of nodes
-pub use Rattle.ul_tree.proofs.Halves.{from_count, from_end, rest_reduced, part_reduced, tree_past, tree_at, pick_before}
 pub use Rattle.ul_tree.proofs.Compared.{size_rest, size_part}
 pub use Rattle.ul_tree.proofs.Shapes.{view_truth, view_extra, view_python, view_text, view_opaque}
 -- ---- joining
@@ -20,8 +16,6 @@ pub use Rattle.ul_tree.proofs.Shortcuts.{enough, one_result, at_once, apply_step
 pub use Rattle.ul_tree.proofs.Rebuilt.{then_none, then_then}
 pub use Rattle.ul_tree.proofs.Made.{made_push, added_more, stands_then, stands_added, stands_kept}
 pub use Rattle.ul_tree.proofs.Pieces.{one_mark, close_some}
-pub use Rattle.ul_tree.proofs.Viewed.{own_viewed, first_viewed, last_viewed, earliest_viewed, latest_viewed, part_viewed, standing_viewed}
-pub use Rattle.ul_tree.proofs.Viewed.{own_known, first_known, last_known, earliest_known, latest_known, part_known, standing_known}
 pub use Rattle.ul_tree.proofs.PiecesInCode.{filled_step, results_more, results_step, results_end, next_kind, kinds_step, kind_step}
 pub use Rattle.ul_tree.proofs.PiecesInCode.{branch_step, branches_end, next_part, parts_reduced, first_reduced, other_reduced}
 -- ---- simplifying

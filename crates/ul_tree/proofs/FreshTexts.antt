@@ -3,7 +3,7 @@ use Rattle.std.proofs.Common.{◌≡◌, ◌≢◌, ℕ, suc, zero, ◌+◌, ◌
 use Rattle.std.specs.Str.{bytes_eq}
 use Rattle.std.proofs.lemmas.Slice.Eq.{bytes_eq-Decides}
 use Rattle.std.proofs.Math.ListN.{length-append}
-use Rattle.ul_tree.specs.Plain.{Branches, done, branch}
+use Rattle.ul_nodes.specs.Plain.{Branches, done, branch}
 use Rattle.ul_tree.specs.Sample.{has_key, key_lengths, fresh_from, fresh}
 use Rattle.ul_tree.proofs.Extras.{NoKey, no_key_long}
 

@@ -1,16 +1,15 @@
 -- The laws of trees made of trees.
 use Rattle.std.proofs.Common.{◌≡◌, ◌≢◌, ℕ, suc, zero, ◌+◌, List, [], ◌∷◌, refl, ap, sym, ◌∙◌, arith, Less, Greater}
 use Rattle.std.specs.Ordering.{ordering_then}
-use Rattle.ul_tree.specs.Plain.{Plain, truth, node, text_cmp}
-use Rattle.ul_tree.specs.Reduced.{IsReduced, Fits}
-use Rattle.ul_tree.specs.Apply.{size, branches_at, rest_at}
+use Rattle.ul_nodes.specs.Plain.{Plain, truth, node, text_cmp}
+use Rattle.ul_nodes.specs.Reduced.{IsReduced, Fits}
+use Rattle.ul_nodes.specs.Apply.{size, branches_at, rest_at}
 use Rattle.ul_marker.specs.Worlds.{WorldFields}
-use Rattle.ul_tree.specs.Levels.{extra_level}
+use Rattle.ul_nodes.specs.Levels.{extra_level}
 use Rattle.ul_tree.specs.Values.{value_of}
 use Rattle.ul_tree.specs.Laws.{Operations, at_extra_of}
-use Rattle.ul_tree.proofs.Order.{cmp_less}
+use Rattle.ul_nodes.proofs.ForCallers.{cmp_less, fits_weaker}
 use Rattle.ul_tree.proofs.Picks.{holds_alike, fits_pick}
-use Rattle.ul_tree.proofs.PartsByKeys.{fits_weaker}
 use Rattle.ul_tree.proofs.Applied.{Seen, seen_truth, seen_node, applied}
 
 first_level : (k : List ℕ) → text_cmp [] k ≡ Less → text_cmp extra_level k ≢ Greater

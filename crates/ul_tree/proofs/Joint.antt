@@ -11,8 +11,8 @@ use Rattle.ul_marker.specs.Truth.{marker_holds, all_hold, any_holds, is_listed, 
 use Rattle.ul_marker.specs.Views.{marker_view, markers_view}
 use Rattle.ul_marker.specs.Worlds.{WorldFields}
 use Rattle.ul_marker.specs.declared.marker.Marker.{Marker}
-use Rattle.ul_tree.specs.Apply.{both, either, same_bool}
-use Rattle.ul_tree.specs.Plain.{Plain, truth}
+use Rattle.ul_nodes.specs.Apply.{both, either, same_bool}
+use Rattle.ul_nodes.specs.Plain.{Plain, truth}
 use Rattle.ul_tree.specs.Joining.{joint, truths_of}
 use Rattle.ul_tree.specs.Values.{tree_holds}
 use Rattle.ul_tree.specs.Views.{tree_view}

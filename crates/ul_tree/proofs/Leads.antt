@@ -1,12 +1,11 @@
 -- A tree's first path to true leads to true, and stands where a reduced tree isn't false.
 use Rattle.std.proofs.Common.{◌≡◌, ◌≢◌, ℕ, suc, zero, List, [], ◌∷◌, Bool, true, false, cond, refl, ap, sym, ◌∙◌, Less, Equal, Greater, Ordering, Option, Some, None}
 use Rattle.std.specs.Ordering.{ordering_then}
-use Rattle.ul_tree.specs.Plain.{Plain, truth, node, Branches, done, branch, text_cmp, carries, carried_part, by_order, holds_of, holds_in}
-use Rattle.ul_tree.specs.Levels.{IsKey}
-use Rattle.ul_tree.specs.Reduced.{Fits, FitsAll, IsAfter, StartsAfter}
+use Rattle.ul_nodes.specs.Plain.{Plain, truth, node, Branches, done, branch, text_cmp, carries, carried_part, by_order, holds_of, holds_in}
+use Rattle.ul_nodes.specs.Levels.{IsKey}
+use Rattle.ul_nodes.specs.Reduced.{Fits, FitsAll, IsAfter, StartsAfter}
 use Rattle.ul_tree.specs.Sample.{Step, beside, or_else, longer_path, first_path, first_in}
-use Rattle.ul_tree.proofs.Order.{cmp_itself, cmp_equal, cmp_back, cmp_less}
-use Rattle.ul_tree.proofs.Branchwise.{after}
+use Rattle.ul_nodes.proofs.ForCallers.{cmp_itself, cmp_equal, cmp_back, cmp_less, after}
 use Rattle.ul_tree.proofs.Extras.{NoKey}
 use Rattle.ul_tree.proofs.FreshTexts.{fresh_no_key}
 use Rattle.ul_tree.proofs.Unique.{from_nothing}

@@ -13,12 +13,12 @@ use Rattle.ul_marker.specs.Truth.{as_asked, equals_extra, is_empty}
 use Rattle.ul_marker.specs.Worlds.{WorldFields, text_at}
 use Rattle.ul_marker.specs.declared.variable.Variable.{Variable}
 use Rattle.ul_marker.specs.declared.variable.Variable.TheVariants.{OsName, SysPlatform, PlatformMachine, PlatformPythonImplementation, PlatformRelease, PlatformSystem, PlatformVersion, PythonVersion, PythonFullVersion, ImplementationName, ImplementationVersion}
-use Rattle.ul_tree.specs.Plain.{truth, text_cmp, carries, by_order, holds_of}
-use Rattle.ul_tree.specs.Levels.{extra_level, text_level, atom_level, IsKey, IsExtra}
-use Rattle.ul_tree.specs.Reduced.{IsReduced}
+use Rattle.ul_nodes.specs.Plain.{truth, text_cmp, carries, by_order, holds_of}
+use Rattle.ul_nodes.specs.Levels.{extra_level, text_level, atom_level, IsKey, IsExtra}
+use Rattle.ul_nodes.specs.Reduced.{IsReduced}
 use Rattle.ul_tree.specs.Leaves.{point_tree}
 use Rattle.ul_tree.specs.Values.{tree_holds, value_of, has_level, mark_of}
-use Rattle.ul_tree.proofs.Order.{cmp_back, cmp_equal, cmp_over}
+use Rattle.ul_nodes.proofs.ForCallers.{cmp_back, cmp_equal, cmp_over}
 
 parts_differ : (b : Bool) → truth b ≡ truth (not b) → ⊥
 parts_differ true h = cc

@@ -1,14 +1,9 @@
-pub mod Order
 pub mod Picks
-pub mod Branchwise
 pub mod Varied
 pub mod Unique
-pub mod Sameness
-pub mod PartsByKeys
 pub mod Applied
 pub mod JoinedTrees
 pub mod Shapes
-pub mod Halves
 pub mod Rebuilt
 pub mod Compared
 pub mod Digits
@@ -17,9 +12,7 @@ pub mod Changes
 pub mod Stepped
 pub mod Leaves
 pub mod Joint
-pub mod Merged
 pub mod Made
-pub mod Viewed
 pub mod Pieces
 pub mod Smaller
 pub mod Steps

@@ -1,13 +1,13 @@
 -- A region whose levels are taken away from the top.
 use Rattle.std.proofs.Common.{◌≡◌, ◌≢◌, ℕ, suc, zero, ◌-◌, ◌+◌, ◌≤◌, List, [], true, false, refl, ap, sym, ◌∙◌, subst, arith, add-one, Less, Equal, Greater, Ordering, Bool}
 use Rattle.std.specs.Ordering.{is_lt}
-use Rattle.ul_tree.specs.Plain.{Plain, truth, node, Branches, done, branch, text_cmp, carries, carried_part, holds_of}
-use Rattle.ul_tree.specs.Reduced.{IsReduced, Fits, FitsAll}
+use Rattle.ul_nodes.specs.Plain.{Plain, truth, node, Branches, done, branch, text_cmp, carries, carried_part, holds_of}
+use Rattle.ul_nodes.specs.Reduced.{IsReduced, Fits, FitsAll}
 use Rattle.ul_tree.specs.Laws.{or_of}
-use Rattle.ul_tree.specs.Apply.{size, either}
+use Rattle.ul_nodes.specs.Apply.{size, either}
 use Rattle.ul_tree.specs.Joins.{IsJoined}
 use Rattle.ul_tree.specs.declared.join.Join.TheVariants.{Either}
-use Rattle.ul_tree.specs.Keys.{rest_of, branches_of, branch_count, branches_from}
+use Rattle.ul_nodes.specs.Keys.{rest_of, branches_of, branch_count, branches_from}
 use Rattle.ul_tree.specs.Simplify.{above, union_in}
 use Rattle.ul_tree.specs.SimplifyViews.{is_above, Lowers, some_part_holds, HoldsParts}
 use Rattle.ul_tree.specs.Values.{value_of}

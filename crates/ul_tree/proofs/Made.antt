@@ -1,12 +1,13 @@
 -- The branches of a tree that is being made.
 use Rattle.std.proofs.Common.{arith, ◌≡◌, ℕ, suc, List, [], ◌∷◌, ◌++◌, length, Bool, true, false, refl, ap, sym, ◌∙◌, subst, Global, String, string_bytes}
 use Rattle.std.specs.List.{All}
-use Rattle.ul_tree.specs.Plain.{Plain, Branches, done, branch, carried_part}
-use Rattle.ul_tree.specs.Reduced.{IsReduced}
-use Rattle.ul_tree.specs.Keys.{key_view, then_branches}
-use Rattle.ul_tree.specs.Joins.{made_view, stands, more_branches}
+use Rattle.ul_nodes.specs.Plain.{Plain, Branches, done, branch, carried_part}
+use Rattle.ul_nodes.specs.Reduced.{IsReduced}
+use Rattle.ul_nodes.specs.Keys.{key_view, then_branches}
+use Rattle.ul_nodes.specs.Rows.{made_view, stands}
+use Rattle.ul_tree.specs.Joins.{more_branches}
 use Rattle.ul_tree.specs.Views.{tree_view, points_view}
-use Rattle.ul_tree.specs.declared.level.Key.{Key}
+use Rattle.ul_nodes.specs.declared.level.Key.{Key}
 use Rattle.ul_tree.specs.declared.tree.Tree.{Tree}
 use Rattle.ul_tree.proofs.Rebuilt.{then_none, points_push}
 

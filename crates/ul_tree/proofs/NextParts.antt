@@ -3,11 +3,11 @@ use Rattle.std.proofs.Common.{◌≡◌, ◌≢◌, ℕ, suc, zero, ◌+◌, ◌
 use Rattle.std.proofs.lemmas.List.{drop_more, length-map, map-set, set_past}
 use Rattle.ul_marker.specs.Atoms.{AtomFields}
 use Rattle.ul_marker.specs.Worlds.{WorldFields}
-use Rattle.ul_tree.specs.Apply.{size, sizes}
+use Rattle.ul_nodes.specs.Apply.{size, sizes}
 use Rattle.ul_tree.specs.FirstParts.{is_false, first_branch}
-use Rattle.ul_tree.specs.Levels.{python_level, atom_level}
-use Rattle.ul_tree.specs.Plain.{Plain, truth, node, Branches, done, branch, carries, carried_part}
-use Rattle.ul_tree.specs.Reduced.{Fits, FitsAll, HasBranch}
+use Rattle.ul_nodes.specs.Levels.{python_level, atom_level}
+use Rattle.ul_nodes.specs.Plain.{Plain, truth, node, Branches, done, branch, carries, carried_part}
+use Rattle.ul_nodes.specs.Reduced.{Fits, FitsAll, HasBranch}
 use Rattle.ul_tree.specs.Sample.{Step, beside, or_else, longer_path, first_path, first_in, with_level, with_path, sample_from}
 use Rattle.ul_tree.specs.Views.{tree_view, pieces_of, pieces_view, python_of}
 use Rattle.ul_tree.specs.declared.tree.Tree.{Tree}

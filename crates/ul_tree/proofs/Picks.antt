@@ -1,9 +1,9 @@
 -- The part that a value takes: its truth, its size, and that it is reduced.
 use Rattle.std.proofs.Common.{◌≡◌, ℕ, ◌+◌, ◌≤◌, List, Bool, true, false, refl, ap, ◌∙◌, arith, Less, Equal, Greater, Ordering}
-use Rattle.ul_tree.specs.Plain.{Plain, truth, node, Branches, done, branch, text_cmp, carries, carried_part, by_order, pick, holds_of, holds_in}
-use Rattle.ul_tree.specs.Reduced.{Fits, FitsAll}
-use Rattle.ul_tree.specs.Apply.{size, sizes}
-use Rattle.ul_tree.proofs.Order.{cmp_trans}
+use Rattle.ul_nodes.specs.Plain.{Plain, truth, node, Branches, done, branch, text_cmp, carries, carried_part, by_order, pick, holds_of, holds_in}
+use Rattle.ul_nodes.specs.Reduced.{Fits, FitsAll}
+use Rattle.ul_nodes.specs.Apply.{size, sizes}
+use Rattle.ul_nodes.proofs.ForCallers.{cmp_trans}
 
 pub holds_chosen : (o : Ordering) (a b c : Plain) (f : List ℕ → List ℕ) → holds_of (by_order o a b c) f ≡ by_order o (holds_of a f) (holds_of b f) (holds_of c f)
 holds_chosen Less a b c f = refl

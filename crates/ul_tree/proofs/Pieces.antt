@@ -1,17 +1,17 @@
 -- The node of the interpreter, and that of an opaque comparison, that are being made.
 use Rattle.std.proofs.Common.{arith, ◌≡◌, ℕ, suc, zero, ◌<◌, List, [], ◌∷◌, ◌++◌, map, length, refl, ap, sym, ◌∙◌, subst, Less, Equal}
 use Rattle.ul_marker.specs.Atoms.{AtomFields}
-use Rattle.ul_tree.specs.Plain.{Plain, node, Branches, done, branch, text_cmp}
-use Rattle.ul_tree.specs.Levels.{python_level, atom_level}
-use Rattle.ul_tree.specs.Reduced.{IsReduced, FitsAll}
-use Rattle.ul_tree.specs.Apply.{close}
-use Rattle.ul_tree.specs.Keys.{key_view, then_branches}
-use Rattle.ul_tree.specs.Joins.{made_view}
+use Rattle.ul_nodes.specs.Plain.{Plain, node, Branches, done, branch, text_cmp}
+use Rattle.ul_nodes.specs.Levels.{python_level, atom_level}
+use Rattle.ul_nodes.specs.Reduced.{IsReduced, FitsAll}
+use Rattle.ul_nodes.specs.Apply.{close}
+use Rattle.ul_nodes.specs.Keys.{key_view, then_branches}
+use Rattle.ul_nodes.specs.Rows.{made_view}
 use Rattle.ul_tree.specs.Views.{tree_view, pieces_view, python_of}
-use Rattle.ul_tree.specs.declared.level.Key.{Key}
+use Rattle.ul_nodes.specs.declared.level.Key.{Key}
 use Rattle.ul_tree.specs.declared.tree.Tree.{Tree}
 use Rattle.ul_tree.proofs.Rebuilt.{then_none}
-use Rattle.ul_tree.proofs.Order.{cmp_itself}
+use Rattle.ul_nodes.proofs.ForCallers.{cmp_itself}
 
 -- starts and parts so far: the first at 0 with the part d, and the others before the branches that are left
 abbrev pub HasMade : List ℕ → List Tree → Plain → Branches → Branches → Type 0

@@ -5,18 +5,19 @@ use Rattle.std.specs.Option.{option_map}
 use Rattle.std.proofs.lemmas.List.{drop_all}
 use Rattle.std.proofs.Math.Seq.{drop-cons}
 use Rattle.std.proofs.lemmas.List.Elements.{All-push}
-use Rattle.ul_tree.specs.Plain.{Plain, Branches, done, branch, carries, carried_part}
-use Rattle.ul_tree.specs.Reduced.{Fits, IsReduced}
-use Rattle.ul_tree.specs.Apply.{part_at, same, close}
-use Rattle.ul_tree.specs.Keys.{key_view, keys_view, has_kind, then_branches, KeysOf}
-use Rattle.ul_tree.specs.Joins.{stands, more_branches}
-use Rattle.ul_tree.specs.Simplify.{Results, Pieces, Piece, own_or, filled_results, earliest, latest, reduced_branches, settled_from, settled_level}
-use Rattle.ul_tree.specs.SimplifyViews.{results_view, parts_view, last_part, PartsFit, ResultFits, ResultsFit}
+use Rattle.ul_nodes.specs.Plain.{Plain, Branches, done, branch, carries, carried_part}
+use Rattle.ul_nodes.specs.Reduced.{Fits, IsReduced}
+use Rattle.ul_nodes.specs.Apply.{part_at, same, close}
+use Rattle.ul_nodes.specs.Keys.{key_view, keys_view, has_kind, then_branches, KeysOf}
+use Rattle.ul_nodes.specs.Rows.{stands, Results, own_or, earliest, latest, results_view, parts_view, last_part}
+use Rattle.ul_tree.specs.Joins.{more_branches}
+use Rattle.ul_tree.specs.Simplify.{Pieces, Piece, filled_results, reduced_branches, settled_from, settled_level}
+use Rattle.ul_tree.specs.SimplifyViews.{PartsFit, ResultFits, ResultsFit}
 use Rattle.ul_tree.proofs.Rebuilt.{then_none, then_then}
 use Rattle.ul_tree.proofs.Made.{stands_then}
 use Rattle.ul_tree.proofs.Settled.{filled_fit, own_fits, earliest_fits, latest_fits}
 use Rattle.ul_tree.proofs.SimplifySteps.{piece_more, no_more}
-use Rattle.ul_tree.specs.declared.level.Key.{Key}
+use Rattle.ul_nodes.specs.declared.level.Key.{Key}
 
 -- one part more, with its piece's own result or the part before
 pub filled_step : {A : Type 0} (view : A → Plain) (ps : List (Key × A)) (p : Key × A) (o : Option Plain) (rs : Results) (z : Plain) → view p.1 ≡ own_or o (last_part (parts_view view ps) z)

@@ -6,17 +6,17 @@ use Rattle.std.proofs.lemmas.List.{get_or-set_same, get_or-set_other}
 use Rattle.std.specs.Ordering.{ordering_then}
 use Rattle.ul_marker.specs.Atoms.{AtomFields, IsAtom}
 use Rattle.ul_marker.specs.Worlds.{WorldFields, IsWorld}
-use Rattle.ul_tree.specs.Plain.{Plain, text_cmp, carries}
-use Rattle.ul_tree.specs.Levels.{IsKey, IsAtomLevel, atom_level}
-use Rattle.ul_tree.specs.Reduced.{IsReduced}
+use Rattle.ul_nodes.specs.Plain.{Plain, text_cmp, carries}
+use Rattle.ul_nodes.specs.Levels.{IsKey, IsAtomLevel, atom_level}
+use Rattle.ul_nodes.specs.Reduced.{IsReduced}
 use Rattle.ul_tree.specs.Laws.{IsAsciiText}
 use Rattle.ul_tree.specs.Values.{number_of, has_level, mark_of, value_of, tree_holds}
 use Rattle.ul_tree.proofs.Varied.{Varied}
-use Rattle.ul_tree.proofs.Order.{cmp_itself, cmp_less}
+use Rattle.ul_nodes.proofs.ForCallers.{cmp_itself, cmp_less}
 use Rattle.ul_tree.proofs.Atoms.{Each, all_of_each, Rises, rise_of_rises, atoms_of_rises, insert, remove, has_inserted, has_removed, has_inserted_other, has_removed_other, rises_inserted, rises_removed}
 use Rattle.ul_tree.proofs.Texts.{extra_low, literal_text_low, low_ascii, low_over}
 use Rattle.ul_tree.proofs.Unique.{unique}
-use Rattle.ul_tree.specs.Apply.{size}
+use Rattle.ul_nodes.specs.Apply.{size}
 
 -- a world whose parts are in order
 record Good (w : WorldFields) : Type 0 where

@@ -1,8 +1,8 @@
 -- Branches that were made, before those that are left.
 use Rattle.std.proofs.Common.{◌≡◌, ℕ, ◌+◌, ◌<◌, List, [], ◌∷◌, ◌++◌, length, drop, get_or, Global, refl, ap, sym, ◌∙◌, String, string_bytes}
 use Rattle.std.proofs.lemmas.List.{drop_more}
-use Rattle.ul_tree.specs.Plain.{Plain, Branches, done, branch}
-use Rattle.ul_tree.specs.Keys.{then_branches}
+use Rattle.ul_nodes.specs.Plain.{Plain, Branches, done, branch}
+use Rattle.ul_nodes.specs.Keys.{then_branches}
 use Rattle.ul_tree.specs.Views.{tree_view, points_view}
 use Rattle.ul_tree.specs.declared.tree.Tree.{Tree}
 

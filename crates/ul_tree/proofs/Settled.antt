@@ -1,16 +1,15 @@
 -- A level put together from the results of its pieces is reduced, and has the truth of each piece where the region
 -- holds.
 use Rattle.std.proofs.Common.{◌≡◌, ℕ, List, [], ◌∷◌, Bool, true, false, refl, ap, sym, ◌∙◌, Less, Equal, Greater, Ordering, Option, Some, None, ◌⊎◌, inl, inr, cond, subst}
-use Rattle.ul_tree.specs.Plain.{Plain, truth, node, Branches, done, branch, text_cmp, carries, carried_part, by_order, pick, holds_of}
-use Rattle.ul_tree.specs.Reduced.{Fits, FitsAll, StartsAfter}
-use Rattle.ul_tree.specs.Apply.{same, keys, key_union, rest_at, branches_at, part_at}
-use Rattle.ul_tree.specs.Simplify.{Results, own_or, first_result, last_result, filled_results, earliest, latest, reduced_branches, settled_level}
+use Rattle.ul_nodes.specs.Plain.{Plain, truth, node, Branches, done, branch, text_cmp, carries, carried_part, by_order, pick, holds_of}
+use Rattle.ul_nodes.specs.Reduced.{Fits, FitsAll, StartsAfter}
+use Rattle.ul_nodes.specs.Apply.{same, keys, key_union, rest_at, branches_at, part_at}
+use Rattle.ul_nodes.specs.Rows.{Results, own_or, first_result, last_result, earliest, latest}
+use Rattle.ul_tree.specs.Simplify.{filled_results, reduced_branches, settled_level}
 use Rattle.ul_tree.specs.SimplifyViews.{ResultFits, ResultsFit, PartsFit}
-use Rattle.ul_tree.proofs.Order.{cmp_itself, cmp_equal, cmp_trans}
+use Rattle.ul_nodes.proofs.ForCallers.{cmp_itself, cmp_equal, cmp_trans, same_true, same_false, Rise, part_among, pick_among, starts_weaker, within_left, within_right, rise_merged, rise_keys, close_fits, close_holds}
 use Rattle.ul_tree.proofs.Picks.{holds_pick}
-use Rattle.ul_tree.proofs.Sameness.{same_true, same_false}
 use Rattle.ul_tree.proofs.Unique.{from_nothing}
-use Rattle.ul_tree.proofs.PartsByKeys.{Rise, part_among, pick_among, starts_weaker, within_left, within_right, rise_merged, rise_keys, close_fits, close_holds}
 use Rattle.ul_tree.proofs.Applied.{Seen}
 
 -- z has the truth of x wherever y holds

@@ -2,10 +2,10 @@
 use Rattle.std.proofs.Common.{◌≡◌, ℕ, suc, zero, ◌<◌, List, [], ◌∷◌, map, length, get_or, refl, ap, arith, rules, Global, Vec, Box, String, string_bytes, Bool}
 use Rattle.ul_marker.specs.Atoms.{AtomFields}
 use Rattle.ul_marker.specs.declared.variable.Variable.{Variable}
-use Rattle.ul_tree.specs.Plain.{Plain, truth, node, done, branch}
-use Rattle.ul_tree.specs.Levels.{extra_level, python_level, text_level, atom_level}
-use Rattle.ul_tree.specs.Reduced.{IsReduced, FitsAll}
-use Rattle.ul_tree.specs.Keys.{branches_of, branch_count, branches_from}
+use Rattle.ul_nodes.specs.Plain.{Plain, truth, node, done, branch}
+use Rattle.ul_nodes.specs.Levels.{extra_level, python_level, text_level, atom_level}
+use Rattle.ul_nodes.specs.Reduced.{IsReduced, FitsAll}
+use Rattle.ul_nodes.specs.Keys.{branches_of, branch_count, branches_from}
 use Rattle.ul_tree.specs.Views.{tree_view, points_view, pieces_of, python_of}
 use Rattle.ul_tree.specs.declared.tree.Tree.{Tree, Truth, Extra, Python, Text, Opaque, the_lemmas}
 

@@ -1,9 +1,9 @@
 -- The steps of joining, and when the joined tree is known at once.
 use Rattle.std.proofs.Common.{◌≡◌, ℕ, suc, ◌+◌, ◌<◌, List, [], Bool, true, false, not, refl, ap, sym, ◌∙◌, arith, Some}
-use Rattle.ul_tree.specs.Plain.{Plain, truth, node}
-use Rattle.ul_tree.specs.Reduced.{IsReduced}
+use Rattle.ul_nodes.specs.Plain.{Plain, truth, node}
+use Rattle.ul_nodes.specs.Reduced.{IsReduced}
 use Rattle.ul_tree.specs.Values.{value_of, tree_holds}
-use Rattle.ul_tree.specs.Apply.{apply, apply_at, built, first_of, keys, key_union, branches_at, rest_at, part_at, size, both, either, truth_value}
+use Rattle.ul_nodes.specs.Apply.{apply, apply_at, built, first_of, keys, key_union, branches_at, rest_at, part_at, size, both, either, truth_value}
 use Rattle.ul_tree.specs.Laws.{joined_by, not_of}
 use Rattle.ul_tree.specs.JoinSteps.{HasJoinedTruth, JoinsTo, ApplySteps, JoinShortcuts, first_alone, Implies, ImpliesByJoin}
 use Rattle.ul_tree.specs.Joins.{past_truth}

@@ -1,10 +1,11 @@
 -- A tree made simpler is reduced, has its tree's truth wherever the region holds, and is one.
 use Rattle.std.proofs.Common.{◌≡◌, ◌≢◌, ℕ, List, ◌∷◌, refl, ap, sym, ◌∙◌, Less, Equal, Greater, Option, Some}
-use Rattle.ul_tree.specs.Plain.{Plain, node, Branches, text_cmp, carries, holds_of}
-use Rattle.ul_tree.specs.Reduced.{Fits}
-use Rattle.ul_tree.specs.Apply.{rest_at, branches_at, part_at}
-use Rattle.ul_tree.specs.Simplify.{Simplifies, Pieces, Piece, at_truth, anywhere, above, by_pieces, no_piece, piece, outside, inside, Results, settled_level}
-use Rattle.ul_tree.proofs.Order.{cmp_itself, cmp_over}
+use Rattle.ul_nodes.specs.Plain.{Plain, node, Branches, text_cmp, carries, holds_of}
+use Rattle.ul_nodes.specs.Reduced.{Fits}
+use Rattle.ul_nodes.specs.Apply.{rest_at, branches_at, part_at}
+use Rattle.ul_nodes.specs.Rows.{Results}
+use Rattle.ul_tree.specs.Simplify.{Simplifies, Pieces, Piece, at_truth, anywhere, above, by_pieces, no_piece, piece, outside, inside, settled_level}
+use Rattle.ul_nodes.proofs.ForCallers.{cmp_itself, cmp_over}
 use Rattle.ul_tree.proofs.Picks.{fits_pick}
 use Rattle.ul_tree.proofs.Applied.{Seen, seen_node}
 use Rattle.ul_tree.proofs.Unions.{union_fits, union_holds}

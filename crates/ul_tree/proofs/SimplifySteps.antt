@@ -1,14 +1,15 @@
 -- The steps of simplifying, in the words of the code.
 use Rattle.std.proofs.Common.{◌≡◌, ◌≢◌, ℕ, ◌<◌, List, [], ◌∷◌, true, false, refl, ap, sym, ◌∙◌, subst, arith, Less, Ordering, Option, Some, None}
 use Rattle.std.specs.Ordering.{is_lt}
-use Rattle.ul_tree.specs.Plain.{Plain, truth, node, Branches, done, text_cmp, carries, by_order}
-use Rattle.ul_tree.specs.Reduced.{IsReduced}
-use Rattle.ul_tree.specs.Apply.{size, keys, key_union, leaf_truth, rest_at, branches_at, part_at}
-use Rattle.ul_tree.specs.Keys.{top_of}
-use Rattle.ul_tree.specs.Simplify.{Simplifies, Pieces, Piece, at_truth, anywhere, by_pieces, no_piece, piece, outside, inside, Results, settled_level}
+use Rattle.ul_nodes.specs.Plain.{Plain, truth, node, Branches, done, text_cmp, carries, by_order}
+use Rattle.ul_nodes.specs.Reduced.{IsReduced}
+use Rattle.ul_nodes.specs.Apply.{size, keys, key_union, leaf_truth, rest_at, branches_at, part_at}
+use Rattle.ul_nodes.specs.Keys.{top_of}
+use Rattle.ul_nodes.specs.Rows.{Results}
+use Rattle.ul_tree.specs.Simplify.{Simplifies, Pieces, Piece, at_truth, anywhere, by_pieces, no_piece, piece, outside, inside, settled_level}
 use Rattle.ul_tree.specs.FirstParts.{is_false}
 use Rattle.ul_tree.specs.SimplifyViews.{is_above, Lowered, ResultFits, ResultsFit}
-use Rattle.ul_tree.proofs.Order.{cmp_itself}
+use Rattle.ul_nodes.proofs.ForCallers.{cmp_itself}
 use Rattle.ul_tree.proofs.Picks.{size_pick}
 use Rattle.ul_tree.proofs.Applied.{Seen, seen_truth, top_smaller}
 use Rattle.ul_tree.proofs.Settled.{piece_fits}

@@ -1,7 +1,7 @@
 -- What two trees are at their first level is smaller.
 use Rattle.std.proofs.Common.{◌≡◌, ℕ, ◌+◌, ◌≤◌, ◌<◌, List, sym, subst, arith, Less, Equal, Greater, Ordering, Some}
-use Rattle.ul_tree.specs.Plain.{Plain, truth, node, done, text_cmp, carries, by_order}
-use Rattle.ul_tree.specs.Apply.{size, sizes, rest_at, branches_at, part_at, first_of}
+use Rattle.ul_nodes.specs.Plain.{Plain, truth, node, done, text_cmp, carries, by_order}
+use Rattle.ul_nodes.specs.Apply.{size, sizes, rest_at, branches_at, part_at, first_of}
 use Rattle.ul_tree.proofs.Picks.{size_pick}
 use Rattle.ul_tree.proofs.Applied.{top_smaller}
 

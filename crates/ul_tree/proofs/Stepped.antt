@@ -7,13 +7,13 @@ use Rattle.ul_specifier.specs.Clauses.{ClauseFields}
 use Rattle.ul_specifier.specs.Meaning.{meets_clause}
 use Rattle.ul_marker.specs.Truth.{python_release}
 use Rattle.ul_marker.specs.Worlds.{WorldFields, IsWorld}
-use Rattle.ul_tree.specs.Plain.{Plain, truth, node, branch, text_cmp, holds_of, holds_in}
-use Rattle.ul_tree.specs.Levels.{python_level}
-use Rattle.ul_tree.specs.Reduced.{IsReduced, FitsAll, StartsAfter}
+use Rattle.ul_nodes.specs.Plain.{Plain, truth, node, branch, text_cmp, holds_of, holds_in}
+use Rattle.ul_nodes.specs.Levels.{python_level}
+use Rattle.ul_nodes.specs.Reduced.{IsReduced, FitsAll, StartsAfter}
 use Rattle.ul_tree.specs.Values.{number_of, tree_holds}
 use Rattle.ul_tree.specs.Views.{python_of, pieces_of}
 use Rattle.ul_tree.specs.Pieces.{meets_at, major_of, minor_of, patch_of, starts_of, steps_of, stepped_of}
-use Rattle.ul_tree.proofs.Order.{cmp_less, cmp_more, cmp_itself}
+use Rattle.ul_nodes.proofs.ForCallers.{cmp_less, cmp_more, cmp_itself}
 use Rattle.ul_tree.proofs.Changes.{Climb, flipped_at, starts-climb, starts-hold}
 
 -- ---- its truth

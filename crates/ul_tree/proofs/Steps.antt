@@ -1,18 +1,17 @@
 -- One turn of the loop over keys, and its end, over plain data.
 use Rattle.std.proofs.Common.{arith, ◌≡◌, ℕ, suc, ◌+◌, ◌<◌, List, [], ◌∷◌, length, drop, get_or, Bool, true, false, cond, refl, ap, sym, ◌∙◌, subst, Some, Less, Equal, Greater, Ordering}
 use Rattle.std.proofs.lemmas.List.{drop_more}
-use Rattle.ul_tree.specs.Plain.{Plain, truth, node, Branches, done, branch, text_cmp, carries, carried_part, by_order, pick, holds_of}
-use Rattle.ul_tree.specs.Reduced.{IsReduced, Fits, FitsAll}
-use Rattle.ul_tree.specs.Apply.{size, same, outs, close, keys, key_union, rest_at, branches_at, part_at, first_of, apply_at, apply}
-use Rattle.ul_tree.specs.Keys.{key_view, keys_view, then_branches, top_of}
-use Rattle.ul_tree.specs.Joins.{stands, more_branches}
-use Rattle.ul_tree.specs.declared.level.Key.{Key}
-use Rattle.ul_tree.specs.declared.level.Key.TheVariants.{Literal}
-use Rattle.ul_tree.proofs.Order.{cmp_equal, cmp_itself}
+use Rattle.ul_nodes.specs.Plain.{Plain, truth, node, Branches, done, branch, text_cmp, carries, carried_part, by_order, pick, holds_of}
+use Rattle.ul_nodes.specs.Reduced.{IsReduced, Fits, FitsAll}
+use Rattle.ul_nodes.specs.Apply.{size, same, outs, close, keys, key_union, rest_at, branches_at, part_at, first_of, apply_at, apply}
+use Rattle.ul_nodes.specs.Keys.{key_view, keys_view, then_branches, top_of}
+use Rattle.ul_nodes.specs.Rows.{stands}
+use Rattle.ul_tree.specs.Joins.{more_branches}
+use Rattle.ul_nodes.specs.declared.level.Key.{Key}
+use Rattle.ul_nodes.specs.declared.level.Key.TheVariants.{Literal}
+use Rattle.ul_nodes.proofs.ForCallers.{cmp_equal, cmp_itself, fits_weaker, rest_reduced}
 use Rattle.ul_tree.proofs.Picks.{fits_pick, size_pick}
-use Rattle.ul_tree.proofs.PartsByKeys.{fits_weaker}
 use Rattle.ul_tree.proofs.Applied.{applied, seen_node, top_smaller}
-use Rattle.ul_tree.proofs.Halves.{rest_reduced}
 use Rattle.ul_tree.proofs.Rebuilt.{then_then}
 use Rattle.ul_tree.proofs.Made.{stands_then}
 

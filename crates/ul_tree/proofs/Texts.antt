@@ -9,9 +9,9 @@ use Rattle.ul_base.proofs.ForCallers.{name_is_plain}
 use Rattle.ul_base.specs.Names.{is_normal_byte}
 use Rattle.ul_marker.specs.Atoms.{is_literal, is_literal_byte}
 use Rattle.ul_tree.specs.Laws.{IsAsciiText}
-use Rattle.ul_tree.specs.Levels.{IsExtra}
-use Rattle.ul_tree.specs.Plain.{text_cmp}
-use Rattle.ul_tree.proofs.Order.{cmp_more}
+use Rattle.ul_nodes.specs.Levels.{IsExtra}
+use Rattle.ul_nodes.specs.Plain.{text_cmp}
+use Rattle.ul_nodes.proofs.ForCallers.{cmp_more}
 
 -- bytes below DEL
 abbrev pub IsLow : List ℕ → Type 0

@@ -4,7 +4,7 @@ use Rattle.std.proofs.lemmas.Bool.{eq-eqb, eqb-true}
 use Rattle.std.proofs.lemmas.Map.Text.{is_eq-slice_cmp}
 use Rattle.std.specs.Str.{bytes_eq}
 use Rattle.std.specs.Ordering.{is_eq}
-use Rattle.ul_tree.specs.Plain.{text_cmp}
+use Rattle.ul_nodes.specs.Plain.{text_cmp}
 use Rattle.ul_tree.specs.PathList.{Step, interval, point, others}
 use Rattle.ul_tree.specs.Fans.{same_keys, same_step}
 

@@ -1,17 +1,17 @@
 -- What is said of trees that have a truth of worlds, and that a tree which doesn't depend on the extra asks for none.
 use Rattle.std.proofs.Common.{◌≡◌, ℕ, zero, suc, List, [], ◌∷◌, Bool, true, false, not, ◌&&◌, refl, sym, ap, ap₂, subst, ◌∙◌, Less, Equal}
 use Rattle.ul_marker.specs.Worlds.{WorldFields, IsWorld}
-use Rattle.ul_tree.specs.Apply.{both}
+use Rattle.ul_nodes.specs.Apply.{both}
 use Rattle.ul_tree.specs.Laws.{at_extra_of}
-use Rattle.ul_tree.specs.Levels.{IsExtra, extra_level}
-use Rattle.ul_tree.specs.Plain.{Plain, truth, node}
-use Rattle.ul_tree.specs.Reduced.{IsReduced, Fits}
+use Rattle.ul_nodes.specs.Levels.{IsExtra, extra_level}
+use Rattle.ul_nodes.specs.Plain.{Plain, truth, node}
+use Rattle.ul_nodes.specs.Reduced.{IsReduced, Fits}
 use Rattle.ul_tree.specs.Regions.{HasTruth, IsRegionTree, region_of, NoExtra}
 use Rattle.ul_tree.specs.Sample.{asks_extra}
 use Rattle.ul_tree.specs.Values.{tree_holds, value_of}
 use Rattle.ul_tree.proofs.Extras.{one_truth_one_tree}
 use Rattle.ul_tree.proofs.JoinedTrees.{operations, part_fits, below_extra}
-use Rattle.ul_tree.proofs.Order.{cmp_itself}
+use Rattle.ul_nodes.proofs.ForCallers.{cmp_itself}
 use Rattle.ul_tree.proofs.Picks.{holds_alike}
 use Rattle.ul_tree.proofs.Walks.{no_extra_fits}
 

@@ -5,12 +5,12 @@ use Rattle.std.specs.Str.{bytes_eq}
 use Rattle.std.specs.Ordering.{is_eq, ordering_then}
 use Rattle.std.proofs.lemmas.List.Folds.{list_all-append, list_any-append}
 use Rattle.std.proofs.lemmas.Map.Text.{is_eq-slice_cmp}
-use Rattle.ul_tree.specs.Apply.{keys}
-use Rattle.ul_tree.specs.Levels.{python_level}
-use Rattle.ul_tree.specs.Plain.{Plain, truth, node, Branches, done, branch, text_cmp, by_order, carries, carried_part, holds_of, holds_in}
-use Rattle.ul_tree.specs.Reduced.{Fits, FitsAll, StartsAfter}
+use Rattle.ul_nodes.specs.Apply.{keys}
+use Rattle.ul_nodes.specs.Levels.{python_level}
+use Rattle.ul_nodes.specs.Plain.{Plain, truth, node, Branches, done, branch, text_cmp, by_order, carries, carried_part, holds_of, holds_in}
+use Rattle.ul_nodes.specs.Reduced.{Fits, FitsAll, StartsAfter}
 use Rattle.ul_tree.specs.Values.{value_of}
-use Rattle.ul_tree.proofs.Order.{cmp_trans, cmp_equal, cmp_less}
+use Rattle.ul_nodes.proofs.ForCallers.{cmp_trans, cmp_equal, cmp_less}
 use Rattle.ul_tree.specs.PathList.{Step, interval, point, others, start_of, longer_paths, paths_to_true, paths_from, paths_at}
 use Rattle.ul_tree.specs.Comparisons.{at_least, below, differs, lower, upper, comparisons_of, path_comparisons}
 use Rattle.ul_tree.specs.PathTruth.{is_before, comparison_holds, path_holds, some_path_holds}

@@ -1,8 +1,8 @@
 -- The union of a node's parts is reduced, and holds wherever the node does.
 use Rattle.std.proofs.Common.{◌≡◌, ℕ, suc, ◌+◌, List, Bool, true, false, refl, ◌∙◌, arith, Less, Equal, Greater, Ordering}
-use Rattle.ul_tree.specs.Plain.{Plain, Branches, done, branch, text_cmp, carries, carried_part, by_order, holds_of, holds_in}
-use Rattle.ul_tree.specs.Reduced.{Fits, FitsAll}
-use Rattle.ul_tree.specs.Apply.{size, either}
+use Rattle.ul_nodes.specs.Plain.{Plain, Branches, done, branch, text_cmp, carries, carried_part, by_order, holds_of, holds_in}
+use Rattle.ul_nodes.specs.Reduced.{Fits, FitsAll}
+use Rattle.ul_nodes.specs.Apply.{size, either}
 use Rattle.ul_tree.specs.Laws.{or_of}
 use Rattle.ul_tree.specs.Simplify.{union_in}
 use Rattle.ul_tree.proofs.Applied.{applied}

@@ -1,12 +1,11 @@
 -- One truth, one tree.
 use Rattle.std.proofs.Common.{◌≡◌, ℕ, suc, zero, ◌+◌, ◌<◌, List, false, refl, ap, sym, ◌∙◌, subst, arith, Less, Equal, Greater, Ordering, None, ◌⊎◌, inl, inr}
-use Rattle.ul_tree.specs.Plain.{Plain, truth, node, Branches, done, branch, text_cmp, carries, carried_part, pick, holds_of, holds_in}
-use Rattle.ul_tree.specs.Reduced.{Fits, FitsAll, HasBranch, StartsAfter}
+use Rattle.ul_nodes.specs.Plain.{Plain, truth, node, Branches, done, branch, text_cmp, carries, carried_part, pick, holds_of, holds_in}
+use Rattle.ul_nodes.specs.Reduced.{Fits, FitsAll, HasBranch, StartsAfter}
 use Rattle.ul_tree.proofs.Varied.{Varied}
-use Rattle.ul_tree.proofs.Order.{cmp_equal, cmp_over}
-use Rattle.ul_tree.specs.Apply.{size}
+use Rattle.ul_nodes.proofs.ForCallers.{cmp_equal, cmp_over, at_key, before_key, past_key, same_branches}
+use Rattle.ul_nodes.specs.Apply.{size}
 use Rattle.ul_tree.proofs.Picks.{holds_pick, size_pick, fits_pick, holds_alike}
-use Rattle.ul_tree.proofs.Branchwise.{at_key, before_key, past_key, same_branches}
 
 pub from_nothing : (bs : Branches) → StartsAfter None bs
 from_nothing done = tt

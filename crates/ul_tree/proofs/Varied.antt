@@ -1,7 +1,7 @@
 -- A kind of worlds: each level has a value, and a value can be set without a change of later levels.
 use Rattle.std.proofs.Common.{◌≡◌, ◌⊎◌, List, ℕ, false, Less, Greater}
-use Rattle.ul_tree.specs.Plain.{text_cmp, carries}
-use Rattle.ul_tree.specs.Levels.{IsKey}
+use Rattle.ul_nodes.specs.Plain.{text_cmp, carries}
+use Rattle.ul_nodes.specs.Levels.{IsKey}
 
 -- `Ok` is what a level can be set to: each of its keys, and a free value, which is below every key, or, at the
 -- levels of points, above every key

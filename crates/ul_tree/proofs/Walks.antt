@@ -9,12 +9,12 @@ use Rattle.ul_marker.specs.declared.variable.AtomKind.{AtomKind}
 use Rattle.ul_marker.specs.declared.variable.AtomKind.TheVariants.{Contains, Within, Below, AtMost, Same}
 use Rattle.ul_marker.specs.declared.variable.Variable.{Variable}
 use Rattle.ul_marker.specs.declared.variable.Variable.TheVariants.{OsName, SysPlatform, PlatformMachine, PlatformPythonImplementation, PlatformRelease, PlatformSystem, PlatformVersion, PythonVersion, PythonFullVersion, ImplementationName, ImplementationVersion}
-use Rattle.ul_tree.specs.Levels.{IsKey, IsAtomLevel, extra_level, atom_level}
-use Rattle.ul_tree.specs.Plain.{Plain, truth, node, Branches, done, branch, text_cmp, carries, carried_part, holds_of}
-use Rattle.ul_tree.specs.Reduced.{IsReduced, Fits, FitsAll}
+use Rattle.ul_nodes.specs.Levels.{IsKey, IsAtomLevel, extra_level, atom_level}
+use Rattle.ul_nodes.specs.Plain.{Plain, truth, node, Branches, done, branch, text_cmp, carries, carried_part, holds_of}
+use Rattle.ul_nodes.specs.Reduced.{IsReduced, Fits, FitsAll}
 use Rattle.ul_tree.specs.Sample.{Step, beside, or_else, longer_path, first_path, first_in, variable_of, kind_of, atom_of, held, with_level, with_steps, with_path, empty_world, sample_of, asks_extra, SampleHolds}
 use Rattle.ul_tree.specs.Values.{has_level, mark_of, value_of, tree_holds}
-use Rattle.ul_tree.proofs.Order.{cmp_itself, cmp_back, cmp_less, cmp_trans}
+use Rattle.ul_nodes.proofs.ForCallers.{cmp_itself, cmp_back, cmp_less, cmp_trans}
 use Rattle.ul_tree.proofs.Atoms.{Each, all_of_each, Rises, rise_of_rises, atoms_of_rises, unlike}
 use Rattle.ul_tree.proofs.Leads.{Agrees, Leads, leads, Stands, stands}
 use Rattle.ul_tree.proofs.RealWorlds.{number_moved}

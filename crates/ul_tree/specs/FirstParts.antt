@@ -4,7 +4,7 @@ use Rattle.std.specs.Prelude.{String}
 use Rattle.std.specs.declared.alloc.Global.{Global}
 use Rattle.ul_tree.specs.Views.{points_view, pieces_view}
 use Rattle.ul_tree.specs.declared.tree.Tree.{Tree}
-use Rattle.ul_tree.specs.Plain.{Plain, truth, node, Branches, done, branch}
+use Rattle.ul_nodes.specs.Plain.{Plain, truth, node, Branches, done, branch}
 
 -- whether a tree is false
 abbrev pub is_false : Plain → Bool

@@ -1,11 +1,11 @@
 -- What holds of trees joined part by part: each step of the joining, and when a side or a truth is the answer at once.
 use Rattle.std.specs.Prelude.{ℕ, ◌+◌, ◌<◌, List, Bool, true, false, not, Some, ◌≡◌, ◌↔◌}
 use Rattle.ul_marker.specs.Worlds.{WorldFields, IsWorld}
-use Rattle.ul_tree.specs.Plain.{Plain, truth}
-use Rattle.ul_tree.specs.Levels.{IsExtra}
-use Rattle.ul_tree.specs.Reduced.{IsReduced}
+use Rattle.ul_nodes.specs.Plain.{Plain, truth}
+use Rattle.ul_nodes.specs.Levels.{IsExtra}
+use Rattle.ul_nodes.specs.Reduced.{IsReduced}
 use Rattle.ul_tree.specs.Values.{tree_holds}
-use Rattle.ul_tree.specs.Apply.{apply, built, both, first_of, keys, key_union, branches_at, rest_at, part_at, size}
+use Rattle.ul_nodes.specs.Apply.{apply, built, both, first_of, keys, key_union, branches_at, rest_at, part_at, size}
 use Rattle.ul_tree.specs.Laws.{joined_by, not_of}
 
 -- t has the joined truth of a and b, at every world and extra

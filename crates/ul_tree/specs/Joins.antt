@@ -1,10 +1,11 @@
 -- How two truths are joined, and the branches of a tree that is being made.
-use Rattle.std.specs.Prelude.{ℕ, ◌+◌, ◌<◌, List, [], ◌∷◌, Bool, true, false, not, ◌≡◌, if◌then◌else◌}
-use Rattle.ul_tree.specs.Plain.{Plain, truth, node, Branches, done, branch, carried_part}
-use Rattle.ul_tree.specs.Apply.{size, apply, close, both, either, same, same_bool}
+use Rattle.std.specs.Prelude.{ℕ, ◌+◌, ◌<◌, List, Bool, true, false, not, ◌≡◌, if◌then◌else◌}
+use Rattle.ul_nodes.specs.Plain.{Plain, truth, node, Branches, done, branch, carried_part}
+use Rattle.ul_nodes.specs.Apply.{size, apply, close, both, either, same, same_bool}
 use Rattle.ul_tree.specs.Views.{tree_view}
-use Rattle.ul_tree.specs.Keys.{key_view, then_branches, has_kind, KeysOf}
-use Rattle.ul_tree.specs.declared.level.Key.{Key}
+use Rattle.ul_nodes.specs.Keys.{key_view, then_branches, has_kind, KeysOf}
+use Rattle.ul_nodes.specs.declared.level.Key.{Key}
+use Rattle.ul_nodes.specs.Rows.{made_view, stands}
 use Rattle.ul_tree.specs.declared.join.AtOnce.{AtOnce}
 use Rattle.ul_tree.specs.declared.join.AtOnce.TheVariants.{Truth, Side}
 use Rattle.ul_tree.specs.declared.tree.Tree.{Tree}
@@ -20,16 +21,6 @@ truth_of NotFirst = λ x y. not x
 -- joined part by part; the number bounds how deep the joining goes, and any that is enough gives the same tree
 abbrev pub IsJoined : Join → Plain → Plain → Plain → Type 0
 IsJoined op a b t = (n : ℕ) → size a + size b < n → t ≡ apply (truth_of op) n a b
-
--- branches that were made, of parts that stand for plain trees
-abbrev pub made_view : {A : Type 0} → (A → Plain) → List (Key × A) → Branches
-made_view view [] = done
-made_view view (p ∷ ps) = branch (key_view p.0) (view p.1) (made_view view ps)
-
--- the part that stands after branches: at the interpreter that of the last branch, elsewhere the other part
-abbrev pub stands : Bool → Branches → Plain → Plain
-stands m done d = d
-stands m (branch k c rest) d = stands m rest (carried_part m c d)
 
 -- a branch more, unless its part is the one that stands
 abbrev pub more_branches : Bool → Branches → List ℕ → Plain → Branches

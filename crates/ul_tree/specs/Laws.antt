@@ -3,10 +3,10 @@ use Rattle.std.specs.Prelude.{ℕ, suc, ◌+◌, List, Bool, true, false, not, �
 use Rattle.std.specs.List.{list_all}
 use Rattle.std.specs.Char.{is_ascii}
 use Rattle.ul_marker.specs.Worlds.{WorldFields, IsWorld}
-use Rattle.ul_tree.specs.Plain.{Plain, truth}
-use Rattle.ul_tree.specs.Levels.{IsExtra, extra_level}
-use Rattle.ul_tree.specs.Reduced.{IsReduced}
-use Rattle.ul_tree.specs.Apply.{apply, part_at, both, either, size}
+use Rattle.ul_nodes.specs.Plain.{Plain, truth}
+use Rattle.ul_nodes.specs.Levels.{IsExtra, extra_level}
+use Rattle.ul_nodes.specs.Reduced.{IsReduced}
+use Rattle.ul_nodes.specs.Apply.{apply, part_at, both, either, size}
 use Rattle.ul_tree.specs.Values.{tree_holds}
 
 -- a text of ASCII

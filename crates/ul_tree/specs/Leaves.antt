@@ -1,6 +1,6 @@
 -- Trees of one comparison.
 use Rattle.std.specs.Prelude.{ℕ, List, Bool, not}
-use Rattle.ul_tree.specs.Plain.{Plain, truth, node, Branches, done, branch}
+use Rattle.ul_nodes.specs.Plain.{Plain, truth, node, Branches, done, branch}
 
 -- the branch of a key alone
 abbrev pub point_of : List ℕ → Bool → Branches

@@ -1,8 +1,4 @@
-pub mod Plain
-pub mod Levels
-pub mod Reduced
 pub mod Values
-pub mod Apply
 pub mod Laws
 pub mod JoinSteps
 pub mod Views
@@ -14,7 +10,6 @@ pub mod Fans
 pub mod PathLaws
 pub mod Regions
 pub mod PlainCode
-pub mod Keys
 pub mod Pieces
 pub mod Leaves
 pub mod Joining

@@ -2,12 +2,12 @@
 use Rattle.std.specs.Prelude.{◌≡◌, ℕ, List, length, [], ◌∷◌, map, false, Option, Some, None}
 use Rattle.ul_marker.specs.Worlds.{WorldFields}
 use Rattle.ul_tree.specs.Fans.{fan_of, tree_of}
-use Rattle.ul_tree.specs.Levels.{python_level}
+use Rattle.ul_nodes.specs.Levels.{python_level}
 use Rattle.ul_tree.specs.PathList.{Step, interval, point, others, paths_to_true}
 use Rattle.ul_tree.specs.PathTruth.{some_path_holds}
 use Rattle.ul_tree.specs.Paths.{paths_of}
-use Rattle.ul_tree.specs.Plain.{Plain, truth, Branches, done, branch}
-use Rattle.ul_tree.specs.Reduced.{IsReduced}
+use Rattle.ul_nodes.specs.Plain.{Plain, truth, Branches, done, branch}
+use Rattle.ul_nodes.specs.Reduced.{IsReduced}
 use Rattle.ul_tree.specs.Sample
 use Rattle.ul_tree.specs.Sample.{beside, first_path}
 use Rattle.ul_tree.specs.Values.{value_of, tree_holds}

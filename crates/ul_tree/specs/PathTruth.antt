@@ -4,8 +4,8 @@ use Rattle.std.specs.List.{list_all, list_any}
 use Rattle.std.specs.Str.{bytes_eq}
 use Rattle.std.specs.declared.cmp.Ordering.{Ordering}
 use Rattle.std.specs.declared.cmp.Ordering.TheVariants.{Less, Equal, Greater}
-use Rattle.ul_tree.specs.Levels.{python_level}
-use Rattle.ul_tree.specs.Plain.{text_cmp}
+use Rattle.ul_nodes.specs.Levels.{python_level}
+use Rattle.ul_nodes.specs.Plain.{text_cmp}
 use Rattle.ul_tree.specs.PathList.{Step}
 use Rattle.ul_tree.specs.Comparisons.{Comparison, at_least, below, equals, differs, path_comparisons}
 

@@ -1,6 +1,6 @@
 -- How many paths of a tree lead to true.
 use Rattle.std.specs.Prelude.{ℕ, ◌+◌, true, false}
-use Rattle.ul_tree.specs.Plain.{Plain, truth, node, Branches, done, branch}
+use Rattle.ul_nodes.specs.Plain.{Plain, truth, node, Branches, done, branch}
 
 -- one for true, none for false, and those of all parts of a node
 abbrev mutual

@@ -4,9 +4,9 @@ use Rattle.ul_version.specs.Fields.{plain}
 use Rattle.ul_specifier.specs.Clauses.{ClauseFields}
 use Rattle.ul_specifier.specs.Meaning.{meets_clause}
 use Rattle.ul_marker.specs.Truth.{python_numbers}
-use Rattle.ul_tree.specs.Plain.{Plain, truth, Branches, done, branch}
-use Rattle.ul_tree.specs.Levels.{python_level}
-use Rattle.ul_tree.specs.Apply.{close, same_bool}
+use Rattle.ul_nodes.specs.Plain.{Plain, truth, Branches, done, branch}
+use Rattle.ul_nodes.specs.Levels.{python_level}
+use Rattle.ul_nodes.specs.Apply.{close, same_bool}
 
 -- ---- interpreters as numbers
 

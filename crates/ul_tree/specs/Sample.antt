@@ -7,9 +7,9 @@ use Rattle.ul_marker.specs.declared.variable.AtomKind.{AtomKind}
 use Rattle.ul_marker.specs.declared.variable.AtomKind.TheVariants.{Contains, Within, Below, AtMost, Same}
 use Rattle.ul_marker.specs.declared.variable.Variable.{Variable}
 use Rattle.ul_marker.specs.declared.variable.Variable.TheVariants.{OsName, SysPlatform, PlatformMachine, PlatformPythonImplementation, PlatformRelease, PlatformSystem, PlatformVersion, PythonVersion, PythonFullVersion, ImplementationName, ImplementationVersion}
-use Rattle.ul_tree.specs.Levels.{IsExtra}
-use Rattle.ul_tree.specs.Plain.{Plain, truth, node, Branches, done, branch, carries}
-use Rattle.ul_tree.specs.Reduced.{IsReduced}
+use Rattle.ul_nodes.specs.Levels.{IsExtra}
+use Rattle.ul_nodes.specs.Plain.{Plain, truth, node, Branches, done, branch, carries}
+use Rattle.ul_nodes.specs.Reduced.{IsReduced}
 use Rattle.ul_tree.specs.Values.{tree_holds}
 
 -- ---- the first path to true

@@ -5,9 +5,9 @@ use Rattle.ul_marker.specs.Worlds.{WorldFields}
 use Rattle.ul_marker.specs.declared.variable.AtomKind.TheVariants.{Contains}
 use Rattle.ul_marker.specs.declared.variable.Variable.{Variable}
 use Rattle.ul_marker.specs.declared.variable.Variable.TheVariants.{OsName, SysPlatform, PlatformVersion}
-use Rattle.ul_tree.specs.Levels.{python_level, text_level, atom_level}
-use Rattle.ul_tree.specs.Plain.{Plain, truth, node, Branches, done, branch}
-use Rattle.ul_tree.specs.Reduced.{IsReduced}
+use Rattle.ul_nodes.specs.Levels.{python_level, text_level, atom_level}
+use Rattle.ul_nodes.specs.Plain.{Plain, truth, node, Branches, done, branch}
+use Rattle.ul_nodes.specs.Reduced.{IsReduced}
 use Rattle.ul_tree.specs.Sample.{empty_world, sample_of}
 
 -- the interpreter 3.8.0 as a number

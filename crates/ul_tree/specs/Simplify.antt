@@ -2,8 +2,9 @@
 -- pieces level by level; where the region is false, a piece takes over what a neighbouring piece became.
 use Rattle.std.specs.Prelude.{ℕ, List, [], ◌∷◌, Bool, true, false, Option, Some, None, ◌≡◌, if◌then◌else◌}
 use Rattle.std.specs.declared.cmp.Ordering.TheVariants.{Less}
-use Rattle.ul_tree.specs.Plain.{Plain, truth, node, Branches, done, branch, text_cmp, carries, carried_part}
-use Rattle.ul_tree.specs.Apply.{same, keys, branches_at, rest_at, part_at, key_union, close}
+use Rattle.ul_nodes.specs.Plain.{Plain, truth, node, Branches, done, branch, text_cmp, carries, carried_part}
+use Rattle.ul_nodes.specs.Apply.{same, keys, branches_at, rest_at, part_at, key_union, close}
+use Rattle.ul_nodes.specs.Rows.{Results, own_or, earliest, latest}
 use Rattle.ul_tree.specs.Laws.{or_of}
 
 -- the union of a node's parts
@@ -11,40 +12,10 @@ abbrev pub union_in : Branches → Plain → Plain
 union_in done t = t
 union_in (branch k c rest) t = union_in rest (or_of t c)
 
--- the keys of the pieces in order, each with what its piece became, or with nothing where the region is false
-abbrev pub Results : Type 0
-Results = List (List ℕ × Option Plain)
-
--- a piece's own result, or another where it has none
-abbrev pub own_or : {A : Type 0} → Option A → A → A
-own_or (Some t) z = t
-own_or None z = z
-
--- the first result, or z where there is none
-abbrev pub first_result : {K A : Type 0} → List (K × Option A) → A → A
-first_result [] z = z
-first_result (r ∷ rs) z = own_or r.1 (first_result rs z)
-
--- the last result, or z where there is none
-abbrev pub last_result : {K A : Type 0} → List (K × Option A) → A → A
-last_result [] z = z
-last_result (r ∷ rs) z = last_result rs (own_or r.1 z)
-
 -- each key with its own result or, where it has none, that of the nearest earlier key that has one, z before any
 abbrev pub filled_results : Results → Plain → List (List ℕ × Plain)
 filled_results [] z = []
 filled_results (r ∷ rs) z = (r.0, own_or r.1 z) ∷ filled_results rs (own_or r.1 z)
-
--- the first result of all pieces, which serves those before it; o is that of the piece without a key, which is the
--- first at the interpreter and the last at other levels
-abbrev pub earliest : {K A : Type 0} → Bool → List (K × Option A) → Option A → A → A
-earliest true rs o z = own_or o (first_result rs z)
-earliest false rs o z = first_result rs (own_or o z)
-
--- the last result before the piece without a key, z where that piece is the first
-abbrev pub latest : {K A : Type 0} → Bool → List (K × Option A) → A → A
-latest true rs z = z
-latest false rs z = last_result rs z
 
 -- the branches of keys and parts, those left out that say what stands already
 abbrev pub reduced_branches : Bool → List (List ℕ × Plain) → Plain → Branches

@@ -1,7 +1,7 @@
 -- What holds of trees made simpler, and worked examples.
 use Rattle.std.specs.Prelude.{ℕ, List, [], ◌∷◌, true, false, ◌≡◌}
-use Rattle.ul_tree.specs.Plain.{Plain, truth, node, done, branch, holds_of}
-use Rattle.ul_tree.specs.Reduced.{IsReduced}
+use Rattle.ul_nodes.specs.Plain.{Plain, truth, node, done, branch, holds_of}
+use Rattle.ul_nodes.specs.Reduced.{IsReduced}
 use Rattle.ul_tree.specs.Simplify.{Simplifies}
 
 -- the result is reduced, and it has f's truth wherever the region holds; f and the region determine it, and a region

@@ -1,38 +1,16 @@
 -- What the code of simplifying sees of pieces and regions, as plain data.
-use Rattle.std.specs.Prelude.{ℕ, List, [], ◌∷◌, map, Bool, true, false, Option, Some, None, option_map, ◌≡◌, zero, suc}
+use Rattle.std.specs.Prelude.{ℕ, List, [], ◌∷◌, Bool, false, Option, Some, None, option_map, ◌≡◌, zero, suc}
 use Rattle.std.specs.Ordering.{is_lt}
-use Rattle.ul_tree.specs.Plain.{Plain, truth, node, Branches, done, branch, text_cmp, holds_of}
-use Rattle.ul_tree.specs.Apply.{either}
-use Rattle.ul_tree.specs.Reduced.{IsReduced, Fits}
-use Rattle.ul_tree.specs.Keys.{key_view, keys_view, level_view, branches_from, branches_of, rest_of}
-use Rattle.ul_tree.specs.Simplify.{Results, Simplifies, Pieces, filled_results, reduced_branches, settled_level, union_in}
+use Rattle.ul_nodes.specs.Plain.{Plain, truth, node, Branches, done, branch, text_cmp, holds_of}
+use Rattle.ul_nodes.specs.Apply.{either}
+use Rattle.ul_nodes.specs.Reduced.{IsReduced, Fits}
+use Rattle.ul_nodes.specs.Keys.{keys_view, level_view, branches_from, branches_of, rest_of}
+use Rattle.ul_nodes.specs.Rows.{Results, results_view, parts_view}
+use Rattle.ul_tree.specs.Simplify.{Simplifies, Pieces, filled_results, reduced_branches, settled_level, union_in}
 use Rattle.ul_tree.specs.Views.{tree_view}
-use Rattle.ul_tree.specs.declared.level.Level.{Level}
+use Rattle.ul_nodes.specs.declared.level.Level.{Level}
 use Rattle.ul_tree.specs.declared.tree.Tree.{Tree}
-use Rattle.ul_tree.specs.declared.level.Key.{Key}
-
--- pieces in a row, each with its key and its result
-abbrev pub results_view : {A : Type 0} → (A → Plain) → List (Key × Option A) → Results
-results_view view = map (λ r. (key_view r.0, option_map view r.1))
-
--- parts in a row, each with its key
-abbrev pub parts_view : {A : Type 0} → (A → Plain) → List (Key × A) → List (List ℕ × Plain)
-parts_view view = map (λ p. (key_view p.0, view p.1))
-
--- the last part, or z where there is none
-abbrev pub last_part : {K A : Type 0} → List (K × A) → A → A
-last_part [] z = z
-last_part (p ∷ ps) z = last_part ps p.1
-
--- the part that stands after branches: at the interpreter that of the last branch, elsewhere the other part
-abbrev pub standing_part : {K A : Type 0} → Bool → List (K × A) → A → A
-standing_part true parts other = last_part parts other
-standing_part false parts other = other
-
--- a fact of what there is, if there is something
-abbrev pub IfSome : {A : Type 0} → (A → Type 0) → Option A → Type 0
-IfSome P None = Unit {0}
-IfSome P (Some x) = P x
+use Rattle.ul_nodes.specs.declared.level.Key.{Key}
 
 -- what pieces become is reduced, with every level after l
 abbrev pub ResultFits : Option Plain → List ℕ → Type 0

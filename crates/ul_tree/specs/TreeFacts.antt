@@ -1,5 +1,5 @@
 -- What contracts say of trees in code.
-use Rattle.std.specs.Prelude.{ℕ, suc, List, map, Bool, true, ◌≡◌}
+use Rattle.std.specs.Prelude.{ℕ, List, map, Bool, true, ◌≡◌}
 use Rattle.std.specs.Str.{bytes_eq}
 use Rattle.ul_marker.specs.Atoms.{AtomFields, has_atom}
 use Rattle.ul_marker.specs.Truth.{as_asked, equals_extra, is_listed, marker_holds, python_release}
@@ -8,12 +8,12 @@ use Rattle.ul_marker.specs.Worlds.{WorldFields, IsWorld, text_at}
 use Rattle.ul_marker.specs.declared.marker.Marker.{Marker}
 use Rattle.ul_marker.specs.declared.variable.Variable.{Variable}
 use Rattle.ul_tree.specs.Joining.{truths_of}
-use Rattle.ul_tree.specs.Keys.{branches_from, branches_of, key_view}
-use Rattle.ul_tree.specs.Plain.{Plain, Branches, branch}
-use Rattle.ul_tree.specs.Reduced.{IsReduced}
+use Rattle.ul_nodes.specs.Keys.{IsBranchAt, branches_of, key_view}
+use Rattle.ul_nodes.specs.Plain.{Plain}
+use Rattle.ul_nodes.specs.Reduced.{IsReduced}
 use Rattle.ul_tree.specs.Values.{tree_holds}
 use Rattle.ul_tree.specs.Views.{tree_view}
-use Rattle.ul_tree.specs.declared.level.Key.{Key}
+use Rattle.ul_nodes.specs.declared.level.Key.{Key}
 use Rattle.ul_tree.specs.declared.tree.Tree.{Tree}
 use Rattle.ul_version.specs.Fields.{Fields, plain}
 use Rattle.ul_specifier.specs.Clauses.{ClauseFields}
@@ -58,10 +58,6 @@ atom_truth atom positive w x = as_asked positive (has_atom w.truths atom)
 -- in a region, a tree has the truth of another
 abbrev pub AgreesWithin : Plain → Plain → Plain → Type 0
 AgreesWithin region tree made = (w : WorldFields) (x : List ℕ) → tree_holds region w x ≡ true → tree_holds made w x ≡ tree_holds tree w x
-
--- the branch at a place
-abbrev pub IsBranchAt : Branches → ℕ → List ℕ → Plain → Type 0
-IsBranchAt bs index key part = branches_from index bs ≡ branch key part (branches_from (suc index) bs)
 
 -- the branch of a tree at a place
 abbrev pub IsTreeBranch : Tree → ℕ → Key → Tree → Type 0

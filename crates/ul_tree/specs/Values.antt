@@ -4,8 +4,8 @@ use Rattle.std.specs.List.{list_any}
 use Rattle.std.specs.Ordering.{is_eq}
 use Rattle.ul_marker.specs.Atoms.{AtomFields}
 use Rattle.ul_marker.specs.Worlds.{WorldFields}
-use Rattle.ul_tree.specs.Levels.{atom_level}
-use Rattle.ul_tree.specs.Plain.{Plain, text_cmp, holds_of}
+use Rattle.ul_nodes.specs.Levels.{atom_level}
+use Rattle.ul_nodes.specs.Plain.{Plain, text_cmp, holds_of}
 
 -- the interpreter as one number, which orders interpreters
 abbrev pub number_of : WorldFields → ℕ

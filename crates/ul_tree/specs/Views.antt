@@ -2,8 +2,8 @@
 -- begin at 0, or not as many parts as starts) stands for plain data that isn't reduced.
 use Rattle.std.specs.Prelude.{ℕ, zero, suc, List, [], ◌∷◌, map, String, string_bytes, false}
 use Rattle.std.specs.declared.alloc.Global.{Global}
-use Rattle.ul_tree.specs.Levels.{extra_level, python_level, text_level, atom_level}
-use Rattle.ul_tree.specs.Plain.{Plain, truth, node, Branches, done, branch}
+use Rattle.ul_nodes.specs.Levels.{extra_level, python_level, text_level, atom_level}
+use Rattle.ul_nodes.specs.Plain.{Plain, truth, node, Branches, done, branch}
 use Rattle.ul_tree.specs.declared.tree.Tree.{Tree, fold-Tree}
 use Rattle.ul_tree.specs.declared.tree.Tree.TheOpen.{Tree-F}
 

@@ -1,9 +1,9 @@
 //! Equal trees made, and trees compared.
 ghost use Rattle.std.specs.Prelude.{◌≡◌, ◌↔◌, IfOk, IsTrue, map};
 ghost use Rattle.ul_tree.specs.TreeFacts.{IsTree};
-ghost use Rattle.ul_tree.specs.Apply.{same as same_plain};
+ghost use Rattle.ul_nodes.specs.Apply.{same as same_plain};
 ghost use Rattle.ul_tree.specs.Views.{tree_view, points_view};
-ghost use Rattle.ul_tree.specs.Keys.{same_tops};
+ghost use Rattle.ul_nodes.specs.Keys.{same_tops};
 
 use crate::Tree;
 use crate::part::{branch_at, branch_count, known, level_of, rest_of};

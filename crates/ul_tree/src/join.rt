@@ -1,25 +1,25 @@
 //! A tree made of two, part by part.
 ghost use Rattle.std.specs.Prelude.{◌≡◌, ℕ, List, IfOk, All, true, false, option_map};
 ghost use Rattle.ul_tree.specs.TreeFacts.{IsTree};
-ghost use Rattle.ul_tree.specs.Plain.{node, truth};
-ghost use Rattle.ul_tree.specs.Levels.{python_level, atom_level};
-ghost use Rattle.ul_tree.specs.Reduced.{IsReduced};
-ghost use Rattle.ul_tree.specs.Apply.{close};
+ghost use Rattle.ul_nodes.specs.Plain.{node, truth};
+ghost use Rattle.ul_nodes.specs.Levels.{python_level, atom_level};
+ghost use Rattle.ul_nodes.specs.Reduced.{IsReduced};
+ghost use Rattle.ul_nodes.specs.Apply.{close};
 ghost use Rattle.ul_tree.specs.Views.{tree_view, points_view};
-ghost use Rattle.ul_tree.specs.Keys.{level_view, is_literal_key, is_number_key, KeysOf};
-ghost use Rattle.ul_tree.specs.Joins.{truth_of, IsJoined, stands, at_once_view, past_truth, trees_made, IsAdded, KeepsKeys, IsNodeOf, IsClosed};
+ghost use Rattle.ul_nodes.specs.Keys.{level_view, is_literal_key, is_number_key, KeysOf};
+ghost use Rattle.ul_nodes.specs.Rows.{stands, IfSome};
+ghost use Rattle.ul_tree.specs.Joins.{truth_of, IsJoined, at_once_view, past_truth, trees_made, IsAdded, KeepsKeys, IsNodeOf, IsClosed};
 ghost use Rattle.ul_tree.specs.JoinSteps.{JoinsTo};
-ghost use Rattle.ul_tree.specs.SimplifyViews.{IfSome};
 
 use crate::Tree;
 use crate::copy::{copy_within, same};
-use crate::level::{Key, Level};
-use crate::nodes::{first_level, level_keys, part_at, rest_at};
 use crate::part::{Trees, known, truth_value};
-use crate::results::standing;
 use crate::tree::{DEEPEST, deeper};
 use std::alloc::{AllocError, Global};
 use ul_marker::Atom;
+use ul_nodes::level::{Key, Level};
+use ul_nodes::nodes::{first_level, level_keys, part_at, rest_at};
+use ul_nodes::results::standing;
 
 /// How two truths are joined.
 #[derive(Clone, Copy)]

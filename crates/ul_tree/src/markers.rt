@@ -2,7 +2,7 @@
 ghost use Rattle.std.specs.Prelude.{◌≡◌, ◌<◌, ◌≤◌, ◌-◌, ◌∷◌, [], ℕ, List, IfOk, All, map, take, drop, length, true, if◌then◌else◌, false};
 ghost use Rattle.ul_tree.specs.TreeFacts.{IsTree, HoldsAs, HoldsAtWorlds, HoldsByPython, HoldAsMarkers, listed_truth, meets_release};
 ghost use Rattle.ul_tree.specs.Sample.{asks_extra};
-ghost use Rattle.ul_tree.specs.Apply.{same_bool};
+ghost use Rattle.ul_nodes.specs.Apply.{same_bool};
 ghost use Rattle.ul_version.specs.Fields.{IsVersion, plain};
 ghost use Rattle.ul_specifier.specs.Meaning.{meets_clause, meets_list};
 ghost use Rattle.ul_marker.specs.Formulas.{AreFormulas, IsFormula};

@@ -2,17 +2,17 @@
 ghost use Rattle.std.specs.Prelude.{◌≡◌, ℕ, List, IfOk, not, false};
 ghost use Rattle.ul_tree.specs.TreeFacts.{IsTree, HoldsAs, HoldsJoined};
 ghost use Rattle.ul_tree.specs.Sample.{asks_extra};
-ghost use Rattle.ul_tree.specs.Apply.{both, either};
+ghost use Rattle.ul_nodes.specs.Apply.{both, either};
 ghost use Rattle.ul_tree.specs.Values.{tree_holds};
 ghost use Rattle.ul_tree.specs.Views.{tree_view};
 
 use crate::Tree;
 use crate::copy::copy;
 use crate::join::{Join, joined};
-use crate::level::{Key, Level};
-use crate::nodes::part_at;
 use crate::part::Trees;
 use std::alloc::{AllocError, Global};
+use ul_nodes::level::{Key, Level};
+use ul_nodes::nodes::part_at;
 
 /// The tree that is true where both are.
 ///

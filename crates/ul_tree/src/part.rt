@@ -1,15 +1,15 @@
 //! Trees as nodes: the top level, the part without a key, and the branches.
 ghost use Rattle.std.specs.Prelude.{◌≡◌, ◌<◌, suc, length, option_map, true};
-ghost use Rattle.ul_tree.specs.TreeFacts.{IsTree, IsBranchAt, IsTreeBranch};
-ghost use Rattle.ul_tree.specs.Apply.{leaf_truth as known_plain, truth_value as truth_value_plain};
+ghost use Rattle.ul_nodes.specs.Keys.{IsBranchAt, level_view, key_view, top_of, rest_of, branches_of, branch_count, is_key_of, is_literal_key};
+ghost use Rattle.ul_tree.specs.TreeFacts.{IsTree, IsTreeBranch};
+ghost use Rattle.ul_nodes.specs.Apply.{leaf_truth as known_plain, truth_value as truth_value_plain};
 ghost use Rattle.ul_tree.specs.FirstParts.{is_false as is_false_plain};
 ghost use Rattle.ul_tree.specs.Sample.{asks_extra as asks_extra_plain};
 ghost use Rattle.ul_tree.specs.Views.{tree_view, points_view};
-ghost use Rattle.ul_tree.specs.Keys.{level_view, key_view, top_of, rest_of, branches_of, branch_count, is_key_of, is_literal_key};
 
 use crate::Tree;
-use crate::level::{Key, Level};
-use crate::nodes::{Branch, Nodes};
+use ul_nodes::level::{Key, Level};
+use ul_nodes::nodes::{Branch, Nodes};
 
 /// Trees, as nodes of decision trees.
 pub struct Trees;

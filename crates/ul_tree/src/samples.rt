@@ -3,9 +3,9 @@ ghost use Rattle.std.specs.Prelude.{◌≡◌, ℕ, List, [], ◌∷◌, false, 
 ghost use Rattle.ul_marker.specs.Worlds.{IsWorld};
 ghost use Rattle.ul_tree.specs.TreeFacts.{IsTree};
 ghost use Rattle.ul_tree.specs.FirstParts.{first_point_of, first_piece_of};
-ghost use Rattle.ul_tree.specs.Levels.{python_level, text_level, atom_level};
-ghost use Rattle.ul_tree.specs.Plain.{truth};
-ghost use Rattle.ul_tree.specs.Reduced.{Fits};
+ghost use Rattle.ul_nodes.specs.Levels.{python_level, text_level, atom_level};
+ghost use Rattle.ul_nodes.specs.Plain.{truth};
+ghost use Rattle.ul_nodes.specs.Reduced.{Fits};
 ghost use Rattle.ul_tree.specs.Sample.{asks_extra, empty_world, fresh, has_key, sample_from, sample_of, with_level};
 ghost use Rattle.ul_tree.specs.Values.{tree_holds};
 ghost use Rattle.ul_tree.specs.Views.{tree_view, points_view};

@@ -2,18 +2,19 @@
 ghost use Rattle.std.specs.Prelude.{◌≡◌, IfOk, List, [], ℕ, option_map};
 ghost use Rattle.ul_tree.specs.TreeFacts.{IsTree};
 ghost use Rattle.ul_tree.specs.Views.{tree_view};
-ghost use Rattle.ul_tree.specs.Reduced.{IsReduced};
-ghost use Rattle.ul_tree.specs.Keys.{level_view, KeysOf};
+ghost use Rattle.ul_nodes.specs.Reduced.{IsReduced};
+ghost use Rattle.ul_nodes.specs.Keys.{level_view, KeysOf};
 ghost use Rattle.ul_tree.specs.Joins.{trees_made};
-ghost use Rattle.ul_tree.specs.Simplify.{own_or, filled_results};
+ghost use Rattle.ul_nodes.specs.Rows.{own_or};
+ghost use Rattle.ul_tree.specs.Simplify.{filled_results};
 ghost use Rattle.ul_tree.specs.SimplifyViews.{PartsFit, ResultFits, ResultsFit, result_trees, part_trees, filled_trees, reduced_parts, settled_tree};
 
 use crate::Tree;
 use crate::copy::copy;
 use crate::join::{add, closed};
-use crate::level::{Key, Level};
-use crate::results::{earliest, last_part, latest};
 use std::alloc::{AllocError, Global};
+use ul_nodes::level::{Key, Level};
+use ul_nodes::results::{earliest, last_part, latest};
 
 // A piece's own result, or a copy of another tree where it has none.
 fn kept_or_copied(alloc: Global, own: Option<Tree>, otherwise: &Tree) -> Result<Tree, AllocError>

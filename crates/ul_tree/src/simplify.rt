@@ -1,21 +1,21 @@
 //! Trees made simpler where only a region counts.
 ghost use Rattle.std.specs.Prelude.{◌≡◌, ◌<◌, ◌≤◌, ◌-◌, IfOk, All, List, ℕ, Some, option_map, true, false};
 ghost use Rattle.ul_tree.specs.TreeFacts.{IsTree, AgreesWithin};
-ghost use Rattle.ul_tree.specs.Plain.{truth};
+ghost use Rattle.ul_nodes.specs.Plain.{truth};
 ghost use Rattle.ul_tree.specs.Views.{tree_view};
-ghost use Rattle.ul_tree.specs.Keys.{level_view, top_of, branches_of, branch_count, AreKeysOf, KeysOf};
+ghost use Rattle.ul_nodes.specs.Keys.{level_view, top_of, branches_of, branch_count, AreKeysOf, KeysOf};
 ghost use Rattle.ul_tree.specs.Simplify.{Simplifies, Piece};
 ghost use Rattle.ul_tree.specs.SimplifyViews.{HoldsParts, is_above as is_above_plain, region_view, union_parts, IsLowered, PiecesAre};
 
 use crate::Tree;
 use crate::copy::copy;
 use crate::join::{Join, joined};
-use crate::level::{Key, Level};
-use crate::nodes::{level_keys, part_at, rest_at};
 use crate::part::{Trees, branch_at, branch_count, is_false, known, level_of, rest_of};
 use crate::settle::settled;
 use crate::tree::{DEEPEST, deeper};
 use std::alloc::{AllocError, Global};
+use ul_nodes::level::{Key, Level};
+use ul_nodes::nodes::{level_keys, part_at, rest_at};
 
 /// A tree made simpler where only the region `within` counts, which isn't false: reduced, and with `whole`'s truth
 /// wherever `within` holds. It also depends on `whole` outside of `within`; the rule determines it:

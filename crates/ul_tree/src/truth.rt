@@ -4,13 +4,13 @@ ghost use Rattle.ul_tree.specs.TreeFacts.{IsTree};
 ghost use Rattle.ul_tree.specs.Values.{value_of, tree_holds};
 ghost use Rattle.ul_tree.specs.Paths.{paths_of};
 ghost use Rattle.ul_tree.specs.Views.{tree_view};
-ghost use Rattle.ul_tree.specs.Keys.{level_view, key_view};
+ghost use Rattle.ul_nodes.specs.Keys.{level_view, key_view};
 
 use crate::Tree;
-use crate::level::{Key, Level};
-use crate::nodes::part_at;
 use crate::part::{Trees, branch_at, branch_count, known, level_of, rest_of};
 use ul_marker::World;
+use ul_nodes::level::{Key, Level};
+use ul_nodes::nodes::part_at;
 
 // The count at which paths are no longer counted.
 const MOST_PATHS: u128 = 1 << 127;

@@ -1,6 +1,6 @@
 //! Trees of markers and of specifiers, as tables.
 ghost use Rattle.std.specs.Prelude.{IfOk};
-ghost use Rattle.ul_tree.specs.Reduced.{IsReduced};
+ghost use Rattle.ul_nodes.specs.Reduced.{IsReduced};
 ghost use Rattle.ul_tree.specs.Views.{tree_view};
 ghost use Rattle.ul_marker.specs.Formulas.{IsFormula};
 ghost use Rattle.ul_marker.specs.Views.{marker_view};

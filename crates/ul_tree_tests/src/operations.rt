@@ -1,5 +1,5 @@
 //! Trees made by the operations, against the truth of what they are made of, at many worlds.
-ghost use Rattle.ul_tree.specs.Reduced.{IsReduced};
+ghost use Rattle.ul_nodes.specs.Reduced.{IsReduced};
 ghost use Rattle.ul_tree.specs.Views.{tree_view};
 ghost use Rattle.std.specs.Prelude.{IfOk};
 

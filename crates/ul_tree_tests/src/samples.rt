@@ -1,5 +1,5 @@
 //! Samples of trees, as a table.
-ghost use Rattle.ul_tree.specs.Reduced.{IsReduced};
+ghost use Rattle.ul_nodes.specs.Reduced.{IsReduced};
 ghost use Rattle.ul_tree.specs.Views.{tree_view};
 
 use crate::texts::{cells, tree_of};

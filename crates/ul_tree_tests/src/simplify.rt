@@ -1,5 +1,5 @@
 //! Trees made simpler, as a table.
-ghost use Rattle.ul_tree.specs.Reduced.{IsReduced};
+ghost use Rattle.ul_nodes.specs.Reduced.{IsReduced};
 ghost use Rattle.ul_tree.specs.Views.{tree_view};
 
 use crate::texts::{cells, is_tree_of, tree_of, world_of};

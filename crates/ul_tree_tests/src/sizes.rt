@@ -1,5 +1,5 @@
 //! Trees of many comparisons, wide and deep.
-ghost use Rattle.ul_tree.specs.Reduced.{IsReduced};
+ghost use Rattle.ul_nodes.specs.Reduced.{IsReduced};
 ghost use Rattle.ul_tree.specs.Views.{tree_view};
 
 use crate::texts::{is_copied, tree_of};

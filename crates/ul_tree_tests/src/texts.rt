@@ -1,5 +1,5 @@
 //! Trees and worlds of texts, which the tests share.
-ghost use Rattle.ul_tree.specs.Reduced.{IsReduced};
+ghost use Rattle.ul_nodes.specs.Reduced.{IsReduced};
 ghost use Rattle.ul_tree.specs.Views.{tree_view};
 ghost use Rattle.std.specs.Prelude.{IfOk};
 

@@ -3,7 +3,7 @@ use Rattle.std.proofs.Common.{◌≡◌, ◌≢◌, ◌≤◌, ◌++◌, ℕ, Li
 use Rattle.ul_base.specs.Files.{Told}
 use Rattle.ul_lock_lines.specs.declared.parts.Lock.{Lock as LockData}
 use Rattle.ul_tree.specs.Paths.{paths_of}
-use Rattle.ul_tree.specs.Plain.{Plain}
+use Rattle.ul_nodes.specs.Plain.{Plain}
 use Rattle.ul_lock_text.specs.Markers.{first_over, markers_of}
 use Rattle.ul_lock_text.specs.Texts.{lock_text}
 use Rattle.ul_report.specs.Texts.{refusal_text}

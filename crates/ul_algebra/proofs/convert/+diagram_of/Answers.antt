@@ -1,12 +1,12 @@
 use Rattle.std.proofs.Common.{◌≡◌, ap, sym, ◌∙◌, arith, ◌<◌, subst, true}
 use Rattle.ul_interner.specs.Known.{Known}
 use Rattle.ul_interner.proofs.ForCallers.{known_stays, knows_then}
-use Rattle.ul_tree.specs.Plain.{Plain}
-use Rattle.ul_tree.specs.Reduced.{IsReduced}
-use Rattle.ul_tree.specs.Apply.{size, close}
-use Rattle.ul_tree.specs.Keys.{level_view, branches_of, rest_of, has_kind}
+use Rattle.ul_nodes.specs.Plain.{Plain}
+use Rattle.ul_nodes.specs.Reduced.{IsReduced}
+use Rattle.ul_nodes.specs.Apply.{size, close}
+use Rattle.ul_nodes.specs.Keys.{level_view, branches_of, rest_of, has_kind}
 use Rattle.ul_tree.specs.Views.{tree_view}
-use Rattle.ul_tree.proofs.ForCallers.{rest_reduced, part_reduced}
+use Rattle.ul_nodes.proofs.ForCallers.{rest_reduced, part_reduced}
 use Rattle.ul_tree.proofs.ForCallers.{size_rest, size_part}
 use Rattle.ul_algebra.specs.Made.{diagrams_made}
 use Rattle.ul_algebra.specs.Spelled.{tree_of}

@@ -1,8 +1,8 @@
 use Rattle.std.proofs.Common.{◌≡◌, ◌+◌, ◌*◌, true}
 use Rattle.std.specs.List.{All}
-use Rattle.ul_tree.specs.Apply.{size}
-use Rattle.ul_tree.specs.Keys.{level_view, has_kind, branches_of, branches_from, then_branches}
-use Rattle.ul_tree.specs.Joins.{made_view}
+use Rattle.ul_nodes.specs.Apply.{size}
+use Rattle.ul_nodes.specs.Keys.{level_view, has_kind, branches_of, branches_from, then_branches}
+use Rattle.ul_nodes.specs.Rows.{made_view}
 use Rattle.ul_tree.specs.Views.{tree_view}
 use Rattle.ul_algebra.specs.Spelled.{tree_of}
 use Rattle.ul_algebra.proofs.convert.+spelled_tree.Given as goal

@@ -3,11 +3,11 @@ use Rattle.std.specs.List.{All}
 use Rattle.std.proofs.lemmas.List.{drop_all}
 use Rattle.ul_interner.specs.Known.{Known}
 use Rattle.ul_interner.proofs.ForCallers.{known_stays, knows_then}
-use Rattle.ul_tree.specs.Plain.{Plain}
-use Rattle.ul_tree.specs.Reduced.{IsReduced}
-use Rattle.ul_tree.specs.Apply.{size, apply, part_at}
-use Rattle.ul_tree.specs.Keys.{level_view, key_view, keys_view, has_kind}
-use Rattle.ul_tree.specs.declared.level.Key.{Key}
+use Rattle.ul_nodes.specs.Plain.{Plain}
+use Rattle.ul_nodes.specs.Reduced.{IsReduced}
+use Rattle.ul_nodes.specs.Apply.{size, apply, part_at}
+use Rattle.ul_nodes.specs.Keys.{level_view, key_view, keys_view, has_kind}
+use Rattle.ul_nodes.specs.declared.level.Key.{Key}
 use Rattle.ul_tree.proofs.ForCallers.{applied}
 use Rattle.ul_tree.proofs.ForCallers.{rests_smaller, parts_smaller}
 use Rattle.ul_tree.proofs.ForCallers.{then_none, stands_kept}

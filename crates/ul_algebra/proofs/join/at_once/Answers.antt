@@ -1,5 +1,5 @@
 use Rattle.std.proofs.Common.{sym}
-use Rattle.ul_tree.proofs.ForCallers.{same_true}
+use Rattle.ul_nodes.proofs.ForCallers.{same_true}
 use Rattle.ul_algebra.specs.Joinings.{truth_of, FollowsSide, IsJoinAtOnce}
 use Rattle.ul_algebra.specs.Spelled.{tree_of}
 use Rattle.ul_algebra.specs.declared.questions.AtOnce.TheVariants.{First, Second}

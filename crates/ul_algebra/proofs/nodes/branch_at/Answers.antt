@@ -1,9 +1,9 @@
 use Rattle.std.specs.List.{slice_get}
-use Rattle.ul_tree.specs.declared.level.Key.TheVariants.{Literal, Number, Holds}
+use Rattle.ul_nodes.specs.declared.level.Key.TheVariants.{Literal, Number, Holds}
 use Rattle.std.proofs.Common.{◌≡◌, ◌<◌, suc, ap, sym, ◌∙◌, arith, length, map, get_or, add-one, ◌∷◌, []}
-use Rattle.ul_tree.specs.Plain.{branch}
-use Rattle.ul_tree.specs.Levels.{extra_level, text_level, atom_level}
-use Rattle.ul_tree.specs.Keys.{branches_of, branch_count, branches_from, is_key_of}
+use Rattle.ul_nodes.specs.Plain.{branch}
+use Rattle.ul_nodes.specs.Levels.{extra_level, text_level, atom_level}
+use Rattle.ul_nodes.specs.Keys.{branches_of, branch_count, branches_from, is_key_of}
 use Rattle.ul_tree.specs.Views.{python_of}
 use Rattle.ul_interner.specs.Marked.{parts_of}
 use Rattle.ul_interner.proofs.ForCallers.{known_part}

@@ -1,7 +1,7 @@
 use Rattle.std.specs.List.{slice_get}
 use Rattle.std.proofs.Common.{ap, sym, ◌∙◌, arith, ◌∷◌, []}
-use Rattle.ul_tree.specs.Levels.{extra_level, text_level, atom_level}
-use Rattle.ul_tree.specs.Keys.{rest_of}
+use Rattle.ul_nodes.specs.Levels.{extra_level, text_level, atom_level}
+use Rattle.ul_nodes.specs.Keys.{rest_of}
 use Rattle.ul_interner.specs.Marked.{parts_of}
 use Rattle.ul_interner.proofs.ForCallers.{known_part}
 use Rattle.ul_algebra.specs.declared.labels.DiagramLabel.TheVariants.{Extra, Python, Text, Opaque}

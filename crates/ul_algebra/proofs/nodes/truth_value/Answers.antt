@@ -1,5 +1,5 @@
 use Rattle.std.proofs.Common.{ap, sym, ◌∙◌, map}
-use Rattle.ul_tree.specs.Apply.{truth_value}
+use Rattle.ul_nodes.specs.Apply.{truth_value}
 use Rattle.ul_interner.specs.Marked.{parts_of}
 use Rattle.ul_algebra.specs.Spelled.{tree_of}
 use Rattle.ul_algebra.specs.declared.labels.DiagramLabel.TheVariants.{Extra, Python, Text, Opaque}

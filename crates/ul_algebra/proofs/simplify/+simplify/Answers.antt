@@ -1,15 +1,15 @@
 use Rattle.std.proofs.Common.{◌<◌, ◌≡◌, ℕ, List, ap, sym, ◌∙◌, refl, subst, arith, get_or, false}
 use Rattle.std.specs.Option.{option_map}
 use Rattle.ul_interner.proofs.ForCallers.{known_stays, knows_then}
-use Rattle.ul_tree.specs.Plain.{Plain, truth}
-use Rattle.ul_tree.specs.Reduced.{IsReduced}
-use Rattle.ul_tree.specs.Apply.{size, rest_at, part_at}
-use Rattle.ul_tree.specs.Keys.{level_view, key_view, keys_view}
+use Rattle.ul_nodes.specs.Plain.{Plain, truth}
+use Rattle.ul_nodes.specs.Reduced.{IsReduced}
+use Rattle.ul_nodes.specs.Apply.{size, rest_at, part_at}
+use Rattle.ul_nodes.specs.Keys.{level_view, key_view, keys_view}
 use Rattle.ul_tree.specs.SimplifyViews.{is_above as is_above_plain}
 use Rattle.ul_tree.specs.Simplify.{Simplifies, Pieces, Piece, settled_level}
 use Rattle.ul_tree.proofs.ForCallers.{no_key}
 use Rattle.ul_tree.proofs.ForCallers.{tree_part, tree_rest, region_part, region_rest, part_smaller, rest_smaller, piece_outside, piece_inside, truth_done, all_done, level_done, result_reduced, results_reduced, simpler_reduced}
-use Rattle.ul_tree.specs.declared.level.Key.{Key}
+use Rattle.ul_nodes.specs.declared.level.Key.{Key}
 use Rattle.ul_algebra.specs.Spelled.{tree_of}
 use Rattle.ul_algebra.specs.Made.{result_diagrams, OwnKnown}
 use Rattle.ul_algebra.proofs.Rows.{all_more, all_push}

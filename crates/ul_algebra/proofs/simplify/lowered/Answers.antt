@@ -1,6 +1,6 @@
 use Rattle.std.proofs.Common.{sym, ◌∙◌}
 use Rattle.ul_interner.proofs.ForCallers.{knows_itself, knows_then}
-use Rattle.ul_tree.specs.Keys.{level_view}
+use Rattle.ul_nodes.specs.Keys.{level_view}
 use Rattle.ul_tree.proofs.ForCallers.{lowers_itself, lowers_union}
 use Rattle.ul_algebra.specs.Spelled.{tree_of}
 use Rattle.ul_algebra.proofs.simplify.lowered.Goals as goal

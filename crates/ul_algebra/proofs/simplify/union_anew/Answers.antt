@@ -1,11 +1,12 @@
 use Rattle.std.proofs.Common.{◌≤◌, ap, sym, ◌∙◌, subst, arith}
 use Rattle.ul_interner.specs.Known.{Known}
 use Rattle.ul_interner.proofs.ForCallers.{known_stays, knows_itself, knows_then}
-use Rattle.ul_tree.specs.Plain.{Plain}
-use Rattle.ul_tree.specs.Reduced.{IsReduced}
-use Rattle.ul_tree.specs.Keys.{key_view, branches_of, branch_count}
+use Rattle.ul_nodes.specs.Plain.{Plain}
+use Rattle.ul_nodes.specs.Reduced.{IsReduced}
+use Rattle.ul_nodes.specs.Keys.{key_view, branches_of, branch_count}
 use Rattle.ul_tree.specs.Simplify.{union_in}
-use Rattle.ul_tree.proofs.ForCallers.{from_end, part_reduced, rest_reduced, union_step}
+use Rattle.ul_nodes.proofs.ForCallers.{from_end, part_reduced, rest_reduced}
+use Rattle.ul_tree.proofs.ForCallers.{union_step}
 use Rattle.ul_algebra.specs.Spelled.{tree_of}
 use Rattle.ul_algebra.proofs.simplify.union_anew.Goals as goal
 

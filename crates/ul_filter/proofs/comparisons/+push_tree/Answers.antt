@@ -1,7 +1,8 @@
 use Rattle.std.proofs.Common.{◌++◌, sym, ap, ◌∙◌, append-nil, arith}
-use Rattle.ul_tree.specs.Keys.{branches_of}
+use Rattle.ul_nodes.specs.Keys.{branches_of}
 use Rattle.ul_tree.specs.Views.{tree_view}
-use Rattle.ul_tree.proofs.ForCallers.{from_end, part_reduced, size_part}
+use Rattle.ul_nodes.proofs.ForCallers.{from_end, part_reduced}
+use Rattle.ul_tree.proofs.ForCallers.{size_part}
 use Rattle.ul_filter.specs.Comparisons.{branch_atoms}
 use Rattle.ul_filter.proofs.comparisons.+push_tree.Goals as goal
 

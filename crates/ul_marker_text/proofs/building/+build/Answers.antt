@@ -3,7 +3,7 @@ use Rattle.std.specs.Prelude.{Vec}
 use Rattle.std.specs.declared.alloc.Global.{Global}
 use Rattle.std.proofs.lemmas.List.{map-append, length-drop}
 use Rattle.ul_tree.specs.Fans.{parts_of, tree_of}
-use Rattle.ul_tree.specs.Keys.{level_view}
+use Rattle.ul_nodes.specs.Keys.{level_view}
 use Rattle.ul_tree.specs.PathLaws.{step_level}
 use Rattle.ul_tree.specs.Views.{tree_view}
 use Rattle.ul_marker_text.specs.Nodes.{Part, Keeps, KeepFirst, front_count, parts_view}

@@ -1,6 +1,6 @@
 use Rattle.std.proofs.Common.{◌+◌, ◌-◌, ◌*◌, ◌≤◌, drop, length}
 use Rattle.ul_tree.specs.Fans.{parts_of}
-use Rattle.ul_tree.specs.Keys.{level_view}
+use Rattle.ul_nodes.specs.Keys.{level_view}
 use Rattle.ul_marker_text.specs.Nodes.{parts_view, KeepFirst}
 use Rattle.ul_marker_text.specs.StepViews.{fan_from}
 use Rattle.ul_marker_text.proofs.building.+build.Given as goal

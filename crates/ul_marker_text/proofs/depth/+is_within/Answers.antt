@@ -1,6 +1,6 @@
 use Rattle.std.proofs.Common.{arith}
 use Rattle.ul_tree.specs.Views.{tree_view}
-use Rattle.ul_tree.proofs.ForCallers.{part_reduced}
+use Rattle.ul_nodes.proofs.ForCallers.{part_reduced}
 use Rattle.ul_marker_text.proofs.depth.+is_within.Goals as goal
 
 pub is_within-requires : goal.is_within-requires

@@ -1,8 +1,8 @@
 use Rattle.std.proofs.Common.{ap, sym, ◌∙◌, subst, Some, ◌+◌, drop}
 use Rattle.ul_tree.specs.Joins.{trees_made}
-use Rattle.ul_tree.specs.Keys.{key_view}
-use Rattle.ul_tree.specs.Plain.{Plain, carried_part}
-use Rattle.ul_tree.specs.Reduced.{IsReduced}
+use Rattle.ul_nodes.specs.Keys.{key_view}
+use Rattle.ul_nodes.specs.Plain.{Plain, carried_part}
+use Rattle.ul_nodes.specs.Reduced.{IsReduced}
 use Rattle.ul_tree.specs.Views.{tree_view}
 use Rattle.ul_marker_text.specs.Nodes.{are_apart}
 use Rattle.ul_marker_text.proofs.NodeCode.{entry_reduced, apart_step}

@@ -1,8 +1,8 @@
 use Rattle.std.proofs.Common.{◌≡◌, None, drop}
 use Rattle.std.specs.Prelude.{option_map}
 use Rattle.ul_tree.specs.Joins.{trees_made}
-use Rattle.ul_tree.specs.Keys.{key_view}
-use Rattle.ul_tree.specs.Reduced.{IsReduced}
+use Rattle.ul_nodes.specs.Keys.{key_view}
+use Rattle.ul_nodes.specs.Reduced.{IsReduced}
 use Rattle.ul_tree.specs.Views.{tree_view}
 use Rattle.ul_marker_text.specs.Nodes.{are_apart}
 use Rattle.ul_marker_text.proofs.nodes.are_apart.Given as goal

@@ -2,11 +2,11 @@ use Rattle.std.proofs.Common.{◌≡◌, ◌≢◌, ap, sym, ◌∙◌, subst, L
 use Rattle.std.specs.Prelude.{All}
 use Rattle.std.specs.Ordering.{is_lt}
 use Rattle.ul_tree.specs.Joins.{trees_made}
-use Rattle.ul_tree.specs.Keys.{level_view}
-use Rattle.ul_tree.specs.Plain.{Plain, carries, done}
-use Rattle.ul_tree.specs.Reduced.{IsReduced, Fits}
+use Rattle.ul_nodes.specs.Keys.{level_view}
+use Rattle.ul_nodes.specs.Plain.{Plain, carries, done}
+use Rattle.ul_nodes.specs.Reduced.{IsReduced, Fits}
 use Rattle.ul_tree.specs.Views.{tree_view}
-use Rattle.ul_tree.specs.declared.level.Key.{Key}
+use Rattle.ul_nodes.specs.declared.level.Key.{Key}
 use Rattle.ul_tree.specs.declared.tree.Tree.{Tree}
 use Rattle.ul_tree.proofs.ForCallers.{view_truth}
 use Rattle.ul_marker_text.specs.Nodes.{are_apart}

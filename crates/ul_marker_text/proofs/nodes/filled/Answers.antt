@@ -1,6 +1,6 @@
 use Rattle.std.proofs.Common.{ap, ◌∙◌, map, drop, ◌+◌}
 use Rattle.ul_tree.specs.Fans.{filled_points}
-use Rattle.ul_tree.specs.Keys.{then_branches}
+use Rattle.ul_nodes.specs.Keys.{then_branches}
 use Rattle.ul_marker_text.specs.Nodes.{key_branches, parts_view}
 use Rattle.ul_marker_text.specs.StepViews.{comparison_key}
 use Rattle.ul_marker_text.proofs.PartFacts.{filled_more, filled_end}

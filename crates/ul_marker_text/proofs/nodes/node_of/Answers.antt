@@ -1,5 +1,5 @@
 use Rattle.std.proofs.Common.{sym}
-use Rattle.ul_tree.specs.Keys.{level_view}
+use Rattle.ul_nodes.specs.Keys.{level_view}
 use Rattle.ul_marker_text.specs.Nodes.{parts_view}
 use Rattle.ul_marker_text.specs.StepViews.{above_view}
 use Rattle.ul_marker_text.proofs.NodeCode.{first_flat, interval_fits}

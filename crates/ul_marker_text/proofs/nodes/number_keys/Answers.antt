@@ -1,6 +1,6 @@
 use Rattle.std.proofs.Common.{ap, sym, subst, arith, List}
-use Rattle.ul_tree.specs.Levels.{python_level}
-use Rattle.ul_tree.specs.declared.level.Key.{Key}
+use Rattle.ul_nodes.specs.Levels.{python_level}
+use Rattle.ul_nodes.specs.declared.level.Key.{Key}
 use Rattle.ul_tree.specs.declared.tree.Tree.{Tree}
 use Rattle.ul_marker_text.specs.Nodes.{number_branches}
 use Rattle.ul_marker_text.proofs.PartFacts.{KeysLeft, keys_more, keys_end, no_numbers}

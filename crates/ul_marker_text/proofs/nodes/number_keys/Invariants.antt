@@ -1,4 +1,4 @@
-use Rattle.ul_tree.specs.Levels.{python_level}
+use Rattle.ul_nodes.specs.Levels.{python_level}
 use Rattle.ul_marker_text.specs.Nodes.{number_branches}
 use Rattle.ul_marker_text.proofs.PartFacts.{KeysLeft}
 use Rattle.ul_marker_text.proofs.nodes.number_keys.Given as goal

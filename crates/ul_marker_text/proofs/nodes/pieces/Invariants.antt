@@ -1,6 +1,6 @@
 use Rattle.std.proofs.Common.{◌≡◌, length}
 use Rattle.ul_tree.specs.Fans.{pieces_from}
-use Rattle.ul_tree.specs.Keys.{then_branches}
+use Rattle.ul_nodes.specs.Keys.{then_branches}
 use Rattle.ul_marker_text.specs.Nodes.{number_branches, parts_view}
 use Rattle.ul_marker_text.proofs.nodes.pieces.Given as goal
 

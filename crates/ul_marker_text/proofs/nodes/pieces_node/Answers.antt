@@ -2,11 +2,11 @@ use Rattle.std.proofs.Common.{◌<◌, sym, ◌∙◌, subst, length, ◌∷◌,
 use Rattle.std.specs.Prelude.{Option, Vec}
 use Rattle.std.specs.declared.alloc.Global.{Global}
 use Rattle.ul_tree.specs.Fans.{pieces_from}
-use Rattle.ul_tree.specs.Levels.{python_level}
-use Rattle.ul_tree.specs.Plain.{Plain, Branches}
-use Rattle.ul_tree.specs.Reduced.{Fits}
+use Rattle.ul_nodes.specs.Levels.{python_level}
+use Rattle.ul_nodes.specs.Plain.{Plain, Branches}
+use Rattle.ul_nodes.specs.Reduced.{Fits}
 use Rattle.ul_tree.specs.Views.{tree_view}
-use Rattle.ul_tree.specs.declared.level.Key.{Key}
+use Rattle.ul_nodes.specs.declared.level.Key.{Key}
 use Rattle.ul_tree.specs.declared.tree.Tree.{Tree}
 use Rattle.ul_tree.proofs.ForCallers.{view_truth}
 use Rattle.ul_marker_text.specs.NodeViews.{KeysAnswer}

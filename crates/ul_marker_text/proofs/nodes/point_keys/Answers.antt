@@ -1,7 +1,7 @@
 use Rattle.std.proofs.Common.{ap, sym, subst, arith, List}
 use Rattle.std.specs.Prelude.{Option}
-use Rattle.ul_tree.specs.Keys.{level_view}
-use Rattle.ul_tree.specs.declared.level.Key.{Key}
+use Rattle.ul_nodes.specs.Keys.{level_view}
+use Rattle.ul_nodes.specs.declared.level.Key.{Key}
 use Rattle.ul_tree.specs.declared.tree.Tree.{Tree}
 use Rattle.ul_marker_text.specs.NodeViews.{KeyAnswer}
 use Rattle.ul_marker_text.specs.Nodes.{key_branches}

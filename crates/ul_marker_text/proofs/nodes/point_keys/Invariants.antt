@@ -1,4 +1,4 @@
-use Rattle.ul_tree.specs.Keys.{level_view}
+use Rattle.ul_nodes.specs.Keys.{level_view}
 use Rattle.ul_marker_text.specs.Nodes.{key_branches}
 use Rattle.ul_marker_text.proofs.PartFacts.{KeysLeft}
 use Rattle.ul_marker_text.proofs.nodes.point_keys.Given as goal

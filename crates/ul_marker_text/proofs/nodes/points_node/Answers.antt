@@ -1,8 +1,8 @@
 use Rattle.std.proofs.Common.{ap, sym, ◌∙◌, subst, false, ◌∷◌, map}
 use Rattle.ul_tree.specs.Fans.{other_part}
-use Rattle.ul_tree.specs.Keys.{level_view}
-use Rattle.ul_tree.specs.Plain.{Branches, Plain, node, truth}
-use Rattle.ul_tree.specs.Reduced.{Fits}
+use Rattle.ul_nodes.specs.Keys.{level_view}
+use Rattle.ul_nodes.specs.Plain.{Branches, Plain, node, truth}
+use Rattle.ul_nodes.specs.Reduced.{Fits}
 use Rattle.ul_tree.proofs.ForCallers.{view_truth}
 use Rattle.ul_marker_text.specs.Nodes.{parts_view, key_branches, BranchesFit}
 use Rattle.ul_marker_text.specs.StepViews.{above_view, comparison_key}

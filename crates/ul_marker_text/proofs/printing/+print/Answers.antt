@@ -1,10 +1,11 @@
 use Rattle.std.proofs.Common.{◌∙◌, ap, sym, add-one, arith, string_bytes}
-use Rattle.ul_tree.specs.Keys.{level_view, key_view, branches_of, branches_from}
+use Rattle.ul_nodes.specs.Keys.{level_view, key_view, branches_of, branches_from}
 use Rattle.ul_tree.specs.Views.{tree_view}
-use Rattle.ul_tree.proofs.ForCallers.{size_part, from_end, part_reduced}
+use Rattle.ul_nodes.proofs.ForCallers.{from_end, part_reduced}
+use Rattle.ul_tree.proofs.ForCallers.{size_part}
 use Rattle.ul_tree.specs.PathList.{interval, point, others, longer_paths, paths_to_true, paths_from, paths_at}
 use Rattle.ul_marker_text.specs.Printing.{paths_behind}
-use Rattle.ul_tree.specs.Apply.{keys}
+use Rattle.ul_nodes.specs.Apply.{keys}
 use Rattle.ul_marker_text.proofs.Behind.{false_behind, truth_behind, untrue_behind, pieces_paths, key_kind, piece_behind, point_behind, other_behind, points_step, points_done, node_behind, pieces_step, pieces_done}
 use Rattle.ul_marker_text.proofs.printing.+print.Goals as goal
 

@@ -1,7 +1,7 @@
 use Rattle.std.proofs.Common.{◌≡◌, ◌+◌, ◌*◌, ◌<◌, string_bytes}
-use Rattle.ul_tree.specs.Apply.{size}
-use Rattle.ul_tree.specs.Keys.{level_view, rest_of, branches_of, branches_from}
-use Rattle.ul_tree.specs.Reduced.{IsReduced}
+use Rattle.ul_nodes.specs.Apply.{size}
+use Rattle.ul_nodes.specs.Keys.{level_view, rest_of, branches_of, branches_from}
+use Rattle.ul_nodes.specs.Reduced.{IsReduced}
 use Rattle.ul_tree.specs.Views.{tree_view}
 use Rattle.ul_tree.specs.PathList.{paths_to_true, paths_from, paths_at}
 use Rattle.ul_marker_text.specs.Printing.{paths_behind}

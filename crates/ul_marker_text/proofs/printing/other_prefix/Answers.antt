@@ -1,8 +1,8 @@
 use Rattle.std.proofs.Common.{◌∙◌, ap, add-one, arith, string_bytes}
-use Rattle.ul_tree.specs.Keys.{level_view, branches_of, branches_from}
+use Rattle.ul_nodes.specs.Keys.{level_view, branches_of, branches_from}
 use Rattle.ul_tree.specs.Views.{tree_view}
-use Rattle.ul_tree.proofs.ForCallers.{from_end}
-use Rattle.ul_tree.specs.Apply.{keys}
+use Rattle.ul_nodes.proofs.ForCallers.{from_end}
+use Rattle.ul_nodes.specs.Apply.{keys}
 use Rattle.ul_marker_text.specs.Printing.{others_joined}
 use Rattle.ul_marker_text.proofs.Behind.{others_step, others_done, key_kind}
 use Rattle.ul_marker_text.proofs.printing.other_prefix.Goals as goal

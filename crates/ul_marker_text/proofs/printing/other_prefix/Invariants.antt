@@ -1,6 +1,6 @@
 use Rattle.std.proofs.Common.{◌≡◌, string_bytes}
-use Rattle.ul_tree.specs.Apply.{keys}
-use Rattle.ul_tree.specs.Keys.{level_view, branches_of, branches_from}
+use Rattle.ul_nodes.specs.Apply.{keys}
+use Rattle.ul_nodes.specs.Keys.{level_view, branches_of, branches_from}
 use Rattle.ul_tree.specs.Views.{tree_view}
 use Rattle.ul_marker_text.specs.Printing.{others_joined}
 use Rattle.ul_marker_text.proofs.printing.other_prefix.Given as goal

@@ -2,7 +2,7 @@ use Rattle.std.proofs.Common.{ap, ◌∙◌}
 use Rattle.std.specs.Ordering.{is_eq}
 use Rattle.std.specs.Str.{bytes_eq}
 use Rattle.std.proofs.lemmas.Map.Text.{is_eq-slice_cmp}
-use Rattle.ul_tree.specs.Keys.{key_view}
+use Rattle.ul_nodes.specs.Keys.{key_view}
 use Rattle.ul_marker_text.specs.StepViews.{comparison_key}
 use Rattle.ul_marker_text.proofs.steps.has_key.Goals as goal
 

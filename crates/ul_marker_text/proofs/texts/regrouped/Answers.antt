@@ -1,7 +1,7 @@
 use Rattle.std.proofs.Common.{[], ap, sym, ◌∙◌, subst}
 use Rattle.ul_marker.specs.Views.{marker_view}
-use Rattle.ul_tree.specs.Plain.{Plain}
-use Rattle.ul_tree.specs.Reduced.{Fits}
+use Rattle.ul_nodes.specs.Plain.{Plain}
+use Rattle.ul_nodes.specs.Reduced.{Fits}
 use Rattle.ul_marker_text.specs.StepViews.{rows_tree}
 use Rattle.ul_marker_text.proofs.TextsRead.{no_formula, no_rows, rows_tree_is}
 use Rattle.ul_marker_text.proofs.Faulty.{fault_is, same_fault}

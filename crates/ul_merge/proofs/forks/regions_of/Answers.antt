@@ -1,6 +1,6 @@
 use Rattle.std.proofs.Common.{◌≡◌, ◌+◌, List, map, take, sym, subst}
 use Rattle.ul_interner.proofs.ForCallers.{knows_then}
-use Rattle.ul_tree.specs.Plain.{Plain}
+use Rattle.ul_nodes.specs.Plain.{Plain}
 use Rattle.ul_algebra.specs.Spelled.{tree_of}
 use Rattle.ul_merge.specs.Views.{ForkLeaf, leaf_of}
 use Rattle.ul_region.proofs.ForCallers.{still, truth_still}

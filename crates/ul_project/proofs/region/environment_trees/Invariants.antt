@@ -4,7 +4,7 @@ use Rattle.ul_marker.specs.Formulas.{AreFormulas}
 use Rattle.ul_marker.specs.Views.{marker_view, markers_view}
 use Rattle.ul_marker.specs.Worlds.{WorldFields, IsWorld}
 use Rattle.ul_tree.specs.Joining.{truths_of}
-use Rattle.ul_tree.specs.Reduced.{IsReduced}
+use Rattle.ul_nodes.specs.Reduced.{IsReduced}
 use Rattle.ul_tree.specs.Views.{tree_view}
 use Rattle.ul_project.specs.Region.{holds_bare}
 use Rattle.ul_project.proofs.region.environment_trees.Given as goal

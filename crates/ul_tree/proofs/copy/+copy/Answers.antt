@@ -1,8 +1,8 @@
 use Rattle.std.proofs.Common.{ap, sym, ◌∙◌, arith, drop, ◌+◌}
 use Rattle.std.proofs.lemmas.List.{drop_all}
-use Rattle.ul_tree.specs.Plain.{node}
-use Rattle.ul_tree.specs.Levels.{extra_level, text_level}
-use Rattle.ul_tree.specs.Keys.{then_branches}
+use Rattle.ul_nodes.specs.Plain.{node}
+use Rattle.ul_nodes.specs.Levels.{extra_level, text_level}
+use Rattle.ul_nodes.specs.Keys.{then_branches}
 use Rattle.ul_tree.specs.Views.{tree_view, points_view}
 use Rattle.ul_tree.proofs.Shapes.{view_extra, view_text}
 use Rattle.ul_tree.proofs.Rebuilt.{then_none, points_copied}

@@ -1,5 +1,5 @@
 use Rattle.std.proofs.Common.{◌≡◌, ◌++◌, map, drop}
-use Rattle.ul_tree.specs.Keys.{then_branches}
+use Rattle.ul_nodes.specs.Keys.{then_branches}
 use Rattle.ul_tree.specs.Views.{tree_view, points_view}
 use Rattle.ul_tree.proofs.copy.+copy.Given as goal
 

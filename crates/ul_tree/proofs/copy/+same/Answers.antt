@@ -1,10 +1,10 @@
 use Rattle.std.proofs.Common.{◌≢◌, ap, sym, ◌∙◌, arith, ℕ, ◌<◌, subst, None, add-one, is_eq}
-use Rattle.ul_tree.specs.Plain.{Plain, done}
-use Rattle.ul_tree.specs.Reduced.{IsReduced}
-use Rattle.ul_tree.specs.Apply.{size, sames as sames_plain}
+use Rattle.ul_nodes.specs.Plain.{Plain, done}
+use Rattle.ul_nodes.specs.Reduced.{IsReduced}
+use Rattle.ul_nodes.specs.Apply.{size, sames as sames_plain}
 use Rattle.ul_tree.specs.Views.{tree_view}
-use Rattle.ul_tree.specs.Keys.{top_of, branches_of, branches_from}
-use Rattle.ul_tree.proofs.Halves.{rest_reduced, part_reduced, from_end}
+use Rattle.ul_nodes.specs.Keys.{top_of, branches_of, branches_from}
+use Rattle.ul_nodes.proofs.ForCallers.{rest_reduced, part_reduced, from_end}
 use Rattle.ul_tree.proofs.Compared.{size_rest, size_part, tops_differ, nodes_same, counts_differ, next_same, both_ends, both_goes, is_node}
 use Rattle.ul_tree.proofs.copy.+same.Goals as goal
 use Rattle.ul_tree.proofs.copy.+same.Goals.{Else-is_none}

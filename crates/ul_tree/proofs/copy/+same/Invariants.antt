@@ -1,6 +1,6 @@
 use Rattle.std.proofs.Common.{◌≡◌}
-use Rattle.ul_tree.specs.Apply.{size, same as same_plain, sames as sames_plain}
-use Rattle.ul_tree.specs.Keys.{branches_of, branches_from}
+use Rattle.ul_nodes.specs.Apply.{size, same as same_plain, sames as sames_plain}
+use Rattle.ul_nodes.specs.Keys.{branches_of, branches_from}
 use Rattle.ul_tree.specs.Views.{tree_view}
 use Rattle.ul_tree.proofs.copy.+same.Given as goal
 

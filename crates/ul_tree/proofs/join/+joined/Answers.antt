@@ -1,13 +1,14 @@
 use Rattle.std.proofs.Common.{◌≡◌, zero, suc, List, [], ◌+◌, ◌<◌, ap, sym, ◌∙◌, arith, drop, subst, true, get_or}
 use Rattle.std.specs.List.{All}
 use Rattle.std.proofs.lemmas.List.{drop_all}
-use Rattle.ul_tree.specs.Plain.{Plain}
-use Rattle.ul_tree.specs.Reduced.{IsReduced}
-use Rattle.ul_tree.specs.Apply.{size, apply, part_at}
+use Rattle.ul_nodes.specs.Plain.{Plain}
+use Rattle.ul_nodes.specs.Reduced.{IsReduced}
+use Rattle.ul_nodes.specs.Apply.{size, apply, part_at}
 use Rattle.ul_tree.specs.Views.{tree_view}
-use Rattle.ul_tree.specs.Keys.{level_view, key_view, keys_view, has_kind}
-use Rattle.ul_tree.specs.Joins.{truth_of, made_view}
-use Rattle.ul_tree.specs.declared.level.Key.{Key}
+use Rattle.ul_nodes.specs.Keys.{level_view, key_view, keys_view, has_kind}
+use Rattle.ul_nodes.specs.Rows.{made_view}
+use Rattle.ul_tree.specs.Joins.{truth_of}
+use Rattle.ul_nodes.specs.declared.level.Key.{Key}
 use Rattle.ul_tree.proofs.Applied.{applied}
 use Rattle.ul_tree.proofs.Smaller.{rests_smaller, parts_smaller}
 use Rattle.ul_tree.proofs.Rebuilt.{then_none}

@@ -1,10 +1,11 @@
 use Rattle.std.proofs.Common.{◌≡◌, drop, ◌+◌, ◌*◌, ◌<◌, ℕ, suc, true}
 use Rattle.std.specs.List.{All}
-use Rattle.ul_tree.specs.Reduced.{IsReduced}
-use Rattle.ul_tree.specs.Apply.{size, outs, apply, part_at}
+use Rattle.ul_nodes.specs.Reduced.{IsReduced}
+use Rattle.ul_nodes.specs.Apply.{size, outs, apply, part_at}
 use Rattle.ul_tree.specs.Views.{tree_view}
-use Rattle.ul_tree.specs.Keys.{level_view, keys_view, has_kind, then_branches}
-use Rattle.ul_tree.specs.Joins.{truth_of, made_view, stands}
+use Rattle.ul_nodes.specs.Keys.{level_view, keys_view, has_kind, then_branches}
+use Rattle.ul_nodes.specs.Rows.{made_view, stands}
+use Rattle.ul_tree.specs.Joins.{truth_of}
 use Rattle.ul_tree.proofs.join.+joined.Given as goal
 
 abbrev pub decreases-joined_within : goal.decreases-joined_within

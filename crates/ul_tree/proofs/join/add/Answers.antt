@@ -1,15 +1,15 @@
 use Rattle.std.proofs.Common.{◌≡◌, Bool, List, ap, sym, ◌∙◌, subst, false}
-use Rattle.ul_tree.specs.Plain.{Plain}
-use Rattle.ul_tree.specs.Reduced.{IsReduced}
-use Rattle.ul_tree.specs.Joins.{made_view, stands, more_branches}
-use Rattle.ul_tree.specs.Apply.{same as same_plain}
-use Rattle.ul_tree.specs.Keys.{key_view}
-use Rattle.ul_tree.specs.SimplifyViews.{standing_part}
+use Rattle.ul_nodes.specs.Plain.{Plain}
+use Rattle.ul_nodes.specs.Reduced.{IsReduced}
+use Rattle.ul_nodes.specs.Rows.{made_view, stands, standing_part}
+use Rattle.ul_tree.specs.Joins.{more_branches}
+use Rattle.ul_nodes.specs.Apply.{same as same_plain}
+use Rattle.ul_nodes.specs.Keys.{key_view}
 use Rattle.ul_tree.specs.Views.{tree_view}
-use Rattle.ul_tree.specs.declared.level.Key.{Key}
+use Rattle.ul_nodes.specs.declared.level.Key.{Key}
 use Rattle.ul_tree.specs.declared.tree.Tree.{Tree}
 use Rattle.ul_tree.proofs.Made.{added_more}
-use Rattle.ul_tree.proofs.Viewed.{standing_viewed}
+use Rattle.ul_nodes.proofs.ForCallers.{standing_viewed}
 use Rattle.ul_tree.proofs.join.add.Goals as goal
 
 -- the part that stands, as the code finds it

@@ -1,8 +1,8 @@
 use Rattle.std.proofs.Common.{sym, subst}
-use Rattle.ul_tree.specs.Apply.{both, either}
+use Rattle.ul_nodes.specs.Apply.{both, either}
 use Rattle.ul_tree.specs.JoinSteps.{JoinsTo}
 use Rattle.ul_tree.specs.Joins.{truth_of, at_once_view}
-use Rattle.ul_tree.specs.Plain.{Plain, truth}
+use Rattle.ul_nodes.specs.Plain.{Plain, truth}
 use Rattle.ul_tree.specs.Views.{tree_view}
 use Rattle.ul_tree.specs.declared.join.Join.{Join}
 use Rattle.ul_tree.proofs.Shortcuts.{both_joins, either_joins}

@@ -1,12 +1,12 @@
 use Rattle.std.proofs.Common.{◌≡◌, ◌<◌, ap, sym, ◌∙◌, arith, length, subst, IfOk}
 use Rattle.std.proofs.lemmas.Grind.{common_steps}
-use Rattle.ul_tree.specs.Plain.{Plain, node}
-use Rattle.ul_tree.specs.Levels.{extra_level, text_level, python_level, atom_level}
-use Rattle.ul_tree.specs.Reduced.{IsReduced}
-use Rattle.ul_tree.specs.Joins.{made_view}
+use Rattle.ul_nodes.specs.Plain.{Plain, node}
+use Rattle.ul_nodes.specs.Levels.{extra_level, text_level, python_level, atom_level}
+use Rattle.ul_nodes.specs.Reduced.{IsReduced}
+use Rattle.ul_nodes.specs.Rows.{made_view}
 use Rattle.ul_tree.specs.Views.{tree_view, points_view}
-use Rattle.ul_tree.specs.Apply.{close}
-use Rattle.ul_tree.specs.Keys.{level_view}
+use Rattle.ul_nodes.specs.Apply.{close}
+use Rattle.ul_nodes.specs.Keys.{level_view}
 use Rattle.ul_tree.proofs.Shapes.{view_extra, view_text}
 use Rattle.ul_tree.proofs.Pieces.{close_some}
 use Rattle.ul_tree.proofs.join.closed.Goals as goal

@@ -1,6 +1,6 @@
 use Rattle.std.proofs.Common.{◌∷◌, [], ap, sym, ◌∙◌}
-use Rattle.ul_tree.specs.Plain.{node, branch, done}
-use Rattle.ul_tree.specs.Levels.{atom_level}
+use Rattle.ul_nodes.specs.Plain.{node, branch, done}
+use Rattle.ul_nodes.specs.Levels.{atom_level}
 use Rattle.ul_tree.specs.Views.{tree_view}
 use Rattle.ul_tree.proofs.Shapes.{view_opaque}
 use Rattle.ul_tree.proofs.Pieces.{one_mark}

@@ -1,7 +1,7 @@
 use Rattle.std.proofs.Common.{◌≡◌, ap, sym, ◌∙◌, arith, true, false}
 use Rattle.std.specs.List.{All}
-use Rattle.ul_tree.specs.Keys.{is_number_key, key_view}
-use Rattle.ul_tree.specs.Joins.{made_view}
+use Rattle.ul_nodes.specs.Keys.{is_number_key, key_view}
+use Rattle.ul_nodes.specs.Rows.{made_view}
 use Rattle.ul_tree.specs.Views.{tree_view}
 use Rattle.ul_tree.proofs.Shapes.{view_python}
 use Rattle.ul_tree.proofs.Made.{first_of}

@@ -1,7 +1,7 @@
 use Rattle.std.proofs.Common.{◌≡◌, true}
 use Rattle.std.specs.List.{All}
-use Rattle.ul_tree.specs.Keys.{is_number_key}
-use Rattle.ul_tree.specs.Joins.{made_view}
+use Rattle.ul_nodes.specs.Keys.{is_number_key}
+use Rattle.ul_nodes.specs.Rows.{made_view}
 use Rattle.ul_tree.specs.Views.{tree_view}
 use Rattle.ul_tree.proofs.Pieces.{HasMade}
 use Rattle.ul_tree.proofs.join.pieces_of.Given as goal

@@ -1,7 +1,7 @@
 use Rattle.std.proofs.Common.{◌≡◌, ap, sym, ◌∙◌, arith, true, false}
 use Rattle.std.specs.List.{All}
-use Rattle.ul_tree.specs.Keys.{then_branches, is_literal_key, key_view}
-use Rattle.ul_tree.specs.Joins.{made_view}
+use Rattle.ul_nodes.specs.Keys.{then_branches, is_literal_key, key_view}
+use Rattle.ul_nodes.specs.Rows.{made_view}
 use Rattle.ul_tree.specs.Views.{tree_view, points_view}
 use Rattle.ul_tree.proofs.Made.{point_made, points_end, first_of}
 use Rattle.ul_tree.proofs.join.points_of.Goals as goal

@@ -1,5 +1,5 @@
 use Rattle.std.proofs.Common.{◌≡◌, ◌+◌, ◌*◌, ◌^◌, refl, arith, true, false}
-use Rattle.ul_tree.specs.Plain.{truth}
+use Rattle.ul_nodes.specs.Plain.{truth}
 use Rattle.ul_tree.specs.SampleVectors.{ubuntu}
 use Rattle.ul_tree.proofs.laws.sample_examples.Goals as goal
 

@@ -1,5 +1,5 @@
 use Rattle.std.proofs.Common.{◌≡◌, refl, true, false}
-use Rattle.ul_tree.specs.Plain.{truth}
+use Rattle.ul_nodes.specs.Plain.{truth}
 use Rattle.ul_tree.specs.Simplify.{at_truth, anywhere, above, by_pieces, no_piece, piece, outside, inside}
 use Rattle.ul_tree.proofs.laws.simplify_examples.Goals as goal
 

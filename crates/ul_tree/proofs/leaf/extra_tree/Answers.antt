@@ -2,10 +2,10 @@ use Rattle.std.proofs.Common.{◌≡◌, true, ap, sym, ◌∙◌, subst}
 use Rattle.std.specs.Prelude.{◌||◌}
 use Rattle.ul_base.specs.Names.{is_name}
 use Rattle.ul_marker.specs.Truth.{is_empty}
-use Rattle.ul_tree.specs.Plain.{Plain, node}
+use Rattle.ul_nodes.specs.Plain.{Plain, node}
 use Rattle.ul_tree.specs.Leaves.{point_of}
-use Rattle.ul_tree.specs.Levels.{extra_level}
-use Rattle.ul_tree.specs.Reduced.{IsReduced}
+use Rattle.ul_nodes.specs.Levels.{extra_level}
+use Rattle.ul_nodes.specs.Reduced.{IsReduced}
 use Rattle.ul_tree.specs.Values.{tree_holds}
 use Rattle.ul_tree.specs.Views.{tree_view}
 use Rattle.ul_tree.proofs.Leaves.{extra_holds, extra_key, extra_reduced}

@@ -1,7 +1,7 @@
 use Rattle.std.proofs.Common.{ap, ◌∙◌}
-use Rattle.ul_tree.specs.Plain.{node}
+use Rattle.ul_nodes.specs.Plain.{node}
 use Rattle.ul_tree.specs.Leaves.{point_of}
-use Rattle.ul_tree.specs.Levels.{text_level}
+use Rattle.ul_nodes.specs.Levels.{text_level}
 use Rattle.ul_tree.specs.Values.{tree_holds}
 use Rattle.ul_tree.specs.Views.{tree_view}
 use Rattle.ul_tree.proofs.Leaves.{text_holds}

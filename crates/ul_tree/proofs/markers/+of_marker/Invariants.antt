@@ -5,7 +5,7 @@ use Rattle.ul_marker.specs.Truth.{marker_holds}
 use Rattle.ul_marker.specs.Views.{marker_view, markers_view}
 use Rattle.ul_marker.specs.Worlds.{WorldFields, IsWorld}
 use Rattle.ul_tree.specs.Joining.{truths_of}
-use Rattle.ul_tree.specs.Reduced.{IsReduced}
+use Rattle.ul_nodes.specs.Reduced.{IsReduced}
 use Rattle.ul_tree.specs.Views.{tree_view}
 use Rattle.ul_tree.proofs.markers.+of_marker.Given as goal
 

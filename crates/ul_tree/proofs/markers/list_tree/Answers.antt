@@ -5,7 +5,7 @@ use Rattle.ul_version.specs.Fields.{Fields, plain}
 use Rattle.ul_specifier.specs.Meaning.{meets_clause}
 use Rattle.ul_marker.specs.Truth.{as_asked, equal_to, is_listed, python_release}
 use Rattle.ul_tree.specs.Joining.{joint, truths_of}
-use Rattle.ul_tree.specs.Reduced.{IsReduced}
+use Rattle.ul_nodes.specs.Reduced.{IsReduced}
 use Rattle.ul_tree.specs.Views.{tree_view}
 use Rattle.ul_tree.specs.declared.tree.Tree.{Tree}
 use Rattle.ul_tree.proofs.Joint.{listed_joint, truths_all, truths_more}

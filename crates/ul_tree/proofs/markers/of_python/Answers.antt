@@ -6,7 +6,7 @@ use Rattle.ul_specifier.specs.Clauses.{ClauseFields}
 use Rattle.ul_specifier.specs.Meaning.{meets_clause, meets_list}
 use Rattle.ul_marker.specs.Truth.{python_release}
 use Rattle.ul_tree.specs.Joining.{joint, truths_of}
-use Rattle.ul_tree.specs.Reduced.{IsReduced}
+use Rattle.ul_nodes.specs.Reduced.{IsReduced}
 use Rattle.ul_tree.specs.Views.{tree_view}
 use Rattle.ul_tree.specs.declared.tree.Tree.{Tree}
 use Rattle.ul_tree.proofs.Joint.{meets_joint, truths_all, truths_more}

@@ -1,5 +1,5 @@
 use Rattle.std.proofs.Common.{suc, ◌+◌, ap, ◌∙◌, arith}
-use Rattle.ul_tree.specs.Apply.{size, both}
+use Rattle.ul_nodes.specs.Apply.{size, both}
 use Rattle.ul_tree.specs.Values.{tree_holds}
 use Rattle.ul_tree.specs.Views.{tree_view}
 use Rattle.ul_tree.proofs.JoinedTrees.{operations}

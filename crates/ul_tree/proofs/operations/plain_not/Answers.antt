@@ -1,7 +1,7 @@
 use Rattle.std.proofs.Common.{suc, ◌+◌, ap, ◌∙◌, arith, sym, subst, not, false}
-use Rattle.ul_tree.specs.Plain.{Plain}
-use Rattle.ul_tree.specs.Reduced.{IsReduced}
-use Rattle.ul_tree.specs.Apply.{size}
+use Rattle.ul_nodes.specs.Plain.{Plain}
+use Rattle.ul_nodes.specs.Reduced.{IsReduced}
+use Rattle.ul_nodes.specs.Apply.{size}
 use Rattle.ul_tree.specs.Values.{tree_holds}
 use Rattle.ul_tree.specs.Views.{tree_view}
 use Rattle.ul_tree.specs.declared.tree.Tree.{Truth}

@@ -1,9 +1,9 @@
 use Rattle.std.proofs.Common.{◌≡◌, ◌<◌, ◌+◌, suc, ap, sym, ◌∙◌, arith, subst, length, get_or, add-one, ◌∷◌, []}
 use Rattle.std.proofs.lemmas.List.{get_or_read}
-use Rattle.ul_tree.specs.Plain.{Plain, branch}
-use Rattle.ul_tree.specs.Reduced.{IsReduced}
+use Rattle.ul_nodes.specs.Plain.{Plain, branch}
+use Rattle.ul_nodes.specs.Reduced.{IsReduced}
 use Rattle.ul_tree.specs.Views.{tree_view}
-use Rattle.ul_tree.specs.Keys.{branch_count, branches_of, branches_from}
+use Rattle.ul_nodes.specs.Keys.{branch_count, branches_of, branches_from}
 use Rattle.ul_tree.proofs.Shapes.{view_extra, view_python, view_text, points_count, pieces_count, has_pieces, python_from}
 use Rattle.ul_tree.proofs.part.branch_at.Goals as goal
 use Rattle.ul_tree.proofs.part.branch_at.Goals.{In-Python}

@@ -1,8 +1,8 @@
 use Rattle.std.proofs.Common.{ap, ◌∙◌, arith, subst}
-use Rattle.ul_tree.specs.Plain.{Plain}
-use Rattle.ul_tree.specs.Reduced.{IsReduced}
+use Rattle.ul_nodes.specs.Plain.{Plain}
+use Rattle.ul_nodes.specs.Reduced.{IsReduced}
 use Rattle.ul_tree.specs.Views.{tree_view}
-use Rattle.ul_tree.specs.Keys.{branch_count, branches_of}
+use Rattle.ul_nodes.specs.Keys.{branch_count, branches_of}
 use Rattle.ul_tree.proofs.Shapes.{view_extra, view_python, view_text, points_count, pieces_count}
 use Rattle.ul_tree.proofs.part.branch_count.Goals as goal
 

@@ -1,7 +1,7 @@
 use Rattle.std.proofs.Common.{ap, sym, ◌∙◌, suc, string_bytes}
-use Rattle.ul_tree.specs.Plain.{branch}
+use Rattle.ul_nodes.specs.Plain.{branch}
 use Rattle.ul_tree.specs.Views.{tree_view, points_view}
-use Rattle.ul_tree.specs.Keys.{branches_from}
+use Rattle.ul_nodes.specs.Keys.{branches_from}
 use Rattle.ul_tree.proofs.Shapes.{points_from}
 use Rattle.ul_tree.proofs.part.point_at.Goals as goal
 

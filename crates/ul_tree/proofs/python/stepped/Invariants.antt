@@ -1,5 +1,5 @@
 use Rattle.std.proofs.Common.{◌≡◌, ◌∷◌, ◌++◌, drop, map}
-use Rattle.ul_tree.specs.Plain.{truth}
+use Rattle.ul_nodes.specs.Plain.{truth}
 use Rattle.ul_tree.specs.Views.{tree_view}
 use Rattle.ul_tree.proofs.Stepped.{flipping}
 use Rattle.ul_tree.proofs.python.stepped.Given as goal

@@ -1,8 +1,8 @@
 use Rattle.std.proofs.Common.{◌≡◌, refl, ap, ◌∙◌, arith, false, subst, string_bytes}
 use Rattle.ul_tree.specs.FirstParts.{is_false, first_branch}
-use Rattle.ul_tree.specs.Levels.{extra_level, python_level, text_level, atom_level}
-use Rattle.ul_tree.specs.Plain.{Plain}
-use Rattle.ul_tree.specs.Reduced.{Fits}
+use Rattle.ul_nodes.specs.Levels.{extra_level, python_level, text_level, atom_level}
+use Rattle.ul_nodes.specs.Plain.{Plain}
+use Rattle.ul_nodes.specs.Reduced.{Fits}
 use Rattle.ul_tree.specs.Sample.{fresh, with_level}
 use Rattle.ul_tree.specs.Views.{tree_view, points_view, python_of}
 use Rattle.ul_tree.proofs.NextParts.{pieces_even}

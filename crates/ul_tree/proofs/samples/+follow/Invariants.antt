@@ -1,4 +1,4 @@
-use Rattle.ul_tree.specs.Apply.{size}
+use Rattle.ul_nodes.specs.Apply.{size}
 use Rattle.ul_tree.specs.Views.{tree_view}
 use Rattle.ul_tree.proofs.samples.+follow.Given as goal
 

@@ -1,9 +1,9 @@
 use Rattle.std.proofs.Common.{◌++◌, ap, sym, ◌∙◌}
 use Rattle.std.specs.Option.{option_map}
 use Rattle.ul_tree.specs.Views.{tree_view}
-use Rattle.ul_tree.specs.Simplify.{own_or, filled_results}
-use Rattle.ul_tree.specs.SimplifyViews.{results_view, parts_view, last_part}
-use Rattle.ul_tree.proofs.Viewed.{part_viewed}
+use Rattle.ul_nodes.specs.Rows.{own_or, results_view, parts_view, last_part}
+use Rattle.ul_tree.specs.Simplify.{filled_results}
+use Rattle.ul_nodes.proofs.ForCallers.{part_viewed}
 use Rattle.ul_tree.proofs.PiecesInCode.{filled_step, kinds_step}
 use Rattle.ul_tree.proofs.settle.filled.Goals as goal
 

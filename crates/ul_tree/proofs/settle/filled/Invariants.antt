@@ -1,8 +1,8 @@
 use Rattle.std.proofs.Common.{◌≡◌, ◌++◌, List, ℕ}
 use Rattle.ul_tree.specs.Views.{tree_view}
 use Rattle.ul_tree.specs.Simplify.{filled_results}
-use Rattle.ul_tree.specs.SimplifyViews.{results_view, parts_view, last_part}
-use Rattle.ul_tree.specs.Keys.{KeysOf}
+use Rattle.ul_nodes.specs.Rows.{results_view, parts_view, last_part}
+use Rattle.ul_nodes.specs.Keys.{KeysOf}
 use Rattle.ul_tree.proofs.settle.filled.Given as goal
 
 abbrev pub invariant-loop-key : goal.invariant-loop-key

@@ -1,10 +1,10 @@
 use Rattle.std.proofs.Common.{[], sym, subst, arith}
-use Rattle.ul_tree.specs.Plain.{Branches}
-use Rattle.ul_tree.specs.Reduced.{IsReduced}
-use Rattle.ul_tree.specs.Apply.{same}
+use Rattle.ul_nodes.specs.Plain.{Branches}
+use Rattle.ul_nodes.specs.Reduced.{IsReduced}
+use Rattle.ul_nodes.specs.Apply.{same}
 use Rattle.ul_tree.specs.Views.{tree_view}
-use Rattle.ul_tree.specs.Keys.{key_view}
-use Rattle.ul_tree.specs.Joins.{made_view, stands}
+use Rattle.ul_nodes.specs.Keys.{key_view}
+use Rattle.ul_nodes.specs.Rows.{made_view, stands}
 use Rattle.ul_tree.proofs.Made.{stands_added}
 use Rattle.ul_tree.proofs.PiecesInCode.{branch_step, branches_end, next_part, next_kind}
 use Rattle.ul_tree.proofs.settle.reduced_branches.Goals as goal

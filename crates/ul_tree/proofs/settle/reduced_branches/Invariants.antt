@@ -1,10 +1,10 @@
 use Rattle.std.proofs.Common.{◌≡◌, List, [], ℕ}
-use Rattle.ul_tree.specs.Reduced.{IsReduced}
+use Rattle.ul_nodes.specs.Reduced.{IsReduced}
 use Rattle.ul_tree.specs.Views.{tree_view}
-use Rattle.ul_tree.specs.Keys.{then_branches, KeysOf}
-use Rattle.ul_tree.specs.Joins.{made_view, stands}
+use Rattle.ul_nodes.specs.Keys.{then_branches, KeysOf}
+use Rattle.ul_nodes.specs.Rows.{made_view, stands, parts_view}
 use Rattle.ul_tree.specs.Simplify.{reduced_branches}
-use Rattle.ul_tree.specs.SimplifyViews.{parts_view, PartsFit}
+use Rattle.ul_tree.specs.SimplifyViews.{PartsFit}
 use Rattle.ul_tree.proofs.settle.reduced_branches.Given as goal
 
 abbrev pub invariant-loop-key : goal.invariant-loop-key

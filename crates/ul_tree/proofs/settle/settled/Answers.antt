@@ -1,14 +1,13 @@
 use Rattle.std.proofs.Common.{◌≡◌, [], ap, ◌∙◌, subst, sym}
 use Rattle.std.specs.Option.{option_map}
-use Rattle.ul_tree.specs.Apply.{close}
-use Rattle.ul_tree.specs.Joins.{made_view}
-use Rattle.ul_tree.specs.Keys.{level_view}
-use Rattle.ul_tree.specs.Plain.{Plain}
-use Rattle.ul_tree.specs.Reduced.{IsReduced}
-use Rattle.ul_tree.specs.Simplify.{earliest, latest, own_or, settled_level}
-use Rattle.ul_tree.specs.SimplifyViews.{results_view, parts_view}
+use Rattle.ul_nodes.specs.Apply.{close}
+use Rattle.ul_nodes.specs.Rows.{made_view, earliest, latest, own_or, results_view, parts_view}
+use Rattle.ul_nodes.specs.Keys.{level_view}
+use Rattle.ul_nodes.specs.Plain.{Plain}
+use Rattle.ul_nodes.specs.Reduced.{IsReduced}
+use Rattle.ul_tree.specs.Simplify.{settled_level}
 use Rattle.ul_tree.specs.Views.{tree_view}
-use Rattle.ul_tree.proofs.Viewed.{earliest_viewed, latest_viewed}
+use Rattle.ul_nodes.proofs.ForCallers.{earliest_viewed, latest_viewed}
 use Rattle.ul_tree.proofs.PiecesInCode.{parts_reduced, first_reduced, other_reduced, settled_is}
 use Rattle.ul_tree.proofs.settle.settled.Goals as goal
 use Rattle.ul_tree.proofs.settle.settled.Goals.{In_ok-first, In_ok-other, In_ok-made}

@@ -1,15 +1,15 @@
 use Rattle.std.proofs.Common.{◌<◌, ℕ, List, ap, sym, ◌∙◌, refl, subst, arith}
 use Rattle.std.specs.Option.{option_map}
-use Rattle.ul_tree.specs.Plain.{Plain}
-use Rattle.ul_tree.specs.Reduced.{IsReduced}
-use Rattle.ul_tree.specs.Apply.{size, rest_at}
+use Rattle.ul_nodes.specs.Plain.{Plain}
+use Rattle.ul_nodes.specs.Reduced.{IsReduced}
+use Rattle.ul_nodes.specs.Apply.{size, rest_at}
 use Rattle.ul_tree.specs.Views.{tree_view}
-use Rattle.ul_tree.specs.Keys.{level_view, keys_view}
-use Rattle.ul_tree.specs.SimplifyViews.{results_view}
+use Rattle.ul_nodes.specs.Keys.{level_view, keys_view}
+use Rattle.ul_nodes.specs.Rows.{results_view}
 use Rattle.ul_tree.specs.Simplify.{Simplifies, Pieces, Piece, settled_level}
 use Rattle.ul_tree.proofs.SimplifySteps.{tree_part, tree_rest, region_part, region_rest, part_smaller, rest_smaller, piece_outside, piece_inside, truth_done, all_done, level_done, result_reduced, results_reduced, simpler_reduced}
 use Rattle.ul_tree.proofs.PiecesInCode.{results_step, results_end, kind_step}
-use Rattle.ul_tree.specs.declared.level.Key.{Key}
+use Rattle.ul_nodes.specs.declared.level.Key.{Key}
 use Rattle.ul_tree.proofs.simplify.+simplify.Goals as goal
 use Rattle.ul_tree.proofs.simplify.+simplify.Goals.{simplified_at-In_ok-rest}
 

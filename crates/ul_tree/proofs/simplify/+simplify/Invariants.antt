@@ -1,9 +1,9 @@
 use Rattle.std.proofs.Common.{◌++◌, ◌*◌, ◌+◌, drop}
-use Rattle.ul_tree.specs.Apply.{size}
+use Rattle.ul_nodes.specs.Apply.{size}
 use Rattle.ul_tree.specs.Views.{tree_view}
-use Rattle.ul_tree.specs.Keys.{level_view, keys_view, KeysOf}
-use Rattle.ul_tree.specs.Simplify.{Results, Pieces}
-use Rattle.ul_tree.specs.SimplifyViews.{results_view}
+use Rattle.ul_nodes.specs.Keys.{level_view, keys_view, KeysOf}
+use Rattle.ul_nodes.specs.Rows.{Results, results_view}
+use Rattle.ul_tree.specs.Simplify.{Pieces}
 use Rattle.ul_tree.proofs.simplify.+simplify.Given as goal
 
 abbrev pub decreases-piece : goal.decreases-piece

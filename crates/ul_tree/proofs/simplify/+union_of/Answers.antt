@@ -1,10 +1,10 @@
 use Rattle.std.proofs.Common.{◌≡◌, ◌/◌, ◌-◌, ◌+◌, ap, sym, ◌∙◌, subst, arith}
-use Rattle.ul_tree.specs.Keys.{branches_of}
-use Rattle.ul_tree.specs.Plain.{Plain, holds_of}
-use Rattle.ul_tree.specs.Reduced.{IsReduced}
+use Rattle.ul_nodes.specs.Keys.{branches_of}
+use Rattle.ul_nodes.specs.Plain.{Plain, holds_of}
+use Rattle.ul_nodes.specs.Reduced.{IsReduced}
 use Rattle.ul_tree.specs.SimplifyViews.{HoldsParts}
 use Rattle.ul_tree.specs.Views.{tree_view}
-use Rattle.ul_tree.proofs.Halves.{part_reduced}
+use Rattle.ul_nodes.proofs.ForCallers.{part_reduced}
 use Rattle.ul_tree.proofs.Lowering.{one_part, halves_joined}
 use Rattle.ul_tree.proofs.simplify.+union_of.Goals as goal
 

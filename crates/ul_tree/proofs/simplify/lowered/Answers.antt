@@ -1,6 +1,6 @@
 use Rattle.std.proofs.Common.{sym, ◌∙◌}
 use Rattle.ul_tree.specs.Views.{tree_view}
-use Rattle.ul_tree.specs.Keys.{level_view}
+use Rattle.ul_nodes.specs.Keys.{level_view}
 use Rattle.ul_tree.proofs.Lowering.{lowers_itself, lowers_union}
 use Rattle.ul_tree.proofs.simplify.lowered.Goals as goal
 

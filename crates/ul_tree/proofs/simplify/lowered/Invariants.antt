@@ -1,5 +1,5 @@
 use Rattle.ul_tree.specs.Views.{tree_view}
-use Rattle.ul_tree.specs.Keys.{level_view}
+use Rattle.ul_nodes.specs.Keys.{level_view}
 use Rattle.ul_tree.specs.SimplifyViews.{Lowers}
 use Rattle.ul_tree.proofs.simplify.lowered.Given as goal
 

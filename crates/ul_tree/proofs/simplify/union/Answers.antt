@@ -1,12 +1,12 @@
 use Rattle.std.proofs.Common.{◌≡◌, ◌-◌, sym, ◌∙◌, subst, arith}
-use Rattle.ul_tree.specs.Plain.{Plain}
-use Rattle.ul_tree.specs.Reduced.{IsReduced}
+use Rattle.ul_nodes.specs.Plain.{Plain}
+use Rattle.ul_nodes.specs.Reduced.{IsReduced}
 use Rattle.ul_tree.specs.Joins.{IsJoined}
 use Rattle.ul_tree.specs.declared.join.Join.TheVariants.{Either}
-use Rattle.ul_tree.specs.Keys.{branches_of, branch_count}
+use Rattle.ul_nodes.specs.Keys.{branches_of, branch_count}
 use Rattle.ul_tree.specs.SimplifyViews.{HoldsParts}
 use Rattle.ul_tree.specs.Views.{tree_view}
-use Rattle.ul_tree.proofs.Halves.{rest_reduced}
+use Rattle.ul_nodes.proofs.ForCallers.{rest_reduced}
 use Rattle.ul_tree.proofs.Lowering.{no_branches, union_joined}
 use Rattle.ul_tree.proofs.simplify.union.Goals as goal
 

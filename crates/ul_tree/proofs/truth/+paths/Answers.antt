@@ -1,8 +1,8 @@
 use Rattle.std.proofs.Common.{ap, arith}
 use Rattle.ul_tree.specs.Paths.{paths_in}
 use Rattle.ul_tree.specs.Views.{tree_view}
-use Rattle.ul_tree.specs.Keys.{branches_of}
-use Rattle.ul_tree.proofs.Halves.{part_reduced, from_end}
+use Rattle.ul_nodes.specs.Keys.{branches_of}
+use Rattle.ul_nodes.proofs.ForCallers.{part_reduced, from_end}
 use Rattle.ul_tree.proofs.Compared.{size_part}
 use Rattle.ul_tree.proofs.truth.+paths.Goals as goal
 

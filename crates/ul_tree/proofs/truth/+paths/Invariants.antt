@@ -1,8 +1,8 @@
 use Rattle.std.proofs.Common.{◌≡◌, ◌+◌, ◌^◌, ◌≤◌, min}
-use Rattle.ul_tree.specs.Apply.{size}
+use Rattle.ul_nodes.specs.Apply.{size}
 use Rattle.ul_tree.specs.Paths.{paths_of, paths_in}
 use Rattle.ul_tree.specs.Views.{tree_view}
-use Rattle.ul_tree.specs.Keys.{branches_of, branches_from}
+use Rattle.ul_nodes.specs.Keys.{branches_of, branches_from}
 use Rattle.ul_tree.proofs.truth.+paths.Given as goal
 
 abbrev pub decreases-paths : goal.decreases-paths

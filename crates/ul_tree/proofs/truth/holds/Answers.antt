@@ -1,10 +1,10 @@
 use Rattle.std.proofs.Common.{◌≡◌, ◌<◌, ap, ◌∙◌, sym, subst}
-use Rattle.ul_tree.specs.Plain.{Plain}
-use Rattle.ul_tree.specs.Apply.{size, part_at}
-use Rattle.ul_tree.specs.Reduced.{IsReduced}
+use Rattle.ul_nodes.specs.Plain.{Plain}
+use Rattle.ul_nodes.specs.Apply.{size, part_at}
+use Rattle.ul_nodes.specs.Reduced.{IsReduced}
 use Rattle.ul_tree.specs.Values.{value_of, tree_holds}
 use Rattle.ul_tree.specs.Views.{tree_view}
-use Rattle.ul_tree.specs.Keys.{level_view}
+use Rattle.ul_nodes.specs.Keys.{level_view}
 use Rattle.ul_tree.proofs.Steps.{part_at_reduced, part_smaller, part_holds}
 use Rattle.ul_tree.proofs.truth.holds.Goals as goal
 use Rattle.ul_tree.proofs.truth.holds.Goals.{After-part_at-tree}

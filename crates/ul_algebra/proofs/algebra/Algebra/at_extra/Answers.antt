@@ -1,6 +1,6 @@
 use Rattle.std.proofs.Common.{ap, ◌∙◌, sym, subst}
-use Rattle.ul_tree.specs.Plain.{Plain}
-use Rattle.ul_tree.specs.Reduced.{IsReduced}
+use Rattle.ul_nodes.specs.Plain.{Plain}
+use Rattle.ul_nodes.specs.Reduced.{IsReduced}
 use Rattle.ul_tree.specs.Values.{tree_holds}
 use Rattle.ul_tree.proofs.ForCallers.{operations}
 use Rattle.ul_interner.specs.Known.{Known}

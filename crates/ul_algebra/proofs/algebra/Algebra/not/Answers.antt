@@ -1,8 +1,8 @@
 use Rattle.std.proofs.Common.{suc, ◌+◌, ap, ◌∙◌, arith, sym, subst, not, false}
 use Rattle.ul_interner.proofs.ForCallers.{knows_then}
-use Rattle.ul_tree.specs.Plain.{Plain, truth}
-use Rattle.ul_tree.specs.Reduced.{IsReduced}
-use Rattle.ul_tree.specs.Apply.{size}
+use Rattle.ul_nodes.specs.Plain.{Plain, truth}
+use Rattle.ul_nodes.specs.Reduced.{IsReduced}
+use Rattle.ul_nodes.specs.Apply.{size}
 use Rattle.ul_tree.specs.Values.{tree_holds}
 use Rattle.ul_tree.proofs.ForCallers.{operations}
 use Rattle.ul_algebra.specs.Spelled.{tree_of}

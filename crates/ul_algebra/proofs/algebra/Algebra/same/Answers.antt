@@ -1,7 +1,7 @@
 use Rattle.std.proofs.Common.{ap, sym, ◌∙◌}
-use Rattle.ul_tree.specs.Apply.{same as same_plain}
+use Rattle.ul_nodes.specs.Apply.{same as same_plain}
 use Rattle.ul_tree.specs.Values.{tree_holds}
-use Rattle.ul_tree.proofs.ForCallers.{same_true, same_itself}
+use Rattle.ul_nodes.proofs.ForCallers.{same_true, same_itself}
 use Rattle.ul_tree.proofs.ForCallers.{one_truth_one_tree}
 use Rattle.ul_algebra.specs.Spelled.{tree_of}
 use Rattle.ul_algebra.proofs.Decoded.{same_of}

@@ -1,5 +1,5 @@
 use Rattle.std.proofs.Common.{◌≡◌, ◌<◌, ◌∙◌, sym, subst, List, length, get_or}
-use Rattle.ul_tree.proofs.ForCallers.{same_true}
+use Rattle.ul_nodes.proofs.ForCallers.{same_true}
 use Rattle.ul_algebra.specs.Spelled.{tree_of}
 use Rattle.ul_region.specs.Truths.{DiagramMark}
 use Rattle.ul_region.proofs.RowFacts.{tree_found}

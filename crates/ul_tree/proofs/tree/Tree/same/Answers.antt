@@ -1,7 +1,7 @@
 use Rattle.std.proofs.Common.{ap, ◌∙◌, sym}
-use Rattle.ul_tree.specs.Apply.{same as same_plain}
+use Rattle.ul_nodes.specs.Apply.{same as same_plain}
 use Rattle.ul_tree.specs.Views.{tree_view}
-use Rattle.ul_tree.proofs.Sameness.{same_true, same_itself}
+use Rattle.ul_nodes.proofs.ForCallers.{same_true, same_itself}
 use Rattle.ul_tree.proofs.tree.Tree.same.Goals as goal
 
 pub returns : goal.returns

@@ -1,6 +1,0 @@
-use Rattle.std.proofs.Common.{◌≡◌, drop}
-use Rattle.ul_tree.specs.Simplify.{first_result}
-use Rattle.ul_tree.proofs.results.first_result.Given as goal
-
-abbrev pub invariant-loop-entry : goal.invariant-loop-entry
-invariant-loop-entry g l = first_result (drop l.entry-index l.results) l.otherwise ≡ first_result l.results l.otherwise

@@ -1,6 +1,0 @@
-use Rattle.std.proofs.Common.{sym}
-use Rattle.ul_tree.proofs.Viewed.{last_at}
-use Rattle.ul_tree.proofs.results.last_part.Goals as goal
-
-pub returns-in-Some : goal.returns-in-Some
-returns-in-Some g c = sym (last_at c.args.parts.now c.in-Some.entry.now c.args.otherwise.now (sym c.in-Some.ensures.value))

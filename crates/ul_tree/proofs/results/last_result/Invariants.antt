@@ -1,6 +1,0 @@
-use Rattle.std.proofs.Common.{◌≡◌, drop}
-use Rattle.ul_tree.specs.Simplify.{last_result}
-use Rattle.ul_tree.proofs.results.last_result.Given as goal
-
-abbrev pub invariant-loop-entry : goal.invariant-loop-entry
-invariant-loop-entry g l = last_result (drop l.entry-index l.results) l.found ≡ last_result l.results l.otherwise
