@@ -3,7 +3,7 @@ use Rattle.std.specs.Prelude.{ℕ, true, false}
 use Rattle.std.specs.List.{fold}
 use Rattle.ul_core.specs.Hashes.{next_hash}
 use Rattle.ul_algebra.specs.Mixed.{text_mixed, point_mixed, start_mixed}
-use Rattle.ul_marker.specs.Atoms.{variable_number, kind_number}
+use Rattle.ul_comparison.specs.Atoms.{variable_number, kind_number}
 use Rattle.ul_algebra.specs.declared.labels.DiagramLabel.{DiagramLabel}
 use Rattle.ul_algebra.specs.declared.labels.DiagramLabel.TheVariants.{Truth, Extra, Python, Text, Opaque}
 

@@ -2,7 +2,7 @@
 use Rattle.std.specs.Prelude.{ℕ, suc, ◌+◌, ◌<◌, ◌≡◌, List, [], ◌∷◌, map, All, Option, option_map, Bool, true}
 use Rattle.ul_interner.specs.Known.{Held, Known}
 use Rattle.ul_interner.specs.Marked.{Marked}
-use Rattle.ul_marker.specs.Atoms.{AtomFields}
+use Rattle.ul_comparison.specs.Atoms.{AtomFields}
 use Rattle.ul_nodes.specs.Levels.{python_level, atom_level}
 use Rattle.ul_nodes.specs.Plain.{Plain, Branches, node, carries}
 use Rattle.ul_nodes.specs.Apply.{apply, close, outs, part_at, same, size}

@@ -1,7 +1,7 @@
 -- What contracts say of the truths of diagrams, at every world and extra.
 use Rattle.std.specs.Prelude.{ℕ, List, Bool, not, ◌≡◌}
 use Rattle.ul_interner.specs.Marked.{Marked}
-use Rattle.ul_marker.specs.Worlds.{WorldFields, IsWorld}
+use Rattle.ul_comparison.specs.Worlds.{WorldFields, IsWorld}
 use Rattle.ul_nodes.specs.Levels.{IsExtra}
 use Rattle.ul_tree.specs.Values.{tree_holds}
 use Rattle.ul_algebra.specs.Spelled.{tree_of}

@@ -4,7 +4,7 @@ use Rattle.std.specs.Prelude.{codes}
 use Rattle.std.specs.Fmt.{decimal}
 use Rattle.ul_base.specs.Files.{FileMap}
 use Rattle.ul_lines.specs.Lines.{lines_of}
-use Rattle.ul_marker.specs.Machines.{MachineFields}
+use Rattle.ul_comparison.specs.Machines.{MachineFields}
 use Rattle.ul_tree.specs.Regions.{region_of}
 use Rattle.ul_problem.specs.Plain.{Plain as Problem}
 use Rattle.ul_project.specs.Laws.{OneProject}

@@ -9,8 +9,8 @@ use Rattle.ul_base.proofs.ForCallers.{contains_cases, contains_first, contains_f
 use Rattle.ul_version.specs.Fields.{Fields}
 use Rattle.ul_version.specs.Laws.{TextTells}
 use Rattle.ul_version.specs.Texts.{version_text}
-use Rattle.ul_marker.specs.Machines.{MachineFields, world_of}
-use Rattle.ul_marker.specs.Worlds.{WorldFields}
+use Rattle.ul_comparison.specs.Machines.{MachineFields, world_of}
+use Rattle.ul_comparison.specs.Worlds.{WorldFields}
 use Rattle.ul_requirement.specs.Fields.{RequirementFields}
 use Rattle.ul_requirement.specs.Truth.{base, targets, with_extra}
 use Rattle.ul_nodes.specs.Plain.{Plain}

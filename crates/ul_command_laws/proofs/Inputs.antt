@@ -19,7 +19,7 @@ use Rattle.ul_inputs.specs.Locks.{Kept, kept_of, lock_at, lock_said, old_lock}
 use Rattle.ul_inputs.specs.Machines.{machine_at, machine_said, machine_or_refused}
 use Rattle.ul_inputs.specs.Projects.{IsExpanded, IsProjectOf, built, fault_text, project_at, project_said}
 use Rattle.ul_inputs.specs.Resolutions.{resolution_in, resolution_of, resolution_with}
-use Rattle.ul_marker.specs.MachineFiles.{machine_of}
+use Rattle.ul_comparison.specs.MachineFiles.{machine_of}
 use Rattle.ul_command_laws.proofs.LockTexts.{lock_once}
 use Rattle.ul_command_laws.proofs.Ones.{IsOne, one_file, one_just, one_on}
 

@@ -2,7 +2,7 @@
 use Rattle.std.proofs.Common.{◌≡◌, ◌∙◌, ℕ, List, Bool, true, false, length, Option, Some, Result, Ok, Err, ap, subst, inl, inr}
 use Rattle.std.specs.Prelude.{nat_le, codes, if◌then◌else◌}
 use Rattle.ul_base.specs.Files.{FileMap, content}
-use Rattle.ul_marker.specs.Machines.{MachineFields}
+use Rattle.ul_comparison.specs.Machines.{MachineFields}
 use Rattle.ul_project.specs.Laws.{OneProject}
 use Rattle.ul_load.specs.Laws.{TurnsAgree}
 use Rattle.ul_lock.specs.Laws.{OneFault, OneTextOneLock, TextIsLocks}

@@ -1,7 +1,7 @@
 -- Inputs that are read are answered, and by which status.
 use Rattle.std.specs.Prelude.{◌≡◌, ◌≤◌, ◌↔◌, ℕ, List, [], length, Option, None, Result, Ok}
 use Rattle.ul_base.specs.Files.{FileMap}
-use Rattle.ul_marker.specs.Machines.{MachineFields}
+use Rattle.ul_comparison.specs.Machines.{MachineFields}
 use Rattle.ul_project.specs.Fields.{ProjectFields}
 use Rattle.ul_generations.specs.Generations.{leaves_are}
 use Rattle.ul_forks.specs.Headline.{TreeLeaf}

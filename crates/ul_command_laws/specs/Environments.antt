@@ -2,9 +2,9 @@
 use Rattle.std.specs.Prelude.{◌≡◌, ◌≢◌, ◌↔◌, ℕ, List, Contains, IfSome, Option, Some, Ok}
 use Rattle.ul_base.specs.Files.{FileMap, content}
 use Rattle.ul_base.specs.declared.node.Node.{Node}
-use Rattle.ul_marker.specs.Atoms.{AtomFields}
-use Rattle.ul_marker.specs.Machines.{MachineFields, world_of}
-use Rattle.ul_marker.specs.Worlds.{WorldFields, IsWorld}
+use Rattle.ul_comparison.specs.Atoms.{AtomFields}
+use Rattle.ul_comparison.specs.Machines.{MachineFields, world_of}
+use Rattle.ul_comparison.specs.Worlds.{WorldFields, IsWorld}
 use Rattle.ul_index.specs.Catalogs.{Packages}
 use Rattle.ul_index.specs.Eligible.{eligible}
 use Rattle.ul_lock_lines.specs.declared.parts.Lock.{Lock}

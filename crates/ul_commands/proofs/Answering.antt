@@ -2,7 +2,7 @@
 use Rattle.std.proofs.Common.{◌≡◌, ℕ, List, Bool, true, false, Option, Some, None, Result, Ok, Err, IfOk, inl, inr, arith}
 use Rattle.ul_generations.specs.Generations.{leaves_are, refused_at, too_many}
 use Rattle.ul_lock_lines.specs.declared.parts.Lock.{Lock}
-use Rattle.ul_marker.specs.Machines.{MachineFields}
+use Rattle.ul_comparison.specs.Machines.{MachineFields}
 use Rattle.ul_forks.specs.Headline.{TreeAnswer}
 use Rattle.ul_report_read.specs.declared.proof.Proof.{Proof}
 use Rattle.ul_inputs.specs.Inputs.{only}

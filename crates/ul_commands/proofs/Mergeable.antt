@@ -3,7 +3,7 @@ use Rattle.std.proofs.Common.{◌≡◌, ◌≢◌, ◌+◌, ◌≤◌, ℕ, suc
 use Rattle.std.specs.Prelude.{All}
 use Rattle.std.specs.List.{AllByRecursion}
 use Rattle.std.proofs.lemmas.List.Elements.{All-cons, All-nil}
-use Rattle.ul_marker.specs.Worlds.{WorldFields, IsWorld}
+use Rattle.ul_comparison.specs.Worlds.{WorldFields, IsWorld}
 use Rattle.ul_nodes.specs.Plain.{Plain, truth}
 use Rattle.ul_tree.specs.Regions.{NoExtra, region_of}
 use Rattle.ul_tree.specs.Sample.{HoldsSomewhere}

@@ -1,7 +1,7 @@
 -- What `env` answers: what a lock gives on a machine, with the extras of words.
 use Rattle.std.specs.Prelude.{◌≡◌, ℕ, List, [], ◌∷◌, Bool, true, false, not, find, option_to_list, flat_map, Option, Some, None, Result, Ok, Err}
 use Rattle.ul_base.specs.Names.{name_of}
-use Rattle.ul_marker.specs.Machines.{MachineFields}
+use Rattle.ul_comparison.specs.Machines.{MachineFields}
 use Rattle.ul_lock_lines.specs.declared.parts.Lock.{Lock}
 use Rattle.ul_filter.specs.Comparisons.{machine_world}
 use Rattle.ul_filter.specs.Headline.{IsEnvironment, is_supported_at, root_lists}

@@ -6,7 +6,7 @@ use Rattle.std.specs.Bool.{one_answer}
 use Rattle.ul_lock_lines.specs.declared.parts.Lock.{Lock}
 use Rattle.ul_lock_walk.specs.Walk.{AgreeAt, AgreeAtAll}
 use Rattle.ul_lock_walk.proofs.ForCallers.{walks_agree}
-use Rattle.ul_marker.specs.Worlds.{WorldFields}
+use Rattle.ul_comparison.specs.Worlds.{WorldFields}
 use Rattle.ul_nodes.specs.Plain.{Plain, truth, node, Branches, done, branch}
 use Rattle.ul_filter.specs.Environment.{pick_line}
 use Rattle.ul_filter.specs.Headline.{IsEnvironment, PicksAgree, TextsAgree}

@@ -8,7 +8,7 @@ use borrow.Author.Tests.{eqb-true}
 use Rattle.ul_base.proofs.ForCallers.{bytes_eq-same, contains_first, contains_later, contains_cases, none_in, reached_in}
 use Rattle.ul_version.specs.Texts.{version_text}
 use Rattle.ul_version.proofs.ForCallers.{tells}
-use Rattle.ul_marker.specs.Worlds.{WorldFields}
+use Rattle.ul_comparison.specs.Worlds.{WorldFields}
 use Rattle.ul_lines.specs.Reader.{Each}
 use Rattle.ul_lock_lines.specs.Text.{IsEdge}
 use Rattle.ul_lock_lines.specs.declared.parts.Edge.{Edge}

@@ -3,7 +3,7 @@ use Rattle.std.proofs.Common.{◌≡◌, ◌⊎◌, ◌<◌, ◌+◌, ℕ, zero,
 use Rattle.std.specs.List.{slice_get}
 use Rattle.std.proofs.lemmas.Option.{none-some, same_Some, slice_get_within, slice_get_read, get_or_from_slice_get}
 use Rattle.ul_base.proofs.ForCallers.{contains_first, contains_later, contains_cases, none_in}
-use Rattle.ul_marker.specs.Worlds.{WorldFields}
+use Rattle.ul_comparison.specs.Worlds.{WorldFields}
 use Rattle.ul_lock_lines.specs.declared.parts.Edge.{Edge}
 use Rattle.ul_lock_walk.specs.Walk.{Pick as NodeAt, edge_holds}
 use Rattle.ul_filter.specs.Met.{is_flagged, IsFollowed, IsMet, IsMore, LeadsTo, StandsAt}

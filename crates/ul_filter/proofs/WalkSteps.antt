@@ -4,7 +4,7 @@ use Rattle.std.specs.List.{slice_get}
 use Rattle.std.proofs.lemmas.Option.{same_Some, slice_get_within, slice_get_read}
 use Rattle.ul_base.specs.Reached.{begun, led}
 use Rattle.ul_base.proofs.ForCallers.{none_in}
-use Rattle.ul_marker.specs.Worlds.{WorldFields}
+use Rattle.ul_comparison.specs.Worlds.{WorldFields}
 use Rattle.ul_lock_lines.specs.declared.parts.Lock.{Lock}
 use Rattle.ul_lock_walk.specs.Walk.{IsRootNode, Pick as NodeAt, Walk}
 use Rattle.ul_filter.specs.Met.{edges_in, is_flagged, IsFollowed, IsMet, IsMetSomewhere, IsMore, LeadsTo, StandsAt}

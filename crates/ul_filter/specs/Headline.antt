@@ -2,9 +2,9 @@
 use Rattle.std.specs.Prelude.{◌≡◌, ℕ, List, [], Bool, true, false, not, ◌&&◌, bytes_eq, find, Result, Ok, Err, Option, Some, None, Vec, map}
 use Rattle.std.specs.List.{list_any}
 use Rattle.std.specs.declared.alloc.Global.{Global}
-use Rattle.ul_marker.specs.Atoms.{AtomFields}
-use Rattle.ul_marker.specs.Machines.{MachineFields, world_of}
-use Rattle.ul_marker.specs.Worlds.{WorldFields}
+use Rattle.ul_comparison.specs.Atoms.{AtomFields}
+use Rattle.ul_comparison.specs.Machines.{MachineFields, world_of}
+use Rattle.ul_comparison.specs.Worlds.{WorldFields}
 use Rattle.ul_tree.specs.Values.{tree_holds}
 use Rattle.ul_lock_lines.specs.declared.parts.Lock.{Lock}
 use Rattle.ul_lock_walk.specs.Targets.{lists}

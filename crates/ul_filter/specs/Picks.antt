@@ -1,7 +1,7 @@
 -- The picks of a walk: a lock's packages by name and version, without the root, each with its reached extras.
 use Rattle.std.specs.Prelude.{◌≡◌, ◌↔◌, ◌+◌, ℕ, List, [], ◌∷◌, ◌++◌, Bool, true, not, ◌&&◌, bytes_eq, drop, take, length, map, slice_get, Some, if◌then◌else◌}
 use Rattle.std.specs.List.{list_any}
-use Rattle.ul_marker.specs.Worlds.{WorldFields}
+use Rattle.ul_comparison.specs.Worlds.{WorldFields}
 use Rattle.ul_version.specs.Fields.{Fields}
 use Rattle.ul_lock_lines.specs.declared.parts.Extra.{Extra}
 use Rattle.ul_lock_lines.specs.declared.parts.Lock.{Lock}

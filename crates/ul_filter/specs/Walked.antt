@@ -1,6 +1,6 @@
 -- How far a walk is.
 use Rattle.std.specs.Prelude.{◌≡◌, ◌<◌, ℕ, List, true, Some, Contains, length, slice_get}
-use Rattle.ul_marker.specs.Worlds.{WorldFields}
+use Rattle.ul_comparison.specs.Worlds.{WorldFields}
 use Rattle.ul_lock_lines.specs.declared.parts.Lock.{Lock}
 use Rattle.ul_lock_walk.specs.Walk.{IsRootNode, Pick as NodeAt, Walk}
 use Rattle.ul_filter.specs.Met.{is_flagged, IsMetSomewhere, LeadsTo, StandsAt}

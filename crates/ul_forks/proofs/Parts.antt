@@ -1,6 +1,6 @@
 -- The two parts of a region have their truths.
 use Rattle.std.proofs.Common.{◌≡◌, ◌∙◌, Bool, true, false, not, ◌&&◌, refl, ap, ap₂}
-use Rattle.ul_marker.specs.Worlds.{WorldFields}
+use Rattle.ul_comparison.specs.Worlds.{WorldFields}
 use Rattle.ul_nodes.specs.Apply.{both}
 use Rattle.ul_tree.specs.Regions.{HasTruth}
 use Rattle.ul_algebra.specs.Answers.{IsDiagram}

@@ -19,10 +19,10 @@ use Rattle.ul_base.proofs.name.Name.TheSendSync as name_threads
 use Rattle.ul_base.proofs.node.Node.TheSendSync as node_threads
 use Rattle.ul_index.specs.contracts.catalog.Catalog
 use Rattle.ul_interner.proofs.marks.Mark.TheLaws.TheKnot as marks
-use Rattle.ul_marker.proofs.atom.Atom.TheSendSync as atom_threads
+use Rattle.ul_comparison.proofs.atom.Atom.TheSendSync as atom_threads
 use Rattle.ul_marker.proofs.marker.Marker.TheLaws.TheKnot as formulas
-use Rattle.ul_marker.proofs.variable.AtomKind.TheSendSync as atomkind_threads
-use Rattle.ul_marker.proofs.variable.Variable.TheSendSync as variable_threads
+use Rattle.ul_comparison.proofs.variable.AtomKind.TheSendSync as atomkind_threads
+use Rattle.ul_comparison.proofs.variable.Variable.TheSendSync as variable_threads
 use Rattle.ul_prepared.proofs.prepared.NameFacts.TheSendSync as namefacts_threads
 use Rattle.ul_problem.proofs.problem.Need.TheSendSync as need_threads
 use Rattle.ul_problem.proofs.problem.NeedRow.TheSendSync as needrow_threads

@@ -1,6 +1,6 @@
 -- The two parts of a region's diagram.
 use Rattle.std.specs.Prelude.{Bool, not}
-use Rattle.ul_marker.specs.Worlds.{WorldFields}
+use Rattle.ul_comparison.specs.Worlds.{WorldFields}
 use Rattle.ul_tree.specs.Regions.{HasTruth}
 use Rattle.ul_algebra.specs.Spelled.{tree_of}
 use Rattle.ul_region.specs.Truths.{DiagramMark, PassView, IsTruth, region_at, truth_within}

@@ -1,7 +1,7 @@
 -- The main theorem of forks over a catalog: what the fork answer has.
 use Rattle.std.specs.Prelude.{◌≡◌, ℕ, ◌+◌, ◌≤◌, List, map, length, true}
 use Rattle.std.specs.List.{AllByRecursion}
-use Rattle.ul_marker.specs.Worlds.{WorldFields, IsWorld}
+use Rattle.ul_comparison.specs.Worlds.{WorldFields, IsWorld}
 use Rattle.ul_nodes.specs.Plain.{Plain}
 use Rattle.ul_tree.specs.Regions.{region_of}
 use Rattle.ul_index.specs.Regions.{HasWorld}

@@ -2,7 +2,7 @@
 -- The project is a name and its extras, where each selection starts.
 use Rattle.std.specs.Prelude.{ℕ, List, Bool, not, ◌&&◌}
 use Rattle.ul_base.specs.declared.node.Node.{Node}
-use Rattle.ul_marker.specs.Worlds.{WorldFields}
+use Rattle.ul_comparison.specs.Worlds.{WorldFields}
 use Rattle.ul_requirement.specs.Fields.{WishFields}
 use Rattle.ul_nodes.specs.Plain.{Plain}
 use Rattle.ul_tree.specs.Regions.{HasTruth, region_of}

@@ -2,7 +2,7 @@
 use Rattle.std.proofs.Common.{◌≡◌, ◌+◌, ◌<◌, ◌++◌, ◌∙◌, ℕ, List, [], ◌∷◌, length, map, take, get_or, Option, Some, None, ap, sym, subst, append_assoc, append-nil}
 use Rattle.std.specs.List.Sorted.{IsStrictlySortedBy}
 use Rattle.ul_base.specs.Names.{name_cmp}
-use Rattle.ul_marker.specs.Formulas.{Formula}
+use Rattle.ul_comparison.specs.Formulas.{Formula}
 use Rattle.ul_requirement.specs.Fields.{MayBeFormula, RequirementFields}
 use Rattle.ul_project.specs.Extras.{joined_markers}
 use Rattle.ul_groups.specs.Adjusted.{ByName, overridden_list, overridden_by, replaced_by}

@@ -1,6 +1,6 @@
 -- Worked examples: the lists of groups, and includes that are refused.
 use Rattle.std.specs.Prelude.{◌≡◌, ℕ, List, [], ◌∷◌, codes, true, None, Some, Ok, Err}
-use Rattle.ul_marker.specs.Formulas.{extra}
+use Rattle.ul_comparison.specs.Formulas.{extra}
 use Rattle.ul_requirement.specs.Fields.{RequirementFields}
 use Rattle.ul_project.specs.Groups.{GroupFields}
 use Rattle.ul_project.specs.declared.group.GroupEntry.{GroupEntry}

@@ -4,8 +4,8 @@ use Rattle.ul_version.specs.Fields.{plain}
 use Rattle.ul_specifier.specs.Clauses.{ClauseFields}
 use Rattle.ul_specifier.specs.declared.clause.Op.{Op}
 use Rattle.ul_specifier.specs.declared.clause.Op.TheVariants.{AtLeast, Equal, Less}
-use Rattle.ul_marker.specs.Formulas.{Formula, all, text, more, none}
-use Rattle.ul_marker.specs.declared.variable.Variable.TheVariants.{OsName}
+use Rattle.ul_comparison.specs.Formulas.{Formula, all, text, more, none}
+use Rattle.ul_comparison.specs.declared.variable.Variable.TheVariants.{OsName}
 use Rattle.ul_requirement.specs.Fields.{RequirementFields}
 use Rattle.ul_groups.specs.Adjusted.{adjusted_list, all_on}
 

@@ -21,7 +21,7 @@ pub(crate) struct Requirements {
 impl Model for Requirements {
     ghost use Rattle.std.specs.Coded.{codes};
     ghost use Rattle.std.specs.Prelude.{List};
-    ghost use Rattle.ul_marker.specs.Codes.{formula_code};
+    ghost use Rattle.ul_comparison.specs.Codes.{formula_code};
     ghost use Rattle.ul_requirement.specs.Fields.{RequirementFields};
 
     ghost Value = { List RequirementFields };

@@ -1,7 +1,7 @@
 -- Laws of what serves.
 use Rattle.std.proofs.Common.{List, Bool, sym, ◌∙◌}
 use Rattle.ul_base.specs.declared.node.Node.{Node}
-use Rattle.ul_marker.specs.Worlds.{WorldFields}
+use Rattle.ul_comparison.specs.Worlds.{WorldFields}
 use Rattle.ul_requirement.specs.Fields.{RequirementFields}
 use Rattle.ul_requirement.specs.Truth.{applies_at}
 use Rattle.ul_requirement.specs.declared.wish.Strategy.{Strategy}

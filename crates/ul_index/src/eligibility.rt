@@ -5,7 +5,7 @@ ghost use Rattle.std.specs.List.{list_all, list_any};
 ghost use Rattle.std.specs.Str.{bytes_eq};
 ghost use Rattle.ul_version.specs.Fields.{is_pre_of};
 ghost use Rattle.ul_specifier.specs.Meaning.{lower_list, meets_list, names_pre_of, pins_of};
-ghost use Rattle.ul_marker.specs.Truth.{python_release};
+ghost use Rattle.ul_comparison.specs.Truth.{python_release};
 ghost use Rattle.ul_requirement.specs.Fields.{RequirementFields, VersionsDiffer};
 ghost use Rattle.ul_index.specs.Catalogs.{is_release_fit, releases_of};
 ghost use Rattle.ul_index.specs.Eligible as Eligible;

@@ -35,7 +35,7 @@ pub(crate) struct Entry {
 
 impl Model for Entry {
     ghost use Rattle.std.specs.Coded.{codes};
-    ghost use Rattle.ul_marker.specs.Codes.{formula_code};
+    ghost use Rattle.ul_comparison.specs.Codes.{formula_code};
     ghost use Rattle.std.specs.Prelude.{option_map};
     ghost use Rattle.ul_index.specs.Usable.{EntryFields, IsEntry};
 

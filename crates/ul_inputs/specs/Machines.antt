@@ -1,9 +1,9 @@
 -- The machine of a machine file.
 use Rattle.std.specs.Prelude.{ℕ, List, ◌++◌, codes, string_bytes, Option, Some, None, Result, Ok, Err}
-use Rattle.ul_marker.specs.MachineFiles.{MachineRefusal, not_json, missing, python_form, machine_of}
-use Rattle.ul_marker.specs.Machines.{MachineFields}
-use Rattle.ul_marker.specs.declared.env_fault.EnvFault.{EnvFault}
-use Rattle.ul_marker.specs.declared.env_fault.EnvFault.TheVariants.{NotJson, Missing, PythonForm, NoMemory}
+use Rattle.ul_comparison.specs.MachineFiles.{MachineRefusal, not_json, missing, python_form, machine_of}
+use Rattle.ul_comparison.specs.Machines.{MachineFields}
+use Rattle.ul_comparison.specs.declared.env_fault.EnvFault.{EnvFault}
+use Rattle.ul_comparison.specs.declared.env_fault.EnvFault.TheVariants.{NotJson, Missing, PythonForm, NoMemory}
 use Rattle.ul_inputs.specs.Inputs.{Input, ◌>>=◌, just, small_file}
 use Rattle.ul_inputs.specs.Refused.{Refused, malformed}
 

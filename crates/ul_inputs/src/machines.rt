@@ -1,7 +1,7 @@
 //! The machine of a machine file.
 ghost use Rattle.std.specs.Prelude.{◌≡◌, ◌++◌, IfOk, codes, string_bytes};
 ghost use Rattle.ul_base.specs.Files.{Told};
-ghost use Rattle.ul_marker.specs.MachineFiles.{machine_of};
+ghost use Rattle.ul_comparison.specs.MachineFiles.{machine_of};
 ghost use Rattle.ul_inputs.specs.Inputs.{only};
 ghost use Rattle.ul_inputs.specs.Machines as spec;
 ghost use Rattle.ul_inputs.specs.Refusals.{Answers, Cause, IsRefusalFor};

@@ -9,7 +9,7 @@ use Rattle.std.proofs.lemmas.List.{take-append-le, take_all, append-nil}
 use Rattle.std.proofs.lemmas.List.Elements.{All-cons, All-nil}
 use Rattle.std.proofs.lemmas.Slice.Eq.{bytes_eq-Decides}
 use Rattle.indexmap.specs.IndexSet.{insert_key}
-use Rattle.ul_marker.specs.Atoms.{AtomFields}
+use Rattle.ul_comparison.specs.Atoms.{AtomFields}
 use Rattle.ul_requirement.specs.Fields.{PackageFields}
 use Rattle.ul_index.specs.Catalogs.{BeginsWithOne, IsCatalog, NamesDiffer, Packages, release_count}
 use Rattle.ul_load.specs.Begun.{BeginsWith, KeepsFirst}

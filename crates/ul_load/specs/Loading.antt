@@ -8,8 +8,8 @@ use Rattle.std.specs.List.{flat_map}
 use Rattle.std.specs.BTreeSet as ordered
 use Rattle.indexmap.specs.IndexSet as indexed
 use Rattle.ul_base.specs.Files.{FileMap, content}
-use Rattle.ul_marker.specs.Atoms.{AtomFields, atom_cmp}
-use Rattle.ul_marker.specs.Formulas.{Formula}
+use Rattle.ul_comparison.specs.Atoms.{AtomFields, atom_cmp}
+use Rattle.ul_comparison.specs.Formulas.{Formula}
 use Rattle.ul_marker.specs.Parts.{atoms_of}
 use Rattle.ul_requirement.specs.Fields.{PackageFields, ReleaseFields, RequirementFields}
 use Rattle.ul_requirement.specs.Truth.{atoms_of_requirement}

@@ -1,6 +1,6 @@
 -- What the code's progress stands for.
 use Rattle.std.specs.Prelude.{List, map}
-use Rattle.ul_marker.specs.Atoms.{AtomFields}
+use Rattle.ul_comparison.specs.Atoms.{AtomFields}
 use Rattle.ul_load.specs.Loading.{ProgressFields}
 use Rattle.ul_load.specs.declared.comparisons.Comparisons.{Comparisons}
 use Rattle.ul_load.specs.declared.progress.Progress.{Progress}

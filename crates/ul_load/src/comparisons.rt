@@ -6,10 +6,10 @@ ghost use Rattle.std.specs.BTreeSet.{insert_key};
 ghost use Rattle.std.specs.Cmp.{eq_by_cmp_equiv, on_total, partial_equiv_from_equiv, partial_order_from_total};
 ghost use Rattle.std.specs.Ordering.{as_partial_cmp, eq_by_cmp, on};
 ghost use Rattle.std.proofs.Common.{refl};
-ghost use Rattle.ul_marker.specs.Atoms.{atom_cmp};
+ghost use Rattle.ul_comparison.specs.Atoms.{atom_cmp};
 ghost use Rattle.ul_marker.specs.Parts.{atoms_of};
 ghost use Rattle.ul_marker.specs.Views.{marker_view};
-ghost use Rattle.ul_marker.proofs.ForCallers.{atoms_total};
+ghost use Rattle.ul_comparison.proofs.ForCallers.{atoms_total};
 ghost use Rattle.ul_load.specs.Loading.{atoms_in, comparisons_with, requirements_of};
 ghost use Rattle.ul_load.specs.Views.{atoms_view};
 

@@ -2,7 +2,7 @@
 use Rattle.std.proofs.Common.{◌≡◌, ℕ, List, [], Bool, true, refl, sym, ◌∙◌}
 use Rattle.ul_base.specs.Reached.{begun, led}
 use Rattle.ul_base.proofs.ForCallers.{reached_in}
-use Rattle.ul_marker.specs.Worlds.{WorldFields}
+use Rattle.ul_comparison.specs.Worlds.{WorldFields}
 use Rattle.ul_nodes.specs.Plain.{Plain, truth, node, Branches, done, branch, by_order, carries, carried_part, text_cmp, holds_of, holds_in}
 use Rattle.ul_tree.specs.Values.{value_of}
 use Rattle.ul_lock_lines.specs.declared.parts.Lock.{Lock}

@@ -5,7 +5,7 @@ use Rattle.std.proofs.lemmas.List.{drop_more, drop_all, take_all, take_more, app
 use Rattle.std.proofs.lemmas.Bool.{cases_lt}
 use Rattle.ul_version.specs.Reading.{◌>>=◌}
 use Rattle.ul_marker.specs.Comparisons.{comparison_of}
-use Rattle.ul_marker.specs.Formulas.{Formula, formulas_of}
+use Rattle.ul_comparison.specs.Formulas.{Formula, formulas_of}
 use Rattle.ul_marker.specs.Reading.{atom_at, before_close, chain_at, chain_with, cuts, each, inner_tokens, is_close, is_open, join, chain_formula, onto_first, open_count, part_at, pieces_from}
 use Rattle.ul_marker.specs.Readers.{added_formulas}
 use Rattle.ul_marker.specs.declared.reading.Chain.{Chain}

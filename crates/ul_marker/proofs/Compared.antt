@@ -1,10 +1,10 @@
 -- Lemmas on comparisons.
 use Rattle.std.proofs.Common.{◌≡◌, refl, true, None}
 use Rattle.std.specs.Prelude.{◌||◌}
-use Rattle.ul_marker.specs.Atoms.{is_implementation_version, is_text}
+use Rattle.ul_comparison.specs.Atoms.{is_implementation_version, is_text}
 use Rattle.ul_marker.specs.Comparisons.{python_full}
-use Rattle.ul_marker.specs.declared.variable.Variable.{Variable}
-use Rattle.ul_marker.specs.declared.variable.Variable.TheVariants.{OsName, SysPlatform, PlatformMachine, PlatformPythonImplementation, PlatformRelease, PlatformSystem, PlatformVersion, PythonVersion, PythonFullVersion, ImplementationName, ImplementationVersion}
+use Rattle.ul_comparison.specs.declared.variable.Variable.{Variable}
+use Rattle.ul_comparison.specs.declared.variable.Variable.TheVariants.{OsName, SysPlatform, PlatformMachine, PlatformPythonImplementation, PlatformRelease, PlatformSystem, PlatformVersion, PythonVersion, PythonFullVersion, ImplementationName, ImplementationVersion}
 
 -- a variable that is no version of Python is a text variable or `implementation_version`
 pub not_python : (v : Variable) → python_full v ≡ None → (is_text v || is_implementation_version v) ≡ true

@@ -13,11 +13,11 @@ use Rattle.ul_specifier.specs.Reading.{after_all, before_all, is_blank, trimmed_
 use Rattle.ul_specifier.specs.declared.clause.Op.{Op}
 use Rattle.ul_specifier.specs.declared.clause.Op.TheVariants.{Equal, Unequal, AtLeast, AtMost, More, Less, Compatible}
 use Rattle.ul_specifier.proofs.ForCallers.{is_equals, operator-read}
-use Rattle.ul_marker.specs.Atoms.{AtomFields, IsAtom, has_byte, is_literal, is_literal_byte}
-use Rattle.ul_marker.specs.Printed.{quote_of, quoted_text, variable_name}
+use Rattle.ul_comparison.specs.Atoms.{AtomFields, IsAtom, has_byte, is_literal, is_literal_byte}
+use Rattle.ul_comparison.specs.Printed.{quote_of, quoted_text, variable_name}
 use Rattle.ul_marker.specs.Words.{after_quote, front_literal, front_sign, front_token, front_word, is_quote, is_quoted, is_sign_byte, is_word_byte, run_length, tokens_in, tokens_of, word_token}
-use Rattle.ul_marker.specs.declared.variable.Variable.{Variable}
-use Rattle.ul_marker.specs.declared.variable.Variable.TheVariants.{OsName, SysPlatform, PlatformMachine, PlatformPythonImplementation, PlatformRelease, PlatformSystem, PlatformVersion, PythonVersion, PythonFullVersion, ImplementationName, ImplementationVersion}
+use Rattle.ul_comparison.specs.declared.variable.Variable.{Variable}
+use Rattle.ul_comparison.specs.declared.variable.Variable.TheVariants.{OsName, SysPlatform, PlatformMachine, PlatformPythonImplementation, PlatformRelease, PlatformSystem, PlatformVersion, PythonVersion, PythonFullVersion, ImplementationName, ImplementationVersion}
 use Rattle.ul_marker.specs.declared.words.Token.{Token}
 use Rattle.ul_marker.specs.declared.words.Token.TheVariants.{And, Or, In, Not, Extra, Named, Sign, Literal}
 use Rattle.ul_marker.proofs.Tokens.{onto, tokens-next}

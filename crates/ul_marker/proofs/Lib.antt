@@ -1,17 +1,7 @@
-pub mod JsonReading
 pub mod PartProofs
 pub mod Lexed
 pub mod PrintedBack
 pub mod Depths
-pub mod AtomNumbers
-pub mod AtomOrder
-pub mod Placed
-pub mod Parts
-pub mod Numerals
-pub mod Points
-pub mod TextsRead
-pub mod Rises
-pub mod TruthExamples
 pub mod Tokens
 pub mod Refusals
 pub mod Compared

@@ -5,11 +5,11 @@ use Rattle.std.proofs.lemmas.Bool.{and_from, and_parts}
 use Rattle.std.proofs.lemmas.Bool.Decides.{nat_tests}
 use Rattle.ul_base.specs.Names.{is_normal_byte, name_of}
 use Rattle.ul_base.proofs.ForCallers.{name_is_plain, name_reads_itself}
-use Rattle.ul_marker.specs.Atoms.{has_byte, is_literal, is_literal_byte}
-use Rattle.ul_marker.specs.Formulas.{Formula, extra, python, python_list, text, opaque, all, any, Formulas, none, more}
+use Rattle.ul_comparison.specs.Atoms.{has_byte, is_literal, is_literal_byte}
+use Rattle.ul_comparison.specs.Formulas.{Formula, extra, python, python_list, text, opaque, all, any, Formulas, none, more}
 use Rattle.ul_marker.specs.Parts.{asks_extra, some_asks_extra}
-use Rattle.ul_marker.specs.Truth.{all_hold, any_holds, marker_holds}
-use Rattle.ul_marker.specs.Worlds.{WorldFields}
+use Rattle.ul_comparison.specs.Truth.{all_hold, any_holds, marker_holds}
+use Rattle.ul_comparison.specs.Worlds.{WorldFields}
 
 neither : (a b : Bool) → (a || b) ≡ false → (a ≡ false) × (b ≡ false)
 neither true b e = absurd (true≢false e)

@@ -19,21 +19,22 @@ use Rattle.ul_specifier.specs.Reading.{after_all, before_all, clause_with, is_bl
 use Rattle.ul_specifier.specs.declared.clause.Op.{Op}
 use Rattle.ul_specifier.specs.declared.clause.Op.TheVariants.{Equal, Unequal, AtLeast, AtMost, More, Less}
 use Rattle.ul_specifier.proofs.ForCallers.{all-weaker, before_all-kept, clause-read}
-use Rattle.ul_marker.specs.Atoms.{AtomFields, IsAtom, has_byte, is_implementation_version, is_literal, is_literal_byte, is_text, may_compare}
+use Rattle.ul_comparison.specs.Atoms.{AtomFields, IsAtom, has_byte, is_implementation_version, is_literal, is_literal_byte, is_text, may_compare}
 use Rattle.ul_marker.specs.Comparisons.{comparison_of, containment, extra_literal, python_full, sign_formula, text_sign, within}
-use Rattle.ul_marker.specs.Formulas.{Formula, IsExtraLiteral, extra, python, opaque}
+use Rattle.ul_comparison.specs.Formulas.{Formula, IsExtraLiteral, extra, python, opaque}
 use Rattle.ul_marker.specs.Grammar.{AreJoined, IsAtomOf, IsChain, IsConjunction, IsDisjunction, IsMarker, Spells}
-use Rattle.ul_marker.specs.Printed.{Comparison, IsComparison, atom_text, bound, bound_clause, bound_op, bound_sign, comparison_formula, comparison_text, equality_sign, extra_is, interpreter_text, kind_sign, atom_is, quote_of, quoted_text, sides, text_is, variable_name}
+use Rattle.ul_comparison.specs.Printed.{Comparison, IsComparison, atom_text, bound, bound_clause, bound_op, bound_sign, comparison_formula, comparison_text, equality_sign, extra_is, interpreter_text, kind_sign, atom_is, quote_of, quoted_text, sides, text_is, variable_name}
 use Rattle.ul_marker.specs.PrintedPaths.{ComparisonReads, IsPath, PathsRead, path_formula, path_text, paths_formula, paths_text}
 use Rattle.ul_marker.specs.Reading.{chain_formula, marker_of}
 use Rattle.ul_marker.specs.Words.{is_word_byte, tokens_in, tokens_of}
 use Rattle.ul_marker.specs.declared.reading.Chain.TheVariants.{Conjunction, Disjunction}
-use Rattle.ul_marker.specs.declared.variable.AtomKind.{AtomKind}
-use Rattle.ul_marker.specs.declared.variable.AtomKind.TheVariants.{Contains, Within, Below, AtMost as AtMostKind, Same}
-use Rattle.ul_marker.specs.declared.variable.Variable.{Variable}
-use Rattle.ul_marker.specs.declared.variable.Variable.TheVariants.{OsName, SysPlatform, PlatformMachine, PlatformPythonImplementation, PlatformRelease, PlatformSystem, PlatformVersion, PythonVersion, PythonFullVersion, ImplementationName, ImplementationVersion}
+use Rattle.ul_comparison.specs.declared.variable.AtomKind.{AtomKind}
+use Rattle.ul_comparison.specs.declared.variable.AtomKind.TheVariants.{Contains, Within, Below, AtMost as AtMostKind, Same}
+use Rattle.ul_comparison.specs.declared.variable.Variable.{Variable}
+use Rattle.ul_comparison.specs.declared.variable.Variable.TheVariants.{OsName, SysPlatform, PlatformMachine, PlatformPythonImplementation, PlatformRelease, PlatformSystem, PlatformVersion, PythonVersion, PythonFullVersion, ImplementationName, ImplementationVersion}
 use Rattle.ul_marker.specs.declared.words.Token.{Token}
 use Rattle.ul_marker.specs.declared.words.Token.TheVariants.{And, Or, Extra, Named, Sign, Literal}
+use Rattle.ul_comparison.proofs.ForCallers.{interpreter-is, interpreter-literal, interpreter-version}
 use Rattle.ul_marker.proofs.Lexed.{IsSubject, Lexes, and-front, contains-lexes, extra-front, in_tokens, lexes-next, name-front, or-front, quote-is, signed-lexes, within-lexes}
 use Rattle.ul_marker.proofs.Spelled.{comparison-spelled, reading_is_grammar}
 
@@ -61,53 +62,6 @@ printed_tokens (text_is v literal equal) = Named v ∷ Sign (equality_op equal) 
 printed_tokens (atom_is a holds) = atom_tokens a.kind a.variable a.literal holds
 
 -- ---- interpreters
-
-interpreter-version : (major minor patch : ℕ) → interpreter_text major minor patch ≡ version_text (plain (major ∷ minor ∷ patch ∷ []))
-unfolding interpreter_text version_text
-interpreter-version major minor patch =
-    ap (λ t. decimal major ++ (46 ∷ (decimal minor ++ (46 ∷ t)))) (sym (append-nil (decimal patch)))
-    ∙ sym (append-nil (decimal major ++ (46 ∷ (decimal minor ++ (46 ∷ (decimal patch ++ []))))))
-
-interpreter-is : (major minor patch : ℕ) → major < 2 ^ 32 → minor < 2 ^ 32 → patch < 2 ^ 32 → IsVersion (plain (major ∷ minor ∷ patch ∷ []))
-interpreter-is major minor patch a b c = record {
-  nonempty = omega arith;
-  epoch_fits = lit< tt;
-  release_fits =
-      All-cons IsNumber64 major (minor ∷ patch ∷ []) (omega arith)
-      (All-cons IsNumber64 minor (patch ∷ []) (omega arith) (All-cons IsNumber64 patch [] (omega arith) (All-nil IsNumber64)));
-  pre_fits = tt;
-  post_fits = tt;
-  dev_fits = tt;
-  segments = All-nil IsSegment;
-}
-
-text-literal : (b : ℕ) → is_text_byte b ≡ true → is_literal_byte b ≡ true
-text-literal b h = grind (arith, nat_tests)
-
-text-quote : (b : ℕ) → is_text_byte b ≡ true → (b == 39) ≡ false
-text-quote b h = grind (arith, nat_tests)
-
-no-quote : (bytes : List ℕ) → list_all is_text_byte bytes ≡ true → has_byte 39 bytes ≡ false
-no-quote [] h = refl
-no-quote (b ∷ bytes) h =
-    let both = and_parts (is_text_byte b) (list_all is_text_byte bytes) h in rw (text-quote b both.0) (no-quote bytes both.1)
-
-interpreter-literal : (major minor patch : ℕ) → major < 2 ^ 32 → minor < 2 ^ 32 → patch < 2 ^ 32 → is_literal (interpreter_text major minor patch) ≡ true
-interpreter-literal major minor patch a b c =
-    let release = major ∷ minor ∷ patch ∷ [] in
-    let bytes = (plain_text (plain release) (interpreter-is major minor patch a b c)).0 in
-    ap is_literal (interpreter-version major minor patch)
-    ∙ and_from (list_all is_literal_byte (version_text (plain release))) (not (has_byte 39 (version_text (plain release)) && has_byte 34 (version_text (plain release))))
-    (all-weaker is_text_byte is_literal_byte (version_text (plain release)) text-literal bytes) (rw (no-quote (version_text (plain release)) bytes) refl)
-
--- the quote of an interpreter's text is `'`
-pub interpreter_quoted : (major minor patch : ℕ) → major < 2 ^ 32 → minor < 2 ^ 32 → patch < 2 ^ 32
-    → quoted_text (interpreter_text major minor patch) ≡ 39 ∷ (interpreter_text major minor patch ++ 39 ∷ [])
-interpreter_quoted major minor patch a b c =
-    let release = major ∷ minor ∷ patch ∷ [] in
-    let bytes = (plain_text (plain release) (interpreter-is major minor patch a b c)).0 in
-    let none : has_byte 39 (interpreter_text major minor patch) ≡ false = ap (has_byte 39) (interpreter-version major minor patch) ∙ no-quote (version_text (plain release)) bytes in
-    rw none refl
 
 bound-is : (lower : Bool) (major minor patch : ℕ) → IsVersion (plain (major ∷ minor ∷ patch ∷ [])) → IsClause (bound_clause lower major minor patch)
 bound-is true major minor patch v = record {

@@ -11,16 +11,16 @@ use Rattle.ul_specifier.specs.Reading.{before_end, clause_after, clause_with, is
 use Rattle.ul_specifier.specs.declared.clause.Op.{Op}
 use Rattle.ul_specifier.specs.declared.clause.Op.TheVariants.{Equal, Unequal, AtLeast, AtMost, More, Less}
 use Rattle.ul_specifier.proofs.ForCallers as Clauses
-use Rattle.ul_marker.specs.Atoms.{is_text}
+use Rattle.ul_comparison.specs.Atoms.{is_text}
 use Rattle.ul_marker.specs.Comparisons.{comparison_of, containment, mirror_sign, opaquely, parts_versions, python_full, python_sign, python_within, sign_formula, text_sign, versions_of, within}
-use Rattle.ul_marker.specs.Formulas.{Formula, python, python_list, text}
+use Rattle.ul_comparison.specs.Formulas.{Formula, python, python_list, text}
 use Rattle.ul_marker.specs.Reading.{atom_at, before_close, chain_at, chain_with, each, inner_tokens, chain_formula, marker_of, part_at, pieces_from}
 use Rattle.ul_marker.specs.ReadingLaws.{AreOpposed, HasTokens, MirroredIsSame, NegatedRelations, NotInIsNegation, subject}
-use Rattle.ul_marker.specs.Truth.{python_release}
+use Rattle.ul_comparison.specs.Truth.{python_release}
 use Rattle.ul_marker.specs.declared.reading.Chain.{Chain}
 use Rattle.ul_marker.specs.declared.reading.Chain.TheVariants.{Conjunction, Disjunction}
-use Rattle.ul_marker.specs.declared.variable.AtomKind.TheVariants as Kind
-use Rattle.ul_marker.specs.declared.variable.Variable.{Variable}
+use Rattle.ul_comparison.specs.declared.variable.AtomKind.TheVariants as Kind
+use Rattle.ul_comparison.specs.declared.variable.Variable.{Variable}
 use Rattle.ul_marker.specs.declared.words.Token.{Token}
 use Rattle.ul_marker.specs.declared.words.Token.TheVariants.{In, Not, Extra, Sign, Literal}
 use Rattle.ul_marker.proofs.Chains.{atom-comparison}

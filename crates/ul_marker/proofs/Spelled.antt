@@ -10,7 +10,7 @@ use Rattle.ul_version.proofs.ForCallers.{cond_some, inside}
 use Rattle.ul_specifier.specs.Reading.{trimmed_text}
 use Rattle.ul_specifier.specs.declared.clause.Op.{Op}
 use Rattle.ul_marker.specs.Comparisons.{comparison_of, containment, in_sides, is_not_in, literal_of, mirror_sign, sign_formula, signed_sides, three, within}
-use Rattle.ul_marker.specs.Formulas.{Formula}
+use Rattle.ul_comparison.specs.Formulas.{Formula}
 use Rattle.ul_marker.specs.Grammar.{AreJoined, IsAtomOf, IsChain, IsComparison, IsConjunction, IsDisjunction, IsMarker, comparison, literal_in, literal_not_in, literal_sign, parenthesized, variable_in, variable_not_in, variable_sign}
 use Rattle.ul_marker.specs.Reading.{atom_at, atom_with, before_close, chain_at, chain_with, cuts, each, inner_tokens, is_close, is_open, chain_formula, joiner, joins, marker_of, onto_first, open_count, part_at, pieces_from}
 use Rattle.ul_marker.specs.ReadingLaws.{ReadingIsGrammar, SpelledOnce}

@@ -14,7 +14,7 @@ use Rattle.ul_version.proofs.ForCallers.{cond_some, inside}
 use Rattle.ul_specifier.specs.Reading.{after_all, after_front, after_operator, is_blank, operator}
 use Rattle.ul_specifier.specs.declared.clause.Op.{Op}
 use Rattle.ul_specifier.specs.declared.clause.Op.TheVariants.{Equal, Unequal, AtLeast, AtMost, More, Less, Compatible}
-use Rattle.ul_marker.specs.Atoms.{is_literal, is_literal_byte, has_byte}
+use Rattle.ul_comparison.specs.Atoms.{is_literal, is_literal_byte, has_byte}
 use Rattle.ul_marker.specs.Words.{after_quote, front_literal, front_sign, front_token, front_word, is_quote, is_quoted, is_sign_byte, is_word_byte, run_length, tokens_in, tokens_of, word_token}
 use Rattle.ul_marker.specs.declared.words.Token.{Token}
 use Rattle.ul_marker.specs.declared.words.Token.TheVariants.{Open, Close, Sign, Literal}

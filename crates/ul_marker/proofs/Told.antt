@@ -6,8 +6,8 @@ use Rattle.ul_version.specs.Fields.{Fields, plain}
 use Rattle.ul_specifier.specs.Clauses.{ClauseFields}
 use Rattle.ul_specifier.specs.declared.clause.Op.{Op}
 use Rattle.ul_specifier.specs.declared.clause.Op.TheVariants.{AtLeast}
-use Rattle.ul_marker.specs.Formulas.{Formula, extra, python, text, opaque}
-use Rattle.ul_marker.specs.Printed.{Comparison, IsComparison, atom_is, bound, bound_clause, bound_op, comparison_formula, extra_is, text_is}
+use Rattle.ul_comparison.specs.Formulas.{Formula, extra, python, text, opaque}
+use Rattle.ul_comparison.specs.Printed.{Comparison, IsComparison, atom_is, bound, bound_clause, bound_op, comparison_formula, extra_is, text_is}
 use Rattle.ul_marker.specs.PrintedPaths.{ComparisonsAreTold}
 use Rattle.ul_marker.specs.PrintedViews.{IsNoComparison, IsNoInterpreter, is_nil, is_plain}
 

@@ -18,9 +18,9 @@ use Rattle.ul_specifier.specs.Reading.{after_all, clause_with, is_blank, operato
 use Rattle.ul_specifier.specs.declared.clause.Op.{Op}
 use Rattle.ul_specifier.specs.declared.clause.Op.TheVariants.{Equal, Unequal, AtLeast, AtMost, More, Less, Compatible}
 use Rattle.ul_specifier.proofs.ForCallers.{clause_with-clause}
-use Rattle.ul_marker.specs.Atoms.{is_implementation_version, is_literal, is_literal_byte, is_text, has_byte, may_compare}
+use Rattle.ul_comparison.specs.Atoms.{is_implementation_version, is_literal, is_literal_byte, is_text, has_byte, may_compare}
 use Rattle.ul_marker.specs.Comparisons.{comparison_of, containment, equality, extra_literal, extra_sign, in_sides, is_not_in, literal_of, mirror_sign, opaquely, parts_versions, python_full, python_sign, python_within, sign_formula, signed_sides, text_sign, three, versions_of, within}
-use Rattle.ul_marker.specs.Formulas.{AreFormulas, Formula, Formulas, IsExtraLiteral, IsFormula, extra, formulas_of, none, python, python_list}
+use Rattle.ul_comparison.specs.Formulas.{AreFormulas, Formula, Formulas, IsExtraLiteral, IsFormula, extra, formulas_of, none, python, python_list}
 use Rattle.ul_marker.specs.Reading.{atom_at, atom_with, before_close, chain_at, chain_with, cuts, each, inner_tokens, is_close, is_open, join, chain_formula, marker_of, onto_first, open_count, part_at, pieces_from}
 use Rattle.ul_marker.specs.Readers.{Reads}
 use Rattle.ul_marker.specs.Views.{marker_view}
@@ -29,9 +29,9 @@ use Rattle.ul_marker.specs.declared.fault.MarkerFault.{MarkerFault}
 use Rattle.ul_marker.specs.declared.marker.Marker.{Marker}
 use Rattle.ul_marker.specs.declared.reading.Chain.{Chain}
 use Rattle.ul_marker.specs.declared.reading.Chain.TheVariants.{Conjunction, Disjunction}
-use Rattle.ul_marker.specs.declared.variable.AtomKind.{AtomKind}
-use Rattle.ul_marker.specs.declared.variable.AtomKind.TheVariants as Kind
-use Rattle.ul_marker.specs.declared.variable.Variable.{Variable}
+use Rattle.ul_comparison.specs.declared.variable.AtomKind.{AtomKind}
+use Rattle.ul_comparison.specs.declared.variable.AtomKind.TheVariants as Kind
+use Rattle.ul_comparison.specs.declared.variable.Variable.{Variable}
 use Rattle.ul_marker.specs.declared.words.Token.{Token}
 use Rattle.ul_marker.specs.declared.words.Token.TheVariants.{Open, Close, And, Or, In, Not, Extra, Named, Sign, Literal}
 use Rattle.ul_marker.proofs.Compared.{not_python}

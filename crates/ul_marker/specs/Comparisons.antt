@@ -9,12 +9,12 @@ use Rattle.ul_version.specs.Reading.{◌>>=◌, version_of}
 use Rattle.ul_specifier.specs.Reading.{clause_with}
 use Rattle.ul_specifier.specs.declared.clause.Op.{Op}
 use Rattle.ul_specifier.specs.declared.clause.Op.TheVariants.{Equal, Unequal, AtLeast, AtMost, More, Less, Compatible}
-use Rattle.ul_marker.specs.Atoms.{is_text}
-use Rattle.ul_marker.specs.Formulas.{Formula, extra, python, python_list, text, opaque}
-use Rattle.ul_marker.specs.declared.variable.AtomKind.{AtomKind}
-use Rattle.ul_marker.specs.declared.variable.AtomKind.TheVariants as Kind
-use Rattle.ul_marker.specs.declared.variable.Variable.{Variable}
-use Rattle.ul_marker.specs.declared.variable.Variable.TheVariants.{PythonVersion, PythonFullVersion}
+use Rattle.ul_comparison.specs.Atoms.{is_text}
+use Rattle.ul_comparison.specs.Formulas.{Formula, extra, python, python_list, text, opaque}
+use Rattle.ul_comparison.specs.declared.variable.AtomKind.{AtomKind}
+use Rattle.ul_comparison.specs.declared.variable.AtomKind.TheVariants as Kind
+use Rattle.ul_comparison.specs.declared.variable.Variable.{Variable}
+use Rattle.ul_comparison.specs.declared.variable.Variable.TheVariants.{PythonVersion, PythonFullVersion}
 use Rattle.ul_marker.specs.declared.words.Token.{Token}
 use Rattle.ul_marker.specs.declared.words.Token.TheVariants.{In, Not, Extra, Named, Sign, Literal}
 

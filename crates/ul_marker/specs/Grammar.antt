@@ -5,7 +5,7 @@ use Rattle.ul_version.specs.Reading.{is_white}
 use Rattle.ul_specifier.specs.Reading.{trimmed_text}
 use Rattle.ul_specifier.specs.declared.clause.Op.{Op}
 use Rattle.ul_marker.specs.Comparisons.{containment, mirror_sign, sign_formula, within}
-use Rattle.ul_marker.specs.Formulas.{Formula}
+use Rattle.ul_comparison.specs.Formulas.{Formula}
 use Rattle.ul_marker.specs.Reading.{chain_formula}
 use Rattle.ul_marker.specs.Words.{tokens_of}
 use Rattle.ul_marker.specs.declared.reading.Chain.{Chain}

@@ -1,11 +1,11 @@
 -- What holds of the parts of all formulas.
 use Rattle.std.specs.Prelude.{◌≡◌, ◌≤◌, ℕ, Bool, true, false, List, Some, length}
 use Rattle.ul_base.specs.Names.{name_of}
-use Rattle.ul_marker.specs.Atoms.{AtomFields, IsAtom, has_atom, is_literal}
-use Rattle.ul_marker.specs.Formulas.{Formula}
+use Rattle.ul_comparison.specs.Atoms.{AtomFields, IsAtom, has_atom, is_literal}
+use Rattle.ul_comparison.specs.Formulas.{Formula}
 use Rattle.ul_marker.specs.Parts.{asks_extra, atoms_of}
-use Rattle.ul_marker.specs.Truth.{marker_holds}
-use Rattle.ul_marker.specs.Worlds.{WorldFields}
+use Rattle.ul_comparison.specs.Truth.{marker_holds}
+use Rattle.ul_comparison.specs.Worlds.{WorldFields}
 
 -- a formula without a comparison with `extra` has one truth at every extra
 abbrev pub TruthIsPlain : Type 0

@@ -2,8 +2,8 @@
 -- formula as it was written, even where its truth doesn't depend on them.
 use Rattle.std.specs.Prelude.{◌≡◌, ◌||◌, ◌++◌, ℕ, Bool, true, false, List, [], ◌∷◌, Some}
 use Rattle.ul_base.specs.Names.{name_of}
-use Rattle.ul_marker.specs.Atoms.{AtomFields, is_literal}
-use Rattle.ul_marker.specs.Formulas.{Formula, extra, python, python_list, text, opaque, all, any, Formulas, none, more}
+use Rattle.ul_comparison.specs.Atoms.{AtomFields, is_literal}
+use Rattle.ul_comparison.specs.Formulas.{Formula, extra, python, python_list, text, opaque, all, any, Formulas, none, more}
 
 abbrev mutual
   -- the opaque comparisons of a formula, in the order of its text, each as often as it stands there

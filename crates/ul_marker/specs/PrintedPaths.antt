@@ -1,7 +1,7 @@
 -- Printed comparisons joined by `and` and by `or`, and what their texts are read as.
 use Rattle.std.specs.Prelude.{◌≡◌, ℕ, List, [], ◌∷◌, ◌++◌, map, codes, Some, All, length, ◌<◌}
-use Rattle.ul_marker.specs.Formulas.{Formula}
-use Rattle.ul_marker.specs.Printed.{Comparison, IsComparison, comparison_formula, comparison_text}
+use Rattle.ul_comparison.specs.Formulas.{Formula}
+use Rattle.ul_comparison.specs.Printed.{Comparison, IsComparison, comparison_formula, comparison_text}
 use Rattle.ul_marker.specs.Reading.{chain_formula, marker_of}
 use Rattle.ul_marker.specs.declared.reading.Chain.TheVariants.{Conjunction, Disjunction}
 

@@ -2,9 +2,9 @@
 use Rattle.std.specs.Prelude.{◌≡◌, ◌≢◌, ◌<◌, ◌^◌, ◌&&◌, ◌==◌, ℕ, Bool, true, false, List, [], ◌∷◌, is_none}
 use Rattle.ul_version.specs.Fields.{Fields, plain}
 use Rattle.ul_specifier.specs.Clauses.{has_local}
-use Rattle.ul_marker.specs.Formulas.{Formula}
-use Rattle.ul_marker.specs.Printed as Plain
-use Rattle.ul_marker.specs.Printed.{IsComparison, comparison_formula}
+use Rattle.ul_comparison.specs.Formulas.{Formula}
+use Rattle.ul_comparison.specs.Printed as Plain
+use Rattle.ul_comparison.specs.Printed.{IsComparison, comparison_formula}
 use Rattle.ul_marker.specs.declared.printed.Comparison.{Comparison}
 use Rattle.ul_marker.specs.declared.printed.Comparison.TheVariants.{Bound, Extra, Text, Opaque}
 

@@ -4,7 +4,7 @@ use Rattle.std.specs.Borrow.{Bor}
 use Rattle.ul_version.specs.Fields.{Fields}
 use Rattle.ul_version.specs.Reading.{◌>>=◌}
 use Rattle.ul_marker.specs.Comparisons.{versions_of}
-use Rattle.ul_marker.specs.Formulas.{Formula}
+use Rattle.ul_comparison.specs.Formulas.{Formula}
 use Rattle.ul_marker.specs.Reading.{marker_in}
 use Rattle.ul_marker.specs.Words.{Front}
 use Rattle.ul_marker.specs.declared.fault.MarkerFault.{MarkerFault}

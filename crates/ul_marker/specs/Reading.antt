@@ -8,7 +8,7 @@ use Rattle.std.specs.Option.{option_map_or}
 use Rattle.ul_version.specs.Reading.{◌>>=◌, is_white}
 use Rattle.ul_specifier.specs.Reading.{trimmed_text}
 use Rattle.ul_marker.specs.Comparisons.{comparison_of}
-use Rattle.ul_marker.specs.Formulas.{Formula, Formulas, all, any, formulas_of}
+use Rattle.ul_comparison.specs.Formulas.{Formula, Formulas, all, any, formulas_of}
 use Rattle.ul_marker.specs.Words.{tokens_of}
 use Rattle.ul_marker.specs.declared.reading.Chain.{Chain}
 use Rattle.ul_marker.specs.declared.reading.Chain.TheVariants.{Conjunction, Disjunction}

@@ -5,14 +5,14 @@ use Rattle.ul_specifier.specs.Reading.{trimmed_text}
 use Rattle.ul_specifier.specs.declared.clause.Op.{Op}
 use Rattle.ul_specifier.specs.declared.clause.Op.TheVariants.{Equal, Unequal, AtLeast, AtMost, More, Less}
 use Rattle.ul_marker.specs.Comparisons.{mirror_sign}
-use Rattle.ul_marker.specs.Formulas.{Formula, IsFormula, formulas_of}
+use Rattle.ul_comparison.specs.Formulas.{Formula, IsFormula, formulas_of}
 use Rattle.ul_marker.specs.Grammar.{Spells}
 use Rattle.ul_marker.specs.Reading.{join, marker_of}
-use Rattle.ul_marker.specs.Truth.{marker_holds}
+use Rattle.ul_comparison.specs.Truth.{marker_holds}
 use Rattle.ul_marker.specs.Words.{tokens_of}
-use Rattle.ul_marker.specs.Worlds.{WorldFields}
+use Rattle.ul_comparison.specs.Worlds.{WorldFields}
 use Rattle.ul_marker.specs.declared.reading.Chain.{Chain}
-use Rattle.ul_marker.specs.declared.variable.Variable.{Variable}
+use Rattle.ul_comparison.specs.declared.variable.Variable.{Variable}
 use Rattle.ul_marker.specs.declared.words.Token.{Token}
 use Rattle.ul_marker.specs.declared.words.Token.TheVariants.{In, Not, Extra, Named, Sign, Literal}
 

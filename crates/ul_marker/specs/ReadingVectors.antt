@@ -4,10 +4,10 @@ use Rattle.ul_version.specs.Fields.{plain}
 use Rattle.ul_specifier.specs.declared.clause.Op.{Op}
 use Rattle.ul_specifier.specs.declared.clause.Op.TheVariants.{Equal, AtLeast, Less}
 use Rattle.ul_marker.specs.Comparisons.{opaquely}
-use Rattle.ul_marker.specs.Formulas.{Formula, extra, python, python_list, text, all, any, formulas_of}
+use Rattle.ul_comparison.specs.Formulas.{Formula, extra, python, python_list, text, all, any, formulas_of}
 use Rattle.ul_marker.specs.Reading.{marker_of}
-use Rattle.ul_marker.specs.declared.variable.AtomKind.TheVariants.{Contains, Within, Below, AtMost, Same}
-use Rattle.ul_marker.specs.declared.variable.Variable.TheVariants.{OsName, SysPlatform, PlatformMachine, PlatformPythonImplementation, PlatformRelease, PlatformVersion, ImplementationVersion}
+use Rattle.ul_comparison.specs.declared.variable.AtomKind.TheVariants.{Contains, Within, Below, AtMost, Same}
+use Rattle.ul_comparison.specs.declared.variable.Variable.TheVariants.{OsName, SysPlatform, PlatformMachine, PlatformPythonImplementation, PlatformRelease, PlatformVersion, ImplementationVersion}
 
 -- `python_version` or `python_full_version` against a version that has a release alone
 abbrev pub python_at : Bool → Op → List ℕ → Formula

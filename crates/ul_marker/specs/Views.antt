@@ -1,6 +1,6 @@
 -- The plain data that a marker stands for.
 use Rattle.std.specs.Prelude.{List, map, string_bytes}
-use Rattle.ul_marker.specs.Formulas.{Formula, extra, python, python_list, text, opaque, all, any, Formulas, formulas_of}
+use Rattle.ul_comparison.specs.Formulas.{Formula, extra, python, python_list, text, opaque, all, any, Formulas, formulas_of}
 use Rattle.ul_marker.specs.declared.marker.Marker.{Marker, fold-Marker}
 use Rattle.ul_marker.specs.declared.marker.Marker.TheOpen.{Marker-F}
 

@@ -6,8 +6,8 @@ use Rattle.std.specs.Str.{bytes_eq}
 pub use Rattle.ul_version.specs.Ascii.{run_length}
 use Rattle.ul_version.specs.Reading.{◌>>=◌, is_white, or_else}
 use Rattle.ul_specifier.specs.Reading.{after_all, is_blank, operator}
-use Rattle.ul_marker.specs.Atoms.{is_literal_byte}
-use Rattle.ul_marker.specs.declared.variable.Variable.TheVariants.{OsName, SysPlatform, PlatformMachine, PlatformPythonImplementation, PlatformRelease, PlatformSystem, PlatformVersion, PythonVersion, PythonFullVersion, ImplementationName, ImplementationVersion}
+use Rattle.ul_comparison.specs.Atoms.{is_literal_byte}
+use Rattle.ul_comparison.specs.declared.variable.Variable.TheVariants.{OsName, SysPlatform, PlatformMachine, PlatformPythonImplementation, PlatformRelease, PlatformSystem, PlatformVersion, PythonVersion, PythonFullVersion, ImplementationName, ImplementationVersion}
 use Rattle.ul_marker.specs.declared.words.Token.{Token}
 use Rattle.ul_marker.specs.declared.words.Token.TheVariants.{Open, Close, And, Or, In, Not, Extra, Named, Sign, Literal}
 

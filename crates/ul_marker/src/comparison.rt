@@ -4,7 +4,7 @@ ghost use Rattle.std.specs.Prelude.{◌≡◌, ◌≤◌, ◌<◌, ◌+◌, ◌|
 ghost use Rattle.std.specs.List.{list_all, slice_split};
 ghost use Rattle.ul_version.specs.Reading.{version_of};
 ghost use Rattle.ul_specifier.specs.Reading as Clauses;
-ghost use Rattle.ul_marker.specs.Atoms;
+ghost use Rattle.ul_comparison.specs.Atoms;
 ghost use Rattle.ul_marker.specs.Comparisons as Grammar;
 ghost use Rattle.ul_marker.specs.Readers.{added_piece, optional_bytes, versions_view, Reads};
 ghost use Rattle.ul_marker.specs.Views.{marker_view};

@@ -1,11 +1,9 @@
 //! Laws of readings, and worked examples: each function's contract is proved, and its body does nothing.
 
-ghost use Rattle.ul_marker.specs.MachineLaws.{PartIsBetween, TruthsIncrease, TruthsOfMachine};
 ghost use Rattle.ul_marker.specs.PartLaws.{NamesAreLiterals, TruthIsPlain};
 ghost use Rattle.ul_marker.specs.PrintedPaths.{ComparisonReads, ComparisonsAreTold, PathsRead};
 ghost use Rattle.ul_marker.specs.ReadingLaws.{GroupingIsFree, MirroredIsSame, NegatedRelations, NotInIsNegation, OrderIsFree, ReadingIsGrammar, ReadIsFormula, SpelledOnce};
 ghost use Rattle.ul_marker.specs.ReadingVectors.{NoReadings, Readings};
-ghost use Rattle.ul_marker.specs.TruthVectors.{Truths};
 
 /// A text is read as a formula exactly where the grammar spells it so, which is one formula at most.
 pub fn reading_is_grammar()
@@ -35,14 +33,6 @@ pub fn parts_are_told()
     ensures names { NamesAreLiterals }
 {}
 
-/// The world of a machine has, in increasing order, exactly those of the given opaque comparisons that hold on the
-/// machine. A text is part of another exactly where it stands between two others.
-pub fn machine_truths()
-    ensures truths { TruthsOfMachine }
-    ensures increase { TruthsIncrease }
-    ensures part { PartIsBetween }
-{}
-
 /// Printed comparisons, alone or joined by ` and ` and by ` or `, are read as what they say, and those that say the
 /// same are one.
 pub fn printed_is_read()
@@ -55,9 +45,4 @@ pub fn printed_is_read()
 pub fn readings()
     ensures read { Readings }
     ensures not_read { NoReadings }
-{}
-
-/// Worked truths of markers at worlds.
-pub fn truth_examples()
-    ensures { Truths }
 {}

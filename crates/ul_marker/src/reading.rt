@@ -1,7 +1,7 @@
 //! Reading markers from their texts.
 
 ghost use Rattle.std.specs.Prelude.{◌≡◌, ◌≤◌, ◌<◌, ◌+◌, ◌^◌, [], ◌∷◌, Some, None, IfErr, IfOk, length, map, take, drop};
-ghost use Rattle.ul_marker.specs.Formulas.{IsFormula};
+ghost use Rattle.ul_comparison.specs.Formulas.{IsFormula};
 ghost use Rattle.ul_marker.specs.Reading as spec;
 ghost use Rattle.ul_marker.specs.Readers.{optional_tokens, Reads};
 ghost use Rattle.ul_marker.specs.Views.{marker_view};

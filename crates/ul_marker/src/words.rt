@@ -3,15 +3,15 @@
 ghost use Rattle.std.specs.Prelude.{◌≡◌, ◌≤◌, ◌<◌, ◌+◌, ◌^◌, Some, true, length};
 ghost use Rattle.std.specs.List.{list_all};
 ghost use Rattle.std.specs.Str.{bytes_eq};
-ghost use Rattle.ul_marker.specs.Atoms.{is_literal};
+ghost use Rattle.ul_comparison.specs.Atoms.{is_literal};
 ghost use Rattle.ul_marker.specs.Readers.{front_view, optional_bytes, optional_front, Reads, ReadsTokens};
 ghost use Rattle.ul_marker.specs.Reading;
 ghost use Rattle.ul_marker.specs.Words as Grammar;
 
-use crate::atom::is_literal_byte;
 use crate::{MarkerFault, Variable};
 use std::alloc::{AllocError, Global};
 use std::marker::Model;
+use ul_comparison::is_literal_byte;
 use ul_specifier::{Op, after_space, operator};
 use ul_version::ascii::{ByteClass, White, run_len};
 
@@ -28,7 +28,7 @@ pub struct Literal {
 
 impl Model for Literal {
     ghost use Rattle.std.specs.Prelude.{◌≡◌, true, List, ℕ, string_bytes};
-    ghost use Rattle.ul_marker.specs.Atoms.{is_literal};
+    ghost use Rattle.ul_comparison.specs.Atoms.{is_literal};
 
     ghost Value = { List ℕ };
 

@@ -3,7 +3,7 @@ use Rattle.std.proofs.Common.{◌≡◌, ◌≢◌, ℕ, ◌^◌, List, [], ◌�
 use Rattle.std.specs.Prelude.{codes, option_map}
 use Rattle.std.proofs.lemmas.Bool.{eqb-true}
 use Rattle.std.proofs.lemmas.List.{map-append}
-use Rattle.ul_marker.specs.Printed.{comparison_text}
+use Rattle.ul_comparison.specs.Printed.{comparison_text}
 use Rattle.ul_nodes.specs.Plain.{Plain, truth, node, Branches, done, branch, carries}
 use Rattle.ul_nodes.specs.Apply.{keys, leaf_truth}
 use Rattle.ul_tree.specs.FirstParts.{is_false}

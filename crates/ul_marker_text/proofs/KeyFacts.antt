@@ -4,7 +4,7 @@ use Rattle.std.specs.Borrow.{Bor}
 use Rattle.std.specs.Ordering.{is_eq}
 use Rattle.std.specs.declared.cmp.Ordering.{Ordering}
 use Rattle.ul_base.specs.Names.{is_name, name_of}
-use Rattle.ul_marker.specs.Atoms.{AtomFields, IsAtom}
+use Rattle.ul_comparison.specs.Atoms.{AtomFields, IsAtom}
 use Rattle.ul_nodes.specs.Keys.{level_view}
 use Rattle.ul_nodes.specs.Levels.{IsKey, IsExtra}
 use Rattle.ul_nodes.specs.Plain.{text_cmp}

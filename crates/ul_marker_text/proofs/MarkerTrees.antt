@@ -11,14 +11,14 @@ use Rattle.ul_base.specs.Names.{is_name, name_of, normal_form}
 use Rattle.ul_version.specs.Reading.{◌>>=◌}
 use Rattle.ul_specifier.specs.declared.clause.Op.{Op}
 use Rattle.ul_specifier.specs.declared.clause.Op.TheVariants.{Equal as Eq, Unequal, AtLeast, AtMost, More, Less as Lt, Compatible}
-use Rattle.ul_marker.specs.Formulas.{Formula, Formulas, extra, python, python_list, text, opaque, all, any, none, more, formulas_of, IsFormula, AreFormulas, IsExtraLiteral}
-use Rattle.ul_marker.specs.Printed.{comparison_formula}
+use Rattle.ul_comparison.specs.Formulas.{Formula, Formulas, extra, python, python_list, text, opaque, all, any, none, more, formulas_of, IsFormula, AreFormulas, IsExtraLiteral}
+use Rattle.ul_comparison.specs.Printed.{comparison_formula}
 use Rattle.ul_marker.specs.PrintedPaths.{path_formula, paths_formula}
 use Rattle.ul_marker.specs.Reading.{marker_of}
 use Rattle.ul_marker.specs.Words.{tokens_of, tokens_in, front_token, front_word, word_token}
 use Rattle.ul_marker.proofs.ForCallers.{marker-formula}
-use Rattle.ul_marker.specs.Truth.{is_empty, as_asked, marker_holds}
-use Rattle.ul_marker.specs.Worlds.{WorldFields}
+use Rattle.ul_comparison.specs.Truth.{is_empty, as_asked, marker_holds}
+use Rattle.ul_comparison.specs.Worlds.{WorldFields}
 use Rattle.ul_nodes.specs.Apply.{both, either}
 use Rattle.ul_tree.specs.Comparisons.{Comparison, at_least, below, equals, differs, path_comparisons}
 use Rattle.ul_tree.specs.Leaves.{point_tree}

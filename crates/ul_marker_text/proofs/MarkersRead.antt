@@ -6,7 +6,7 @@ use Rattle.std.proofs.lemmas.Bool.Decides.{nat_tests}
 use Rattle.std.proofs.lemmas.Str.{IsUtf8-from_ascii}
 use Rattle.std.proofs.lemmas.Str.Ascii.{IsAscii-from_all}
 use Rattle.std.specs.Str.{IsUtf8}
-use Rattle.ul_marker.specs.Atoms.{is_literal_byte}
+use Rattle.ul_comparison.specs.Atoms.{is_literal_byte}
 use Rattle.ul_nodes.specs.Plain.{Plain, truth}
 use Rattle.ul_nodes.specs.Reduced.{IsReduced}
 use Rattle.ul_marker_text.specs.MarkerOfText.{is_region, marker_of_text}

@@ -1,9 +1,9 @@
 -- Comparisons of a tree's paths, as they are printed.
 use Rattle.std.proofs.Common.{◌≡◌, ℕ, zero, suc, ◌<◌, ◌^◌, List, [], ◌∷◌, Bool, true, false, refl, ap, sym, ◌∙◌, arith, Some, inl, inr}
 use Rattle.ul_base.specs.Names.{is_name, name_of}
-use Rattle.ul_marker.specs.Atoms.{is_text, text_number}
-use Rattle.ul_marker.specs.Formulas.{IsExtraLiteral}
-use Rattle.ul_marker.specs.Printed.{IsComparison}
+use Rattle.ul_comparison.specs.Atoms.{is_text, text_number}
+use Rattle.ul_comparison.specs.Formulas.{IsExtraLiteral}
+use Rattle.ul_comparison.specs.Printed.{IsComparison}
 use Rattle.ul_marker.proofs.ForCallers.{names_are_literals}
 use Rattle.ul_tree.specs.Comparisons.{Comparison, at_least, below, equals, differs}
 use Rattle.ul_nodes.specs.Levels.{IsKey, IsExtra}

@@ -11,14 +11,14 @@ use Rattle.ul_version.specs.Fields.{IsNumber64, IsSegment, IsVersion, plain}
 use Rattle.ul_version.specs.Texts.{is_text_byte, version_text}
 use Rattle.ul_version.proofs.ForCallers.{plain as plain_text}
 use Rattle.ul_specifier.proofs.ForCallers.{all-weaker}
-use Rattle.ul_marker.specs.Atoms.{has_byte, is_literal, is_literal_byte}
-use Rattle.ul_marker.specs.Printed as Printed
-use Rattle.ul_marker.specs.Printed.{IsComparison, comparison_text, atom_text, quoted_text, quote_of, interpreter_text, sides, kind_sign, equality_sign, in_sign, bound_sign, variable_name}
+use Rattle.ul_comparison.specs.Atoms.{has_byte, is_literal, is_literal_byte}
+use Rattle.ul_comparison.specs.Printed as Printed
+use Rattle.ul_comparison.specs.Printed.{IsComparison, comparison_text, atom_text, quoted_text, quote_of, interpreter_text, sides, kind_sign, equality_sign, in_sign, bound_sign, variable_name}
 use Rattle.ul_marker.specs.PrintedPaths.{path_text, paths_text}
-use Rattle.ul_marker.specs.declared.variable.AtomKind.{AtomKind}
-use Rattle.ul_marker.specs.declared.variable.AtomKind.TheVariants.{Contains, Within, Below, AtMost, Same}
-use Rattle.ul_marker.specs.declared.variable.Variable.{Variable}
-use Rattle.ul_marker.specs.declared.variable.Variable.TheVariants.{OsName, SysPlatform, PlatformMachine, PlatformPythonImplementation, PlatformRelease, PlatformSystem, PlatformVersion, PythonVersion, PythonFullVersion, ImplementationName, ImplementationVersion}
+use Rattle.ul_comparison.specs.declared.variable.AtomKind.{AtomKind}
+use Rattle.ul_comparison.specs.declared.variable.AtomKind.TheVariants.{Contains, Within, Below, AtMost, Same}
+use Rattle.ul_comparison.specs.declared.variable.Variable.{Variable}
+use Rattle.ul_comparison.specs.declared.variable.Variable.TheVariants.{OsName, SysPlatform, PlatformMachine, PlatformPythonImplementation, PlatformRelease, PlatformSystem, PlatformVersion, PythonVersion, PythonFullVersion, ImplementationName, ImplementationVersion}
 use Rattle.ul_tree.specs.Comparisons.{Comparison, path_comparisons}
 use Rattle.ul_tree.specs.PathList.{Step, paths_to_true}
 use Rattle.ul_nodes.specs.Plain.{Plain, truth, node}

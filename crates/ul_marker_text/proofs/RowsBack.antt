@@ -6,9 +6,9 @@ use Rattle.std.proofs.lemmas.List.{length-map}
 use Rattle.std.proofs.lemmas.List.Elements.{All-head, All-tail}
 use Rattle.ul_specifier.specs.declared.clause.Op.{Op}
 use Rattle.ul_specifier.specs.declared.clause.Op.TheVariants.{AtLeast}
-use Rattle.ul_marker.specs.Formulas.{Formula, extra, python, python_list, text, opaque, all, any, formulas_of}
-use Rattle.ul_marker.specs.Printed as Printed
-use Rattle.ul_marker.specs.Printed.{IsComparison, comparison_formula}
+use Rattle.ul_comparison.specs.Formulas.{Formula, extra, python, python_list, text, opaque, all, any, formulas_of}
+use Rattle.ul_comparison.specs.Printed as Printed
+use Rattle.ul_comparison.specs.Printed.{IsComparison, comparison_formula}
 use Rattle.ul_marker.specs.PrintedPaths.{IsPath, path_formula, paths_formula}
 use Rattle.ul_marker.specs.PrintedViews.{IsNoComparison}
 use Rattle.ul_marker.specs.Views.{marker_view, markers_view}

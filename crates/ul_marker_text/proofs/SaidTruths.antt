@@ -12,13 +12,13 @@ use Rattle.ul_base.proofs.ForCallers.{name-is_name}
 use Rattle.ul_version.specs.Fields.{plain}
 use Rattle.ul_version.specs.Order.{padded_release, release_cmp, version_cmp}
 use Rattle.ul_specifier.specs.Meaning.{meets_clause}
-use Rattle.ul_marker.specs.Atoms.{has_atom}
-use Rattle.ul_marker.specs.Formulas.{formulas_of}
-use Rattle.ul_marker.specs.Printed.{comparison_formula}
+use Rattle.ul_comparison.specs.Atoms.{has_atom}
+use Rattle.ul_comparison.specs.Formulas.{formulas_of}
+use Rattle.ul_comparison.specs.Printed.{comparison_formula}
 use Rattle.ul_marker.specs.PrintedPaths.{path_formula, paths_formula, paths_text}
 use Rattle.ul_marker.specs.Reading.{marker_of}
-use Rattle.ul_marker.specs.Truth.{marker_holds, all_hold, any_holds, as_asked, is_empty}
-use Rattle.ul_marker.specs.Worlds.{WorldFields, IsWorld}
+use Rattle.ul_comparison.specs.Truth.{marker_holds, all_hold, any_holds, as_asked, is_empty}
+use Rattle.ul_comparison.specs.Worlds.{WorldFields, IsWorld}
 use Rattle.ul_marker.proofs.ForCallers.{paths-read}
 use Rattle.ul_tree.specs.Comparisons.{Comparison, at_least, below, equals, differs, path_comparisons}
 use Rattle.ul_nodes.specs.Levels.{IsKey, IsExtra, IsAtomLevel}

@@ -4,8 +4,8 @@ use Rattle.std.specs.Prelude.{Vec, codes}
 use Rattle.std.specs.declared.alloc.Global.{Global}
 use Rattle.std.specs.Str.{bytes_eq}
 use Rattle.std.proofs.lemmas.Slice.Eq.{bytes_eq-Decides}
-use Rattle.ul_marker.specs.Formulas.{Formula}
-use Rattle.ul_marker.specs.Printed.{comparison_formula}
+use Rattle.ul_comparison.specs.Formulas.{Formula}
+use Rattle.ul_comparison.specs.Printed.{comparison_formula}
 use Rattle.ul_marker.specs.PrintedPaths.{paths_formula}
 use Rattle.ul_marker.specs.Readers.{Reads}
 use Rattle.ul_marker.specs.Reading.{marker_of}

@@ -3,13 +3,13 @@ use Rattle.std.proofs.Common.{◌≡◌, ℕ, ◌<◌, ◌^◌, List, [], ◌∷
 use Rattle.std.specs.Prelude.{All, codes}
 use Rattle.std.specs.List.{flat_map}
 use Rattle.std.proofs.lemmas.List.Elements.{All-cons, All-nil}
-use Rattle.ul_marker.specs.Printed as Printed
-use Rattle.ul_marker.specs.Printed.{IsComparison, comparison_text, atom_text, quoted_text, sides, kind_sign, variable_name}
+use Rattle.ul_comparison.specs.Printed as Printed
+use Rattle.ul_comparison.specs.Printed.{IsComparison, comparison_text, atom_text, quoted_text, sides, kind_sign, variable_name}
 use Rattle.ul_marker.specs.PrintedPaths.{IsPath, path_text, paths_text}
-use Rattle.ul_marker.specs.declared.variable.AtomKind.{AtomKind}
-use Rattle.ul_marker.specs.declared.variable.AtomKind.TheVariants.{Contains, Within, Below, AtMost, Same}
-use Rattle.ul_marker.specs.declared.variable.Variable.{Variable}
-use Rattle.ul_marker.specs.declared.variable.Variable.TheVariants.{OsName, SysPlatform, PlatformMachine, PlatformPythonImplementation, PlatformRelease, PlatformSystem, PlatformVersion, PythonVersion, PythonFullVersion, ImplementationName, ImplementationVersion}
+use Rattle.ul_comparison.specs.declared.variable.AtomKind.{AtomKind}
+use Rattle.ul_comparison.specs.declared.variable.AtomKind.TheVariants.{Contains, Within, Below, AtMost, Same}
+use Rattle.ul_comparison.specs.declared.variable.Variable.{Variable}
+use Rattle.ul_comparison.specs.declared.variable.Variable.TheVariants.{OsName, SysPlatform, PlatformMachine, PlatformPythonImplementation, PlatformRelease, PlatformSystem, PlatformVersion, PythonVersion, PythonFullVersion, ImplementationName, ImplementationVersion}
 use Rattle.ul_nodes.specs.Apply.{keys, leaf_truth}
 use Rattle.ul_tree.specs.Comparisons.{Comparison, path_comparisons}
 use Rattle.ul_tree.specs.Fans.{fan_of, tree_of}

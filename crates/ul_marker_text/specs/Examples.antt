@@ -1,8 +1,8 @@
 -- Worked examples of texts.
 use Rattle.std.specs.Prelude.{◌≡◌, ℕ, List, [], ◌∷◌, codes, true, false}
-use Rattle.ul_marker.specs.Atoms.{AtomFields, atom_fields}
-use Rattle.ul_marker.specs.declared.variable.AtomKind.TheVariants.{Contains, Below, Same}
-use Rattle.ul_marker.specs.declared.variable.Variable.TheVariants.{OsName, SysPlatform, PlatformRelease, PythonVersion, ImplementationVersion}
+use Rattle.ul_comparison.specs.Atoms.{AtomFields, atom_fields}
+use Rattle.ul_comparison.specs.declared.variable.AtomKind.TheVariants.{Contains, Below, Same}
+use Rattle.ul_comparison.specs.declared.variable.Variable.TheVariants.{OsName, SysPlatform, PlatformRelease, PythonVersion, ImplementationVersion}
 use Rattle.ul_nodes.specs.Plain.{Plain, truth, node, done, branch}
 use Rattle.ul_nodes.specs.Levels.{extra_level, python_level, text_level, atom_level}
 use Rattle.ul_tree.specs.Pieces.{packed_number}

@@ -1,9 +1,9 @@
 -- The main theorem: trees and their texts are one to one, and a text says as a marker what its tree says.
 use Rattle.std.specs.Prelude.{◌≡◌, ◌≢◌, ℕ, List, Bool, Some}
-use Rattle.ul_marker.specs.Formulas.{Formula}
+use Rattle.ul_comparison.specs.Formulas.{Formula}
 use Rattle.ul_marker.specs.Reading.{marker_of}
-use Rattle.ul_marker.specs.Truth.{marker_holds}
-use Rattle.ul_marker.specs.Worlds.{WorldFields, IsWorld}
+use Rattle.ul_comparison.specs.Truth.{marker_holds}
+use Rattle.ul_comparison.specs.Worlds.{WorldFields, IsWorld}
 use Rattle.ul_nodes.specs.Plain.{Plain, truth}
 use Rattle.ul_nodes.specs.Reduced.{IsReduced}
 use Rattle.ul_tree.specs.Sample.{asks_extra}

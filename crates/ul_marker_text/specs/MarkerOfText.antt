@@ -6,9 +6,9 @@ use Rattle.ul_base.specs.Names.{is_name}
 use Rattle.ul_version.specs.Reading.{◌>>=◌}
 use Rattle.ul_specifier.specs.declared.clause.Op.{Op}
 use Rattle.ul_specifier.specs.declared.clause.Op.TheVariants.{AtLeast, Less}
-use Rattle.ul_marker.specs.Formulas.{Formula, Formulas, extra, python, python_list, text, opaque, all, any, none, more}
+use Rattle.ul_comparison.specs.Formulas.{Formula, Formulas, extra, python, python_list, text, opaque, all, any, none, more}
 use Rattle.ul_marker.specs.Reading.{marker_of}
-use Rattle.ul_marker.specs.Truth.{is_empty}
+use Rattle.ul_comparison.specs.Truth.{is_empty}
 use Rattle.ul_tree.specs.Laws.{and_of, or_of}
 use Rattle.ul_tree.specs.Leaves.{point_tree}
 use Rattle.ul_nodes.specs.Levels.{extra_level, python_level, text_level, atom_level}

@@ -1,11 +1,11 @@
 -- The text of a tree: the marker that says what the tree says, in one spelling (PEP 508, "Environment Markers").
 use Rattle.std.specs.Prelude.{ℕ, zero, suc, List, [], ◌∷◌, map, Bool, true, false, codes, if◌then◌else◌}
-use Rattle.ul_marker.specs.Atoms.{has_byte}
-use Rattle.ul_marker.specs.Printed as Printed
-use Rattle.ul_marker.specs.Printed.{bound, extra_is, text_is, atom_is}
+use Rattle.ul_comparison.specs.Atoms.{has_byte}
+use Rattle.ul_comparison.specs.Printed as Printed
+use Rattle.ul_comparison.specs.Printed.{bound, extra_is, text_is, atom_is}
 use Rattle.ul_marker.specs.PrintedPaths.{paths_text}
-use Rattle.ul_marker.specs.declared.variable.Variable.{Variable}
-use Rattle.ul_marker.specs.declared.variable.Variable.TheVariants.{OsName, SysPlatform, PlatformMachine, PlatformPythonImplementation, PlatformRelease, PlatformSystem, PlatformVersion, ImplementationName}
+use Rattle.ul_comparison.specs.declared.variable.Variable.{Variable}
+use Rattle.ul_comparison.specs.declared.variable.Variable.TheVariants.{OsName, SysPlatform, PlatformMachine, PlatformPythonImplementation, PlatformRelease, PlatformSystem, PlatformVersion, ImplementationName}
 use Rattle.ul_nodes.specs.Apply.{leaf_truth}
 use Rattle.ul_tree.specs.Comparisons.{Comparison, at_least, below, equals, differs, path_comparisons}
 use Rattle.ul_tree.specs.PathList.{Step, paths_to_true}

@@ -1,7 +1,7 @@
 -- What the paths of a tree add to a text, behind what stands already.
 use Rattle.std.specs.Prelude.{◌≡◌, ℕ, List, [], ◌∷◌, ◌++◌, map, codes}
-use Rattle.ul_marker.specs.Printed as Printed
-use Rattle.ul_marker.specs.Printed.{comparison_text}
+use Rattle.ul_comparison.specs.Printed as Printed
+use Rattle.ul_comparison.specs.Printed.{comparison_text}
 use Rattle.ul_tree.specs.Comparisons.{Comparison, differs, path_comparisons}
 use Rattle.ul_tree.specs.PathList.{Step}
 use Rattle.ul_marker_text.specs.MarkerText.{printed_form}

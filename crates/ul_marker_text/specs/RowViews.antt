@@ -2,8 +2,8 @@
 use Rattle.std.specs.Prelude.{◌≢◌, List, map, All, Vec}
 use Rattle.std.specs.declared.alloc.Global.{Global}
 use Rattle.ul_marker.specs.declared.printed.Comparison.{Comparison}
-use Rattle.ul_marker.specs.Formulas.{Formula}
-use Rattle.ul_marker.specs.Printed as Printed
+use Rattle.ul_comparison.specs.Formulas.{Formula}
+use Rattle.ul_comparison.specs.Printed as Printed
 use Rattle.ul_marker.specs.PrintedPaths.{IsPath, path_formula}
 use Rattle.ul_marker_text.specs.StepViews.{said}
 

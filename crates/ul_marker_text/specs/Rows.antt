@@ -1,9 +1,9 @@
 -- The paths of a text that is read as a marker, and their steps.
 use Rattle.std.specs.Prelude.{◌≡◌, ◌<◌, ◌≢◌, ◌^◌, ℕ, zero, suc, List, [], ◌∷◌, map, length, Bool, true, false, All, Option, Some, None, if◌then◌else◌}
 use Rattle.std.specs.Str.{bytes_eq}
-use Rattle.ul_marker.specs.Formulas.{Formula, Formulas, extra, python, python_list, text, opaque, all, any, none, more}
-use Rattle.ul_marker.specs.Printed as Printed
-use Rattle.ul_marker.specs.Printed.{bound, extra_is, text_is, atom_is, comparison_formula, IsComparison}
+use Rattle.ul_comparison.specs.Formulas.{Formula, Formulas, extra, python, python_list, text, opaque, all, any, none, more}
+use Rattle.ul_comparison.specs.Printed as Printed
+use Rattle.ul_comparison.specs.Printed.{bound, extra_is, text_is, atom_is, comparison_formula, IsComparison}
 use Rattle.ul_marker.specs.PrintedPaths.{IsPath, path_formula, paths_formula}
 use Rattle.ul_tree.specs.Comparisons.{Comparison, at_least, below, equals, differs}
 use Rattle.ul_nodes.specs.Levels.{extra_level, text_level, atom_level}

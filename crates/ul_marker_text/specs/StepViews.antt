@@ -3,8 +3,8 @@ use Rattle.std.specs.Prelude.{ℕ, List, [], ◌∷◌, map, drop, length, Optio
 use Rattle.std.specs.declared.alloc.Global.{Global}
 use Rattle.ul_marker.specs.declared.printed.Comparison.{Comparison}
 use Rattle.ul_marker.specs.declared.printed.Comparison.TheVariants.{Bound, Extra, Text, Opaque}
-use Rattle.ul_marker.specs.Formulas.{Formula}
-use Rattle.ul_marker.specs.Printed.{comparison_formula}
+use Rattle.ul_comparison.specs.Formulas.{Formula}
+use Rattle.ul_comparison.specs.Printed.{comparison_formula}
 use Rattle.ul_marker.specs.PrintedViews.{comparison_view}
 use Rattle.ul_tree.specs.Comparisons as Plain
 use Rattle.ul_tree.specs.Fans.{Fan, fan_of, tree_of}

@@ -1,7 +1,7 @@
 //! Nodes that are made of their parts, if they are reduced.
 ghost use Rattle.std.specs.Prelude.{◌≡◌, ◌∷◌, ◌↔◌, ℕ, List, [], IfOk, IsTrue, OnOk, Some, All, map, true, false, option_map};
 ghost use Rattle.std.specs.Ordering.{is_lt};
-ghost use Rattle.ul_marker.specs.Atoms.{IsAtom};
+ghost use Rattle.ul_comparison.specs.Atoms.{IsAtom};
 ghost use Rattle.ul_tree.specs.Fans.{filled_points, listed_points, node_of as node_of_parts, opening_node, other_part, pieces_from, pointed_at};
 ghost use Rattle.ul_tree.specs.Joins.{trees_made};
 ghost use Rattle.ul_nodes.specs.Keys.{level_view, key_view, then_branches, KeysOf};

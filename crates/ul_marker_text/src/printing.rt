@@ -1,7 +1,7 @@
 //! The paths of a tree, as a text.
 ghost use Rattle.std.specs.Prelude.{◌≡◌, ◌++◌, ◌∷◌, [], OnOk, IfOk, Some, false, true, codes, string_bytes};
-ghost use Rattle.ul_marker.specs.Atoms.{text_number};
-ghost use Rattle.ul_marker.specs.Printed.{bound, IsWritten};
+ghost use Rattle.ul_comparison.specs.Atoms.{text_number};
+ghost use Rattle.ul_comparison.specs.Printed.{bound, IsWritten};
 ghost use Rattle.ul_nodes.specs.Apply.{keys};
 ghost use Rattle.ul_tree.specs.Comparisons.{lower, upper};
 ghost use Rattle.ul_nodes.specs.Keys.{level_view, key_view, has_kind, is_number_key, top_of, branches_of};

@@ -10,7 +10,7 @@ use Rattle.ul_base.specs.declared.node.Node.{Node}
 use Rattle.ul_base.proofs.ForCallers.{contains_from_map, contains_map, some_is}
 use Rattle.ul_version.specs.Fields.{Fields}
 use Rattle.ul_version.specs.Order.{version_cmp}
-use Rattle.ul_marker.specs.Worlds.{WorldFields, IsWorld}
+use Rattle.ul_comparison.specs.Worlds.{WorldFields, IsWorld}
 use Rattle.ul_requirement.specs.Fields.{RequirementFields, VersionsDiffer}
 use Rattle.ul_requirement.specs.Truth.{applies_at, targets}
 use Rattle.ul_nodes.specs.Plain.{Plain}

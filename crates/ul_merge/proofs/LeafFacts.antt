@@ -5,7 +5,7 @@ use Rattle.std.specs.List.{slice_get}
 use Rattle.ul_base.specs.declared.node.Node.{Node}
 use Rattle.ul_base.proofs.ForCallers.{contains_cases, contains_first, contains_later, none_in, some_is}
 use Rattle.ul_version.specs.Fields.{Fields}
-use Rattle.ul_marker.specs.Worlds.{WorldFields}
+use Rattle.ul_comparison.specs.Worlds.{WorldFields}
 use Rattle.ul_requirement.specs.Fields.{RequirementFields}
 use Rattle.ul_requirement.specs.Truth.{applies_at}
 use Rattle.ul_algebra.specs.Spelled.{tree_of}

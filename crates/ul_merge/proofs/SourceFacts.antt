@@ -6,7 +6,7 @@ use Rattle.ul_base.specs.declared.node.Node.{Node}
 use Rattle.ul_base.proofs.ForCallers.{contains_first, contains_from_map, contains_later, contains_map}
 use Rattle.ul_version.specs.Fields.{Fields}
 use Rattle.ul_interner.specs.Known.{Knows}
-use Rattle.ul_marker.specs.Worlds.{WorldFields, IsWorld}
+use Rattle.ul_comparison.specs.Worlds.{WorldFields, IsWorld}
 use Rattle.ul_requirement.specs.Fields.{VersionsDiffer}
 use Rattle.ul_requirement.specs.Truth.{base, with_extra}
 use Rattle.ul_nodes.specs.Plain.{Plain}

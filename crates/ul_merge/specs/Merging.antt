@@ -2,7 +2,7 @@
 use Rattle.std.specs.Prelude.{◌≡◌, ◌≢◌, List, All, Contains, Some, true, false}
 use Rattle.ul_base.specs.declared.node.Node.{Node}
 use Rattle.ul_version.specs.Fields.{Fields}
-use Rattle.ul_marker.specs.Worlds.{WorldFields, IsWorld}
+use Rattle.ul_comparison.specs.Worlds.{WorldFields, IsWorld}
 use Rattle.ul_nodes.specs.Plain.{truth}
 use Rattle.ul_tree.specs.Regions.{IsRegionTree}
 use Rattle.ul_algebra.specs.Answers.{IsDiagram}

@@ -1,6 +1,6 @@
 -- Regions that are joined and simplified.
 use Rattle.std.specs.Prelude.{◌≡◌, List, [], ◌∷◌, Bool, true, false, ◌||◌}
-use Rattle.ul_marker.specs.Worlds.{WorldFields}
+use Rattle.ul_comparison.specs.Worlds.{WorldFields}
 use Rattle.ul_region.specs.Truths.{PassView, DiagramMark, IsRegion, region_at}
 use Rattle.ul_merge.specs.Views.{ForkLeaf}
 

@@ -1,7 +1,7 @@
 -- Levels and keys of trees as plain data, and the branches of a node.
 use Rattle.std.specs.Prelude.{ℕ, zero, suc, List, [], ◌∷◌, map, Bool, true, false, Option, Some, None, All, ◌≡◌}
 use Rattle.std.specs.Ordering.{is_eq}
-use Rattle.ul_marker.specs.Atoms.{atom_key, text_number}
+use Rattle.ul_comparison.specs.Atoms.{atom_key, text_number}
 use Rattle.ul_nodes.specs.Plain.{Plain, truth, node, Branches, done, branch, text_cmp, pick}
 use Rattle.ul_nodes.specs.Apply.{same_bool, both_keys}
 use Rattle.ul_nodes.specs.Levels.{extra_level, python_level, text_level, atom_level}

@@ -2,8 +2,8 @@
 -- variables in their order, and opaque comparisons in their order; and the keys of each.
 use Rattle.std.specs.Prelude.{ℕ, zero, suc, List, [], ◌∷◌, ◌<◌, ◌≡◌, ◌^◌, ◌⊎◌, true}
 use Rattle.ul_base.specs.Names.{IsNormalName}
-use Rattle.ul_marker.specs.Atoms.{AtomFields, IsAtom, atom_key, is_literal, text_number}
-use Rattle.ul_marker.specs.declared.variable.Variable.{Variable}
+use Rattle.ul_comparison.specs.Atoms.{AtomFields, IsAtom, atom_key, is_literal, text_number}
+use Rattle.ul_comparison.specs.declared.variable.Variable.{Variable}
 
 -- the extra
 abbrev pub extra_level : List ℕ

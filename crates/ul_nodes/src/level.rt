@@ -4,7 +4,7 @@ ghost use Rattle.ul_nodes.specs.Plain.{text_cmp, carries};
 ghost use Rattle.ul_nodes.specs.Keys.{level_view, level_rank, level_rest, key_view};
 
 use std::cmp::Ordering;
-use ul_marker::{Atom, Variable};
+use ul_comparison::{Atom, Variable};
 
 /// A level of trees: what a node's parts depend on. Contracts see it as a list of numbers, `level_view`.
 #[derive(Clone, Copy)]

@@ -5,7 +5,7 @@ use Rattle.ul_base.specs.Kept.{Kept}
 use Rattle.ul_base.specs.Reached.{Reached, begun, led}
 use Rattle.ul_base.specs.declared.node.Node.{Node}
 use Rattle.ul_base.proofs.ForCallers.{reached_in}
-use Rattle.ul_marker.specs.Worlds.{WorldFields}
+use Rattle.ul_comparison.specs.Worlds.{WorldFields}
 use Rattle.ul_requirement.specs.Fields.{RequirementFields}
 use Rattle.ul_requirement.specs.declared.wish.Strategy.{Strategy}
 use Rattle.ul_requirement.specs.declared.wish.Strategy.TheVariants.{Fewest, RequiresPython, Deep}

@@ -6,7 +6,7 @@ use Rattle.ul_base.specs.declared.node.Node.{Node}
 use Rattle.ul_base.proofs.ForCallers.{some_is, long_map}
 use Rattle.ul_ranges.specs.Flags.{has}
 use Rattle.ul_version.specs.Fields.{Fields}
-use Rattle.ul_marker.specs.Worlds.{WorldFields}
+use Rattle.ul_comparison.specs.Worlds.{WorldFields}
 use Rattle.ul_problem.specs.Problems.{AllAre, AreNeeds, HasBase, Increases, IsBaseIn, IsNodeOf, IsOrderOf, VersionBefore}
 use Rattle.ul_problem.specs.declared.problem.Need.{Need as PlaceNeed}
 use Rattle.ul_problem.specs.declared.problem.NodeFacts.{NodeFacts}

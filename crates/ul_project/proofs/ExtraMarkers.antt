@@ -1,7 +1,7 @@
 -- The marker `extra == 'NAME'` is one that a text can spell.
 use Rattle.std.proofs.Common.{◌≡◌, ℕ, List, Bool, true, Some, String, Global, string_bytes, rules, sym, subst}
 use Rattle.ul_base.specs.Names.{name_of}
-use Rattle.ul_marker.specs.Formulas.{IsExtraLiteral, IsFormula, extra}
+use Rattle.ul_comparison.specs.Formulas.{IsExtraLiteral, IsFormula, extra}
 use Rattle.ul_marker.specs.Views.{marker_view}
 use Rattle.ul_marker.specs.declared.marker.Marker.{Extra, the_lemmas}
 use Rattle.ul_marker.proofs.ForCallers.{names_are_literals}

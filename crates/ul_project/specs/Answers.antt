@@ -6,10 +6,10 @@ use Rattle.std.specs.declared.alloc.Global.{Global}
 use Rattle.toml.specs.Data.{Data, Members, no_members}
 use Rattle.toml.specs.View.{items_view, table_view, view}
 use Rattle.toml.specs.declared.value.Value.{Value}
-use Rattle.ul_marker.specs.Formulas.{Formula}
+use Rattle.ul_comparison.specs.Formulas.{Formula}
 use Rattle.ul_marker.specs.Views.{marker_view}
 use Rattle.ul_marker.specs.declared.marker.Marker.{Marker}
-use Rattle.ul_marker.specs.Worlds.{IsWorld, WorldFields}
+use Rattle.ul_comparison.specs.Worlds.{IsWorld, WorldFields}
 use Rattle.ul_tree.specs.Joining.{truths_of}
 use Rattle.ul_tree.specs.declared.tree.Tree.{Tree}
 use Rattle.ul_project.specs.Fields.{ProjectFields}

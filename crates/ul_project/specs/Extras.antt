@@ -1,7 +1,7 @@
 -- What the project requires by its extras (PEP 621, PEP 685).
 use Rattle.std.specs.Prelude.{ℕ, List, [], ◌∷◌, ◌++◌, length, map, true, Option, Some, None}
 use Rattle.toml.specs.Data.{Data}
-use Rattle.ul_marker.specs.Formulas.{Formula, all, extra, more, none}
+use Rattle.ul_comparison.specs.Formulas.{Formula, all, extra, more, none}
 use Rattle.ul_requirement.specs.Fields.{RequirementFields}
 use Rattle.ul_project.specs.Lists.{Named, named_lists}
 use Rattle.ul_project.specs.Requirements.{requirements_at}

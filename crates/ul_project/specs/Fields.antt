@@ -2,7 +2,7 @@
 use Rattle.std.specs.Prelude.{◌≡◌, ℕ, List, map, length, false}
 use Rattle.std.specs.List.Sorted.{IsStrictlySortedBy}
 use Rattle.ul_base.specs.Names.{name_cmp}
-use Rattle.ul_marker.specs.Formulas.{Formula, AreFormulas, formulas_of}
+use Rattle.ul_comparison.specs.Formulas.{Formula, AreFormulas, formulas_of}
 use Rattle.ul_requirement.specs.Fields.{PackageFields, RequirementFields}
 use Rattle.ul_requirement.specs.declared.wish.Mode.{Mode}
 use Rattle.ul_requirement.specs.declared.wish.Strategy.{Strategy}

@@ -1,7 +1,7 @@
 -- What the reader of project files answers: the project that the bytes say, with the region of the worlds that it
 -- supports, or the first fault. Want of memory says nothing.
 use Rattle.std.specs.Prelude.{◌≡◌, ℕ, List, Bool, true, false, Result, Ok, Err}
-use Rattle.ul_marker.specs.Worlds.{WorldFields, IsWorld}
+use Rattle.ul_comparison.specs.Worlds.{WorldFields, IsWorld}
 use Rattle.ul_tree.specs.Regions.{HasTruth}
 use Rattle.ul_project.specs.Fields.{ProjectFields}
 use Rattle.ul_project.specs.ProjectFile.{FileFields, file_of, project_with}

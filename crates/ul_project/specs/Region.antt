@@ -4,9 +4,9 @@ use Rattle.std.specs.List.{list_any}
 use Rattle.ul_version.specs.Fields.{plain}
 use Rattle.ul_specifier.specs.Clauses.{ClauseFields}
 use Rattle.ul_specifier.specs.Meaning.{meets_list}
-use Rattle.ul_marker.specs.Formulas.{Formula}
-use Rattle.ul_marker.specs.Truth.{marker_holds, python_release}
-use Rattle.ul_marker.specs.Worlds.{WorldFields}
+use Rattle.ul_comparison.specs.Formulas.{Formula}
+use Rattle.ul_comparison.specs.Truth.{marker_holds, python_release}
+use Rattle.ul_comparison.specs.Worlds.{WorldFields}
 
 -- the world's interpreter meets `requires-python`
 abbrev pub meets_python : List ClauseFields → WorldFields → Bool

@@ -1,7 +1,7 @@
 -- Lists of requirements (PEP 508, PEP 621).
 use Rattle.std.specs.Prelude.{ℕ, List, [], ◌∷◌, Bool, true, false, Option, Some, None, Result, Ok, Err, ◌||◌, if◌then◌else◌}
 use Rattle.toml.specs.Data.{Data}
-use Rattle.ul_marker.specs.Formulas.{Formula}
+use Rattle.ul_comparison.specs.Formulas.{Formula}
 use Rattle.ul_marker.specs.Parts.{asks_extra}
 use Rattle.ul_requirement.specs.Fields.{RequirementFields}
 use Rattle.ul_requirement.specs.Reading as grammar

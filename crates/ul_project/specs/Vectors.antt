@@ -3,9 +3,9 @@ use Rattle.std.specs.Prelude.{◌≡◌, ℕ, List, [], ◌∷◌, codes, Bool, 
 use Rattle.ul_version.specs.Fields.{Fields, plain}
 use Rattle.ul_specifier.specs.Clauses.{ClauseFields}
 use Rattle.ul_specifier.specs.declared.clause.Op.TheVariants.{AtLeast}
-use Rattle.ul_marker.specs.Formulas.{Formula, all, extra, text, more, none}
-use Rattle.ul_marker.specs.Worlds.{WorldFields}
-use Rattle.ul_marker.specs.declared.variable.Variable.TheVariants.{OsName}
+use Rattle.ul_comparison.specs.Formulas.{Formula, all, extra, text, more, none}
+use Rattle.ul_comparison.specs.Worlds.{WorldFields}
+use Rattle.ul_comparison.specs.declared.variable.Variable.TheVariants.{OsName}
 use Rattle.ul_requirement.specs.Fields.{RequirementFields}
 use Rattle.ul_requirement.specs.declared.wish.Mode.TheVariants.{Highest, Lowest}
 use Rattle.ul_requirement.specs.declared.wish.Strategy.TheVariants.{Fewest, Deep}

@@ -4,7 +4,7 @@ ghost use Rattle.std.specs.Prelude.{◌≡◌, ◌++◌, IfOk, OnOk, map, option
 ghost use Rattle.std.specs.List.Sorted.{IsStrictlySortedBy};
 ghost use Rattle.toml.specs.View.{view};
 ghost use Rattle.ul_base.specs.Names.{name_cmp};
-ghost use Rattle.ul_marker.specs.Formulas.{IsFormula};
+ghost use Rattle.ul_comparison.specs.Formulas.{IsFormula};
 ghost use Rattle.ul_marker.specs.Views.{marker_view};
 ghost use Rattle.ul_requirement.specs.Fields.{MayBeFormula};
 ghost use Rattle.ul_project.specs.Answers.{Gives, list_view, value_view};
@@ -32,7 +32,7 @@ pub(crate) struct Requirements {
 impl Model for Requirements {
     ghost use Rattle.std.specs.Coded.{codes};
     ghost use Rattle.std.specs.Prelude.{List};
-    ghost use Rattle.ul_marker.specs.Codes.{formula_code};
+    ghost use Rattle.ul_comparison.specs.Codes.{formula_code};
     ghost use Rattle.ul_requirement.specs.Fields.{RequirementFields};
 
     ghost Value = { List RequirementFields };

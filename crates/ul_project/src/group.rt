@@ -24,7 +24,7 @@ pub struct Group {
 
 impl Model for Group {
     ghost use Rattle.std.specs.Coded.{codes};
-    ghost use Rattle.ul_marker.specs.Codes.{formula_code};
+    ghost use Rattle.ul_comparison.specs.Codes.{formula_code};
     ghost use Rattle.ul_project.specs.Groups.{GroupFields};
 
     ghost Value = { GroupFields };

@@ -36,7 +36,7 @@ pub struct Project {
 impl Model for Project {
     ghost use Rattle.std.specs.Coded.{codes};
     ghost use Rattle.std.specs.Prelude.{map};
-    ghost use Rattle.ul_marker.specs.Codes.{formula_code};
+    ghost use Rattle.ul_comparison.specs.Codes.{formula_code};
     ghost use Rattle.ul_marker.specs.Views.{marker_view};
     ghost use Rattle.ul_tree.specs.PlainCode.{plain_code};
     ghost use Rattle.ul_tree.specs.Views.{tree_view};

@@ -42,7 +42,7 @@ struct File {
 impl Model for File {
     ghost use Rattle.std.specs.Coded.{codes};
     ghost use Rattle.std.specs.Prelude.{map};
-    ghost use Rattle.ul_marker.specs.Codes.{formula_code};
+    ghost use Rattle.ul_comparison.specs.Codes.{formula_code};
     ghost use Rattle.ul_project.specs.ProjectFile.{FileFields, IsFile};
 
     ghost Value = { FileFields };

@@ -1,7 +1,7 @@
 //! The worlds that a project supports.
 
 ghost use Rattle.std.specs.Prelude.{IfOk, All, map};
-ghost use Rattle.ul_marker.specs.Formulas.{AreFormulas, IsFormula};
+ghost use Rattle.ul_comparison.specs.Formulas.{AreFormulas, IsFormula};
 ghost use Rattle.ul_marker.specs.Views.{marker_view, markers_view};
 ghost use Rattle.ul_tree.specs.Regions.{HasTruth};
 ghost use Rattle.ul_tree.specs.TreeFacts.{HoldsAtWorlds, IsTree};

@@ -2,7 +2,7 @@
 
 ghost use Rattle.std.specs.Prelude.{◌≡◌, ◌∷◌, [], IfErr, IfOk, map};
 ghost use Rattle.toml.specs.View.{items_view, table_view, view};
-ghost use Rattle.ul_marker.specs.Formulas.{AreFormulas, IsFormula};
+ghost use Rattle.ul_comparison.specs.Formulas.{AreFormulas, IsFormula};
 ghost use Rattle.ul_marker.specs.Views.{marker_view, markers_view};
 ghost use Rattle.ul_project.specs.Answers.{Gives, formulas_view, members_view, value_view};
 ghost use Rattle.ul_project.specs.Results.{each_from};
@@ -34,8 +34,8 @@ pub(crate) struct Settings {
 impl Model for Settings {
     ghost use Rattle.std.specs.Coded.{codes};
     ghost use Rattle.std.specs.Prelude.{map};
-    ghost use Rattle.ul_marker.specs.Codes.{formula_code};
-    ghost use Rattle.ul_marker.specs.Formulas.{AreFormulas};
+    ghost use Rattle.ul_comparison.specs.Codes.{formula_code};
+    ghost use Rattle.ul_comparison.specs.Formulas.{AreFormulas};
     ghost use Rattle.ul_marker.specs.Views.{marker_view, markers_view};
     ghost use Rattle.ul_project.specs.Settings.{SettingsFields};
 

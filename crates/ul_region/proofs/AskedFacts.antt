@@ -7,7 +7,7 @@ use Rattle.std.proofs.lemmas.Option.{slice_get_within, slice_get-get_or, get_or_
 use Rattle.ul_base.specs.Kept.{IsFirst}
 use Rattle.ul_base.specs.declared.node.Node.{Node}
 use Rattle.ul_base.proofs.ForCallers.{contains_map, first_holds}
-use Rattle.ul_marker.specs.Worlds.{WorldFields}
+use Rattle.ul_comparison.specs.Worlds.{WorldFields}
 use Rattle.ul_nodes.specs.Apply.{both}
 use Rattle.ul_tree.specs.Laws.{and_of}
 use Rattle.ul_nodes.specs.Plain.{Plain}

@@ -1,7 +1,7 @@
 -- What exists at a world of a region, decided by diagrams.
 use Rattle.std.specs.Prelude.{◌↔◌, IsTrue}
 use Rattle.std.proofs.Common.{◌≡◌, ◌⊎◌, [], Bool, true, false, not, ◌&&◌, Decides, refl, sym, ap, ◌∙◌, inl, inr}
-use Rattle.ul_marker.specs.Worlds.{WorldFields, IsWorld}
+use Rattle.ul_comparison.specs.Worlds.{WorldFields, IsWorld}
 use Rattle.ul_nodes.specs.Apply.{both, same}
 use Rattle.ul_tree.specs.FirstParts.{is_false}
 use Rattle.ul_tree.specs.Laws.{and_of, not_of}

@@ -9,7 +9,7 @@ use Rattle.ul_base.specs.declared.node.Node.{Node}
 use Rattle.ul_base.proofs.ForCallers.{none_in, contains_cases, contains_map}
 use Rattle.ul_interner.specs.Known.{Knows}
 use Rattle.ul_interner.proofs.ForCallers.{knows_itself, knows_then}
-use Rattle.ul_marker.specs.Worlds.{WorldFields}
+use Rattle.ul_comparison.specs.Worlds.{WorldFields}
 use Rattle.ul_nodes.specs.Plain.{Plain}
 use Rattle.ul_tree.specs.Regions.{HasTruth}
 use Rattle.ul_algebra.specs.Answers.{IsDiagram}

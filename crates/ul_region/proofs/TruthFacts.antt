@@ -6,9 +6,9 @@ use Rattle.std.proofs.lemmas.List.Elements.{All-push, All-weaker}
 use Rattle.ul_base.specs.declared.node.Node.{Node}
 use Rattle.ul_interner.specs.Known.{Knows}
 use Rattle.ul_interner.proofs.ForCallers.{known_stays}
-use Rattle.ul_marker.specs.Formulas.{Formula}
-use Rattle.ul_marker.specs.Truth.{python_release}
-use Rattle.ul_marker.specs.Worlds.{WorldFields, IsWorld}
+use Rattle.ul_comparison.specs.Formulas.{Formula}
+use Rattle.ul_comparison.specs.Truth.{python_release}
+use Rattle.ul_comparison.specs.Worlds.{WorldFields, IsWorld}
 use Rattle.ul_specifier.specs.Clauses.{ClauseFields}
 use Rattle.ul_specifier.specs.Meaning.{meets_list, lower_list}
 use Rattle.ul_tree.specs.Laws.{and_of, not_of, at_extra_of}

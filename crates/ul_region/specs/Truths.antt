@@ -1,6 +1,6 @@
 -- Diagrams that stand for truths of worlds.
 use Rattle.std.specs.Prelude.{◌≡◌, ◌⊎◌, ℕ, List, All, Bool, not, ◌&&◌, Some, length, slice_get}
-use Rattle.ul_marker.specs.Worlds.{WorldFields, IsWorld}
+use Rattle.ul_comparison.specs.Worlds.{WorldFields, IsWorld}
 use Rattle.ul_interner.specs.Known.{Held, Knows}
 use Rattle.ul_interner.specs.Marked.{Marked}
 use Rattle.ul_tree.specs.Laws.{and_of}

@@ -2,9 +2,9 @@
 use Rattle.std.specs.Prelude.{◌≡◌, ℕ, List, [], ◌∷◌, ◌++◌, Some, None, codes, Bool, true, false}
 use Rattle.ul_base.specs.declared.node.Node.{Node}
 use Rattle.ul_version.specs.Fields.{Fields, plain}
-use Rattle.ul_marker.specs.Atoms.{atom_fields}
-use Rattle.ul_marker.specs.declared.variable.AtomKind.TheVariants.{Contains}
-use Rattle.ul_marker.specs.declared.variable.Variable.TheVariants.{SysPlatform, PlatformVersion}
+use Rattle.ul_comparison.specs.Atoms.{atom_fields}
+use Rattle.ul_comparison.specs.declared.variable.AtomKind.TheVariants.{Contains}
+use Rattle.ul_comparison.specs.declared.variable.Variable.TheVariants.{SysPlatform, PlatformVersion}
 use Rattle.ul_nodes.specs.Levels.{text_level, atom_level}
 use Rattle.ul_nodes.specs.Plain.{Plain, truth, node, done, branch}
 use Rattle.ul_problem.specs.declared.term.Term.TheVariants.{In, NotIn}

@@ -8,13 +8,13 @@ use Rattle.ul_lines.specs.Pieces.{has}
 use Rattle.ul_lines.specs.Reader.{Each}
 use Rattle.ul_lines.proofs.ForCallers.{has_none}
 use Rattle.ul_lock_lines.specs.Region.{IsRegion}
-use Rattle.ul_marker.specs.Atoms.{AtomFields, IsAtom, is_literal, is_literal_byte, text_number}
-use Rattle.ul_marker.specs.Printed.{atom_text, comparison_text, kind_sign, quote_of, quoted_text, sides, variable_name}
-use Rattle.ul_marker.specs.Worlds.{IsWorld, WorldFields, text_at}
-use Rattle.ul_marker.specs.declared.variable.AtomKind.{AtomKind}
-use Rattle.ul_marker.specs.declared.variable.AtomKind.TheVariants.{Contains, Within, Below, AtMost, Same}
-use Rattle.ul_marker.specs.declared.variable.Variable.{Variable}
-use Rattle.ul_marker.specs.declared.variable.Variable.TheVariants.{OsName, SysPlatform, PlatformMachine, PlatformPythonImplementation, PlatformRelease, PlatformSystem, PlatformVersion, PythonVersion, PythonFullVersion, ImplementationName, ImplementationVersion}
+use Rattle.ul_comparison.specs.Atoms.{AtomFields, IsAtom, is_literal, is_literal_byte, text_number}
+use Rattle.ul_comparison.specs.Printed.{atom_text, comparison_text, kind_sign, quote_of, quoted_text, sides, variable_name}
+use Rattle.ul_comparison.specs.Worlds.{IsWorld, WorldFields, text_at}
+use Rattle.ul_comparison.specs.declared.variable.AtomKind.{AtomKind}
+use Rattle.ul_comparison.specs.declared.variable.AtomKind.TheVariants.{Contains, Within, Below, AtMost, Same}
+use Rattle.ul_comparison.specs.declared.variable.Variable.{Variable}
+use Rattle.ul_comparison.specs.declared.variable.Variable.TheVariants.{OsName, SysPlatform, PlatformMachine, PlatformPythonImplementation, PlatformRelease, PlatformSystem, PlatformVersion, PythonVersion, PythonFullVersion, ImplementationName, ImplementationVersion}
 use Rattle.ul_report.specs.Texts.{python_part, text_part, text_variables, truth_part, world_text}
 use Rattle.ul_report_read.proofs.Cutting.{has_join}
 use Rattle.ul_report_read.proofs.TokenLaws.{number_has}

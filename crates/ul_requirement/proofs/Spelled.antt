@@ -12,7 +12,7 @@ use Rattle.ul_version.specs.Reading.{◌>>=◌}
 use Rattle.ul_version.proofs.ForCallers.{bind_some, cond_some}
 use Rattle.ul_specifier.specs.Clauses.{ClauseFields}
 use Rattle.ul_specifier.specs.Reading.{clauses_of, specifiers_of}
-use Rattle.ul_marker.specs.Formulas.{Formula}
+use Rattle.ul_comparison.specs.Formulas.{Formula}
 use Rattle.ul_marker.specs.Reading.{marker_of}
 use Rattle.ul_requirement.specs.Fields.{RequirementFields}
 use Rattle.ul_requirement.specs.Grammar.{AreExtraNames, AreExtras, bracketed, no_extras, AreNames, AreSpecifiers, bare, enclosed, IsAddress, IsFront, IsTail, Spells}

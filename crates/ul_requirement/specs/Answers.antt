@@ -6,7 +6,7 @@ use Rattle.ul_base.specs.declared.name.NameFault.TheVariants as name
 use Rattle.ul_specifier.specs.Clauses.{ClauseFields}
 use Rattle.ul_specifier.specs.declared.fault.SpecFault.{SpecFault}
 use Rattle.ul_specifier.specs.declared.fault.SpecFault.TheVariants as spec
-use Rattle.ul_marker.specs.Formulas.{Formula}
+use Rattle.ul_comparison.specs.Formulas.{Formula}
 use Rattle.ul_marker.specs.Views.{marker_view}
 use Rattle.ul_marker.specs.declared.fault.MarkerFault.{MarkerFault}
 use Rattle.ul_marker.specs.declared.fault.MarkerFault.TheVariants as marker

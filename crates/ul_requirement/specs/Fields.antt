@@ -11,7 +11,7 @@ use Rattle.ul_version.specs.Ascii.{backslash, double_quote, space, tilde}
 use Rattle.ul_version.specs.Fields.{Fields}
 use Rattle.ul_version.specs.Order.{version_cmp}
 use Rattle.ul_specifier.specs.Clauses.{ClauseFields}
-use Rattle.ul_marker.specs.Formulas.{Formula, IsFormula}
+use Rattle.ul_comparison.specs.Formulas.{Formula, IsFormula}
 use Rattle.ul_requirement.specs.declared.wish.Mode.{Mode}
 use Rattle.ul_requirement.specs.declared.wish.Strategy.{Strategy}
 

@@ -10,7 +10,7 @@ use Rattle.ul_base.specs.Names.{is_name_byte, name_of}
 use Rattle.ul_version.specs.Ascii.{after_all, at_sign, begins, comma, is_blank, is_white, left_bracket, left_parenthesis, right_bracket, right_parenthesis, semicolon, text_between}
 use Rattle.ul_specifier.specs.Clauses.{ClauseFields}
 use Rattle.ul_specifier.specs.Reading.{specifiers_of}
-use Rattle.ul_marker.specs.Formulas.{Formula}
+use Rattle.ul_comparison.specs.Formulas.{Formula}
 use Rattle.ul_marker.specs.Reading.{marker_of}
 use Rattle.ul_requirement.specs.Fields.{RequirementFields}
 use Rattle.ul_requirement.specs.Reading.{is_inner_byte, name_set}

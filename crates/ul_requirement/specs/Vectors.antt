@@ -4,9 +4,9 @@ use Rattle.ul_version.specs.Fields.{plain}
 use Rattle.ul_specifier.specs.Clauses.{ClauseFields}
 use Rattle.ul_specifier.specs.declared.clause.Op.{Op}
 use Rattle.ul_specifier.specs.declared.clause.Op.TheVariants.{Equal, AtLeast, Less}
-use Rattle.ul_marker.specs.Formulas.{Formula, extra, python, text, any, formulas_of}
-use Rattle.ul_marker.specs.Worlds.{WorldFields}
-use Rattle.ul_marker.specs.declared.variable.Variable.TheVariants.{OsName}
+use Rattle.ul_comparison.specs.Formulas.{Formula, extra, python, text, any, formulas_of}
+use Rattle.ul_comparison.specs.Worlds.{WorldFields}
+use Rattle.ul_comparison.specs.declared.variable.Variable.TheVariants.{OsName}
 use Rattle.ul_requirement.specs.Fields.{RequirementFields}
 use Rattle.ul_requirement.specs.Reading.{reading_of, requirement, by_url, unread}
 use Rattle.ul_requirement.specs.Truth.{applies_at, base, targets, with_extra}

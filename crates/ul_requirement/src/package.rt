@@ -45,7 +45,7 @@ pub struct Release {
 
 impl Model for Release {
     ghost use Rattle.std.specs.Coded.{codes};
-    ghost use Rattle.ul_marker.specs.Codes.{formula_code};
+    ghost use Rattle.ul_comparison.specs.Codes.{formula_code};
     ghost use Rattle.ul_requirement.specs.Fields.{ReleaseFields, IsRelease};
 
     ghost Value = { ReleaseFields };
@@ -70,7 +70,7 @@ pub struct Package {
 
 impl Model for Package {
     ghost use Rattle.std.specs.Coded.{codes};
-    ghost use Rattle.ul_marker.specs.Codes.{formula_code};
+    ghost use Rattle.ul_comparison.specs.Codes.{formula_code};
     ghost use Rattle.ul_requirement.specs.Fields.{PackageFields, IsPackage};
 
     ghost Value = { PackageFields };

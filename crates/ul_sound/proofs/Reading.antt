@@ -1,7 +1,7 @@
 -- The merged lock says what its leaves say.
 use Rattle.std.proofs.Common.{◌≡◌, ℕ, List, [], true, Option, Some, None, Contains, refl, sym, ap, ◌∙◌, subst, inl}
 use Rattle.ul_version.specs.Fields.{Fields}
-use Rattle.ul_marker.specs.Worlds.{WorldFields, IsWorld}
+use Rattle.ul_comparison.specs.Worlds.{WorldFields, IsWorld}
 use Rattle.ul_requirement.specs.Truth.{with_extra}
 use Rattle.ul_nodes.specs.Plain.{Plain}
 use Rattle.ul_nodes.specs.Reduced.{IsReduced}

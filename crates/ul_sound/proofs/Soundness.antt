@@ -4,7 +4,7 @@ use Rattle.ul_base.specs.Reached.{begun, led}
 use Rattle.ul_base.specs.declared.node.Node.{Node}
 use Rattle.ul_base.proofs.ForCallers.{some_is, contains_first, contains_later, contains_map, reached_in}
 use Rattle.ul_version.specs.Fields.{Fields}
-use Rattle.ul_marker.specs.Worlds.{WorldFields, IsWorld}
+use Rattle.ul_comparison.specs.Worlds.{WorldFields, IsWorld}
 use Rattle.ul_requirement.specs.Fields.{RequirementFields}
 use Rattle.ul_requirement.specs.Truth.{applies_at, base, meets, targets, with_extra}
 use Rattle.ul_nodes.specs.Reduced.{IsReduced}

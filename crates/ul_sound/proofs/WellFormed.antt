@@ -10,7 +10,7 @@ use Rattle.ul_base.proofs.ForCallers.{contains_first, contains_later, contains_c
 use Rattle.ul_version.specs.Fields.{Fields, IsVersion}
 use Rattle.ul_version.specs.Order.{version_cmp}
 use Rattle.ul_version.specs.Texts.{version_text}
-use Rattle.ul_marker.specs.Worlds.{WorldFields, IsWorld}
+use Rattle.ul_comparison.specs.Worlds.{WorldFields, IsWorld}
 use Rattle.ul_requirement.specs.Fields.{ReleaseFields, FileFields, IsFile}
 use Rattle.ul_requirement.specs.Truth.{base, with_extra}
 use Rattle.ul_nodes.specs.Plain.{Plain}

@@ -3,7 +3,7 @@ use Rattle.std.specs.Prelude.{◌≡◌, ◌≢◌, ℕ, List, Contains, Some, I
 use Rattle.ul_base.specs.Names.{IsNormalName}
 use Rattle.ul_base.specs.declared.node.Node.{Node}
 use Rattle.ul_version.specs.Fields.{Fields, IsVersion}
-use Rattle.ul_marker.specs.Worlds.{WorldFields, IsWorld}
+use Rattle.ul_comparison.specs.Worlds.{WorldFields, IsWorld}
 use Rattle.ul_requirement.specs.Fields.{ReleaseFields, IsFile}
 use Rattle.ul_nodes.specs.Plain.{truth}
 use Rattle.ul_tree.specs.Regions.{IsRegionTree}

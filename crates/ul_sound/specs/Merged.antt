@@ -1,7 +1,7 @@
 -- The lock that leaves merge into.
 use Rattle.std.specs.Prelude.{◌≡◌, ◌⊎◌, ℕ, List, [], ◌∷◌, Contains, Decides, Option, Some, None, true}
 use Rattle.ul_version.specs.Fields.{Fields}
-use Rattle.ul_marker.specs.Worlds.{WorldFields, IsWorld}
+use Rattle.ul_comparison.specs.Worlds.{WorldFields, IsWorld}
 use Rattle.ul_requirement.specs.Fields.{RequirementFields, ReleaseFields, FileFields}
 use Rattle.ul_requirement.specs.Truth.{applies_at, base, targets, with_extra}
 use Rattle.ul_nodes.specs.Plain.{Plain}

@@ -2,7 +2,7 @@
 use Rattle.std.proofs.Common.{◌≡◌, ◌&&◌, ◌||◌, ℕ, List, [], ◌∷◌, Bool, true, false, not, Option, Some, Contains, inl, inr, ⊎_elim, refl, sym, ap, subst, ◌∙◌}
 use Rattle.ul_base.specs.declared.node.Node.{Node}
 use Rattle.ul_version.specs.Fields.{Fields}
-use Rattle.ul_marker.specs.Worlds.{WorldFields}
+use Rattle.ul_comparison.specs.Worlds.{WorldFields}
 use Rattle.ul_requirement.specs.Fields.{RequirementFields, ReleaseFields}
 use Rattle.ul_index.specs.Regions.{Region, Somewhere, Throughout}
 use Rattle.ul_index.specs.Catalogs.{Packages, release_of, requirements, requirements_in, is_fit, is_fit_in, is_release_fit}

@@ -3,7 +3,7 @@ use Rattle.std.proofs.Common.{◌≡◌, List, Bool, inl, inr, sym, ap, subst, �
 use Rattle.ul_base.specs.declared.node.Node.{Node}
 use Rattle.ul_base.specs.Kept.{IsFirst}
 use Rattle.ul_base.proofs.ForCallers.{first_once, first_holds, first_in}
-use Rattle.ul_marker.specs.Worlds.{WorldFields}
+use Rattle.ul_comparison.specs.Worlds.{WorldFields}
 use Rattle.ul_requirement.specs.Fields.{RequirementFields}
 use Rattle.ul_requirement.specs.Truth.{applies_at}
 use Rattle.ul_index.specs.Regions.{Region}

@@ -2,7 +2,7 @@
 use Rattle.std.specs.Prelude.{List, Bool, Contains, Option, Some, None}
 use Rattle.std.specs.Borrow.{Bor}
 use Rattle.ul_base.specs.Kept.{IsFirst}
-use Rattle.ul_marker.specs.Worlds.{WorldFields}
+use Rattle.ul_comparison.specs.Worlds.{WorldFields}
 use Rattle.ul_requirement.specs.Fields.{RequirementFields}
 use Rattle.ul_requirement.specs.Truth.{applies_at}
 use Rattle.ul_index.specs.Regions.{Region}

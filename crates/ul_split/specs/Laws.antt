@@ -1,7 +1,7 @@
 -- What a split and a region without one come to.
 use Rattle.std.specs.Prelude.{◌≡◌, List, Contains, Bool, true, not, ◌&&◌, ◌||◌}
 use Rattle.ul_base.specs.declared.node.Node.{Node}
-use Rattle.ul_marker.specs.Worlds.{WorldFields}
+use Rattle.ul_comparison.specs.Worlds.{WorldFields}
 use Rattle.ul_requirement.specs.declared.wish.Strategy.{Strategy}
 use Rattle.ul_index.specs.Regions.{Region, Somewhere}
 use Rattle.ul_index.specs.Catalogs.{Packages, is_release_fit}

@@ -2,7 +2,7 @@
 use Rattle.std.specs.Prelude.{◌≡◌, ◌⊎◌, ℕ, List, [], ◌∷◌, Contains, Bool, not, Some}
 use Rattle.ul_base.specs.declared.node.Node.{Node}
 use Rattle.ul_base.specs.Kept.{IsFirst}
-use Rattle.ul_marker.specs.Worlds.{WorldFields}
+use Rattle.ul_comparison.specs.Worlds.{WorldFields}
 use Rattle.ul_requirement.specs.Fields.{RequirementFields, ReleaseFields}
 use Rattle.ul_requirement.specs.Truth.{applies_at}
 use Rattle.ul_index.specs.Regions.{Region, Somewhere}

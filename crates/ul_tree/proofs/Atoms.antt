@@ -2,8 +2,8 @@
 use Rattle.std.proofs.Common.{◌≡◌, ◌≢◌, ℕ, suc, zero, List, [], ◌∷◌, Bool, true, false, ◌||◌, refl, ap, sym, ◌∙◌, subst, arith, Less, Equal, Greater, Ordering, Option, Some, None}
 use Rattle.std.specs.List.{All}
 use Rattle.std.specs.Ordering.{is_eq}
-use Rattle.ul_marker.specs.Atoms.{AtomFields, IsAtom, atom_cmp, atom_key}
-use Rattle.ul_marker.specs.Worlds.{IsAfter, Rise}
+use Rattle.ul_comparison.specs.Atoms.{AtomFields, IsAtom, atom_cmp, atom_key}
+use Rattle.ul_comparison.specs.Worlds.{IsAfter, Rise}
 use Rattle.ul_nodes.specs.Levels.{atom_level}
 use Rattle.ul_nodes.specs.Plain.{text_cmp, by_order}
 use Rattle.ul_tree.specs.Values.{has_level}

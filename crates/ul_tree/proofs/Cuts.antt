@@ -4,7 +4,7 @@ use Rattle.std.specs.Prelude.{slice_index}
 use Rattle.std.specs.Ordering.{nat_cmp}
 use Rattle.std.proofs.lemmas.Bool.{cases_lt}
 use Rattle.ul_specifier.specs.Clauses.{ClauseFields}
-use Rattle.ul_marker.specs.Truth.{python_numbers}
+use Rattle.ul_comparison.specs.Truth.{python_numbers}
 use Rattle.ul_tree.specs.Pieces.{packed_number, major_of, minor_of, patch_of, meets_at, digit, capped_number, cuts_at, cuts_of}
 use Rattle.ul_nodes.proofs.ForCallers.{cmp_less, cmp_more}
 use Rattle.ul_tree.proofs.Digits.{Alike, alike_meets, cmp_equal}

@@ -1,6 +1,6 @@
 -- A reduced tree that isn't false holds somewhere.
 use Rattle.std.proofs.Common.{◌≡◌, ◌≢◌, ℕ, zero, suc, List, [], ◌∷◌, true, false, refl, ap, sym, ◌∙◌, arith, inl}
-use Rattle.ul_marker.specs.Worlds.{WorldFields, IsWorld}
+use Rattle.ul_comparison.specs.Worlds.{WorldFields, IsWorld}
 use Rattle.ul_nodes.specs.Levels.{IsExtra, extra_level}
 use Rattle.ul_nodes.specs.Plain.{Plain, truth, node, Branches, done, branch, pick, holds_of}
 use Rattle.ul_nodes.specs.Reduced.{IsReduced, Fits}

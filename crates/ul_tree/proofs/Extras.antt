@@ -4,7 +4,7 @@ use Rattle.std.specs.List.{list_all}
 use Rattle.std.specs.Str.{str_to_ascii_lowercase}
 use Rattle.ul_base.proofs.ForCallers.{name_reads}
 use Rattle.ul_base.specs.Names.{normal_form, single_hyphens, has_ends, is_name_byte}
-use Rattle.ul_marker.specs.Worlds.{WorldFields}
+use Rattle.ul_comparison.specs.Worlds.{WorldFields}
 use Rattle.ul_nodes.specs.Apply.{branches_at, rest_at}
 use Rattle.ul_tree.specs.Laws.{OneTruthOneTree}
 use Rattle.ul_nodes.specs.Levels.{IsExtra, extra_level}

@@ -1,8 +1,8 @@
 -- The first path of a tree, arm by arm.
 use Rattle.std.proofs.Common.{rules, ◌≡◌, ℕ, List, [], ◌∷◌, true, false, refl, ap, sym, ◌∙◌, subst, Some, None, Result, Ok, Err, IfOk, Vec, Box, Global, String}
-use Rattle.ul_marker.specs.Atoms.{AtomFields}
-use Rattle.ul_marker.specs.Worlds.{WorldFields}
-use Rattle.ul_marker.specs.declared.variable.Variable.{Variable}
+use Rattle.ul_comparison.specs.Atoms.{AtomFields}
+use Rattle.ul_comparison.specs.Worlds.{WorldFields}
+use Rattle.ul_comparison.specs.declared.variable.Variable.{Variable}
 use Rattle.ul_tree.specs.FirstParts.{is_false, first_branch}
 use Rattle.ul_nodes.specs.Levels.{extra_level, python_level, text_level, atom_level}
 use Rattle.ul_nodes.specs.Plain.{Plain, node, Branches, done, branch, carries}

@@ -4,7 +4,7 @@ use Rattle.std.specs.Ordering.{ordering_then}
 use Rattle.ul_nodes.specs.Plain.{Plain, truth, node, text_cmp}
 use Rattle.ul_nodes.specs.Reduced.{IsReduced, Fits}
 use Rattle.ul_nodes.specs.Apply.{size, branches_at, rest_at}
-use Rattle.ul_marker.specs.Worlds.{WorldFields}
+use Rattle.ul_comparison.specs.Worlds.{WorldFields}
 use Rattle.ul_nodes.specs.Levels.{extra_level}
 use Rattle.ul_tree.specs.Values.{value_of}
 use Rattle.ul_tree.specs.Laws.{Operations, at_extra_of}

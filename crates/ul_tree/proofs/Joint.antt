@@ -7,9 +7,9 @@ use Rattle.std.proofs.lemmas.List.Folds.{list_all-map}
 use Rattle.ul_version.specs.Fields.{Fields, plain}
 use Rattle.ul_specifier.specs.Clauses.{ClauseFields}
 use Rattle.ul_specifier.specs.Meaning.{meets_clause, meets_list}
-use Rattle.ul_marker.specs.Truth.{marker_holds, all_hold, any_holds, is_listed, equal_to}
+use Rattle.ul_comparison.specs.Truth.{marker_holds, all_hold, any_holds, is_listed, equal_to}
 use Rattle.ul_marker.specs.Views.{marker_view, markers_view}
-use Rattle.ul_marker.specs.Worlds.{WorldFields}
+use Rattle.ul_comparison.specs.Worlds.{WorldFields}
 use Rattle.ul_marker.specs.declared.marker.Marker.{Marker}
 use Rattle.ul_nodes.specs.Apply.{both, either, same_bool}
 use Rattle.ul_nodes.specs.Plain.{Plain, truth}

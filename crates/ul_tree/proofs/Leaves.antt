@@ -7,12 +7,12 @@ use Rattle.std.specs.declared.cmp.Ordering.{Ordering}
 use Rattle.std.proofs.lemmas.Map.Text.{is_eq-slice_cmp}
 use Rattle.ul_base.proofs.ForCallers.{name-is_name}
 use Rattle.ul_base.specs.Names.{is_name, name_of, normal_form}
-use Rattle.ul_marker.specs.Atoms.{AtomFields, IsAtom, has_atom, is_literal, is_text, text_number}
-use Rattle.ul_marker.specs.Formulas.{IsExtraLiteral}
-use Rattle.ul_marker.specs.Truth.{as_asked, equals_extra, is_empty}
-use Rattle.ul_marker.specs.Worlds.{WorldFields, text_at}
-use Rattle.ul_marker.specs.declared.variable.Variable.{Variable}
-use Rattle.ul_marker.specs.declared.variable.Variable.TheVariants.{OsName, SysPlatform, PlatformMachine, PlatformPythonImplementation, PlatformRelease, PlatformSystem, PlatformVersion, PythonVersion, PythonFullVersion, ImplementationName, ImplementationVersion}
+use Rattle.ul_comparison.specs.Atoms.{AtomFields, IsAtom, has_atom, is_literal, is_text, text_number}
+use Rattle.ul_comparison.specs.Formulas.{IsExtraLiteral}
+use Rattle.ul_comparison.specs.Truth.{as_asked, equals_extra, is_empty}
+use Rattle.ul_comparison.specs.Worlds.{WorldFields, text_at}
+use Rattle.ul_comparison.specs.declared.variable.Variable.{Variable}
+use Rattle.ul_comparison.specs.declared.variable.Variable.TheVariants.{OsName, SysPlatform, PlatformMachine, PlatformPythonImplementation, PlatformRelease, PlatformSystem, PlatformVersion, PythonVersion, PythonFullVersion, ImplementationName, ImplementationVersion}
 use Rattle.ul_nodes.specs.Plain.{truth, text_cmp, carries, by_order, holds_of}
 use Rattle.ul_nodes.specs.Levels.{extra_level, text_level, atom_level, IsKey, IsExtra}
 use Rattle.ul_nodes.specs.Reduced.{IsReduced}

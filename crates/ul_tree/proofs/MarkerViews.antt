@@ -2,11 +2,11 @@
 use Rattle.std.proofs.Common.{◌≡◌, Bool, Global, Vec, String, string_bytes, rules}
 use Rattle.ul_version.specs.Fields.{Fields}
 use Rattle.ul_specifier.specs.Clauses.{ClauseFields}
-use Rattle.ul_marker.specs.Atoms.{AtomFields}
-use Rattle.ul_marker.specs.Formulas.{extra, python, python_list, text, opaque, all, any}
+use Rattle.ul_comparison.specs.Atoms.{AtomFields}
+use Rattle.ul_comparison.specs.Formulas.{extra, python, python_list, text, opaque, all, any}
 use Rattle.ul_marker.specs.Views.{marker_view, markers_view}
 use Rattle.ul_marker.specs.declared.marker.Marker.{Marker, Extra, Python, PythonList, Text, Opaque, All, Any, the_lemmas}
-use Rattle.ul_marker.specs.declared.variable.Variable.{Variable}
+use Rattle.ul_comparison.specs.declared.variable.Variable.{Variable}
 
 pub marker_extra : (literal : String Global) (equal : Bool) → marker_view (Extra literal equal) ≡ extra (string_bytes literal) equal
 marker_extra literal equal = search (rules, the_lemmas)

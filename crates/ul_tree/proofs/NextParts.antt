@@ -1,8 +1,8 @@
 -- The first path of a reduced tree goes on into the first of its parts that isn't false.
 use Rattle.std.proofs.Common.{◌≡◌, ◌≢◌, ℕ, suc, zero, ◌+◌, ◌/◌, ◌%◌, ◌^◌, ◌≤◌, ◌<◌, List, [], ◌∷◌, ◌++◌, length, drop, get_or, map, Bool, true, false, cond, refl, ap, sym, ◌∙◌, subst, arith, append-nil, set, Global, String, string_bytes, Option, Some, None}
 use Rattle.std.proofs.lemmas.List.{drop_more, length-map, map-set, set_past}
-use Rattle.ul_marker.specs.Atoms.{AtomFields}
-use Rattle.ul_marker.specs.Worlds.{WorldFields}
+use Rattle.ul_comparison.specs.Atoms.{AtomFields}
+use Rattle.ul_comparison.specs.Worlds.{WorldFields}
 use Rattle.ul_nodes.specs.Apply.{size, sizes}
 use Rattle.ul_tree.specs.FirstParts.{is_false, first_branch}
 use Rattle.ul_nodes.specs.Levels.{python_level, atom_level}

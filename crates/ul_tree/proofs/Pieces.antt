@@ -1,6 +1,6 @@
 -- The node of the interpreter, and that of an opaque comparison, that are being made.
 use Rattle.std.proofs.Common.{arith, ◌≡◌, ℕ, suc, zero, ◌<◌, List, [], ◌∷◌, ◌++◌, map, length, refl, ap, sym, ◌∙◌, subst, Less, Equal}
-use Rattle.ul_marker.specs.Atoms.{AtomFields}
+use Rattle.ul_comparison.specs.Atoms.{AtomFields}
 use Rattle.ul_nodes.specs.Plain.{Plain, node, Branches, done, branch, text_cmp}
 use Rattle.ul_nodes.specs.Levels.{python_level, atom_level}
 use Rattle.ul_nodes.specs.Reduced.{IsReduced, FitsAll}

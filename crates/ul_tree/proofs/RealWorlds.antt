@@ -4,8 +4,8 @@ use Rattle.std.specs.List.{All}
 use Rattle.std.proofs.Math.ListN.{set, length-set}
 use Rattle.std.proofs.lemmas.List.{get_or-set_same, get_or-set_other}
 use Rattle.std.specs.Ordering.{ordering_then}
-use Rattle.ul_marker.specs.Atoms.{AtomFields, IsAtom}
-use Rattle.ul_marker.specs.Worlds.{WorldFields, IsWorld}
+use Rattle.ul_comparison.specs.Atoms.{AtomFields, IsAtom}
+use Rattle.ul_comparison.specs.Worlds.{WorldFields, IsWorld}
 use Rattle.ul_nodes.specs.Plain.{Plain, text_cmp, carries}
 use Rattle.ul_nodes.specs.Levels.{IsKey, IsAtomLevel, atom_level}
 use Rattle.ul_nodes.specs.Reduced.{IsReduced}

@@ -1,7 +1,7 @@
 -- Trees by their variants, and the shape of a reduced node of the interpreter.
 use Rattle.std.proofs.Common.{◌≡◌, ℕ, suc, zero, ◌<◌, List, [], ◌∷◌, map, length, get_or, refl, ap, arith, rules, Global, Vec, Box, String, string_bytes, Bool}
-use Rattle.ul_marker.specs.Atoms.{AtomFields}
-use Rattle.ul_marker.specs.declared.variable.Variable.{Variable}
+use Rattle.ul_comparison.specs.Atoms.{AtomFields}
+use Rattle.ul_comparison.specs.declared.variable.Variable.{Variable}
 use Rattle.ul_nodes.specs.Plain.{Plain, truth, node, done, branch}
 use Rattle.ul_nodes.specs.Levels.{extra_level, python_level, text_level, atom_level}
 use Rattle.ul_nodes.specs.Reduced.{IsReduced, FitsAll}

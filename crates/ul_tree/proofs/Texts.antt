@@ -7,7 +7,7 @@ use Rattle.std.specs.List.{list_all}
 use Rattle.std.specs.Ordering.{ordering_then}
 use Rattle.ul_base.proofs.ForCallers.{name_is_plain}
 use Rattle.ul_base.specs.Names.{is_normal_byte}
-use Rattle.ul_marker.specs.Atoms.{is_literal, is_literal_byte}
+use Rattle.ul_comparison.specs.Atoms.{is_literal, is_literal_byte}
 use Rattle.ul_tree.specs.Laws.{IsAsciiText}
 use Rattle.ul_nodes.specs.Levels.{IsExtra}
 use Rattle.ul_nodes.specs.Plain.{text_cmp}

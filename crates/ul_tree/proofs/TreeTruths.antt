@@ -1,6 +1,6 @@
 -- What is said of trees that have a truth of worlds, and that a tree which doesn't depend on the extra asks for none.
 use Rattle.std.proofs.Common.{◌≡◌, ℕ, zero, suc, List, [], ◌∷◌, Bool, true, false, not, ◌&&◌, refl, sym, ap, ap₂, subst, ◌∙◌, Less, Equal}
-use Rattle.ul_marker.specs.Worlds.{WorldFields, IsWorld}
+use Rattle.ul_comparison.specs.Worlds.{WorldFields, IsWorld}
 use Rattle.ul_nodes.specs.Apply.{both}
 use Rattle.ul_tree.specs.Laws.{at_extra_of}
 use Rattle.ul_nodes.specs.Levels.{IsExtra, extra_level}

@@ -3,12 +3,12 @@ use Rattle.std.proofs.Common.{◌≡◌, ◌≢◌, ℕ, suc, zero, ◌/◌, ◌
 use Rattle.std.specs.Ordering.{is_eq, ordering_then}
 use Rattle.std.proofs.Math.ListN.{length-set}
 use Rattle.std.proofs.lemmas.List.{get_or-set_same, get_or-set_other}
-use Rattle.ul_marker.specs.Atoms.{AtomFields, IsAtom, variable_number, kind_number}
-use Rattle.ul_marker.specs.Worlds.{WorldFields, IsWorld, IsAfter}
-use Rattle.ul_marker.specs.declared.variable.AtomKind.{AtomKind}
-use Rattle.ul_marker.specs.declared.variable.AtomKind.TheVariants.{Contains, Within, Below, AtMost, Same}
-use Rattle.ul_marker.specs.declared.variable.Variable.{Variable}
-use Rattle.ul_marker.specs.declared.variable.Variable.TheVariants.{OsName, SysPlatform, PlatformMachine, PlatformPythonImplementation, PlatformRelease, PlatformSystem, PlatformVersion, PythonVersion, PythonFullVersion, ImplementationName, ImplementationVersion}
+use Rattle.ul_comparison.specs.Atoms.{AtomFields, IsAtom, variable_number, kind_number}
+use Rattle.ul_comparison.specs.Worlds.{WorldFields, IsWorld, IsAfter}
+use Rattle.ul_comparison.specs.declared.variable.AtomKind.{AtomKind}
+use Rattle.ul_comparison.specs.declared.variable.AtomKind.TheVariants.{Contains, Within, Below, AtMost, Same}
+use Rattle.ul_comparison.specs.declared.variable.Variable.{Variable}
+use Rattle.ul_comparison.specs.declared.variable.Variable.TheVariants.{OsName, SysPlatform, PlatformMachine, PlatformPythonImplementation, PlatformRelease, PlatformSystem, PlatformVersion, PythonVersion, PythonFullVersion, ImplementationName, ImplementationVersion}
 use Rattle.ul_nodes.specs.Levels.{IsKey, IsAtomLevel, extra_level, atom_level}
 use Rattle.ul_nodes.specs.Plain.{Plain, truth, node, Branches, done, branch, text_cmp, carries, carried_part, holds_of}
 use Rattle.ul_nodes.specs.Reduced.{IsReduced, Fits, FitsAll}

@@ -1,6 +1,6 @@
 -- What holds of trees joined part by part: each step of the joining, and when a side or a truth is the answer at once.
 use Rattle.std.specs.Prelude.{ℕ, ◌+◌, ◌<◌, List, Bool, true, false, not, Some, ◌≡◌, ◌↔◌}
-use Rattle.ul_marker.specs.Worlds.{WorldFields, IsWorld}
+use Rattle.ul_comparison.specs.Worlds.{WorldFields, IsWorld}
 use Rattle.ul_nodes.specs.Plain.{Plain, truth}
 use Rattle.ul_nodes.specs.Levels.{IsExtra}
 use Rattle.ul_nodes.specs.Reduced.{IsReduced}

@@ -1,7 +1,7 @@
 -- The joint truth of many trees.
 use Rattle.std.specs.Prelude.{ℕ, List, map, Bool, true, false, ◌-◌, length, take, drop}
 use Rattle.std.specs.List.{list_all, list_any}
-use Rattle.ul_marker.specs.Worlds.{WorldFields}
+use Rattle.ul_comparison.specs.Worlds.{WorldFields}
 use Rattle.ul_tree.specs.Values.{tree_holds}
 use Rattle.ul_tree.specs.Views.{tree_view}
 use Rattle.ul_tree.specs.declared.tree.Tree.{Tree}

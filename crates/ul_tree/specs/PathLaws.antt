@@ -1,6 +1,6 @@
 -- What holds of the paths of a tree that lead to true.
 use Rattle.std.specs.Prelude.{◌≡◌, ℕ, List, length, [], ◌∷◌, map, false, Option, Some, None}
-use Rattle.ul_marker.specs.Worlds.{WorldFields}
+use Rattle.ul_comparison.specs.Worlds.{WorldFields}
 use Rattle.ul_tree.specs.Fans.{fan_of, tree_of}
 use Rattle.ul_nodes.specs.Levels.{python_level}
 use Rattle.ul_tree.specs.PathList.{Step, interval, point, others, paths_to_true}

@@ -3,7 +3,7 @@ use Rattle.std.specs.Prelude.{ℕ, ◌+◌, ◌-◌, ◌*◌, ◌/◌, ◌%◌, 
 use Rattle.ul_version.specs.Fields.{plain}
 use Rattle.ul_specifier.specs.Clauses.{ClauseFields}
 use Rattle.ul_specifier.specs.Meaning.{meets_clause}
-use Rattle.ul_marker.specs.Truth.{python_numbers}
+use Rattle.ul_comparison.specs.Truth.{python_numbers}
 use Rattle.ul_nodes.specs.Plain.{Plain, truth, Branches, done, branch}
 use Rattle.ul_nodes.specs.Levels.{python_level}
 use Rattle.ul_nodes.specs.Apply.{close, same_bool}

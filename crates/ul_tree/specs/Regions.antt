@@ -1,6 +1,6 @@
 -- Regions of worlds as trees: trees whose truth doesn't ask for the extra.
 use Rattle.std.specs.Prelude.{◌≡◌, ℕ, List, [], Bool, false}
-use Rattle.ul_marker.specs.Worlds.{WorldFields, IsWorld}
+use Rattle.ul_comparison.specs.Worlds.{WorldFields, IsWorld}
 use Rattle.ul_tree.specs.Laws.{at_extra_of}
 use Rattle.ul_nodes.specs.Levels.{IsExtra}
 use Rattle.ul_nodes.specs.Plain.{Plain}

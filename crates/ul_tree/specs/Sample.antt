@@ -1,12 +1,12 @@
 -- The world of a tree's first path to true.
 use Rattle.std.specs.Prelude.{ℕ, zero, suc, ◌+◌, ◌/◌, ◌%◌, ◌^◌, List, [], ◌∷◌, ◌++◌, length, slice_index, slice_set, Bool, true, false, ◌||◌, Option, Some, None, if◌then◌else◌, ◌≡◌}
 use Rattle.std.specs.Str.{bytes_eq}
-use Rattle.ul_marker.specs.Atoms.{AtomFields}
-use Rattle.ul_marker.specs.Worlds.{WorldFields, IsWorld}
-use Rattle.ul_marker.specs.declared.variable.AtomKind.{AtomKind}
-use Rattle.ul_marker.specs.declared.variable.AtomKind.TheVariants.{Contains, Within, Below, AtMost, Same}
-use Rattle.ul_marker.specs.declared.variable.Variable.{Variable}
-use Rattle.ul_marker.specs.declared.variable.Variable.TheVariants.{OsName, SysPlatform, PlatformMachine, PlatformPythonImplementation, PlatformRelease, PlatformSystem, PlatformVersion, PythonVersion, PythonFullVersion, ImplementationName, ImplementationVersion}
+use Rattle.ul_comparison.specs.Atoms.{AtomFields}
+use Rattle.ul_comparison.specs.Worlds.{WorldFields, IsWorld}
+use Rattle.ul_comparison.specs.declared.variable.AtomKind.{AtomKind}
+use Rattle.ul_comparison.specs.declared.variable.AtomKind.TheVariants.{Contains, Within, Below, AtMost, Same}
+use Rattle.ul_comparison.specs.declared.variable.Variable.{Variable}
+use Rattle.ul_comparison.specs.declared.variable.Variable.TheVariants.{OsName, SysPlatform, PlatformMachine, PlatformPythonImplementation, PlatformRelease, PlatformSystem, PlatformVersion, PythonVersion, PythonFullVersion, ImplementationName, ImplementationVersion}
 use Rattle.ul_nodes.specs.Levels.{IsExtra}
 use Rattle.ul_nodes.specs.Plain.{Plain, truth, node, Branches, done, branch, carries}
 use Rattle.ul_nodes.specs.Reduced.{IsReduced}

@@ -1,10 +1,10 @@
 -- Worked examples of the world of the first path to true.
 use Rattle.std.specs.Prelude.{◌≡◌, ◌+◌, ◌*◌, ◌^◌, ℕ, List, [], ◌∷◌, true, false, codes}
-use Rattle.ul_marker.specs.Atoms.{AtomFields}
-use Rattle.ul_marker.specs.Worlds.{WorldFields}
-use Rattle.ul_marker.specs.declared.variable.AtomKind.TheVariants.{Contains}
-use Rattle.ul_marker.specs.declared.variable.Variable.{Variable}
-use Rattle.ul_marker.specs.declared.variable.Variable.TheVariants.{OsName, SysPlatform, PlatformVersion}
+use Rattle.ul_comparison.specs.Atoms.{AtomFields}
+use Rattle.ul_comparison.specs.Worlds.{WorldFields}
+use Rattle.ul_comparison.specs.declared.variable.AtomKind.TheVariants.{Contains}
+use Rattle.ul_comparison.specs.declared.variable.Variable.{Variable}
+use Rattle.ul_comparison.specs.declared.variable.Variable.TheVariants.{OsName, SysPlatform, PlatformVersion}
 use Rattle.ul_nodes.specs.Levels.{python_level, text_level, atom_level}
 use Rattle.ul_nodes.specs.Plain.{Plain, truth, node, Branches, done, branch}
 use Rattle.ul_nodes.specs.Reduced.{IsReduced}

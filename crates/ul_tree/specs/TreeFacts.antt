@@ -1,12 +1,12 @@
 -- What contracts say of trees in code.
 use Rattle.std.specs.Prelude.{ℕ, List, map, Bool, true, ◌≡◌}
 use Rattle.std.specs.Str.{bytes_eq}
-use Rattle.ul_marker.specs.Atoms.{AtomFields, has_atom}
-use Rattle.ul_marker.specs.Truth.{as_asked, equals_extra, is_listed, marker_holds, python_release}
+use Rattle.ul_comparison.specs.Atoms.{AtomFields, has_atom}
+use Rattle.ul_comparison.specs.Truth.{as_asked, equals_extra, is_listed, marker_holds, python_release}
 use Rattle.ul_marker.specs.Views.{marker_view}
-use Rattle.ul_marker.specs.Worlds.{WorldFields, IsWorld, text_at}
+use Rattle.ul_comparison.specs.Worlds.{WorldFields, IsWorld, text_at}
 use Rattle.ul_marker.specs.declared.marker.Marker.{Marker}
-use Rattle.ul_marker.specs.declared.variable.Variable.{Variable}
+use Rattle.ul_comparison.specs.declared.variable.Variable.{Variable}
 use Rattle.ul_tree.specs.Joining.{truths_of}
 use Rattle.ul_nodes.specs.Keys.{IsBranchAt, branches_of, key_view}
 use Rattle.ul_nodes.specs.Plain.{Plain}

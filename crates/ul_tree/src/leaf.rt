@@ -1,9 +1,9 @@
 //! Trees of single comparisons.
 ghost use Rattle.std.specs.Prelude.{◌≡◌, ◌||◌, ℕ, List, IfOk, true};
 ghost use Rattle.ul_base.specs.Names.{is_name};
-ghost use Rattle.ul_marker.specs.Atoms.{IsAtom, is_literal, is_text};
-ghost use Rattle.ul_marker.specs.Formulas.{IsExtraLiteral};
-ghost use Rattle.ul_marker.specs.Truth.{is_empty};
+ghost use Rattle.ul_comparison.specs.Atoms.{IsAtom, is_literal, is_text};
+ghost use Rattle.ul_comparison.specs.Formulas.{IsExtraLiteral};
+ghost use Rattle.ul_comparison.specs.Truth.{is_empty};
 ghost use Rattle.ul_tree.specs.TreeFacts.{IsTree, HoldsAs, extra_truth, text_truth, atom_truth};
 ghost use Rattle.ul_tree.specs.Views.{points_view};
 ghost use Rattle.ul_tree.specs.Leaves.{point_of};

@@ -1,6 +1,6 @@
 //! A world at which a tree holds.
 ghost use Rattle.std.specs.Prelude.{◌≡◌, ℕ, List, [], ◌∷◌, false, true, length, IfOk, option_map, string_bytes};
-ghost use Rattle.ul_marker.specs.Worlds.{IsWorld};
+ghost use Rattle.ul_comparison.specs.Worlds.{IsWorld};
 ghost use Rattle.ul_tree.specs.TreeFacts.{IsTree};
 ghost use Rattle.ul_tree.specs.FirstParts.{first_point_of, first_piece_of};
 ghost use Rattle.ul_nodes.specs.Levels.{python_level, text_level, atom_level};
@@ -29,7 +29,7 @@ struct Found {
 
 impl Model for Found {
     ghost use Rattle.std.specs.Prelude.{map, string_bytes, ◌/◌, ◌%◌, ◌^◌};
-    ghost use Rattle.ul_marker.specs.Worlds.{WorldFields};
+    ghost use Rattle.ul_comparison.specs.Worlds.{WorldFields};
 
     ghost Value = { WorldFields };
 

@@ -2,7 +2,7 @@
 ghost use Rattle.std.specs.Prelude.{IfOk};
 ghost use Rattle.ul_nodes.specs.Reduced.{IsReduced};
 ghost use Rattle.ul_tree.specs.Views.{tree_view};
-ghost use Rattle.ul_marker.specs.Formulas.{IsFormula};
+ghost use Rattle.ul_comparison.specs.Formulas.{IsFormula};
 ghost use Rattle.ul_marker.specs.Views.{marker_view};
 
 use crate::texts::{is_one_tree, world_of};

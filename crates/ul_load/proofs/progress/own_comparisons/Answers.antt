@@ -1,6 +1,6 @@
 use Rattle.std.proofs.Common.{◌∙◌, ap, map, sym, fold}
 use Rattle.std.specs.BTreeSet.{insert_key}
-use Rattle.ul_marker.specs.Atoms.{atom_cmp}
+use Rattle.ul_comparison.specs.Atoms.{atom_cmp}
 use Rattle.ul_marker.specs.Parts.{atoms_of}
 use Rattle.ul_marker.specs.Views.{marker_view}
 use Rattle.ul_load.specs.Loading.{atoms_in, beginning_of, own_atoms, requirements_of}

@@ -1,6 +1,6 @@
 use Rattle.std.proofs.Common.{refl}
 use Rattle.std.specs.Fmt.{digits}
-use Rattle.ul_marker.specs.Printed.{comparison_text, atom_text, interpreter_text}
+use Rattle.ul_comparison.specs.Printed.{comparison_text, atom_text, interpreter_text}
 use Rattle.ul_marker_text.specs.MarkerText.{marker_text}
 use Rattle.ul_marker_text.proofs.laws.text_examples.Goals as goal
 

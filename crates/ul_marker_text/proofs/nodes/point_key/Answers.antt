@@ -1,5 +1,5 @@
 use Rattle.std.proofs.Common.{sym, ◌∙◌, subst}
-use Rattle.ul_marker.specs.Atoms.{AtomFields, IsAtom}
+use Rattle.ul_comparison.specs.Atoms.{AtomFields, IsAtom}
 use Rattle.ul_nodes.specs.Keys.{key_view}
 use Rattle.ul_marker_text.specs.StepViews.{comparison_key}
 use Rattle.ul_marker_text.proofs.KeyFacts.{holds_key, extra_mark}

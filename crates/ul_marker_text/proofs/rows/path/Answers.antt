@@ -1,6 +1,6 @@
 use Rattle.std.proofs.Common.{◌≡◌, ap, ◌∙◌, subst, List, map}
 use Rattle.std.specs.Prelude.{IfOk}
-use Rattle.ul_marker.specs.Formulas.{Formula}
+use Rattle.ul_comparison.specs.Formulas.{Formula}
 use Rattle.ul_marker.specs.Views.{marker_view}
 use Rattle.ul_marker_text.specs.Rows.{IsNoRow}
 use Rattle.ul_marker_text.specs.StepViews.{said}

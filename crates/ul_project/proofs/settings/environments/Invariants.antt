@@ -1,6 +1,6 @@
 use Rattle.std.proofs.Common.{◌≡◌, drop, map}
 use Rattle.toml.specs.View.{items_view}
-use Rattle.ul_marker.specs.Formulas.{AreFormulas}
+use Rattle.ul_comparison.specs.Formulas.{AreFormulas}
 use Rattle.ul_marker.specs.Views.{marker_view, markers_view}
 use Rattle.ul_project.specs.Results.{each_from}
 use Rattle.ul_project.specs.Settings.{environment_at}

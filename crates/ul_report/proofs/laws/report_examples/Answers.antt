@@ -1,7 +1,7 @@
 use Rattle.std.proofs.Common.{refl}
 use Rattle.std.specs.Fmt.{digits}
 use Rattle.ul_version.specs.Texts.{version_text}
-use Rattle.ul_marker.specs.Printed.{comparison_text, atom_text}
+use Rattle.ul_comparison.specs.Printed.{comparison_text, atom_text}
 use Rattle.ul_marker_text.specs.MarkerText.{marker_text}
 use Rattle.ul_report.specs.Texts.{text_part, truth_part, python_part, world_text, lines_text, node_text, placed_text, term_text, step_text, step_line}
 use Rattle.ul_report.proofs.laws.report_examples.Goals as goal

@@ -1,7 +1,7 @@
 use Rattle.std.proofs.Common.{◌≡◌, true, ap, sym, ◌∙◌, subst}
 use Rattle.std.specs.Prelude.{◌||◌}
 use Rattle.ul_base.specs.Names.{is_name}
-use Rattle.ul_marker.specs.Truth.{is_empty}
+use Rattle.ul_comparison.specs.Truth.{is_empty}
 use Rattle.ul_nodes.specs.Plain.{Plain, node}
 use Rattle.ul_tree.specs.Leaves.{point_of}
 use Rattle.ul_nodes.specs.Levels.{extra_level}

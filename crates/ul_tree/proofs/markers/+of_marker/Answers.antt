@@ -1,8 +1,8 @@
 use Rattle.std.proofs.Common.{ap, sym, ◌∙◌, true, false, map}
 use Rattle.std.specs.Str.{bytes_eq}
-use Rattle.ul_marker.specs.Truth.{as_asked, equals_extra, is_listed, marker_holds, python_release}
+use Rattle.ul_comparison.specs.Truth.{as_asked, equals_extra, is_listed, marker_holds, python_release}
 use Rattle.ul_marker.specs.Views.{marker_view}
-use Rattle.ul_marker.specs.Worlds.{text_at}
+use Rattle.ul_comparison.specs.Worlds.{text_at}
 use Rattle.ul_tree.specs.Joining.{joint}
 use Rattle.ul_tree.proofs.Joint.{all_joint, any_joint, made_then}
 use Rattle.ul_tree.proofs.MarkerViews.{marker_all, marker_any, marker_extra, marker_list, marker_opaque, marker_python, marker_text}

@@ -1,9 +1,9 @@
 use Rattle.std.proofs.Common.{◌≡◌, ℕ, List, ◌++◌, map, drop}
 use Rattle.std.specs.Prelude.{All}
-use Rattle.ul_marker.specs.Formulas.{AreFormulas}
-use Rattle.ul_marker.specs.Truth.{marker_holds}
+use Rattle.ul_comparison.specs.Formulas.{AreFormulas}
+use Rattle.ul_comparison.specs.Truth.{marker_holds}
 use Rattle.ul_marker.specs.Views.{marker_view, markers_view}
-use Rattle.ul_marker.specs.Worlds.{WorldFields, IsWorld}
+use Rattle.ul_comparison.specs.Worlds.{WorldFields, IsWorld}
 use Rattle.ul_tree.specs.Joining.{truths_of}
 use Rattle.ul_nodes.specs.Reduced.{IsReduced}
 use Rattle.ul_tree.specs.Views.{tree_view}

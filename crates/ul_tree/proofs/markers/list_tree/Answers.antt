@@ -3,7 +3,7 @@ use Rattle.std.specs.Prelude.{All, not}
 use Rattle.std.proofs.lemmas.List.Elements.{All-push}
 use Rattle.ul_version.specs.Fields.{Fields, plain}
 use Rattle.ul_specifier.specs.Meaning.{meets_clause}
-use Rattle.ul_marker.specs.Truth.{as_asked, equal_to, is_listed, python_release}
+use Rattle.ul_comparison.specs.Truth.{as_asked, equal_to, is_listed, python_release}
 use Rattle.ul_tree.specs.Joining.{joint, truths_of}
 use Rattle.ul_nodes.specs.Reduced.{IsReduced}
 use Rattle.ul_tree.specs.Views.{tree_view}

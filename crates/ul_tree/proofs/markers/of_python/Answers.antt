@@ -4,7 +4,7 @@ use Rattle.std.proofs.lemmas.List.Elements.{All-push}
 use Rattle.ul_version.specs.Fields.{plain}
 use Rattle.ul_specifier.specs.Clauses.{ClauseFields}
 use Rattle.ul_specifier.specs.Meaning.{meets_clause, meets_list}
-use Rattle.ul_marker.specs.Truth.{python_release}
+use Rattle.ul_comparison.specs.Truth.{python_release}
 use Rattle.ul_tree.specs.Joining.{joint, truths_of}
 use Rattle.ul_nodes.specs.Reduced.{IsReduced}
 use Rattle.ul_tree.specs.Views.{tree_view}

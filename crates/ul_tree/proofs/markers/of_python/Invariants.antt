@@ -2,8 +2,8 @@ use Rattle.std.proofs.Common.{◌≡◌, ℕ, List, ◌++◌, map, drop, true}
 use Rattle.std.specs.Prelude.{All}
 use Rattle.ul_version.specs.Fields.{plain}
 use Rattle.ul_specifier.specs.Meaning.{meets_clause}
-use Rattle.ul_marker.specs.Truth.{python_release}
-use Rattle.ul_marker.specs.Worlds.{WorldFields, IsWorld}
+use Rattle.ul_comparison.specs.Truth.{python_release}
+use Rattle.ul_comparison.specs.Worlds.{WorldFields, IsWorld}
 use Rattle.ul_tree.specs.Joining.{truths_of}
 use Rattle.ul_nodes.specs.Reduced.{IsReduced}
 use Rattle.ul_tree.specs.Views.{tree_view}

@@ -1,7 +1,7 @@
 use Rattle.std.proofs.Common.{◌∙◌}
 use Rattle.std.proofs.lemmas.Grind.{flat_map-append}
 use Rattle.std.specs.BTreeSet.{insert_key}
-use Rattle.ul_marker.specs.Atoms.{atom_cmp}
+use Rattle.ul_comparison.specs.Atoms.{atom_cmp}
 use Rattle.ul_requirement.specs.Fields.{ReleaseFields}
 use Rattle.ul_requirement.specs.Truth.{atoms_of_requirement}
 use Rattle.ul_load.specs.Loading.{atoms_in}

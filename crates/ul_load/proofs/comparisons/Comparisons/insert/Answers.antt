@@ -1,6 +1,6 @@
 use Rattle.std.proofs.Common.{◌∙◌, ap, map}
 use Rattle.ul_index.proofs.ForCallers.{insert_mapped}
-use Rattle.ul_marker.specs.Atoms.{atom_cmp}
+use Rattle.ul_comparison.specs.Atoms.{atom_cmp}
 use Rattle.ul_load.specs.declared.comparisons.Key.{Key}
 use Rattle.ul_load.proofs.comparisons.Comparisons.insert.Goals as goal
 

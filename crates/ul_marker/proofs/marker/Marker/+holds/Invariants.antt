@@ -1,5 +1,5 @@
 use Rattle.std.proofs.Common.{◌≡◌, drop}
-use Rattle.ul_marker.specs.Truth.{marker_holds, all_hold, any_holds}
+use Rattle.ul_comparison.specs.Truth.{marker_holds, all_hold, any_holds}
 use Rattle.ul_marker.specs.Views.{marker_view, markers_view}
 use Rattle.ul_marker.proofs.marker.Marker.+holds.Given as goal
 

@@ -1,0 +1,12 @@
+pub mod JsonReading
+pub mod AtomNumbers
+pub mod AtomOrder
+pub mod Placed
+pub mod Parts
+pub mod Numerals
+pub mod Points
+pub mod TextsRead
+pub mod Rises
+pub mod TruthExamples
+pub mod Interpreters
+pub mod ForCallers

@@ -1,0 +1,13 @@
+pub mod Atoms
+pub mod Worlds
+pub mod Formulas
+pub mod Truth
+pub mod Printed
+pub mod Codes
+pub mod Rising
+pub mod TruthVectors
+pub mod Json
+pub mod Machines
+pub mod Triples
+pub mod MachineLaws
+pub mod MachineFiles

@@ -1,6 +1,0 @@
-use Rattle.std.proofs.Common.{◌≡◌, drop}
-use Rattle.ul_marker.specs.Atoms.{has_byte}
-use Rattle.ul_marker.proofs.atom.has_byte.Given as goal
-
-abbrev pub invariant-loop-other : goal.invariant-loop-other
-invariant-loop-other l = has_byte l.byte (drop l.other-index l.text) ≡ has_byte l.byte l.text
