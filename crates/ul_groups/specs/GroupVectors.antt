@@ -50,6 +50,7 @@ at_entry name i = Entry (Group name) i
 abbrev pub list_in : List GroupFields → GroupFields → Expanding (List RequirementFields)
 list_in groups = group_list (group_named groups)
 
+-- the lists of all groups among these, or the first include that is refused
 abbrev pub lists_in : List GroupFields → List GroupFields → Expanding ExtraLists
 lists_in groups = group_lists (group_named groups)
 

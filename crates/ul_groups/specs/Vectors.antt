@@ -17,10 +17,11 @@ asks name extras specifiers marker = record { name = name; extras = extras; spec
 abbrev pub clause : Op → ℕ → List ClauseFields
 clause op n = record { op = op; version = plain (n ∷ []); prefix = false } ∷ []
 
--- os_name == 'a', and os_name == 'b'
+-- os_name == 'a'
 abbrev pub on_a : Formula
 on_a = text OsName (codes "a") true
 
+-- os_name == 'b'
 abbrev pub on_b : Formula
 on_b = text OsName (codes "b") true
 

@@ -166,7 +166,8 @@ fn constrained_list(
     constraints: &BTreeMap<Name, Requirements>,
     requirements: Vec<Requirement>,
 ) -> Result<Vec<Requirement>, AllocError>
-    ensures { IfOk result (λ v. v.items ≡ Adjusted.constrained_list (at_name constraints.now.entries) requirements.items) }
+    ensures { IfOk result (λ v. v.items
+        ≡ Adjusted.constrained_list (at_name constraints.now.entries) requirements.items) }
 {
     let mut list = Vec::new(alloc);
     for requirement in requirements {

@@ -34,6 +34,7 @@ comparison_level (Extra literal equal) = extra_level
 comparison_level (Text variable literal equal) = text_level variable
 comparison_level (Opaque atom holds) = atom_level atom.now
 
+-- the key at a comparison's level of where it holds
 abbrev pub comparison_key : Comparison → List ℕ
 comparison_key (Bound lower python) = 1 ∷ []
 comparison_key (Extra literal equal) = literal.now

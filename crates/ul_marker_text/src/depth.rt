@@ -8,8 +8,8 @@ use ul_tree::part::{branch_at, branch_count, level_of, rest_of};
 /// before the recursions over trees reach the end of the stack.
 pub const DEEPEST_TEXT: usize = 512;
 
-/// Whether no path of a tree has more levels than `room`.
-pub fn is_within(tree: &Tree, room: usize) -> bool
+// Whether no path of a tree has more levels than `room`.
+pub(crate) fn is_within(tree: &Tree, room: usize) -> bool
     requires { IsTree tree.now }
 {
     if level_of(tree).is_none() {

@@ -108,8 +108,8 @@ fn extra_of<R: Wait>(
     required: &[Requirement],
 ) -> Result<Extra, AllocError>
     requires sources { AreSources algebra.old sources.now }
-    requires users { AreUsers sources.now.choices.now (with_extra pair.now.name.now group.now.key.name.now, pair.now.version.now)
-        group.now.values.items }
+    requires users { AreUsers sources.now.choices.now
+        (with_extra pair.now.name.now group.now.key.name.now, pair.now.version.now) group.now.values.items }
     requires required { required.now ≡ requirements (catalog_in sources.now) pair.now.name.now pair.now.version.now }
     ensures knows { Knows algebra.old algebra.new }
     ensures extra { IfOk result (IsMadeExtra (catalog_in sources.now) (leaves_in sources.now) (supported_in sources.now)
@@ -148,8 +148,8 @@ fn made_extras<R: Wait>(
     required: &[Requirement],
 ) -> Result<Vec<Extra>, AllocError>
     requires sources { AreSources algebra.old sources.now }
-    requires users { All (λ g. AreUsers sources.now.choices.now (with_extra pair.now.name.now g.key.name.now, pair.now.version.now)
-        g.values.items) groups.now }
+    requires users { All (λ g. AreUsers sources.now.choices.now
+        (with_extra pair.now.name.now g.key.name.now, pair.now.version.now) g.values.items) groups.now }
     requires required { required.now ≡ requirements (catalog_in sources.now) pair.now.name.now pair.now.version.now }
     ensures knows { Knows algebra.old algebra.new }
     ensures extras { IfOk result (λ v. AreMade (MakesExtra (catalog_in sources.now) (leaves_in sources.now)
@@ -178,8 +178,8 @@ fn extras_of<R: Wait>(
     requires required { required.now
         ≡ requirements (catalog_in sources.now) group.now.key.name.now group.now.key.version.now }
     ensures knows { Knows algebra.old algebra.new }
-    ensures extras { IfOk result (AreMadeExtras (catalog_in sources.now) (leaves_in sources.now) (supported_in sources.now)
-        (pair_of group.now.key)) }
+    ensures extras { IfOk result (AreMadeExtras (catalog_in sources.now) (leaves_in sources.now)
+        (supported_in sources.now) (pair_of group.now.key)) }
 {
     let members: &Vec<Member<'_>> = &group.values;
     let entries = extra_entries(alloc, members.as_slice())?;
@@ -239,8 +239,8 @@ pub(crate) fn made_blocks<R: Wait>(
     requires sources { AreSources algebra.old sources.now }
     requires groups { All (IsPairGroup sources.now.choices.now) groups.now }
     ensures knows { Knows algebra.old algebra.new }
-    ensures blocks { IfOk result (λ v. AreMade (MakesBlock (catalog_in sources.now) (leaves_in sources.now) (supported_in sources.now))
-        groups.now v.items) }
+    ensures blocks { IfOk result (λ v. AreMade (MakesBlock (catalog_in sources.now) (leaves_in sources.now)
+        (supported_in sources.now)) groups.now v.items) }
 {
     let mut blocks = Vec::with_capacity(alloc, groups.len())?;
     for group in groups {

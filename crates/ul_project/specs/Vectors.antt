@@ -28,6 +28,7 @@ plain_settings = record { constraints = []; overrides = []; environments = []; m
 abbrev pub named_requirement : List ℕ → Option Formula → RequirementFields
 named_requirement name marker = record { name = name; extras = []; specifiers = []; marker = marker }
 
+-- what some files say
 pub record SaidFiles : Type 0 where
   pub smallest : file_of (codes "[project]\nname = 'A.B'\n")
       ≡ Ok (record { head = record { name = codes "a-b"; version = plain (0 ∷ []); python = [] }; requirements = []; extras = []; sizes = []; groups = []; settings = plain_settings })
@@ -63,6 +64,7 @@ pub record SaidFiles : Type 0 where
 
 -- ---- the first of two faults
 
+-- of two faults in a file that of the earlier check, up to the groups' tables
 pub record FirstFaults : Type 0 where
   pub no_toml : file_of (codes "[") ≡ Err not_toml
   pub project_first : file_of (codes "tool = 1\n") ≡ Err (shape (at_key key.Project))
@@ -76,6 +78,7 @@ pub record FirstFaults : Type 0 where
   pub raw_keys_in_order : file_of (codes "[project]\nname = 'a'\n[project.optional-dependencies]\na = 1\nB = [1]\n") ≡ Err (shape (Entry (place.Extra (codes "b")) 0))
   pub extras_first : file_of (codes "dependency-groups = 1\n[project]\nname = 'a'\n[project.optional-dependencies]\na = 1\n") ≡ Err (shape (Whole (place.Extra (codes "a"))))
 
+-- and from the groups on
 pub record LaterFaults : Type 0 where
   pub group_keys_first : file_of (codes "[project]\nname = 'a'\n[project.optional-dependencies]\nGroup_x = []\n[dependency-groups]\na = 1\nX = []\n") ≡ Err (shape (at_key key.DependencyGroups))
   pub groups_first : file_of (codes "tool = 1\n[project]\nname = 'a'\n[dependency-groups]\nA = [{include-group = 'b', x = 1}]\n") ≡ Err (shape (Entry (place.Group (codes "a")) 0))
@@ -102,6 +105,7 @@ from_nine = record { op = AtLeast; version = plain (3 ∷ 9 ∷ []); prefix = fa
 abbrev pub on : List ℕ → Formula
 on name = text OsName name true
 
+-- worlds that a project supports, by its lower bounds and its environments
 pub record SupportedWorlds : Type 0 where
   pub everywhere : is_supported [] [] (world 2 7 []) ≡ true
   pub too_old : is_supported from_nine [] (world 3 8 []) ≡ false
