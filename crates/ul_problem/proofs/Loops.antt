@@ -120,5 +120,5 @@ node_tested nodes f size order versions rows b ev er eo es et el i h r q =
         rows = sym (ap length er) ∙ (el ∙ ap length ev);
         needs = subst (AllAre (AreNeeds nodes)) er r;
       },
-      λ n. q.1 (subst (λ (k : ℕ). IsOrderOf k order) (sym same) (subst (λ (o : List ℕ). IsOrderOf (length f.versions) o) (sym eo) n.ordered)),
+      λ n. q.1 (subst (λ (k : ℕ). IsOrderOf k order) (sym same) (subst (λ (o : List ℕ). IsOrderOf (length f.versions) o) (sym eo) n.is_order)),
     )
