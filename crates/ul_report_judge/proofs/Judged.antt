@@ -186,7 +186,7 @@ fault_refuses p texts k b a = at_end p texts b.front b.rest b.earlier a.0 b.whol
 -- all are named, and accepted
 pub judged_ok : (p : Plain) (texts all : List TextStep) (steps named : List Step) → texts ≡ all → named ≡ steps → IsFrontOf p texts steps → IsJudged p named (Ok tt) → length steps ≡ length texts → IsJudgedByNames p all (Ok tt)
 judged_ok p texts all steps named e f front j l = record {
-  accepted = subst (AcceptsNames p) e (front_accepted p texts steps front (subst (Accepts p) f j.accepted) l);
+  accepted = subst (AcceptsNames p) e (front_accepted p texts steps front (subst (Accepts p) f j.accepts) l);
   none = j.none;
   fault = tt;
 }
@@ -197,7 +197,7 @@ judged_next p texts all steps named k e f front j l q = record {
   accepted = tt;
   none = tt;
   fault = subst (λ (ts : List TextStep). IsFirstBad p ts k) e
-      (subst (λ (n : ℕ). IsFirstBad p texts n) (sym q) (next_bad p texts steps front (subst (Accepts p) f j.accepted).0 (below (front_within p texts steps front) l)));
+      (subst (λ (n : ℕ). IsFirstBad p texts n) (sym q) (next_bad p texts steps front (subst (Accepts p) f j.accepts).0 (below (front_within p texts steps front) l)));
 }
   where
     below : length steps ≤ length texts → (length steps ≡ length texts → ⊥) → length steps < length texts
