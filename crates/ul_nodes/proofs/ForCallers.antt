@@ -9,6 +9,7 @@ pub use Rattle.ul_nodes.proofs.PartsByKeys.{part_among, among_both, pick_among, 
 pub use Rattle.ul_nodes.proofs.PartsByKeys.{Rise, rise_keys, rise_merged, within_left, within_right, close_fits, close_holds}
 -- ---- parts of nodes
 pub use Rattle.ul_nodes.proofs.Halves.{from_count, from_end, rest_reduced, part_reduced, tree_past, tree_at, pick_before}
+pub use Rattle.ul_nodes.proofs.Halves.{rest_here, rest_elsewhere, branches_here, branches_elsewhere, part_here, part_elsewhere}
 -- ---- rows of results and parts
 pub use Rattle.ul_nodes.proofs.Viewed.{own_viewed, first_viewed, last_viewed, earliest_viewed, latest_viewed, part_viewed, standing_viewed}
 pub use Rattle.ul_nodes.proofs.Viewed.{own_known, first_known, last_known, earliest_known, latest_known, part_known, standing_known}

@@ -32,8 +32,10 @@ pub mod Settled
 pub mod Simplified
 pub mod Exists
 pub mod Lowering
+pub mod PartRegions
 pub mod SimplifySteps
 pub mod PiecesInCode
+pub mod KeptParts
 pub mod Shortcuts
 pub mod Tools
 pub mod Counted

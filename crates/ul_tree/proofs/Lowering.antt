@@ -8,9 +8,10 @@ use Rattle.ul_nodes.specs.Apply.{size, either}
 use Rattle.ul_tree.specs.Joins.{IsJoined}
 use Rattle.ul_tree.specs.declared.join.Join.TheVariants.{Either}
 use Rattle.ul_nodes.specs.Keys.{rest_of, branches_of, branch_count, branches_from}
-use Rattle.ul_tree.specs.Simplify.{above, union_in}
+use Rattle.ul_tree.specs.Simplify.{Simplifies, at_truth, anywhere, above, union_in}
 use Rattle.ul_tree.specs.SimplifyViews.{is_above, Lowers, some_part_holds, HoldsParts}
 use Rattle.ul_tree.specs.Values.{value_of}
+use Rattle.ul_nodes.proofs.ForCallers.{cmp_equal, cmp_over, cmp_trans}
 use Rattle.ul_tree.proofs.Applied.{applied}
 use Rattle.ul_tree.proofs.Extras.{one_truth_one_tree}
 use Rattle.ul_tree.proofs.Unions.{union_fits, or_fits}
@@ -23,12 +24,30 @@ union_step bs i k c made next e q =
     ap (λ n. union_in (branches_from n bs) next) (add-one i) ∙ ap (union_in (branches_from (suc i) bs)) q ∙ ap (λ z. union_in z made) (sym e)
 
 pub lowers_itself : (l : List ℕ) (c : Plain) → IsReduced c → c ≢ truth false → Lowers l c c
-lowers_itself l c h n = record { reduced = h; not_false = n; serves = λ d bs t s. s }
+lowers_itself l c h n = record { reduced = h; not_false = n; serves = λ f t a s. s }
 
 less_is : (o : Ordering) → is_lt o ≡ true → o ≡ Less
 less_is Less e = refl
 less_is Equal e = cc
 less_is Greater e = cc
+
+-- a level before l is before each that isn't before l
+pub level_between : (k l j : List ℕ) → text_cmp k l ≡ Less → is_lt (text_cmp j l) ≡ false → text_cmp k j ≡ Less
+level_between k l j a b = go (text_cmp j l) refl b
+  where
+    go : (o : Ordering) → text_cmp j l ≡ o → is_lt o ≡ false → text_cmp k j ≡ Less
+    go Less e b = cc
+    go Equal e b = subst (λ (i : List ℕ). text_cmp k i ≡ Less) (sym (cmp_equal j l e)) a
+    go Greater e b = cmp_trans k l j a (cmp_over j l e)
+
+truth_stays : {b : Bool} {c t : Plain} → Simplifies (truth b) c t → t ≡ truth b
+truth_stays at_truth = refl
+truth_stays anywhere = refl
+
+-- a level of the region above l is taken away for each tree that has no level above l
+above_each : (l k : List ℕ) (f d t : Plain) (cs : Branches) → text_cmp k l ≡ Less → is_above l f ≡ false → Simplifies f (union_in cs d) t → Simplifies f (node k d cs) t
+above_each l k (truth b) d t cs w a s = subst (λ (z : Plain). Simplifies (truth b) (node k d cs) z) (sym (truth_stays s)) at_truth
+above_each l k (node j e bs) d t cs w a s = above (level_between k l j w a) s
 
 -- one level more
 pub lowers_union : (l : List ℕ) (c r u : Plain) → Lowers l c r → is_above l r ≡ true → u ≡ union_in (branches_of r) (rest_of r) → Lowers l c u
@@ -38,7 +57,7 @@ lowers_union l c (node k d cs) u h a e =
     (record {
       reduced = fits_reduced (union_in cs d) k (union_fits cs k d d h.reduced.3 h.reduced.2);
       not_false = union_not_false k d cs [] h.reduced;
-      serves = λ x bs t s. h.serves x bs t (above (less_is (text_cmp k l) a) s);
+      serves = λ f t b s. h.serves f t b (above_each l k f d t cs (less_is (text_cmp k l) a) b s);
     })
 
 pub joined_or : (a b t : Plain) → IsJoined Either a b t → t ≡ or_of a b

@@ -1,12 +1,12 @@
 -- What the code of simplifying sees of pieces and regions, as plain data.
-use Rattle.std.specs.Prelude.{ℕ, List, [], ◌∷◌, Bool, false, Option, Some, None, option_map, ◌≡◌, zero, suc}
+use Rattle.std.specs.Prelude.{ℕ, List, [], ◌∷◌, Bool, true, false, Option, Some, None, option_map, ◌≡◌, zero, suc, if◌then◌else◌}
 use Rattle.std.specs.Ordering.{is_lt}
-use Rattle.ul_nodes.specs.Plain.{Plain, truth, node, Branches, done, branch, text_cmp, holds_of}
-use Rattle.ul_nodes.specs.Apply.{either}
+use Rattle.ul_nodes.specs.Plain.{Plain, truth, node, Branches, done, branch, text_cmp, by_order, holds_of}
+use Rattle.ul_nodes.specs.Apply.{either, rest_at}
 use Rattle.ul_nodes.specs.Reduced.{IsReduced, Fits}
-use Rattle.ul_nodes.specs.Keys.{keys_view, level_view, branches_from, branches_of, rest_of}
-use Rattle.ul_nodes.specs.Rows.{Results, results_view, parts_view}
-use Rattle.ul_tree.specs.Simplify.{Simplifies, Pieces, filled_results, reduced_branches, settled_level, union_in}
+use Rattle.ul_nodes.specs.Keys.{keys_view, level_view, branches_from, branches_of, rest_of, top_of}
+use Rattle.ul_nodes.specs.Rows.{Results, own_or, results_view, parts_view}
+use Rattle.ul_tree.specs.Simplify.{Simplifies, Pieces, Piece, reduced_branches, settled_level, union_in}
 use Rattle.ul_tree.specs.Views.{tree_view}
 use Rattle.ul_nodes.specs.declared.level.Level.{Level}
 use Rattle.ul_tree.specs.declared.tree.Tree.{Tree}
@@ -47,16 +47,48 @@ abbrev pub region_view : {A : Type 0} → (A → Plain) → Option A → Plain �
 region_view view None c = c
 region_view view (Some t) c = view t
 
--- r is what stays of the region c when levels above l are taken away
+-- r is what stays of the region c when levels above l are taken away, and serves every tree that has no level above l
 pub record Lowers (l : List ℕ) (c r : Plain) : Type 0 where
   pub reduced : IsReduced r
   pub not_false : r ≡ truth false → ⊥
-  pub serves : (d : Plain) (bs : Branches) (t : Plain) → Simplifies (node l d bs) r t → Simplifies (node l d bs) c t
+  pub serves : (f t : Plain) → is_above l f ≡ false → Simplifies f r t → Simplifies f c t
 
 -- and all of them are
 pub record Lowered (l : List ℕ) (c r : Plain) : Type 0 where
   pub lowers : Lowers l c r
   pub not_above : is_above l r ≡ false
+
+-- the earlier of two levels, where there are
+abbrev pub earlier_top : Option (List ℕ) → Option (List ℕ) → Option (List ℕ)
+earlier_top None b = b
+earlier_top (Some l) None = Some l
+earlier_top (Some l) (Some k) = Some (by_order (text_cmp l k) l l k)
+
+-- the first top level of the parts of branches, and of one that was found
+abbrev pub tops_of : Branches → Option (List ℕ) → Option (List ℕ)
+tops_of done found = found
+tops_of (branch k c rest) found = tops_of rest (earlier_top found (top_of c))
+
+-- the first top level of a node's parts; none where all are truths
+abbrev pub parts_top : Plain → Option (List ℕ)
+parts_top t = tops_of (branches_of t) (top_of (rest_of t))
+
+-- r may stand for the region c in all parts of a tree f at the level l
+pub record StandsFor (l : List ℕ) (f c r : Plain) : Type 0 where
+  pub reduced : IsReduced r
+  pub not_above : is_above l r ≡ false
+  pub parts : (ks : List (List ℕ)) (rs : Results) → Pieces l f r ks rs → Pieces l f c ks rs
+  pub rest : (o : Option Plain) → Piece (rest_at l f) (rest_at l r) o → Piece (rest_at l f) (rest_at l c) o
+
+-- whether a key is left out at once: its piece has no result, and where branches are carried the part before stands
+abbrev pub left_out : Bool → Option Plain → Bool
+left_out carried None = carried
+left_out carried (Some t) = false
+
+-- each other key with its piece's own result or, where it has none, with the part before, z before any
+abbrev pub kept_results : Bool → Results → Plain → List (List ℕ × Plain)
+kept_results carried [] z = []
+kept_results carried (r ∷ rs) z = if left_out carried r.1 then kept_results carried rs z else (r.0, own_or r.1 z) ∷ kept_results carried rs (own_or r.1 z)
 
 -- ---- as the code has them
 
@@ -84,10 +116,18 @@ union_parts t = union_in (branches_of t) (rest_of t)
 abbrev pub IsLowered : Level → Tree → Option Tree → Type 0
 IsLowered level region made = Lowered (level_view level) (tree_view region) (region_view tree_view made (tree_view region))
 
+-- the earlier of two levels, where there are
+abbrev pub earlier_level : Option Level → Option Level → Option (List ℕ)
+earlier_level one other = earlier_top (option_map level_view one) (option_map level_view other)
+
+-- what may stand for a region in all parts of a tree
+abbrev pub StandsInParts : Level → Tree → Tree → Option Tree → Type 0
+StandsInParts level tree region made = StandsFor (level_view level) (tree_view tree) (tree_view region) (region_view tree_view made (tree_view region))
+
 -- the results of pieces at keys of a level
 abbrev pub PiecesAre : Level → Tree → Tree → List Key → List (Key × Option Tree) → Type 0
 PiecesAre level tree region keys results = Pieces (level_view level) (tree_view tree) (tree_view region) (keys_view keys) (result_trees results)
 
--- the parts of keys, where a piece without a result has the part before it
-abbrev pub filled_trees : List (Key × Option Tree) → Tree → List (List ℕ × Plain)
-filled_trees results first = filled_results (result_trees results) (tree_view first)
+-- the parts of keys that aren't left out at once
+abbrev pub kept_trees : Bool → List (Key × Option Tree) → Tree → List (List ℕ × Plain)
+kept_trees carried results first = kept_results carried (result_trees results) (tree_view first)

@@ -6,8 +6,7 @@ ghost use Rattle.ul_nodes.specs.Reduced.{IsReduced};
 ghost use Rattle.ul_nodes.specs.Keys.{level_view, KeysOf};
 ghost use Rattle.ul_tree.specs.Joins.{trees_made};
 ghost use Rattle.ul_nodes.specs.Rows.{own_or};
-ghost use Rattle.ul_tree.specs.Simplify.{filled_results};
-ghost use Rattle.ul_tree.specs.SimplifyViews.{PartsFit, ResultFits, ResultsFit, result_trees, part_trees, filled_trees, reduced_parts, settled_tree};
+ghost use Rattle.ul_tree.specs.SimplifyViews.{PartsFit, ResultFits, ResultsFit, result_trees, part_trees, left_out, kept_trees, reduced_parts, settled_tree};
 
 use crate::Tree;
 use crate::copy::copy;
@@ -26,17 +25,32 @@ fn kept_or_copied(alloc: Global, own: Option<Tree>, otherwise: &Tree) -> Result<
     }
 }
 
-// The parts of keys: each piece's own result, or a copy of the part before it, `first` before all.
-fn filled<'a>(
+// Whether a piece is left out at once: it has no result, and where branches are carried the part before it stands.
+fn is_left_out(carried: bool, own: &Option<Tree>) -> bool
+    ensures { result ≡ left_out carried (option_map tree_view own.now) }
+{
+    match own {
+        Some(_) => false,
+        None => carried,
+    }
+}
+
+// The parts of keys: each piece's own result, or a copy of the part before it, `first` before all. What is left out
+// at once isn't copied.
+fn kept_parts<'a>(
     alloc: Global,
+    carried: bool,
     results: Vec<(Key<'a>, Option<Tree>)>,
     first: &Tree,
 ) -> Result<Vec<(Key<'a>, Tree)>, AllocError>
-    ensures parts { IfOk result (λ ps. part_trees ps.items ≡ filled_trees results.entry.items first.now) }
+    ensures parts { IfOk result (λ ps. part_trees ps.items ≡ kept_trees carried results.entry.items first.now) }
     ensures kinds { IfOk result (λ ps. (l : List ℕ) → KeysOf l results.entry.items → KeysOf l ps.items) }
 {
     let mut parts: Vec<(Key<'a>, Tree)> = Vec::new(alloc);
     for (key, own) in results {
+        if is_left_out(carried, &own) {
+            continue;
+        }
         let part = kept_or_copied(alloc, own, last_part(&parts, first))?;
         parts.push((key, part))?;
     }
@@ -81,7 +95,7 @@ pub fn settled(
     let carried = level.is_carried();
     let first = copy(alloc, earliest(carried, &results, &rest, otherwise))?;
     let other = kept_or_copied(alloc, rest, latest(carried, &results, &first))?;
-    let parts = filled(alloc, results, &first)?;
+    let parts = kept_parts(alloc, carried, results, &first)?;
     let made = reduced_branches(alloc, parts, &other, carried)?;
     let tree = closed(alloc, level, other, made)?;
     Ok(tree)

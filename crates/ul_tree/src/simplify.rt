@@ -5,7 +5,7 @@ ghost use Rattle.ul_nodes.specs.Plain.{truth};
 ghost use Rattle.ul_tree.specs.Views.{tree_view};
 ghost use Rattle.ul_nodes.specs.Keys.{level_view, top_of, branches_of, branch_count, AreKeysOf, KeysOf};
 ghost use Rattle.ul_tree.specs.Simplify.{Simplifies, Piece};
-ghost use Rattle.ul_tree.specs.SimplifyViews.{HoldsParts, is_above as is_above_plain, region_view, union_parts, IsLowered, PiecesAre};
+ghost use Rattle.ul_tree.specs.SimplifyViews.{HoldsParts, is_above as is_above_plain, earlier_level, parts_top, region_view, union_parts, IsLowered, StandsInParts, PiecesAre};
 
 use crate::Tree;
 use crate::copy::copy;
@@ -14,8 +14,9 @@ use crate::part::{Trees, branch_at, branch_count, is_false, known, level_of, res
 use crate::settle::settled;
 use crate::tree::{DEEPEST, deeper};
 use std::alloc::{AllocError, Global};
+use std::cmp::Ordering;
 use ul_nodes::level::{Key, Level};
-use ul_nodes::nodes::{level_keys, part_at, rest_at};
+use ul_nodes::nodes::{is_at, level_keys, part_at, rest_at};
 
 /// A tree made simpler where only the region `within` counts, which isn't false: reduced, and with `whole`'s truth
 /// wherever `within` holds. It also depends on `whole` outside of `within`; the rule determines it:
@@ -111,8 +112,64 @@ fn lowered(alloc: Global, region: &Tree, level: Level<'_>) -> Result<Option<Tree
     Err(AllocError)
 }
 
+// The earlier of two levels, where there are.
+fn earlier<'a>(one: Option<Level<'a>>, other: Option<Level<'a>>) -> Option<Level<'a>>
+    ensures { option_map level_view result ≡ earlier_level one.entry other.entry }
+{
+    match one {
+        None => other,
+        Some(level) => match other {
+            None => Some(level),
+            Some(found) => match level.cmp(found) {
+                Ordering::Less => Some(level),
+                Ordering::Equal => Some(level),
+                Ordering::Greater => Some(found),
+            },
+        },
+    }
+}
+
+// The first top level of a node's parts; none where all are truths.
+fn first_part_level(tree: &Tree) -> Option<Level<'_>>
+    requires { IsTree tree.now }
+    ensures { option_map level_view result ≡ parts_top (tree_view tree.now) }
+{
+    let mut first = level_of(rest_of(tree));
+    for index in 0..branch_count(tree) {
+        first = earlier(first, level_of(branch_at(tree, index).part));
+    }
+    first
+}
+
+// A region of later levels alone, for all parts of a node: without its levels above theirs, which are so taken away
+// once. None where the region stands for itself.
+fn lowered_for_parts(
+    alloc: Global,
+    whole: &Tree,
+    region: &Tree,
+    level: Level<'_>,
+) -> Result<Option<Tree>, AllocError>
+    requires whole_reduced { IsTree whole.now }
+    requires top { Some (level_view level) ≡ top_of (tree_view whole.now) }
+    requires region_reduced { IsTree region.now }
+    requires not_false { tree_view region.now ≡ truth false → ⊥ }
+    requires not_above { is_above_plain (level_view level) (tree_view region.now) ≡ false }
+    ensures { IfOk result (StandsInParts level.entry whole.now region.now) }
+{
+    if is_at::<Trees>(region, level) {
+        return Ok(None);
+    }
+    match first_part_level(whole) {
+        None => Ok(None),
+        Some(first) => {
+            let made = lowered(alloc, region, first)?;
+            Ok(made)
+        }
+    }
+}
+
 // A tree that was made, or else the one that stands.
-fn region<'a>(made: &'a Option<Tree>, stands: &'a Tree) -> &'a Tree
+fn standing_region<'a>(made: &'a Option<Tree>, stands: &'a Tree) -> &'a Tree
     ensures { tree_view result.now ≡ region_view tree_view made.now (tree_view stands.now) }
 {
     match made {
@@ -137,7 +194,7 @@ fn simplified(alloc: Global, whole: &Tree, within: &Tree, room: usize) -> Result
         Some(level) => {
             let room = deeper(room)?;
             let made = lowered(alloc, within, level)?;
-            let tree = simplified_at(alloc, whole, region(&made, within), level, room)?;
+            let tree = simplified_at(alloc, whole, standing_region(&made, within), level, room)?;
             Ok(tree)
         }
     }
@@ -164,11 +221,13 @@ fn simplified_at<'x>(
         return Ok(tree);
     }
     let keys = level_keys::<Trees>(alloc, level, whole, region)?;
-    let results = results(alloc, whole, region, level, &keys, room)?;
+    let made = lowered_for_parts(alloc, whole, region, level)?;
+    let lower = standing_region(&made, region);
+    let results = results(alloc, whole, lower, level, &keys, room)?;
     let rest = piece(
         alloc,
         rest_at::<Trees>(whole, level),
-        rest_at::<Trees>(region, level),
+        rest_at::<Trees>(lower, level),
         room,
     )?;
     let tree = settled(alloc, level, results, rest, rest_at::<Trees>(whole, level))?;

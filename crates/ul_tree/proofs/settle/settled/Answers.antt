@@ -8,7 +8,8 @@ use Rattle.ul_nodes.specs.Reduced.{IsReduced}
 use Rattle.ul_tree.specs.Simplify.{settled_level}
 use Rattle.ul_tree.specs.Views.{tree_view}
 use Rattle.ul_nodes.proofs.ForCallers.{earliest_viewed, latest_viewed}
-use Rattle.ul_tree.proofs.PiecesInCode.{parts_reduced, first_reduced, other_reduced, settled_is}
+use Rattle.ul_tree.proofs.PiecesInCode.{first_reduced, other_reduced}
+use Rattle.ul_tree.proofs.KeptParts.{kept_reduced, kept_is}
 use Rattle.ul_tree.proofs.settle.settled.Goals as goal
 use Rattle.ul_tree.proofs.settle.settled.Goals.{In_ok-first, In_ok-other, In_ok-made}
 
@@ -27,7 +28,7 @@ latest_is c = ap tree_view c.latest.ensures ∙ latest_viewed tree_view c.is_car
 
 pub reduced_branches-requires-clause-parts_reduced : goal.reduced_branches-requires-clause-parts_reduced
 reduced_branches-requires-clause-parts_reduced c =
-    parts_reduced tree_view c.in_ok-parts.parts.items (results_view tree_view c.args.results.items) (tree_view c.in_ok-first.first) [] c.in_ok-parts.ensures.parts c.requires.results_reduced
+    kept_reduced tree_view c.is_carried-carried.result c.in_ok-parts.parts.items (results_view tree_view c.args.results.items) (tree_view c.in_ok-first.first) [] c.in_ok-parts.ensures.parts c.requires.results_reduced
     (first_fits (goal.at.reduced_branches-requires-clause-parts_reduced c).In_ok-first)
 
 pub reduced_branches-requires-clause-other_reduced : goal.reduced_branches-requires-clause-other_reduced
@@ -46,7 +47,7 @@ made_is c first last =
     let o = option_map tree_view c.args.rest in
     let d = tree_view c.args.otherwise.now in
     let z = tree_view c.in_ok-first.first in
-    settled_is (level_view c.args.level) m (results_view tree_view c.args.results.items) o d z (tree_view c.in_ok-other.other) (parts_view tree_view c.in_ok-parts.parts.items) (made_view tree_view c.in_ok-made.made.items)
+    kept_is (level_view c.args.level) m (results_view tree_view c.args.results.items) o d z (tree_view c.in_ok-other.other) (parts_view tree_view c.in_ok-parts.parts.items) (made_view tree_view c.in_ok-made.made.items)
     c.is_carried-carried.ensures
     (first ∙ ap (λ zs. earliest m (results_view tree_view zs) o d) c.deref.ensures.value)
     (c.in_ok-other.ensures ∙ ap (own_or o) (last ∙ ap (λ zs. latest m (results_view tree_view zs) z) c.deref-2.ensures.value))

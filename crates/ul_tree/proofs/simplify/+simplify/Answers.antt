@@ -7,6 +7,7 @@ use Rattle.ul_tree.specs.Views.{tree_view}
 use Rattle.ul_nodes.specs.Keys.{level_view, keys_view}
 use Rattle.ul_nodes.specs.Rows.{results_view}
 use Rattle.ul_tree.specs.Simplify.{Simplifies, Pieces, Piece, settled_level}
+use Rattle.ul_tree.specs.SimplifyViews.{StandsFor}
 use Rattle.ul_tree.proofs.SimplifySteps.{tree_part, tree_rest, region_part, region_rest, part_smaller, rest_smaller, piece_outside, piece_inside, truth_done, all_done, level_done, result_reduced, results_reduced, simpler_reduced}
 use Rattle.ul_tree.proofs.PiecesInCode.{results_step, results_end, kind_step}
 use Rattle.ul_nodes.specs.declared.level.Key.{Key}
@@ -71,12 +72,14 @@ settles t c =
     let l = level_view c.args.level in
     let f = tree_view c.args.whole.now in
     let r = tree_view c.args.region.now in
+    let w = tree_view c.standing_region-lower.result.now in
     let rs = results_view tree_view c.in_ok-results.results.items in
     let o = option_map tree_view c.in_ok-rest.rest in
+    let s = subst (λ (z : Plain). StandsFor l f r z) (sym c.standing_region-lower.ensures) c.in_ok-made.ensures in
     level_done f r (settled_level l rs o (rest_at l f)) l (keys_view c.in_ok-keys.keys.items) rs o c.requires.top c.requires.not_above c.requires.not_false
     (sym c.known.ensures ∙ c.if-known.false) c.in_ok-keys.ensures.keys
-    (subst (λ (z : List Key). Pieces l f r (keys_view z) rs) c.deref.ensures.value c.in_ok-results.ensures.pieces)
-    (subst (λ (z : Plain). Piece z (rest_at l r) o) c.rest_at.ensures.part (subst (λ (z : Plain). Piece (tree_view c.rest_at.result.now) z o) c.rest_at-2.ensures.part c.in_ok-rest.ensures))
+    (subst (λ (z : List Key). Pieces l f r (keys_view z) rs) c.deref.ensures.value (s.parts _ rs c.in_ok-results.ensures.pieces))
+    (s.rest o (subst (λ (z : Plain). Piece z (rest_at l w) o) c.rest_at.ensures.part (subst (λ (z : Plain). Piece (tree_view c.rest_at.result.now) z o) c.rest_at-2.ensures.part c.in_ok-rest.ensures)))
     refl
 
 pub simplified_at-returns : goal.simplified_at-returns
