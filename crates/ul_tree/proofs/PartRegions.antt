@@ -120,7 +120,7 @@ later_region l n (node k d bs) a h =
 
 piece_served : {p r : Plain} {o : Option Plain} → Piece p r o → (n : List ℕ) (c : Plain) → Lowers n c r → c ≢ truth false → is_above n p ≡ false → Piece p c o
 piece_served outside n c h m a = absurd (h.not_false refl)
-piece_served (inside {f = f} {t = t} q s) n c h m a = inside m (h.serves f t a s)
+piece_served (inside {f = f} {t = t} q s) n c h m a = inside m (h.serves_later f t a s)
 
 pieces_served : {l : List ℕ} {f r : Plain} {ks : List (List ℕ)} {rs : Results} → Pieces l f r ks rs → (c : Plain)
     → ((v : List ℕ) (o : Option Plain) → Piece (part_at l v f) (part_at l v r) o → Piece (part_at l v f) (part_at l v c) o) → Pieces l f c ks rs
@@ -129,6 +129,9 @@ pieces_served (piece {k = k} {o = o} p ps) c h = piece (h k o p) (pieces_served 
 
 pub stands_itself : (l : List ℕ) (f c : Plain) → IsReduced c → is_above l c ≡ false → StandsFor l f c c
 stands_itself l f c h a = record { reduced = h; not_above = a; parts = λ ks rs p. p; rest = λ o p. p }
+
+pub stands_as : (l : List ℕ) (f c r w : Plain) → w ≡ r → StandsFor l f c r → StandsFor l f c w
+stands_as l f c r w e h = subst (λ (z : Plain). StandsFor l f c z) (sym e) h
 
 -- a region lowered to the first top level of a node's parts stands for the region in all of them
 pub lowered_stands : (l n : List ℕ) (f c r : Plain) → Some l ≡ top_of f → IsReduced f → is_level l c ≡ false → c ≢ truth false → parts_top f ≡ Some n → Lowered n c r → StandsFor l f c r

@@ -47,11 +47,13 @@ abbrev pub region_view : {A : Type 0} → (A → Plain) → Option A → Plain �
 region_view view None c = c
 region_view view (Some t) c = view t
 
--- r is what stays of the region c when levels above l are taken away, and serves every tree that has no level above l
+-- r is what stays of the region c when levels above l are taken away: it serves the nodes of l, and every tree that
+-- doesn't begin above l
 pub record Lowers (l : List ℕ) (c r : Plain) : Type 0 where
   pub reduced : IsReduced r
   pub not_false : r ≡ truth false → ⊥
-  pub serves : (f t : Plain) → is_above l f ≡ false → Simplifies f r t → Simplifies f c t
+  pub serves : (d : Plain) (bs : Branches) (t : Plain) → Simplifies (node l d bs) r t → Simplifies (node l d bs) c t
+  pub serves_later : (f t : Plain) → is_above l f ≡ false → Simplifies f r t → Simplifies f c t
 
 -- and all of them are
 pub record Lowered (l : List ℕ) (c r : Plain) : Type 0 where

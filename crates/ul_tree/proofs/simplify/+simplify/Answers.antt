@@ -7,8 +7,8 @@ use Rattle.ul_tree.specs.Views.{tree_view}
 use Rattle.ul_nodes.specs.Keys.{level_view, keys_view}
 use Rattle.ul_nodes.specs.Rows.{results_view}
 use Rattle.ul_tree.specs.Simplify.{Simplifies, Pieces, Piece, settled_level}
-use Rattle.ul_tree.specs.SimplifyViews.{StandsFor}
 use Rattle.ul_tree.proofs.SimplifySteps.{tree_part, tree_rest, region_part, region_rest, part_smaller, rest_smaller, piece_outside, piece_inside, truth_done, all_done, level_done, result_reduced, results_reduced, simpler_reduced}
+use Rattle.ul_tree.proofs.PartRegions.{stands_as}
 use Rattle.ul_tree.proofs.PiecesInCode.{results_step, results_end, kind_step}
 use Rattle.ul_nodes.specs.declared.level.Key.{Key}
 use Rattle.ul_tree.proofs.simplify.+simplify.Goals as goal
@@ -56,12 +56,14 @@ simplified_at-piece-requires t c =
     let l = level_view c.args.level in
     let f = tree_view c.args.whole.now in
     let r = tree_view c.args.region.now in
+    let w = tree_view c.standing_region-lower.result.now in
+    let s = stands_as l f r _ w c.standing_region-lower.ensures c.in_ok-made.ensures in
     let m = rest_smaller l f (tree_view c.rest_at.result.now) c.requires.top c.rest_at.ensures.part in
     let d = c.decreases in (
       omega (arith, m, d),
       (
         subst (λ (z : Plain). IsReduced z) (sym c.rest_at.ensures.part) (tree_rest l f c.requires.top c.requires.whole_reduced),
-        subst (λ (z : Plain). IsReduced z) (sym c.rest_at-2.ensures.part) (region_rest l r c.requires.not_above c.requires.region_reduced),
+        subst (λ (z : Plain). IsReduced z) (sym c.rest_at-2.ensures.part) (region_rest l w s.not_above s.reduced),
       ),
     )
 
@@ -75,7 +77,7 @@ settles t c =
     let w = tree_view c.standing_region-lower.result.now in
     let rs = results_view tree_view c.in_ok-results.results.items in
     let o = option_map tree_view c.in_ok-rest.rest in
-    let s = subst (λ (z : Plain). StandsFor l f r z) (sym c.standing_region-lower.ensures) c.in_ok-made.ensures in
+    let s = stands_as l f r _ w c.standing_region-lower.ensures c.in_ok-made.ensures in
     level_done f r (settled_level l rs o (rest_at l f)) l (keys_view c.in_ok-keys.keys.items) rs o c.requires.top c.requires.not_above c.requires.not_false
     (sym c.known.ensures ∙ c.if-known.false) c.in_ok-keys.ensures.keys
     (subst (λ (z : List Key). Pieces l f r (keys_view z) rs) c.deref.ensures.value (s.parts _ rs c.in_ok-results.ensures.pieces))
@@ -94,16 +96,20 @@ simplified_at-settled-requires-clause-results_reduced t c =
     let l = level_view c.args.level in
     let f = tree_view c.args.whole.now in
     let r = tree_view c.args.region.now in
-    results_reduced c.in_ok-results.ensures.pieces (λ v. tree_part l v f c.requires.top c.requires.whole_reduced) (λ v. region_part l v r c.requires.not_above c.requires.region_reduced)
+    let w = tree_view c.standing_region-lower.result.now in
+    let s = stands_as l f r _ w c.standing_region-lower.ensures c.in_ok-made.ensures in
+    results_reduced c.in_ok-results.ensures.pieces (λ v. tree_part l v f c.requires.top c.requires.whole_reduced) (λ v. region_part l v w s.not_above s.reduced)
 
 pub simplified_at-settled-requires-clause-rest_reduced : goal.simplified_at-settled-requires-clause-rest_reduced
 simplified_at-settled-requires-clause-rest_reduced t c =
     let l = level_view c.args.level in
     let f = tree_view c.args.whole.now in
     let r = tree_view c.args.region.now in
+    let w = tree_view c.standing_region-lower.result.now in
+    let s = stands_as l f r _ w c.standing_region-lower.ensures c.in_ok-made.ensures in
     result_reduced (tree_view c.rest_at.result.now) (tree_view c.rest_at-2.result.now) (option_map tree_view c.in_ok-rest.rest) c.in_ok-rest.ensures
     (subst (λ (z : Plain). IsReduced z) (sym c.rest_at.ensures.part) (tree_rest l f c.requires.top c.requires.whole_reduced))
-    (subst (λ (z : Plain). IsReduced z) (sym c.rest_at-2.ensures.part) (region_rest l r c.requires.not_above c.requires.region_reduced))
+    (subst (λ (z : Plain). IsReduced z) (sym c.rest_at-2.ensures.part) (region_rest l w s.not_above s.reduced))
 
 pub simplified_at-settled-requires-clause-otherwise_reduced : goal.simplified_at-settled-requires-clause-otherwise_reduced
 simplified_at-settled-requires-clause-otherwise_reduced t c =
