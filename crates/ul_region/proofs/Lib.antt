@@ -9,6 +9,7 @@ pub mod BestServing
 pub mod Existing
 pub mod TruthFacts
 pub mod Firsts
+pub mod NameNumbers
 pub mod RowFacts
 pub mod AskedFacts
 pub mod ForCallers

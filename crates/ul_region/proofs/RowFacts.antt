@@ -1,10 +1,10 @@
 -- Rows, as more is known and more truths are put.
 use Rattle.std.specs.Prelude.{All, Contains, slice_get, if◌then◌else◌}
-use Rattle.std.proofs.Common.{◌≡◌, ◌<◌, ◌≤◌, ◌+◌, ℕ, zero, suc, List, [], ◌∷◌, ◌++◌, length, get_or, map, take, Bool, true, false, Some, refl, sym, ap, subst, ◌∙◌, ⊎_elim, bytes_eq, arith}
+use Rattle.std.proofs.Common.{◌≡◌, ◌<◌, ◌+◌, ℕ, zero, suc, List, [], ◌∷◌, ◌++◌, length, get_or, map, take, Bool, true, false, Some, refl, sym, ap, subst, ◌∙◌, ⊎_elim, bytes_eq, arith}
 use Rattle.std.proofs.lemmas.Option.{none-some, same_Some, slice_get_within, slice_get-get_or, get_or_from_slice_get}
 use Rattle.std.proofs.lemmas.Slice.Eq.{bytes_eq-Decides}
-use Rattle.std.proofs.lemmas.List.Elements.{All-head, All-tail, All-push, All-weaker, All-contains, All-more}
-use Rattle.std.proofs.lemmas.List.{take_more, take_all}
+use Rattle.std.proofs.lemmas.List.Elements.{All-push, All-weaker, All-contains}
+use Rattle.std.proofs.lemmas.List.{get_or-map, length-map, take_more}
 use Rattle.ul_base.specs.declared.node.Node.{Node}
 use Rattle.ul_base.proofs.ForCallers.{none_in, contains_cases, contains_map}
 use Rattle.ul_interner.specs.Known.{Knows}
@@ -18,11 +18,12 @@ use Rattle.ul_requirement.specs.Fields.{RequirementFields}
 use Rattle.ul_requirement.specs.Truth.{applies_at}
 use Rattle.ul_region.specs.Truths.{PassView, DiagramMark, IsTruthAt, HasTree, Grows, IsGrown}
 use Rattle.ul_index.specs.Catalogs.{is_release_fit}
-use Rattle.ul_region.specs.Rows.{IsAsked, IsRow, AreNumbered, requirement_of}
-use Rattle.ul_region.specs.Numbers.{first_on, AreNumbersIn}
+use Rattle.ul_region.specs.Rows.{IsAsked, IsRow, AreLinked, AreNumbered, next_in, number_in, requirement_of}
+use Rattle.ul_region.specs.Numbers.{AreNexts, IsFirstFrom, first_on, numbers_of}
 use Rattle.ul_region.specs.declared.rows.Asked.{Asked}
 use Rattle.ul_region.specs.declared.rows.Row.{Row}
 use Rattle.ul_region.proofs.TruthFacts.{still, all_still}
+use Rattle.ul_region.proofs.NameNumbers.{first_upto, number_at, some_at}
 
 -- ---- lists of truths that grow
 
@@ -83,6 +84,7 @@ row_grown g h n ms ns row more r = record {
   asked = asked_grown g h n ms ns row.asked.items more r.asked;
   same = r.same;
   numbered = r.numbered;
+  linked = r.linked;
 }
 
 -- ---- one more requirement
@@ -94,12 +96,10 @@ map_more f (x ∷ xs) a = ap (λ r. f x ∷ r) (map_more f xs a)
 pub all_more : (P : Asked → Type 0) (xs ys : List Asked) (a : Asked) → ys ≡ xs ++ a ∷ [] → All P xs → P a → All P ys
 all_more P xs ys a e h k = subst (All P) (sym e) (All-push P xs a h k)
 
-pub requirements_more : (xs ys : List Asked) (a : Asked) (qs : List RequirementFields) (i : ℕ) (q : RequirementFields) → ys ≡ xs ++ a ∷ [] → map requirement_of xs ≡ take i qs → a.requirement.now ≡ q → i < length qs → q ≡ get_or qs i q
-    → map requirement_of ys ≡ take (i + 1) qs
-requirements_more xs ys a qs i q e h k l at = ap (map requirement_of) e ∙ (map_more requirement_of xs a ∙ (ap (λ (z : List RequirementFields). z ++ a.requirement.now ∷ []) h ∙ (ap (λ (z : RequirementFields). take i qs ++ z ∷ []) (k ∙ at) ∙ sym (take_more qs i q l))))
-
-pub number_so : (a : Asked) (qs : List RequirementFields) (q : RequirementFields) → a.name ≡ first_on q.name qs → a.requirement.now ≡ q → a.name ≡ first_on a.requirement.now.name qs
-number_so a qs q e s = e ∙ ap (λ (z : RequirementFields). first_on z.name qs) (sym s)
+-- what is read of the requirements, one more
+pub taken_more : {A : Type 0} (f : Asked → A) (xs ys : List Asked) (a : Asked) (zs : List A) (i : ℕ) (z : A) → ys ≡ xs ++ a ∷ [] → map f xs ≡ take i zs → f a ≡ z → i < length zs → z ≡ get_or zs i z
+    → map f ys ≡ take (i + 1) zs
+taken_more {A} f xs ys a zs i z e h k l at = ap (map f) e ∙ (map_more f xs a ∙ (ap (λ (r : List A). r ++ f a ∷ []) h ∙ (ap (λ (x : A). take i zs ++ x ∷ []) (k ∙ at) ∙ sym (take_more zs i z l))))
 
 -- ---- numbers of names
 
@@ -125,39 +125,56 @@ one_first qs p q a b e =
     let y = own_first q.name qs q b refl in
     sym x.2 ∙ (ap (λ (z : RequirementFields). z.name) (same_Some x.0 y.0 (sym x.1 ∙ (ap (slice_get qs) e ∙ y.1))) ∙ y.2)
 
+-- each is numbered by the first one on its name
+number_in_row : (qs : List RequirementFields) (asked : List Asked) → map requirement_of asked ≡ qs → map number_in asked ≡ numbers_of qs → (a : Asked) → Contains asked a → a.name ≡ first_on a.requirement.now.name qs
+number_in_row qs asked same numbers a c =
+    let size : length asked ≡ length qs = sym (length-map asked requirement_of) ∙ ap length same in
+    let here : a.requirement.now ≡ get_or qs c.0 a.requirement.now =
+    sym (ap requirement_of c.2) ∙ (sym (get_or-map requirement_of asked c.0 a a.requirement.now c.1) ∙ ap (λ (z : List RequirementFields). get_or z c.0 a.requirement.now) same) in
+    sym (ap number_in c.2) ∙ (sym (get_or-map number_in asked c.0 a 0 c.1) ∙ (ap (λ (z : List ℕ). get_or z c.0 0) numbers
+    ∙ number_at qs c.0 a.requirement.now (subst (λ (n : ℕ). c.0 < n) size c.1) here))
+
 -- numbers are equal exactly where names are
-pub numbered : (qs : List RequirementFields) (asked : List Asked) → map requirement_of asked ≡ qs → AreNumbersIn qs asked → AreNumbered asked
-numbered qs asked same h a b i j = (
+pub numbered : (qs : List RequirementFields) (asked : List Asked) → map requirement_of asked ≡ qs → map number_in asked ≡ numbers_of qs → AreNumbered asked
+numbered qs asked same numbers a b i j = (
   (λ e. one_first qs a.requirement.now b.requirement.now (listed a i) (listed b j) (sym (number a i) ∙ (e ∙ number b j))),
   (λ e. number a i ∙ (ap (λ (n : List ℕ). first_on n qs) e ∙ sym (number b j))),
 )
   where
     number : (x : Asked) → Contains asked x → x.name ≡ first_on x.requirement.now.name qs
-    number x k = All-contains (λ (y : Asked). y.name ≡ first_on y.requirement.now.name qs) asked x h k
+    number x k = number_in_row qs asked same numbers x k
 
     listed : (x : Asked) → Contains asked x → Contains qs x.requirement.now
     listed x k = subst (λ (zs : List RequirementFields). Contains zs x.requirement.now) same (contains_map requirement_of asked x k)
 
--- a loop that looks for the first one on a name
-pub first_here : (n : List ℕ) (qs : List RequirementFields) (i : ℕ) (q : RequirementFields) → i < length qs → q ≡ get_or qs i q → All (λ (x : RequirementFields). bytes_eq x.name n ≡ false) (take i qs) → bytes_eq q.name n ≡ true → i ≡ first_on n qs
-first_here n [] i q l e h t = absurd (omega (arith, l))
-first_here n (z ∷ zs) zero q l e h t = sym (ap (λ (b : Bool). if b then 0 else suc (first_on n zs)) (ap (λ (x : RequirementFields). bytes_eq x.name n) (sym e) ∙ t))
-first_here n (z ∷ zs) (suc i) q l e h t =
-    ap suc (first_here n zs i q (omega (arith, l)) e (All-tail (λ (x : RequirementFields). bytes_eq x.name n ≡ false) z (take i zs) h) t)
-    ∙ sym (ap (λ (b : Bool). if b then 0 else suc (first_on n zs)) (All-head (λ (x : RequirementFields). bytes_eq x.name n ≡ false) z (take i zs) h))
+-- the number of a name is the first place that has it
+first_first : (qs : List RequirementFields) (q : RequirementFields) (k : ℕ) → k < length qs → q ≡ get_or qs k q → IsFirstFrom (numbers_of qs) 0 (first_on q.name qs) (first_on q.name qs)
+first_first qs q k l at =
+    let x = own_first q.name qs q (k, l, sym at) refl in
+    let near = first_upto qs k q l at in
+    record {
+      after = omega arith;
+      apart = λ j a b e. (let w : j < length qs = omega (arith, b, near, l) in
+          let y = some_at qs j w in
+          let no_later = first_upto qs j y.0 w y.1 in
+          let own : get_or (numbers_of qs) j 0 ≡ first_on y.0.name qs = number_at qs j y.0 w y.1 in
+          omega (arith, b, e, own, no_later));
+      same = λ h. number_at qs (first_on q.name qs) x.0 (slice_get_within qs (first_on q.name qs) x.0 x.1) (sym (get_or_from_slice_get qs (first_on q.name qs) x.0 x.0 x.1))
+          ∙ ap (λ (n : List ℕ). first_on n qs) x.2;
+    }
 
-pub first_nowhere : (n : List ℕ) (qs : List RequirementFields) → All (λ (x : RequirementFields). bytes_eq x.name n ≡ false) qs → length qs ≡ first_on n qs
-first_nowhere n [] h = refl
-first_nowhere n (z ∷ zs) h =
-    ap suc (first_nowhere n zs (All-tail (λ (x : RequirementFields). bytes_eq x.name n ≡ false) z zs h))
-    ∙ sym (ap (λ (b : Bool). if b then 0 else suc (first_on n zs)) (All-head (λ (x : RequirementFields). bytes_eq x.name n ≡ false) z zs h))
-
-pub not_yet : (n : List ℕ) (qs : List RequirementFields) (i : ℕ) (q : RequirementFields) → i < length qs → q ≡ get_or qs i q → All (λ (x : RequirementFields). bytes_eq x.name n ≡ false) (take i qs) → bytes_eq q.name n ≡ false
-    → All (λ (x : RequirementFields). bytes_eq x.name n ≡ false) (take (i + 1) qs)
-not_yet n qs i q l e h t = All-more (λ (x : RequirementFields). bytes_eq x.name n ≡ false) qs i q l h (subst (λ (x : RequirementFields). bytes_eq x.name n ≡ false) e t)
-
-pub nowhere_at_end : (n : List ℕ) (qs : List RequirementFields) (i : ℕ) → length qs ≤ i → All (λ (x : RequirementFields). bytes_eq x.name n ≡ false) (take i qs) → length qs ≡ first_on n qs
-nowhere_at_end n qs i l h = first_nowhere n qs (subst (All (λ (x : RequirementFields). bytes_eq x.name n ≡ false)) (take_all i qs l) h)
+-- each requirement of a row has the next one on its name
+pub linked : (qs : List RequirementFields) (asked : List Asked) → map requirement_of asked ≡ qs → map number_in asked ≡ numbers_of qs → AreNexts (numbers_of qs) (map next_in asked) → AreLinked asked
+linked qs asked same numbers next = record {
+  first = λ a c.
+      let size : length asked ≡ length qs = sym (length-map asked requirement_of) ∙ ap length same in
+      let here : a.requirement.now ≡ get_or qs c.0 a.requirement.now =
+      sym (ap requirement_of c.2) ∙ (sym (get_or-map requirement_of asked c.0 a a.requirement.now c.1) ∙ ap (λ (z : List RequirementFields). get_or z c.0 a.requirement.now) same) in
+      subst (λ (z : List ℕ). IsFirstFrom z 0 a.name a.name) (sym numbers)
+      (subst (λ (m : ℕ). IsFirstFrom (numbers_of qs) 0 m m) (sym (number_in_row qs asked same numbers a c))
+      (first_first qs a.requirement.now c.0 (subst (λ (n : ℕ). c.0 < n) size c.1) here));
+  next = subst (λ (z : List ℕ). AreNexts z (map next_in asked)) (sym numbers) next;
+}
 
 pub tree_found : (ms : List DiagramMark) (k : ℕ) (m d : DiagramMark) → k < length ms → m ≡ get_or ms k m → tree_of m ≡ tree_of d → HasTree ms k (tree_of d)
 tree_found ms k m d l e s = (m, slice_get-get_or ms k m l ∙ ap Some (sym e), s)

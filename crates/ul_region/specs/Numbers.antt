@@ -1,14 +1,38 @@
 -- Numbers of names: the place of the first requirement on the name.
-use Rattle.std.specs.Prelude.{◌≡◌, ℕ, suc, List, [], ◌∷◌, All, if◌then◌else◌}
+use Rattle.std.specs.Prelude.{◌≡◌, ◌<◌, ◌≤◌, ◌+◌, ℕ, suc, List, [], ◌∷◌, Option, Some, None, cond, length, get_or, map, if◌then◌else◌}
+use Rattle.std.specs.HashMap.{HashMap, get}
 use Rattle.std.specs.Str.{bytes_eq}
 use Rattle.ul_requirement.specs.Fields.{RequirementFields}
-use Rattle.ul_region.specs.declared.rows.Asked.{Asked}
 
 -- the place of the first requirement on a name, or how many there are
 abbrev pub first_on : List ℕ → List RequirementFields → ℕ
 first_on n [] = 0
 first_on n (q ∷ qs) = if bytes_eq q.name n then 0 else suc (first_on n qs)
 
--- each is numbered by the first one on its name
-abbrev pub AreNumbersIn : List RequirementFields → List Asked → Type 0
-AreNumbersIn qs asked = All (λ (a : Asked). a.name ≡ first_on a.requirement.now.name qs) asked
+-- of each requirement the number of its name
+abbrev pub numbers_of : List RequirementFields → List ℕ
+numbers_of qs = map (λ (q : RequirementFields). first_on q.name qs) qs
+
+-- the place of the first requirement on a name, where the first of them stands at place i, and none where there is none
+abbrev pub place_from : List ℕ → ℕ → List RequirementFields → Option ℕ
+place_from n i [] = None
+place_from n i (q ∷ qs) = cond (bytes_eq q.name n) (Some i) (place_from n (i + 1) qs)
+
+-- of each name the place of the first requirement on it
+abbrev pub AreFirstPlaces : {S : Type 0} → List RequirementFields → HashMap (List ℕ) ℕ S → Type 0
+AreFirstPlaces qs places = (n : List ℕ) → get bytes_eq places n ≡ place_from n 0 qs
+
+-- a place, where there is one, and else 0
+abbrev pub or_zero : Option ℕ → ℕ
+or_zero None = 0
+or_zero (Some place) = place
+
+-- the first place from one on that has a number, or how many numbers there are
+pub record IsFirstFrom (numbers : List ℕ) (from number place : ℕ) : Type 0 where
+  pub after : from ≤ place
+  pub apart : (j : ℕ) → from ≤ j → j < place → get_or numbers j 0 ≡ number → ⊥
+  pub same : place < length numbers → get_or numbers place 0 ≡ number
+
+-- of the number at each place the next place that has it
+abbrev pub AreNexts : List ℕ → List ℕ → Type 0
+AreNexts numbers next = (k : ℕ) → k < length numbers → IsFirstFrom numbers (k + 1) (get_or numbers k 0) (get_or next k 0)

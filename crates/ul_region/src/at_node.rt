@@ -72,10 +72,14 @@ impl<'a> AtNode<'a> {
         requires applied { IsTrueSomewhere self.now one.now }
         ensures { Decides result (HasGroup self.now one.now) }
     {
-        for other in &self.row.asked {
+        let asked: &[Asked<'a>] = self.row.asked.as_slice();
+        let mut place = one.name;
+        while place < asked.len() {
+            let other = &asked[place];
             if self.is_other(algebra, one, other) {
                 return true;
             }
+            place = other.next;
         }
         false
     }

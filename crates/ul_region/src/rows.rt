@@ -1,25 +1,24 @@
 //! The requirements of a release at a node, as every region finds them.
 ghost use Rattle.std.specs.Prelude.{◌≡◌, [], IfOk, All, MatchOption};
-ghost use Rattle.std.specs.Str.{bytes_eq};
 ghost use Rattle.ul_algebra.specs.Answers.{IsDiagram};
 ghost use Rattle.ul_algebra.specs.Spelled.{tree_of};
 ghost use Rattle.ul_region.specs.Truths.{Grows, HasTree};
-ghost use Rattle.ul_region.specs.Numbers;
 
 use std::alloc::{AllocError, Global};
 use std::collections::HashMap;
 use ul_algebra::{Algebra, Diagram};
-use ul_base::Name;
 use ul_requirement::{Release, Requirement};
 
-/// A requirement at a node: the place of its truth, and a number of its name.
+/// A requirement at a node: the place of its truth, and where those on its name stand.
 #[derive(Drop)]
 pub struct Asked<'a> {
     pub requirement: &'a Requirement,
     /// The place of its truth at the node, among truths.
     pub truth: usize,
-    /// Requirements of one release with equal numbers are those on one name.
+    /// The place of the first requirement on its name. So requirements of one release with equal numbers are those on one name.
     pub name: usize,
+    /// The place of the next requirement on its name, or how many requirements there are.
+    pub next: usize,
 }
 
 /// The requirements of a release at a node.
@@ -98,24 +97,4 @@ impl Truths {
         self.places.insert(key, place)?;
         Ok(place)
     }
-}
-
-// Whether a requirement is on a name.
-fn is_on(requirement: &Requirement, name: &Name) -> bool
-    ensures { result ≡ bytes_eq requirement.now.name name.now }
-{
-    let own: &Name = &requirement.name;
-    own.text() == name.text()
-}
-
-// The place of the first requirement on a name, or how many there are.
-pub(crate) fn first_on(requirements: &[Requirement], name: &Name) -> usize
-    ensures { result ≡ Numbers.first_on name.now requirements.now }
-{
-    for (place, requirement) in requirements.iter().enumerate() {
-        if is_on(requirement, name) {
-            return place;
-        }
-    }
-    requirements.len()
 }

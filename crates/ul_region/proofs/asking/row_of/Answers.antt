@@ -2,7 +2,7 @@ use Rattle.std.proofs.Common.{ap, ◌∙◌}
 use Rattle.ul_requirement.specs.Fields.{ReleaseFields}
 use Rattle.ul_index.specs.Catalogs.{is_release_fit}
 use Rattle.ul_region.proofs.TruthFacts.{all_still}
-use Rattle.ul_region.proofs.RowFacts.{grown_knows, grown_then, put_grown, truth_grown, truth_there, numbered}
+use Rattle.ul_region.proofs.RowFacts.{grown_knows, grown_then, put_grown, truth_grown, truth_there, numbered, linked}
 use Rattle.ul_region.proofs.asking.row_of.Goals as goal
 
 pub returns-in_err-fit-clause-grown : goal.returns-in_err-fit-clause-grown
@@ -24,4 +24,5 @@ returns-clause-row g c = record {
   asked = c.in_ok-asked.ensures.asked;
   same = c.in_ok-asked.ensures.same ∙ (c.as_slice.ensures.value ∙ ap (λ (r : ReleaseFields). r.requirements) c.release.view_is);
   numbered = numbered c.as_slice.result.now c.in_ok-asked.asked.items c.in_ok-asked.ensures.same c.in_ok-asked.ensures.numbers;
+  linked = linked c.as_slice.result.now c.in_ok-asked.asked.items c.in_ok-asked.ensures.same c.in_ok-asked.ensures.numbers c.in_ok-asked.ensures.next;
 }

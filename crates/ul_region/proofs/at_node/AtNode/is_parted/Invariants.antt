@@ -1,7 +1,10 @@
-use Rattle.std.proofs.Common.{take}
+use Rattle.std.proofs.Common.{◌-◌, length}
 use Rattle.ul_region.specs.Asked.{IsOther, region_asked}
-use Rattle.ul_region.proofs.Firsts.{NoneOf}
+use Rattle.ul_region.proofs.Firsts.{IsWalked}
 use Rattle.ul_region.proofs.at_node.AtNode.is_parted.Given as goal
 
-abbrev pub invariant-loop-other : goal.invariant-loop-other
-invariant-loop-other l = NoneOf (IsOther (region_asked l.self) l.self.node.now l.one.requirement.now) (take l.other-index l.self.row.now.asked.items)
+abbrev pub invariant-loop-place : goal.invariant-loop-place
+invariant-loop-place l = IsWalked (IsOther (region_asked l.self) l.self.node.now l.one.requirement.now) l.self.row.now.asked.items l.one.name l.place
+
+abbrev pub decreases-loop-place : goal.decreases-loop-place
+decreases-loop-place l = length l.self.row.now.asked.items - l.place

@@ -1,0 +1,168 @@
+-- Numbers of the names of requirements.
+use Rattle.std.specs.Prelude.{All, if◌then◌else◌}
+use Rattle.std.specs.HashMap.{HashMap, get}
+use Rattle.std.proofs.Common.{◌≡◌, ◌<◌, ◌≤◌, ◌+◌, ℕ, zero, suc, List, [], ◌∷◌, ◌++◌, length, get_or, map, take, drop, set, replicate, cond, Bool, true, false, Option, Some, refl, sym, ap, subst, ◌∙◌, bytes_eq, arith, inl, inr}
+use Rattle.std.proofs.lemmas.Bool.{cases_eq}
+use Rattle.std.proofs.lemmas.List.{drop_more, map_more, take_all, length-map, length-set, length-replicate, get_or-replicate, get_or-map, get_or-set_same, get_or-set_other, get_or_default}
+use Rattle.std.proofs.lemmas.List.Elements.{All-head, All-tail, All-more, All-from_get_or}
+use Rattle.std.proofs.lemmas.Slice.Eq.{bytes_eq-Decides}
+use Rattle.ul_requirement.specs.Fields.{RequirementFields}
+use Rattle.ul_region.specs.Numbers.{AreFirstPlaces, AreNexts, IsFirstFrom, first_on, numbers_of, or_zero, place_from}
+
+-- ---- a loop that looks for the first one on a name
+
+pub first_here : (n : List ℕ) (qs : List RequirementFields) (i : ℕ) (q : RequirementFields) → i < length qs → q ≡ get_or qs i q → All (λ (x : RequirementFields). bytes_eq x.name n ≡ false) (take i qs) → bytes_eq q.name n ≡ true → i ≡ first_on n qs
+first_here n [] i q l e h t = absurd (omega (arith, l))
+first_here n (z ∷ zs) zero q l e h t = sym (ap (λ (b : Bool). if b then 0 else suc (first_on n zs)) (ap (λ (x : RequirementFields). bytes_eq x.name n) (sym e) ∙ t))
+first_here n (z ∷ zs) (suc i) q l e h t =
+    ap suc (first_here n zs i q (omega (arith, l)) e (All-tail (λ (x : RequirementFields). bytes_eq x.name n ≡ false) z (take i zs) h) t)
+    ∙ sym (ap (λ (b : Bool). if b then 0 else suc (first_on n zs)) (All-head (λ (x : RequirementFields). bytes_eq x.name n ≡ false) z (take i zs) h))
+
+pub first_nowhere : (n : List ℕ) (qs : List RequirementFields) → All (λ (x : RequirementFields). bytes_eq x.name n ≡ false) qs → length qs ≡ first_on n qs
+first_nowhere n [] h = refl
+first_nowhere n (z ∷ zs) h =
+    ap suc (first_nowhere n zs (All-tail (λ (x : RequirementFields). bytes_eq x.name n ≡ false) z zs h))
+    ∙ sym (ap (λ (b : Bool). if b then 0 else suc (first_on n zs)) (All-head (λ (x : RequirementFields). bytes_eq x.name n ≡ false) z zs h))
+
+pub not_yet : (n : List ℕ) (qs : List RequirementFields) (i : ℕ) (q : RequirementFields) → i < length qs → q ≡ get_or qs i q → All (λ (x : RequirementFields). bytes_eq x.name n ≡ false) (take i qs) → bytes_eq q.name n ≡ false
+    → All (λ (x : RequirementFields). bytes_eq x.name n ≡ false) (take (i + 1) qs)
+not_yet n qs i q l e h t = All-more (λ (x : RequirementFields). bytes_eq x.name n ≡ false) qs i q l h (subst (λ (x : RequirementFields). bytes_eq x.name n ≡ false) e t)
+
+pub nowhere_at_end : (n : List ℕ) (qs : List RequirementFields) (i : ℕ) → length qs ≤ i → All (λ (x : RequirementFields). bytes_eq x.name n ≡ false) (take i qs) → length qs ≡ first_on n qs
+nowhere_at_end n qs i l h = first_nowhere n qs (subst (All (λ (x : RequirementFields). bytes_eq x.name n ≡ false)) (take_all i qs l) h)
+
+-- ---- the first one on a name stands no later than each
+
+own_here : (n : List ℕ) → bytes_eq n n ≡ true
+own_here n = (bytes_eq-Decides n n).1 refl
+
+by_test_upto : (b : Bool) (m k : ℕ) → m ≤ k → (if b then 0 else suc m) ≤ suc k
+by_test_upto true m k l = omega arith
+by_test_upto false m k l = omega (arith, l)
+
+pub first_upto : (qs : List RequirementFields) (k : ℕ) (q : RequirementFields) → k < length qs → q ≡ get_or qs k q → first_on q.name qs ≤ k
+first_upto [] k q l e = absurd (omega (arith, l))
+first_upto (z ∷ zs) zero q l e =
+    let h : first_on q.name (z ∷ zs) ≡ 0 = ap (λ (b : Bool). if b then 0 else suc (first_on q.name zs)) (ap (λ (x : RequirementFields). bytes_eq x.name q.name) (sym e) ∙ own_here q.name) in
+    omega (arith, h)
+first_upto (z ∷ zs) (suc k) q l e = by_test_upto (bytes_eq z.name q.name) (first_on q.name zs) k (first_upto zs k q (omega (arith, l)) e)
+
+-- ---- names that are looked up
+
+-- a place before the ones that are known
+pub place_more : (qs : List RequirementFields) (n i : ℕ) (q : RequirementFields) (key name : List ℕ) (was now : Option ℕ) → n ≡ i + 1 → i < length qs → q ≡ get_or qs i q → key ≡ q.name → now ≡ cond (bytes_eq key name) (Some i) was
+    → was ≡ place_from name n (drop n qs) → now ≡ place_from name i (drop i qs)
+place_more qs n i q key name was now e lt at keyed is have =
+    let here : drop i qs ≡ q ∷ drop (i + 1) qs = drop_more qs i q lt ∙ ap (λ (x : RequirementFields). x ∷ drop (i + 1) qs) (sym at) in
+    is ∙ ap (λ (k : List ℕ). cond (bytes_eq k name) (Some i) was) keyed
+    ∙ ap (cond (bytes_eq q.name name) (Some i)) (have ∙ ap (λ (m : ℕ). place_from name m (drop m qs)) e)
+    ∙ sym (ap (place_from name i) here)
+
+place_by_test : (b : Bool) (i m k : ℕ) (rest : Option ℕ) → k ≡ (if b then 0 else suc m) → (b ≡ false → rest ≡ Some (i + 1 + m)) → cond b (Some i) rest ≡ Some (i + k)
+place_by_test true i m k rest e h = ap Some (omega (arith, e))
+place_by_test false i m k rest e h = h refl ∙ ap Some (omega (arith, e))
+
+within_by_test : (b : Bool) (m n : ℕ) → b ≡ false → (if b then 0 else suc m) < suc n → m < n
+within_by_test true m n e l = cc
+within_by_test false m n e l = omega (arith, l)
+
+pub place_there : (n : List ℕ) (i : ℕ) (qs : List RequirementFields) → first_on n qs < length qs → place_from n i qs ≡ Some (i + first_on n qs)
+place_there n i [] l = absurd (omega (arith, l))
+place_there n i (q ∷ qs) l = place_by_test (bytes_eq q.name n) i (first_on n qs) (first_on n (q ∷ qs)) (place_from n (i + 1) qs) refl
+    (λ e. place_there n (i + 1) qs (within_by_test (bytes_eq q.name n) (first_on n qs) (length qs) e l))
+
+-- what is kept for a requirement's name is its number
+pub kept_number : {S : Type 0} (qs : List RequirementFields) (places : HashMap (List ℕ) ℕ S) (k : ℕ) (q : RequirementFields) (number : ℕ) → AreFirstPlaces qs places → k < length qs → q ≡ get_or qs k q → number ≡ or_zero (get bytes_eq places q.name) → number ≡ first_on q.name qs
+kept_number qs places k q number first l at is =
+    let near = first_upto qs k q l at in
+    let there : place_from q.name 0 qs ≡ Some (0 + first_on q.name qs) = place_there q.name 0 qs (omega (arith, near, l)) in
+    let none : 0 + first_on q.name qs ≡ first_on q.name qs = omega arith in
+    is ∙ ap or_zero (first q.name ∙ there) ∙ none
+
+pub number_more : (qs : List RequirementFields) (i : ℕ) (q : RequirementFields) (done now : List ℕ) (number : ℕ) → now ≡ done ++ number ∷ [] → done ≡ map (λ (x : RequirementFields). first_on x.name qs) (take i qs) → number ≡ first_on q.name qs
+    → i < length qs → q ≡ get_or qs i q → now ≡ map (λ (x : RequirementFields). first_on x.name qs) (take (i + 1) qs)
+number_more qs i q done now number e h is l at =
+    e ∙ ap (λ (z : List ℕ). z ++ number ∷ []) h
+    ∙ ap (λ (k : ℕ). map (λ (x : RequirementFields). first_on x.name qs) (take i qs) ++ k ∷ []) (is ∙ ap (λ (x : RequirementFields). first_on x.name qs) at)
+    ∙ sym (map_more (λ (x : RequirementFields). first_on x.name qs) qs i q l)
+
+pub number_at : (qs : List RequirementFields) (k : ℕ) (q : RequirementFields) → k < length qs → q ≡ get_or qs k q → get_or (numbers_of qs) k 0 ≡ first_on q.name qs
+number_at qs k q l at = get_or-map (λ (x : RequirementFields). first_on x.name qs) qs k q 0 l ∙ ap (λ (x : RequirementFields). first_on x.name qs) (sym at)
+
+pub some_at : (qs : List RequirementFields) (k : ℕ) → k < length qs → (q : RequirementFields) × (q ≡ get_or qs k q)
+some_at [] k l = absurd (omega (arith, l))
+some_at (z ∷ zs) zero l = (z, refl)
+some_at (z ∷ zs) (suc k) l = some_at zs k (omega (arith, l))
+
+pub numbers_count : (qs : List RequirementFields) (v : List ℕ) → v ≡ numbers_of qs → length v ≡ length qs
+numbers_count qs v e = ap length e ∙ length-map qs (λ (x : RequirementFields). first_on x.name qs)
+
+-- each number is a place
+pub numbers_below : (qs : List RequirementFields) (v : List ℕ) → v ≡ numbers_of qs → All (λ (n : ℕ). n < length v) v
+numbers_below qs v e = subst (λ (z : List ℕ). All (λ (n : ℕ). n < length z) z) (sym e) (All-from_get_or (λ (n : ℕ). n < length (numbers_of qs)) (numbers_of qs) 0 (λ k h.
+    let size : length (numbers_of qs) ≡ length qs = length-map qs (λ (x : RequirementFields). first_on x.name qs) in
+    let l : k < length qs = omega (arith, h, size) in
+    let q = some_at qs k l in
+    let at : get_or (numbers_of qs) k 0 ≡ first_on q.0.name qs = number_at qs k q.0 l q.1 in
+    let near = first_upto qs k q.0 l q.1 in
+    omega (arith, at, near, l, size)))
+
+-- ---- the next place of a number
+
+-- what a loop over numbers knows of the last ones
+pub record AreNextFrom (numbers seen next : List ℕ) (i : ℕ) : Type 0 where
+  pub count : length seen ≡ length numbers
+  pub size : length next ≡ length numbers
+  pub first : (m : ℕ) → m < length numbers → IsFirstFrom numbers i m (get_or seen m 0)
+  pub later : (k : ℕ) → i ≤ k → k < length numbers → IsFirstFrom numbers (k + 1) (get_or numbers k 0) (get_or next k 0)
+
+pub next_start : (numbers seen next : List ℕ) (n i : ℕ) → n ≡ length numbers → i ≡ length numbers → seen ≡ replicate n n → next ≡ replicate n n → AreNextFrom numbers seen next i
+next_start numbers seen next n i e f s h = record {
+  count = ap length s ∙ length-replicate n n ∙ e;
+  size = ap length h ∙ length-replicate n n ∙ e;
+  first = λ m l. subst (IsFirstFrom numbers i m) (sym (ap (λ (z : List ℕ). get_or z m 0) s ∙ get_or-replicate n m n 0 (omega (arith, l, e)))) (record {
+    after = omega (arith, e, f);
+    apart = λ j a b k. absurd (omega (arith, a, b, e, f));
+    same = λ l. absurd (omega (arith, l, e));
+  });
+  later = λ k a b. absurd (omega (arith, a, b, f));
+}
+
+pub next_more : (numbers seen next : List ℕ) (i n number : ℕ) → All (λ (m : ℕ). m < length numbers) numbers → n ≡ i + 1 → i < length numbers → number ≡ get_or numbers i number → AreNextFrom numbers seen next n
+    → AreNextFrom numbers (set seen number i) (set next i (get_or seen number 0)) i
+next_more numbers seen next i n number below e l at h =
+    let own : get_or numbers i 0 ≡ number = get_or_default numbers i 0 number l ∙ sym at in
+    let there : number < length numbers = subst (λ (m : ℕ). m < length numbers) (sym at) (below i number l) in
+    let kept : number < length seen = subst (λ (m : ℕ). number < m) (sym h.count) there in
+    let room : i < length next = subst (λ (m : ℕ). i < m) (sym h.size) l in
+    record {
+      count = length-set seen number i ∙ h.count;
+      size = length-set next i (get_or seen number 0) ∙ h.size;
+      first = λ m b. elim (cases_eq m number) [
+        | inl same ↦ subst (IsFirstFrom numbers i m) (sym (ap (λ (x : ℕ). get_or (set seen number i) x 0) same ∙ get_or-set_same seen number i 0 kept)) (record {
+          after = omega arith;
+          apart = λ j a c k. absurd (omega (arith, a, c));
+          same = λ c. own ∙ sym same;
+        })
+        | inr ne ↦ (let old = h.first m b in
+            let from = old.after in
+            subst (IsFirstFrom numbers i m) (sym (get_or-set_other seen number m i 0 ne)) (record {
+              after = omega (arith, from, e);
+              apart = λ j a c k. elim (cases_eq j i) [
+                | inl here ↦ ne (sym k ∙ ap (λ (x : ℕ). get_or numbers x 0) here ∙ own)
+                | inr later ↦ old.apart j (omega (arith, a, later, e)) c k
+              ];
+              same = old.same;
+            }))
+      ];
+      later = λ k a b. elim (cases_eq k i) [
+        | inl here ↦ subst (λ (x : ℕ). IsFirstFrom numbers (x + 1) (get_or numbers x 0) (get_or (set next i (get_or seen number 0)) x 0)) (sym here)
+            (subst (IsFirstFrom numbers (i + 1) (get_or numbers i 0)) (sym (get_or-set_same next i (get_or seen number 0) 0 room))
+            (subst (λ (m : ℕ). IsFirstFrom numbers (i + 1) m (get_or seen number 0)) (sym own)
+            (subst (λ (x : ℕ). IsFirstFrom numbers x number (get_or seen number 0)) e (h.first number there))))
+        | inr later ↦ subst (IsFirstFrom numbers (k + 1) (get_or numbers k 0)) (sym (get_or-set_other next i k (get_or seen number 0) 0 later)) (h.later k (omega (arith, a, later, e)) b)
+      ];
+    }
+
+pub next_whole : (numbers seen next : List ℕ) (i : ℕ) → AreNextFrom numbers seen next i → i ≡ 0 → AreNexts numbers next
+next_whole numbers seen next i h e k l = h.later k (omega (arith, e)) l

@@ -1,0 +1,140 @@
+//! Numbers of the names of a release's requirements.
+ghost use Rattle.std.specs.Prelude.{◌≡◌, ◌<◌, All, IfOk, length};
+ghost use Rattle.std.specs.HashMap.{get};
+ghost use Rattle.std.specs.Str.{bytes_eq};
+ghost use Rattle.ul_region.specs.Numbers;
+ghost use Rattle.ul_region.specs.Numbers.{AreFirstPlaces, AreNexts, numbers_of, or_zero};
+
+use std::alloc::{AllocError, Global};
+use std::collections::HashMap;
+use ul_base::Name;
+use ul_requirement::Requirement;
+
+// Up to so many requirements are compared with each other; the names of more are looked up.
+const FEW: usize = 16;
+
+// Whether a requirement is on a name.
+fn is_on(requirement: &Requirement, name: &Name) -> bool
+    ensures { result ≡ bytes_eq requirement.now.name name.now }
+{
+    let own: &Name = &requirement.name;
+    own.text() == name.text()
+}
+
+// The place of the first requirement on a name, or how many there are.
+fn first_on(requirements: &[Requirement], name: &Name) -> usize
+    ensures { result ≡ Numbers.first_on name.now requirements.now }
+{
+    for (place, requirement) in requirements.iter().enumerate() {
+        if is_on(requirement, name) {
+            return place;
+        }
+    }
+    requirements.len()
+}
+
+// The number of a requirement's name.
+fn number_of(requirements: &[Requirement], requirement: &Requirement) -> usize
+    ensures { result ≡ Numbers.first_on requirement.now.name requirements.now }
+{
+    let name: &Name = &requirement.name;
+    first_on(requirements, name)
+}
+
+// The numbers of names that are compared with each other.
+fn few_numbers(alloc: Global, requirements: &[Requirement]) -> Result<Vec<usize>, AllocError>
+    ensures { IfOk result (λ v. v.items ≡ numbers_of requirements.now) }
+{
+    requirements
+        .iter()
+        .map(|requirement| number_of(requirements, requirement))
+        .collect(alloc)
+}
+
+fn own_name(alloc: Global, requirement: &Requirement) -> Result<Name, AllocError>
+    ensures { IfOk result (λ n. n ≡ requirement.now.name) }
+{
+    let own: &Name = &requirement.name;
+    own.copy(alloc)
+}
+
+// Where the first requirement on each name stands.
+fn first_places(
+    alloc: Global,
+    requirements: &[Requirement],
+) -> Result<HashMap<Name, usize>, AllocError>
+    ensures { IfOk result (AreFirstPlaces requirements.now) }
+{
+    let mut places = HashMap::new(alloc);
+    for place in (0..requirements.len()).rev() {
+        let name = own_name(alloc, &requirements[place])?;
+        places.insert(name, place)?;
+    }
+    Ok(places)
+}
+
+// The place that is kept for a requirement's name.
+fn place_in(places: &HashMap<Name, usize>, requirement: &Requirement) -> usize
+    ensures { result ≡ or_zero (get bytes_eq places.now requirement.now.name) }
+{
+    let name: &Name = &requirement.name;
+    match places.get(name) {
+        Some(place) => *place,
+        None => 0,
+    }
+}
+
+// The numbers of names that are looked up.
+fn many_numbers(alloc: Global, requirements: &[Requirement]) -> Result<Vec<usize>, AllocError>
+    ensures { IfOk result (λ v. v.items ≡ numbers_of requirements.now) }
+{
+    let places = first_places(alloc, requirements)?;
+    let mut numbers = Vec::with_capacity(alloc, requirements.len())?;
+    for requirement in requirements {
+        numbers.push(place_in(&places, requirement))?;
+    }
+    Ok(numbers)
+}
+
+/// Of each requirement the number of its name: the place of the first requirement on it.
+///
+/// # Errors
+///
+/// Only for want of memory.
+#[tactic(auto, using(crate::proofs::NameNumbers::numbers_below, crate::proofs::NameNumbers::numbers_count))]
+pub(crate) fn name_numbers(
+    alloc: Global,
+    requirements: &[Requirement],
+) -> Result<Vec<usize>, AllocError>
+    ensures numbers { IfOk result (λ v. v.items ≡ numbers_of requirements.now) }
+    ensures count { IfOk result (λ v. length v.items ≡ length requirements.now) }
+    ensures below { IfOk result (λ v. All (λ n. n < length v.items) v.items) }
+{
+    if requirements.len() <= FEW {
+        let numbers = few_numbers(alloc, requirements)?;
+        return Ok(numbers);
+    }
+    let numbers = many_numbers(alloc, requirements)?;
+    Ok(numbers)
+}
+
+/// Of the number at each place the next place that has it, or how many numbers there are.
+///
+/// # Errors
+///
+/// Only for want of memory.
+pub(crate) fn next_places(alloc: Global, numbers: &[usize]) -> Result<Vec<usize>, AllocError>
+    requires { All (λ n. n < length numbers.now) numbers.now }
+    ensures next { IfOk result (λ v. AreNexts numbers.now v.items) }
+    ensures count { IfOk result (λ v. length v.items ≡ length numbers.now) }
+{
+    let count = numbers.len();
+    let mut seen = vec![in alloc; count; count]?;
+    let mut next = vec![in alloc; count; count]?;
+    for place in (0..count).rev() {
+        let number = numbers[place];
+        next[place] = seen[number];
+        seen[number] = place;
+    }
+    Ok(next)
+}
