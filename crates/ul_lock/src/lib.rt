@@ -1,9 +1,12 @@
 //! Reading a lock's text, exactly, in either version of the format.
 #![tactic(auto)]
 
+mod blocks;
+mod heads;
 pub mod laws;
 mod locks;
 mod orders;
+mod owned;
 mod states;
 mod targets;
 mod texts;

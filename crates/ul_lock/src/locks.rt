@@ -66,7 +66,10 @@ fn led(sheet: Sheet) -> Result<Lock, LockFault>
 {
     match place_without_target(&sheet) {
         None => Ok(lock_from(sheet)),
-        Some(k) => Err(LockFault::Target(k as u64)),
+        Some(k) => {
+            drop(sheet);
+            Err(LockFault::Target(k as u64))
+        }
     }
 }
 
@@ -77,6 +80,7 @@ fn judged(sheet: Sheet) -> Result<Lock, LockFault>
     if has_root(&sheet) {
         led(sheet)
     } else {
+        drop(sheet);
         Err(LockFault::Root)
     }
 }

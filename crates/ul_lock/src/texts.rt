@@ -6,6 +6,7 @@ ghost use Rattle.ul_lock.specs.Answers.{Gives};
 ghost use Rattle.ul_lock.specs.Automaton.{lock_reader, step};
 ghost use Rattle.ul_lock.specs.declared.texts.ShapeFault.TheVariants.{NoMemory};
 
+use crate::owned::{beside, refused};
 use crate::states::{State, ended, next};
 use std::alloc::{AllocError, Global};
 use ul_lines::first_line;
@@ -33,7 +34,7 @@ fn follow(alloc: Global, state: State, found: Option<Line>) -> Result<Option<Sta
     ensures { IfOk result (λ after. after ≡ option_and_then (step state) found) }
 {
     match found {
-        None => Ok(None),
+        None => Ok(refused(state)),
         Some(line) => next(alloc, state, line),
     }
 }
@@ -41,7 +42,7 @@ fn follow(alloc: Global, state: State, found: Option<Line>) -> Result<Option<Sta
 fn behind(alloc: Global, state: State, text: &[u8]) -> Result<Option<State>, AllocError>
     ensures { IfOk result (λ found. found ≡ step_text lock_reader state text.now) }
 {
-    let found = line(alloc, text)?;
+    let (state, found) = beside(state, line(alloc, text))?;
     follow(alloc, state, found)
 }
 
