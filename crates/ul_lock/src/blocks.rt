@@ -52,6 +52,7 @@ fn opened_list(alloc: Global, top: Top, key: Name) -> Option<State>
     }
 }
 
+/// The state behind a line that follows the blank one before a package.
 pub fn after_blank(head: Head, blocks: Packages, line: Line) -> Option<State>
     ensures { result ≡ step (Gapped head blocks) line }
 {
@@ -72,6 +73,7 @@ fn named(head: Head, blocks: Packages, name: Name) -> Option<State>
     }
 }
 
+/// The state behind a line that follows a package's first.
 pub fn after_entry(head: Head, blocks: Packages, line: Line) -> Option<State>
     ensures { result ≡ step (Opened head blocks) line }
 {
@@ -92,6 +94,7 @@ fn versed(head: Head, blocks: Packages, name: Name, version: Version) -> Option<
     }
 }
 
+/// The state behind a line that follows a package's name.
 pub fn after_name(head: Head, blocks: Packages, name: Name, line: Line) -> Option<State>
     ensures { result ≡ step (Named head blocks name) line }
 {
@@ -101,6 +104,7 @@ pub fn after_name(head: Head, blocks: Packages, name: Name, line: Line) -> Optio
     }
 }
 
+/// The state behind a line that follows a package's version.
 pub fn after_version(alloc: Global, top: Top, line: Line) -> Option<State>
     ensures { result ≡ step (Versed top.head top.blocks top.name top.version) line }
 {
@@ -135,6 +139,7 @@ fn closed_files(top: Top, files: Files) -> Option<State>
     }
 }
 
+/// The state behind a line among a package's files.
 pub fn after_file(top: Top, files: Files, line: Line) -> Result<Option<State>, AllocError>
     ensures { IfOk result (λ found. found
         ≡ step (Filing top.head top.blocks top.name top.version files) line) }
@@ -146,6 +151,7 @@ pub fn after_file(top: Top, files: Files, line: Line) -> Result<Option<State>, A
     }
 }
 
+/// The state behind a line that follows a package's files.
 pub fn after_files(alloc: Global, top: Top, files: Files, line: Line) -> Option<State>
     ensures { result ≡ step (Fresh top.head top.blocks top.name top.version files) line }
 {
@@ -181,6 +187,7 @@ fn closed_edges(top: Top, files: Files, edges: Edges) -> Option<State>
     }
 }
 
+/// The state behind a line among a package's edges.
 pub fn after_edge(
     top: Top,
     files: Files,
@@ -197,6 +204,7 @@ pub fn after_edge(
     }
 }
 
+/// The state behind a line that follows a package's edges.
 pub fn after_edges(top: Top, files: Files, edges: Edges, line: Line) -> Option<State>
     ensures { result ≡ step (Whole top.head top.blocks top.name top.version files edges) line }
 {
@@ -221,6 +229,7 @@ fn next_entry(
     Ok(Some(State::Opened(head, packages)))
 }
 
+/// The state behind a line that follows the blank one behind a package.
 pub fn after_pause(
     alloc: Global,
     top: Top,
@@ -305,6 +314,7 @@ fn closed_table(
     }
 }
 
+/// The state behind a line among a package's extras.
 pub fn after_extra(
     alloc: Global,
     top: Top,
@@ -369,6 +379,7 @@ fn closed_listed(
     }
 }
 
+/// The state behind a line among an extra's edges.
 pub fn after_listed(
     top: Top,
     files: Files,

@@ -44,6 +44,7 @@ fn opened_forks(
     }
 }
 
+/// The state behind the first line.
 pub fn after_nothing(line: Line) -> Option<State>
     ensures { result ≡ step Start line }
 {
@@ -53,6 +54,7 @@ pub fn after_nothing(line: Line) -> Option<State>
     }
 }
 
+/// The state behind a line that follows the first.
 pub fn after_first(edition: Edition, line: Line) -> Option<State>
     ensures { result ≡ step (Begun edition) line }
 {
@@ -73,6 +75,7 @@ fn bounded(edition: Edition, root: Name, marker: Region) -> Option<State>
     }
 }
 
+/// The state behind a line that follows the root.
 pub fn after_root(alloc: Global, edition: Edition, root: Name, line: Line) -> Option<State>
     ensures { result ≡ step (Rooted edition root) line }
 {
@@ -84,6 +87,7 @@ pub fn after_root(alloc: Global, edition: Edition, root: Name, line: Line) -> Op
     }
 }
 
+/// The state behind a line that follows the supported region.
 pub fn after_supported(
     alloc: Global,
     edition: Edition,
@@ -132,6 +136,7 @@ fn closed_forks(edition: Edition, root: Name, supported: Region, forks: Regions)
     }
 }
 
+/// The state behind a line among the leaves.
 pub fn after_fork(
     edition: Edition,
     root: Name,
@@ -148,6 +153,7 @@ pub fn after_fork(
     }
 }
 
+/// The state behind a line that follows the leaves.
 pub fn after_forks(alloc: Global, head: Head, line: Line) -> Option<State>
     ensures { result ≡ step (Headed head) line }
 {
