@@ -9,13 +9,16 @@ use ul_base::{Files, ReadRefused};
 use ul_problem::Problem;
 use ul_project::project;
 
-/// A folder of so many packages `p0`, `p1` and so on, each of so many releases of so many requirements.
+/// A folder of so many packages `p0`, `p1` and so on, each of so many releases. Each release of the first `askers` packages has so
+/// many requirements, with as many different specifiers.
 #[derive(Drop)]
 struct Numbered {
     alloc: Global,
     packages: usize,
     releases: usize,
+    askers: usize,
     requirements: usize,
+    specifiers: usize,
 }
 
 // Puts the requirement of a number of a release of a package.
@@ -47,7 +50,7 @@ impl Numbered {
             "{comma}{{\"version\": \"1.{release}\", \"requires_dist\": ["
         )?;
         json.push_str(head.as_str())?;
-        if self.packages > 0 {
+        if self.packages > 0 && self.specifiers > 0 && package < self.askers {
             for number in 0..self.requirements {
                 let to = package.wrapping_add(number.wrapping_mul(7)).wrapping_add(1)
                     % self.packages;
@@ -55,7 +58,7 @@ impl Numbered {
                     self.alloc,
                     json,
                     to,
-                    release.wrapping_add(number) % 50,
+                    release.wrapping_add(number) % self.specifiers,
                     number,
                 )?;
             }
@@ -123,27 +126,101 @@ fn counts_in<R: Wait>(
     Ok((problem.nodes().len(), need_count(&problem)))
 }
 
-// So many packages, releases of each and requirements of each release, and how many nodes and needs the problem of a
-// region then has.
-const SIZES: [(usize, usize, usize, &str, usize, usize); 4] = [
-    (30, 20, 15, "sys_platform == 'win32'", 31, 6_001),
-    (30, 20, 15, "python_version >= '0'", 31, 9_001),
-    (2, 2_000, 1, "python_version >= '0'", 3, 4_001),
-    (600, 4, 3, "python_version >= '0'", 601, 7_201),
+// A project, a region, and how many nodes and needs the problem of the region has.
+struct Size {
+    packages: usize,
+    releases: usize,
+    askers: usize,
+    requirements: usize,
+    specifiers: usize,
+    marker: &'static str,
+    nodes: usize,
+    needs: usize,
+}
+
+// The last two would take some seconds if each specifier were compared with each version, or each requirement with each other one.
+const SIZES: [Size; 6] = [
+    Size {
+        packages: 30,
+        releases: 20,
+        askers: 30,
+        requirements: 15,
+        specifiers: 50,
+        marker: "sys_platform == 'win32'",
+        nodes: 31,
+        needs: 6_001,
+    },
+    Size {
+        packages: 30,
+        releases: 20,
+        askers: 30,
+        requirements: 15,
+        specifiers: 50,
+        marker: "python_version >= '0'",
+        nodes: 31,
+        needs: 9_001,
+    },
+    Size {
+        packages: 2,
+        releases: 2_000,
+        askers: 2,
+        requirements: 1,
+        specifiers: 50,
+        marker: "python_version >= '0'",
+        nodes: 3,
+        needs: 4_001,
+    },
+    Size {
+        packages: 600,
+        releases: 4,
+        askers: 600,
+        requirements: 3,
+        specifiers: 50,
+        marker: "python_version >= '0'",
+        nodes: 601,
+        needs: 7_201,
+    },
+    Size {
+        packages: 2,
+        releases: 2_000,
+        askers: 2,
+        requirements: 1,
+        specifiers: 2_000,
+        marker: "python_version >= '0'",
+        nodes: 3,
+        needs: 4_001,
+    },
+    Size {
+        packages: 1_500,
+        releases: 1,
+        askers: 1,
+        requirements: 3_000,
+        specifiers: 1,
+        marker: "python_version >= '0'",
+        nodes: 1_501,
+        needs: 3_001,
+    },
 ];
 
 #[test]
 fn projects_at_size(rt: HostRuntime) -> Result<(), Fail> {
     let alloc = rt.alloc();
-    for (packages, releases, requirements, marker, nodes, needs) in SIZES {
+    for size in &SIZES {
         let mut files = Numbered {
             alloc,
-            packages,
-            releases,
-            requirements,
+            packages: size.packages,
+            releases: size.releases,
+            askers: size.askers,
+            requirements: size.requirements,
+            specifiers: size.specifiers,
         };
-        let counts = counts_in(&rt, alloc, &mut files, marker)?;
-        assert!(rt; counts == (nodes, needs), "{packages} {releases}");
+        let counts = counts_in(&rt, alloc, &mut files, size.marker)?;
+        assert!(rt;
+            counts == (size.nodes, size.needs),
+            "{} {}",
+            size.packages,
+            size.releases
+        );
     }
     Ok(())
 }

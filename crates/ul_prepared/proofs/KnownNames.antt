@@ -13,7 +13,7 @@ use Rattle.ul_problem.specs.Problems.{Increases, IncreasesFrom}
 use Rattle.ul_index.specs.Catalogs.{Packages}
 use Rattle.ul_index.specs.Eligible.{eligible}
 use Rattle.ul_prepared.specs.Gathered.{AreKnown, ComesAfter, HasName, IsKnown, releases_in}
-use Rattle.ul_prepared.specs.Permitted.{IsFew}
+use Rattle.ul_prepared.specs.Permitted.{IsRising}
 use Rattle.ul_prepared.specs.Prepared.{IsName, PlannedBefore}
 use Rattle.ul_prepared.specs.Releases.{AreReleasesOf}
 use Rattle.ul_prepared.specs.declared.gathering.Releases.{Releases}
@@ -61,12 +61,12 @@ module _ (c : Packages) (wish : WishFields) where
   names_known (f ∷ fs) [] h = absurd h
   names_known (f ∷ fs) (r ∷ rs) h = All-cons (IsName c wish) f fs h.0.name (names_known fs rs h.1)
 
-  -- what is known of names is right, and each has few versions
+  -- what is known of names is right, and their versions rise
   pub known_names : (fs : List NameFacts) (rs : List Releases) → AreKnown c wish fs rs → All (IsName c wish) fs
   known_names = names_known
 
-  pub known_few : (fs : List NameFacts) (rs : List Releases) → AreKnown c wish fs rs → All IsFew fs
-  known_few fs rs h = All-weaker (IsName c wish) IsFew (λ f k. k.few) fs (names_known fs rs h)
+  pub known_rising : (fs : List NameFacts) (rs : List Releases) → AreKnown c wish fs rs → All IsRising fs
+  known_rising fs rs h = All-weaker (IsName c wish) IsRising (λ f k. record { few = k.few; rising = k.increasing }) fs (names_known fs rs h)
 
 increases_from : {A : Type 0} (R : A → A → Type 0) (x : A) (xs : List A) (y : A) (m : ℕ) → m ≡ length xs → IncreasesFrom R x xs → ((p : A) → slice_get (x ∷ xs) m ≡ Some p → R p y) → IncreasesFrom R x (xs ++ y ∷ [])
 increases_from R x [] y m e h last = (last x (ap (slice_get (x ∷ [])) e), tt)

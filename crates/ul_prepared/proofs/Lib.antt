@@ -2,7 +2,8 @@ mod Loops
 mod TriedPlaces
 mod NameReleases
 mod NameOrders
-mod Sets
+mod Sides
+mod ClauseSets
 mod Aiming
 pub mod ForCallers
 mod Still

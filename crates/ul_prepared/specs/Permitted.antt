@@ -1,5 +1,6 @@
 -- Which versions of a name specifiers permit.
 use Rattle.std.specs.Prelude.{◌≡◌, ◌<◌, ◌^◌, ℕ, List, Bool, Some, length, map, slice_get}
+use Rattle.ul_problem.specs.Problems.{Increases, VersionBefore}
 use Rattle.ul_specifier.specs.Clauses.{ClauseFields}
 use Rattle.ul_specifier.specs.Meaning.{meets_list}
 use Rattle.ul_prepared.specs.declared.prepared.NameFacts.{NameFacts}
@@ -15,6 +16,7 @@ pub record IsPermitted (names : List NameFacts) (name : ℕ) (specifiers : List 
 abbrev pub IsSetOf : List NameFacts → SetOf → Type 0
 IsSetOf names s = IsPermitted names s.name s.specifiers.now s.set
 
--- a name has fewer versions than places can tell
-abbrev pub IsFew : NameFacts → Type 0
-IsFew f = length f.versions < 2 ^ 32
+-- a name's versions rise, and are fewer than places can tell
+pub record IsRising (f : NameFacts) : Type 0 where
+  pub few : length f.versions < 2 ^ 32
+  pub rising : Increases VersionBefore f.versions

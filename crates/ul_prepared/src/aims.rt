@@ -1,7 +1,7 @@
 //! Needs of requirements by places of nodes.
 ghost use Rattle.std.specs.Prelude.{◌≡◌, All, IfOk, IsTrue, map};
 ghost use Rattle.ul_prepared.specs.Aims.{AreReleaseAims, AreRequirementAims, HasNode, needs_on};
-ghost use Rattle.ul_prepared.specs.Permitted.{IsFew, IsSetOf};
+ghost use Rattle.ul_prepared.specs.Permitted.{IsRising, IsSetOf};
 ghost use Rattle.ul_prepared.specs.Prepared.{AreAims, IsAim};
 ghost use Rattle.ul_region.specs.Best.{needs_of};
 
@@ -66,7 +66,7 @@ fn aim<'a>(
     specifiers: &'a Specifiers,
     target: &Node,
 ) -> Result<Need, AllocError>
-    requires few { All IsFew names.now }
+    requires rising { All IsRising names.now }
     requires sets { All (IsSetOf names.now) sets.old.list.items }
     ensures sets { All (IsSetOf names.now) sets.new.list.items }
     ensures aim { IfOk result (λ k. IsAim names.now nodes.now k
@@ -89,7 +89,7 @@ fn aims_of<'a>(
     nodes: &[Planned<'_>],
     requirement: &'a Requirement,
 ) -> Result<Vec<Need>, AllocError>
-    requires few { All IsFew names.now }
+    requires rising { All IsRising names.now }
     requires sets { All (IsSetOf names.now) sets.old.list.items }
     ensures sets { All (IsSetOf names.now) sets.new.list.items }
     ensures aims { IfOk result (λ v. AreAims names.now nodes.now v.items (needs_of requirement.now)) }
@@ -118,7 +118,7 @@ fn aims_at<'a>(
     specifiers: &'a Specifiers,
     targets: &[Node],
 ) -> Result<Vec<Need>, AllocError>
-    requires few { All IsFew names.now }
+    requires rising { All IsRising names.now }
     requires sets { All (IsSetOf names.now) sets.old.list.items }
     ensures sets { All (IsSetOf names.now) sets.new.list.items }
     ensures aims { IfOk result (λ v. AreAims names.now nodes.now v.items (needs_on specifiers.now targets.now)) }
@@ -140,7 +140,7 @@ fn requirement_aims<'a>(
     nodes: &[Planned<'_>],
     requirements: &'a [Requirement],
 ) -> Result<Vec<NeedRow>, AllocError>
-    requires few { All IsFew names.now }
+    requires rising { All IsRising names.now }
     requires sets { All (IsSetOf names.now) sets.old.list.items }
     ensures sets { All (IsSetOf names.now) sets.new.list.items }
     ensures aims { IfOk result (λ v. AreRequirementAims names.now nodes.now v.items requirements.now) }
@@ -173,7 +173,7 @@ pub(crate) fn release_aims<'a>(
     nodes: &[Planned<'_>],
     releases: &[&'a Release],
 ) -> Result<Vec<NeedRows>, AllocError>
-    requires few { All IsFew names.now }
+    requires rising { All IsRising names.now }
     requires sets { All (IsSetOf names.now) sets.old.list.items }
     ensures sets { All (IsSetOf names.now) sets.new.list.items }
     ensures aims { IfOk result (λ v. AreReleaseAims names.now nodes.now v.items (map (λ r. r.now) releases.now)) }

@@ -2,6 +2,7 @@
 #![tactic(auto)]
 
 mod aims;
+mod clauses;
 mod gathering;
 mod names;
 mod permitted;

@@ -1,9 +1,9 @@
 //! Which of a name's versions specifiers permit. Equal specifiers on one name share one set.
-ghost use Rattle.std.specs.Prelude.{◌≡◌, ◌<◌, ◌^◌, [], All, IfOk, IsTrue, MatchOption, length, map};
+ghost use Rattle.std.specs.Prelude.{◌≡◌, ◌<◌, [], All, IfOk, IsTrue, MatchOption, length, map};
 ghost use Rattle.ul_specifier.specs.Meaning.{meets_list};
-ghost use Rattle.ul_prepared.specs.Permitted.{IsFew, IsPermitted, IsSetOf};
+ghost use Rattle.ul_prepared.specs.Permitted.{IsPermitted, IsRising, IsSetOf};
 
-use crate::names::{flagged, rising_places};
+use crate::clauses::permitted;
 use crate::prepared::NameFacts;
 use std::alloc::{AllocError, Global};
 use std::collections::HashMap;
@@ -26,45 +26,16 @@ pub(crate) struct Sets<'a> {
     places: HashMap<u64, usize>,
 }
 
-// Of each version whether it meets specifiers.
-fn meeting(
-    alloc: Global,
-    specifiers: &Specifiers,
-    versions: &[Version],
-) -> Result<Vec<bool>, AllocError>
-    ensures { IfOk result (λ v. v.items ≡ map (meets_list specifiers.now) versions.now) }
-{
-    let mut flags = Vec::with_capacity(alloc, versions.len())?;
-    for version in versions {
-        flags.push(specifiers.meets(version))?;
-    }
-    Ok(flags)
-}
-
-// The set with these flags.
-#[tactic(auto, using(crate::proofs::Sets::members_below, crate::proofs::Sets::set_is))]
-fn set_of(alloc: Global, flags: &[bool]) -> Result<Ordinals, AllocError>
-    requires { length flags.now < 2 ^ 32 }
-    ensures { IfOk result (λ s. s ≡ flags.now) }
-{
-    let size = flags.len() as u32;
-    let places = rising_places(alloc, size)?;
-    let members = flagged(alloc, flags, places.as_slice())?;
-    let set = Ordinals::of_list(alloc, size, &members)?;
-    Ok(set)
-}
-
 // The versions of a name that specifiers permit.
 fn permitted_of(
     alloc: Global,
     facts: &NameFacts,
     specifiers: &Specifiers,
 ) -> Result<Ordinals, AllocError>
-    requires { IsFew facts.now }
+    requires { IsRising facts.now }
     ensures { IfOk result (λ s. s ≡ map (meets_list specifiers.now) facts.now.versions) }
 {
-    let flags = meeting(alloc, specifiers, facts.versions.as_slice())?;
-    let set = set_of(alloc, flags.as_slice())?;
+    let set = permitted(alloc, specifiers, facts.versions.as_slice())?;
     Ok(set)
 }
 
@@ -187,7 +158,7 @@ impl<'a> Sets<'a> {
         specifiers: &'a Specifiers,
     ) -> Result<Ordinals, AllocError>
         requires name { name < length names.now }
-        requires few { All IsFew names.now }
+        requires rising { All IsRising names.now }
         requires sets { All (IsSetOf names.now) self.old.list.items }
         ensures sets { All (IsSetOf names.now) self.new.list.items }
         ensures set { IfOk result (IsPermitted names.now name specifiers.now) }

@@ -5,7 +5,7 @@ ghost use Rattle.ul_region.specs.Rows.{IsRow};
 ghost use Rattle.ul_region.specs.Truths.{IsGrown};
 ghost use Rattle.ul_prepared.specs.Gathered.{AreSameNodes, HasBaseFor, HasOwnRows, HasRows, IsNamed};
 ghost use Rattle.ul_prepared.specs.Gathered.{node_in, release_in};
-ghost use Rattle.ul_prepared.specs.Permitted.{IsFew, IsSetOf};
+ghost use Rattle.ul_prepared.specs.Permitted.{IsRising, IsSetOf};
 ghost use Rattle.ul_prepared.specs.Prepared.{AreNodesAt};
 
 use crate::aims::{place_of, release_aims};
@@ -82,7 +82,7 @@ fn planned_at<'a, R: Wait>(
     releases: &[&'a Release],
 ) -> Result<Planned<'a>, AllocError>
     requires truths { All (IsDiagram algebra.old) truths.old.marks.items }
-    requires few { All IsFew names.now }
+    requires rising { All IsRising names.now }
     requires sets { All (IsSetOf names.now) sets.old.list.items }
     requires named { IsNamed names.now planned.now }
     ensures grown { IsGrown algebra.old truths.old.marks.items algebra.new truths.new.marks.items }
@@ -131,7 +131,7 @@ fn own_rows<'a, R: Wait>(
     planned: &Planned<'_>,
 ) -> Result<Planned<'a>, AllocError>
     requires truths { All (IsDiagram algebra.old) truths.old.marks.items }
-    requires few { All IsFew names.now }
+    requires rising { All IsRising names.now }
     requires sets { All (IsSetOf names.now) sets.old.list.items }
     requires named { IsNamed names.now planned.now }
     ensures grown { IsGrown algebra.old truths.old.marks.items algebra.new truths.new.marks.items }
@@ -163,7 +163,7 @@ pub(crate) fn planned_nodes<'a, R: Wait>(
     bare: &[Planned<'_>],
 ) -> Result<Vec<Planned<'a>>, AllocError>
     requires truths { All (IsDiagram algebra.old) truths.old.marks.items }
-    requires few { All IsFew names.now }
+    requires rising { All IsRising names.now }
     requires named { All (IsNamed names.now) bare.now }
     ensures grown { IsGrown algebra.old truths.old.marks.items algebra.new truths.new.marks.items }
     ensures same { IfOk result (λ v. AreSameNodes v.items bare.now) }

@@ -1,16 +1,16 @@
 use Rattle.std.specs.Prelude.{All}
 use Rattle.std.proofs.Common.{◌≡◌, List, sym, subst}
 use Rattle.ul_prepared.specs.Gathered.{IsNamed}
-use Rattle.ul_prepared.specs.Permitted.{IsFew}
+use Rattle.ul_prepared.specs.Permitted.{IsRising}
 use Rattle.ul_prepared.specs.declared.prepared.NameFacts.{NameFacts}
-use Rattle.ul_prepared.proofs.KnownNames.{known_few}
+use Rattle.ul_prepared.proofs.KnownNames.{known_rising}
 use Rattle.ul_prepared.proofs.NodeRows.{prepared_is}
 use Rattle.ul_prepared.proofs.prepared.Prepared.of.Goals as goal
 
-pub planned_nodes-requires-clause-few : goal.planned_nodes-requires-clause-few
-planned_nodes-requires-clause-few g c =
+pub planned_nodes-requires-clause-rising : goal.planned_nodes-requires-clause-rising
+planned_nodes-requires-clause-rising g c =
     let e : c.as_slice-3.result.now ≡ c.in_ok-names.field-0.names.items = cc (c.as_slice-3.ensures.value, c.in_ok-names.names-is) in
-    subst (All IsFew) (sym e) (known_few c.args.catalog.now c.args.wish.now c.in_ok-names.field-0.names.items c.in_ok-names.field-0.releases.items c.in_ok-names.ensures)
+    subst (All IsRising) (sym e) (known_rising c.args.catalog.now c.args.wish.now c.in_ok-names.field-0.names.items c.in_ok-names.field-0.releases.items c.in_ok-names.ensures)
 
 pub planned_nodes-requires-clause-named : goal.planned_nodes-requires-clause-named
 planned_nodes-requires-clause-named g c =
