@@ -1,7 +1,5 @@
 -- Variables, kinds and atoms, told by their numbers.
-use Rattle.std.proofs.Common.{Equal, ◌≡◌, ◌∙◌, ℕ, suc, zero, Bool, true, false, true≢false, List, [], ◌∷◌, refl, sym, ap}
-use Rattle.std.specs.Ordering.{is_eq}
-use Rattle.std.specs.declared.cmp.Ordering.{Ordering}
+use Rattle.std.proofs.Common.{Equal, ◌≡◌, ◌∙◌, ℕ, suc, zero, List, [], ◌∷◌, refl, sym, ap}
 use Rattle.std.proofs.lemmas.Map.Lookups.{exact_bytes}
 use Rattle.ul_comparison.specs.Atoms.{AtomFields, atom_cmp, atom_key, kind_number, variable_number}
 use Rattle.ul_comparison.specs.declared.variable.AtomKind.{AtomKind}

@@ -1,9 +1,9 @@
 -- Atoms in increasing order: where one stands among them, or would stand.
-use Rattle.std.proofs.Common.{Less, Equal, Greater, arith, ◌+◌, ◌<◌, ◌≤◌, ◌≡◌, ◌∙◌, ◌||◌, ℕ, zero, suc, Bool, true, false, true≢false, List, [], ◌∷◌, ◌++◌, get_or, take, drop, length, refl, sym, ap, Some, None, Option}
+use Rattle.std.proofs.Common.{Less, Equal, Greater, arith, ◌<◌, ◌≤◌, ◌≡◌, ◌∙◌, ℕ, zero, suc, true, false, true≢false, List, [], ◌∷◌, get_or, length, refl, sym, ap, Some, Option}
 use Rattle.std.specs.Cmp.{IsTotalOrder}
-use Rattle.std.specs.List.{AllWithin, insert}
+use Rattle.std.specs.List.{insert}
 use Rattle.std.specs.List.Sorted.{IsPartitionedBy}
-use Rattle.std.specs.Ordering.{is_eq, is_lt, nat_cmp, ordering_reverse}
+use Rattle.std.specs.Ordering.{is_eq, is_lt, ordering_reverse}
 use Rattle.std.specs.declared.cmp.Ordering.{Ordering}
 use Rattle.std.proofs.lemmas.Cmp.{nat_list_cmp_total, on_total}
 use Rattle.ul_comparison.specs.Atoms.{AtomFields, atom_cmp, atom_key, has_atom}

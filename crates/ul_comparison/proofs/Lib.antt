@@ -1,4 +1,5 @@
 pub mod JsonReading
+pub mod Cloned
 pub mod AtomNumbers
 pub mod AtomOrder
 pub mod Placed

@@ -1,5 +1,5 @@
 -- What becomes of atoms in increasing order when one is put among them.
-use Rattle.std.proofs.Common.{Less, Equal, Greater, ◌≡◌, ◌∙◌, ◌⊎◌, inl, inr, ◌++◌, ◌||◌, ◌&&◌, Bool, true, false, true≢false, List, [], ◌∷◌, refl, sym, ap, Some, None, Option}
+use Rattle.std.proofs.Common.{Less, Equal, Greater, ◌≡◌, ◌∙◌, ◌⊎◌, inl, inr, ◌||◌, ◌&&◌, Bool, true, false, List, [], ◌∷◌, refl, ap, Some, None, Option}
 use Rattle.std.specs.Prelude.{All, if◌then◌else◌}
 use Rattle.std.specs.Ordering.{is_eq, ordering_reverse}
 use Rattle.std.specs.declared.cmp.Ordering.{Ordering}

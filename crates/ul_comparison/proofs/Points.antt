@@ -1,5 +1,5 @@
 -- What stands before and after the first point of a text.
-use Rattle.std.proofs.Common.{◌≡◌, ◌≤◌, ◌<◌, ◌+◌, ℕ, List, [], drop, length, Option, Some, None, arith, Bor}
+use Rattle.std.proofs.Common.{◌≡◌, ◌<◌, ◌+◌, ℕ, List, [], length, Option, Some, None, arith, Bor}
 use Rattle.std.proofs.lemmas.List.{drop_all}
 use Rattle.std.specs.List.{after_first, before_first, position_or_len}
 use Rattle.std.specs.Option.{MatchOption, IfSome}

@@ -1,6 +1,6 @@
 -- Comparisons as they are printed: a variable, a sign and a literal in quotes, with one space on each side of the sign
 -- (PEP 508, "Environment Markers").
-use Rattle.std.specs.Prelude.{◌≡◌, ◌<◌, ◌^◌, ℕ, List, [], ◌∷◌, ◌++◌, map, Bool, true, false, codes, if◌then◌else◌}
+use Rattle.std.specs.Prelude.{◌≡◌, ◌<◌, ◌^◌, ℕ, List, [], ◌∷◌, ◌++◌, Bool, true, false, codes, if◌then◌else◌}
 use Rattle.std.specs.Fmt.{decimal}
 use Rattle.ul_version.specs.Fields.{plain}
 use Rattle.ul_specifier.specs.Clauses.{ClauseFields}

@@ -1,5 +1,5 @@
 //! The truth of opaque comparisons on a machine, and the machine's world.
-ghost use Rattle.std.specs.Prelude.{◌≡◌, [], All, IfOk, OnOk, None, map, slice_index_or, string_bytes};
+ghost use Rattle.std.specs.Prelude.{◌≡◌, [], All, IfOk, OnOk, None, string_bytes};
 ghost use Rattle.std.specs.Fmt.{decimal};
 ghost use Rattle.ul_version.specs.Reading.{version_of};
 ghost use Rattle.ul_comparison.specs.Atoms;
@@ -7,6 +7,7 @@ ghost use Rattle.ul_comparison.specs.Atoms.{IsAtom};
 ghost use Rattle.ul_comparison.specs.Machines as spec;
 ghost use Rattle.ul_comparison.specs.Worlds.{Rise};
 
+use crate::world::text_of;
 use crate::{Atom, AtomKind, Machine, Variable, World, put_atom};
 use std::alloc::{AllocError, Global};
 use std::cmp::Ordering;
@@ -18,11 +19,12 @@ use ul_version::{Version, VersionFault};
 /// the two. On `implementation_version` these others compare versions (PEP 440) where both texts spell one. The
 /// texts of `python_version` and `python_full_version` are the interpreter's numbers joined by points. The
 /// comparisons may stand in any order and repeat.
+#[tactic(auto, using(crate::proofs::Cloned::texts_cloned))]
 pub fn world_of(alloc: Global, machine: &Machine, atoms: &Vec<Atom>) -> Result<World, AllocError>
     ensures { IfOk result (λ w. w ≡ spec.world_of machine.now atoms.now.items) }
 {
+    let texts = machine.texts.clone()?;
     let truths = truths_on(alloc, machine, atoms.as_slice())?;
-    let texts = copied(alloc, machine.texts.as_slice())?;
     Ok(World {
         python: machine.python,
         texts,
@@ -90,18 +92,8 @@ fn holds_on(alloc: Global, machine: &Machine, atom: &Atom) -> Result<bool, Alloc
         | Variable::ImplementationName => compares(
             alloc,
             atom,
-            stored_text(machine, atom.variable),
+            text_of(&machine.texts, atom.variable),
         ),
-    }
-}
-
-// The text of a text variable.
-fn stored_text(machine: &Machine, variable: Variable) -> &str
-    ensures { result.now ≡ slice_index_or machine.now.texts (Atoms.text_number variable) [] }
-{
-    match machine.texts.get(variable.text_number()) {
-        Some(text) => text.as_str(),
-        None => "",
     }
 }
 
@@ -191,15 +183,4 @@ fn version(alloc: Global, text: &str) -> Result<Option<Version>, AllocError>
         Err(VersionFault::NoReading) => Ok(None),
         Err(VersionFault::NoMemory) => Err(AllocError),
     }
-}
-
-// Equal texts.
-fn copied(alloc: Global, texts: &[String]) -> Result<Vec<String>, AllocError>
-    ensures { IfOk result (λ v. map string_bytes v.items ≡ map string_bytes texts.now) }
-{
-    let mut list = Vec::with_capacity(alloc, texts.len())?;
-    for text in texts {
-        list.push(String::from_str(alloc, text.as_str())?)?;
-    }
-    Ok(list)
 }

@@ -1,7 +1,6 @@
 //! Comparisons as they are printed: a variable, a sign and a literal in quotes, with one space on each side of the sign
 //! (PEP 508, "Environment Markers").
 ghost use Rattle.std.specs.Prelude.{◌≡◌, ◌++◌, ◌∷◌, [], OnOk, string_bytes};
-ghost use Rattle.std.specs.Fmt.{decimal};
 ghost use Rattle.ul_comparison.specs.Printed as spec;
 ghost use Rattle.ul_comparison.specs.Printed.{IsWritten, atom_is, bound, extra_is, quoted_text, text_is};
 
@@ -16,8 +15,7 @@ pub fn push_bound(out: &mut String, lower: bool, python: (u32, u32, u32)) -> Res
     ensures { OnOk result (IsWritten (string_bytes out.old)
         (bound lower python.0 python.1 python.2) (string_bytes out.new)) }
 {
-    out.push_str(Variable::PythonFullVersion.name())?;
-    out.push_str(bound_sign(lower))?;
+    push_pair(out, Variable::PythonFullVersion.name(), bound_sign(lower))?;
     push_quoted_interpreter(out, python)
 }
 
@@ -26,9 +24,7 @@ pub fn push_bound(out: &mut String, lower: bool, python: (u32, u32, u32)) -> Res
 pub fn push_extra(out: &mut String, literal: &str, equal: bool) -> Result<(), AllocError>
     ensures { OnOk result (IsWritten (string_bytes out.old) (extra_is literal.now equal) (string_bytes out.new)) }
 {
-    out.push_str("extra")?;
-    out.push_str(equality_sign(equal))?;
-    push_quoted(out, literal)
+    push_compared(out, "extra", equality_sign(equal), literal)
 }
 
 /// Writes that a text variable equals a literal, or doesn't.
@@ -42,9 +38,7 @@ pub fn push_text(
     ensures { OnOk result (IsWritten (string_bytes out.old)
         (text_is variable literal.now equal) (string_bytes out.new)) }
 {
-    out.push_str(variable.name())?;
-    out.push_str(equality_sign(equal))?;
-    push_quoted(out, literal)
+    push_compared(out, variable.name(), equality_sign(equal), literal)
 }
 
 /// Writes that an opaque comparison holds, or fails.
@@ -57,16 +51,30 @@ pub fn push_atom(out: &mut String, atom: &Atom, holds: bool) -> Result<(), Alloc
     match atom.kind {
         AtomKind::Contains => {
             push_quoted(out, literal)?;
-            out.push_str(in_sign(holds))?;
-            out.push_str(name)?;
-            Ok(())
+            push_pair(out, in_sign(holds), name)
         }
         AtomKind::Within | AtomKind::Below | AtomKind::AtMost | AtomKind::Same => {
-            out.push_str(name)?;
-            out.push_str(kind_sign(atom.kind, holds))?;
-            push_quoted(out, literal)
+            push_compared(out, name, kind_sign(atom.kind, holds), literal)
         }
     }
+}
+
+// Writes a name, a sign and a literal between quotes.
+fn push_compared(out: &mut String, name: &str, sign: &str, literal: &str) -> Result<(), AllocError>
+    ensures { OnOk result (string_bytes out.new
+        ≡ string_bytes out.old ++ (name.now ++ (sign.now ++ quoted_text literal.now))) }
+{
+    push_pair(out, name, sign)?;
+    push_quoted(out, literal)
+}
+
+// Writes two texts.
+fn push_pair(out: &mut String, first: &str, second: &str) -> Result<(), AllocError>
+    ensures { OnOk result (string_bytes out.new ≡ string_bytes out.old ++ (first.now ++ second.now)) }
+{
+    out.push_str(first)?;
+    out.push_str(second)?;
+    Ok(())
 }
 
 /// Writes a literal between quotes: `"` where it holds `'`, else `'`.
@@ -74,8 +82,7 @@ pub fn push_quoted(out: &mut String, literal: &str) -> Result<(), AllocError>
     ensures { OnOk result (string_bytes out.new ≡ string_bytes out.old ++ quoted_text literal.now) }
 {
     let quote = quote_of(literal.as_bytes());
-    out.push_str(quote)?;
-    out.push_str(literal)?;
+    push_pair(out, quote, literal)?;
     out.push_str(quote)?;
     Ok(())
 }
@@ -88,31 +95,12 @@ fn quote_of(literal: &[u8]) -> &'static str
 }
 
 // Writes an interpreter's three numbers, joined by points, between quotes.
+#[tactic(auto, unfolding(crate::specs::Printed::interpreter_text))]
 fn push_quoted_interpreter(out: &mut String, python: (u32, u32, u32)) -> Result<(), AllocError>
     ensures { OnOk result (string_bytes out.new ≡ string_bytes out.old ++ quoted_text (spec.triple_text python)) }
 {
-    out.push_str("'")?;
-    push_interpreter(out, python)?;
-    out.push_str("'")?;
-    Ok(())
-}
-
-// Writes an interpreter's three numbers, joined by points.
-#[tactic(auto, unfolding(crate::specs::Printed::interpreter_text))]
-fn push_interpreter(out: &mut String, python: (u32, u32, u32)) -> Result<(), AllocError>
-    ensures { OnOk result (string_bytes out.new ≡ string_bytes out.old ++ spec.triple_text python) }
-{
-    push_number(out, python.0)?;
-    out.push_str(".")?;
-    push_number(out, python.1)?;
-    out.push_str(".")?;
-    push_number(out, python.2)
-}
-
-fn push_number(out: &mut String, number: u32) -> Result<(), AllocError>
-    ensures { OnOk result (string_bytes out.new ≡ string_bytes out.old ++ decimal number) }
-{
-    match write!(out, "{number}") {
+    let (major, minor, patch) = python;
+    match write!(out, "'{major}.{minor}.{patch}'") {
         Ok(()) => Ok(()),
         Err(_) => Err(AllocError),
     }

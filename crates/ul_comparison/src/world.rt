@@ -1,8 +1,8 @@
 //! Worlds.
-ghost use Rattle.std.specs.Prelude.{◌≡◌, ◌≤◌, All, IfErr, IfOk, IfSome, OnOk, None, true, is_ok, length, map, string_bytes, vec_len};
+ghost use Rattle.std.specs.Prelude.{◌≡◌, ◌≤◌, [], All, IfErr, IfOk, IfSome, OnOk, None, true, is_ok, length, map, slice_index_or, string_bytes, vec_len};
 ghost use Rattle.std.specs.List.{insert};
 ghost use Rattle.std.specs.Ordering.{is_lt};
-ghost use Rattle.ul_comparison.specs.Atoms.{IsAtom, atom_cmp, has_atom};
+ghost use Rattle.ul_comparison.specs.Atoms.{IsAtom, atom_cmp, has_atom, text_number};
 ghost use Rattle.ul_comparison.specs.Machines.{put_atom};
 ghost use Rattle.ul_comparison.specs.Rising;
 ghost use Rattle.ul_comparison.specs.Rising.{IsPlace};
@@ -60,10 +60,7 @@ impl World {
     pub fn text(&self, variable: Variable) -> &str
         ensures { result.now ≡ text_at self.now variable }
     {
-        match self.texts.get(variable.text_number()) {
-            Some(text) => text.as_str(),
-            None => "",
-        }
+        text_of(&self.texts, variable)
     }
 
     /// Whether an opaque comparison holds. It is found by halves.
@@ -74,8 +71,17 @@ impl World {
     }
 }
 
-/// Where an atom stands among atoms in increasing order, or else where it would stand.
+/// The text of a text variable among the eight texts of a world, and else the empty text.
+pub(crate) fn text_of(texts: &[String], variable: Variable) -> &str
+    ensures { result.now ≡ slice_index_or (map string_bytes texts.now) (text_number variable) [] }
+{
+    match texts.get(variable.text_number()) {
+        Some(text) => text.as_str(),
+        None => "",
+    }
+}
 
+/// Where an atom stands among atoms in increasing order, or else where it would stand.
 pub(crate) fn place(atoms: &[Atom], atom: &Atom) -> Result<usize, usize>
     requires { Rise None atoms.now }
     ensures has { is_ok result ≡ has_atom atoms.now atom.now }

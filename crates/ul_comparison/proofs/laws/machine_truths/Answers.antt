@@ -1,4 +1,4 @@
-use Rattle.std.proofs.Common.{[], None}
+use Rattle.std.proofs.Common.{[]}
 use Rattle.ul_comparison.proofs.Parts.{part_is_between}
 use Rattle.ul_comparison.proofs.Placed.{truths_are, truths_rise}
 use Rattle.ul_comparison.proofs.laws.machine_truths.Goals as goal

@@ -1,6 +1,6 @@
 use Rattle.std.proofs.Common.{◌≡◌, sym, ◌∙◌, ap, subst, rules, arith, length, true≢false}
 use Rattle.std.proofs.lemmas.List.{length-map}
-use Rattle.std.specs.Prelude.{All, List, true}
+use Rattle.std.specs.Prelude.{All, List}
 use Rattle.ul_comparison.specs.Atoms.{AtomFields, IsAtom}
 use Rattle.ul_comparison.specs.Rising.{rises}
 use Rattle.ul_comparison.proofs.Rises.{rise, risen}
