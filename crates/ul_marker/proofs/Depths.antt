@@ -1,13 +1,11 @@
 -- How deep the parentheses of a marker nest.
-use Rattle.std.proofs.Common.{◌≡◌, ◌∙◌, ℕ, zero, suc, ◌+◌, ◌-◌, ◌<◌, ◌≤◌, max, List, [], ◌∷◌, ◌++◌, arith, refl, sym, ap, Option, Some, None}
-use Rattle.ul_version.specs.Reading.{◌>>=◌}
-use Rattle.ul_specifier.specs.declared.clause.Op.{Op}
+use Rattle.std.proofs.Common.{◌≡◌, ◌∙◌, ℕ, zero, suc, ◌+◌, ◌<◌, ◌≤◌, max, List, [], ◌∷◌, ◌++◌, arith, refl, Option, Some, None}
 use Rattle.ul_comparison.specs.Formulas.{Formula}
 use Rattle.ul_marker.specs.Grammar.{AreJoined, IsAtomOf, IsComparison, IsConjunction, IsDisjunction, IsMarker, comparison, literal_in, literal_not_in, literal_sign, parenthesized, variable_in, variable_not_in, variable_sign}
 use Rattle.ul_marker.specs.Reading.{chain_at, marker_in, open_count}
 use Rattle.ul_marker.specs.declared.reading.Chain.TheVariants.{Disjunction}
 use Rattle.ul_marker.specs.declared.words.Token.{Token}
-use Rattle.ul_marker.specs.declared.words.Token.TheVariants.{Open, Close, And, Or, In, Not, Sign, Literal}
+use Rattle.ul_marker.specs.declared.words.Token.TheVariants.{Close, And, Or, In, Not, Sign, Literal}
 use Rattle.ul_marker.proofs.Spelled.{IsStill, contained-subject, depth-agrees, in-still, literal-still, not-still, sign-still, signed-subject, within-subject}
 use Rattle.ul_marker.proofs.Tokens.{onto}
 

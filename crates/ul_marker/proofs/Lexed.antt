@@ -1,21 +1,20 @@
 -- The tokens of printed comparisons.
-use Rattle.std.proofs.Common.{◌≡◌, ◌∙◌, ◌⊎◌, inl, inr, ◌<◌, ℕ, zero, suc, Bool, true, false, true≢false, List, [], ◌∷◌, ◌++◌, drop, length, take, Option, Some, None, refl, sym, ap, arith}
-use Rattle.std.specs.Prelude.{◌&&◌, ◌||◌, ◌==◌, not, codes, nat_eq}
+use Rattle.std.proofs.Common.{◌≡◌, ◌∙◌, inl, inr, ℕ, Bool, true, false, true≢false, List, [], ◌∷◌, ◌++◌, drop, length, Some, refl, sym, ap, arith}
+use Rattle.std.specs.Prelude.{◌&&◌, ◌||◌, ◌==◌, not, codes}
 use Rattle.std.specs.List.{list_all}
 use Rattle.std.proofs.Math.Seq.{take-append_seam}
 use Rattle.std.proofs.lemmas.Bool.{and_from, and_parts, cases_Bool, eq-eqb}
-use Rattle.std.proofs.lemmas.Bool.Decides.{nat_tests}
-use Rattle.std.proofs.lemmas.List.{append_assoc, append-nil, length-append}
+use Rattle.std.proofs.lemmas.List.{append_assoc}
 use Rattle.std.proofs.lemmas.List.Prefix.{front_rest}
-use Rattle.ul_version.specs.Reading.{◌>>=◌, begins, is_white}
+use Rattle.ul_version.specs.Reading.{begins, is_white}
 use Rattle.ul_specifier.specs.Grammar.{operator_text}
-use Rattle.ul_specifier.specs.Reading.{after_all, before_all, is_blank, trimmed_text, unless_last}
+use Rattle.ul_specifier.specs.Reading.{after_all, is_blank}
 use Rattle.ul_specifier.specs.declared.clause.Op.{Op}
 use Rattle.ul_specifier.specs.declared.clause.Op.TheVariants.{Equal, Unequal, AtLeast, AtMost, More, Less, Compatible}
 use Rattle.ul_specifier.proofs.ForCallers.{is_equals, operator-read}
-use Rattle.ul_comparison.specs.Atoms.{AtomFields, IsAtom, has_byte, is_literal, is_literal_byte}
+use Rattle.ul_comparison.specs.Atoms.{has_byte, is_literal, is_literal_byte}
 use Rattle.ul_comparison.specs.Printed.{quote_of, quoted_text, variable_name}
-use Rattle.ul_marker.specs.Words.{after_quote, front_literal, front_sign, front_token, front_word, is_quote, is_quoted, is_sign_byte, is_word_byte, run_length, tokens_in, tokens_of, word_token}
+use Rattle.ul_marker.specs.Words.{front_literal, front_sign, front_token, front_word, is_quote, is_quoted, is_sign_byte, is_word_byte, run_length, tokens_in, tokens_of, word_token}
 use Rattle.ul_comparison.specs.declared.variable.Variable.{Variable}
 use Rattle.ul_comparison.specs.declared.variable.Variable.TheVariants.{OsName, SysPlatform, PlatformMachine, PlatformPythonImplementation, PlatformRelease, PlatformSystem, PlatformVersion, PythonVersion, PythonFullVersion, ImplementationName, ImplementationVersion}
 use Rattle.ul_marker.specs.declared.words.Token.{Token}

@@ -1,33 +1,26 @@
 -- Printed comparisons are read back.
-use Rattle.std.proofs.Common.{◌≡◌, ◌∙◌, ◌<◌, ◌≤◌, ◌^◌, ℕ, zero, suc, Bool, true, false, true≢false, List, [], ◌∷◌, ◌++◌, length, map, Option, Some, None, refl, sym, ap, arith, subst, lit<}
-use Rattle.std.specs.Prelude.{◌&&◌, ◌||◌, ◌==◌, not, All, codes}
-use Rattle.std.specs.Fmt.{decimal}
-use Rattle.std.specs.List.{list_all}
+use Rattle.std.proofs.Common.{◌≡◌, ◌∙◌, ◌<◌, ◌^◌, ℕ, Bool, true, false, true≢false, List, [], ◌∷◌, ◌++◌, map, Option, Some, None, refl, sym, ap, arith, subst}
+use Rattle.std.specs.Prelude.{◌||◌, All, codes}
 use Rattle.std.specs.Option.{option_map_or}
 use Rattle.std.proofs.lemmas.List.{append_assoc, append-nil}
-use Rattle.std.proofs.lemmas.Bool.{and_from, and_parts}
 use Rattle.std.proofs.lemmas.Bool.Decides.{nat_tests}
 use Rattle.std.proofs.lemmas.List.Elements.{All-cons, All-head, All-nil, All-tail}
-use Rattle.ul_version.specs.Fields.{IsNumber64, IsSegment, IsVersion, plain}
-use Rattle.ul_version.specs.Reading.{◌>>=◌, begins, is_white}
-use Rattle.ul_version.specs.Texts.{is_text_byte, version_text}
-use Rattle.ul_version.proofs.ForCallers.{plain as plain_text}
+use Rattle.ul_version.specs.Fields.{IsVersion, plain}
+use Rattle.ul_version.specs.Reading.{begins, is_white}
 use Rattle.ul_base.specs.Names.{name_of}
-use Rattle.ul_specifier.specs.Clauses.{ClauseFields, IsClause}
+use Rattle.ul_specifier.specs.Clauses.{IsClause}
 use Rattle.ul_specifier.specs.Grammar.{operator_text}
-use Rattle.ul_specifier.specs.Reading.{after_all, before_all, clause_with, is_blank, trimmed_text, unless_last}
+use Rattle.ul_specifier.specs.Reading.{after_all, before_all, clause_with, is_blank, trimmed_text}
 use Rattle.ul_specifier.specs.declared.clause.Op.{Op}
 use Rattle.ul_specifier.specs.declared.clause.Op.TheVariants.{Equal, Unequal, AtLeast, AtMost, More, Less}
-use Rattle.ul_specifier.proofs.ForCallers.{all-weaker, before_all-kept, clause-read}
-use Rattle.ul_comparison.specs.Atoms.{AtomFields, IsAtom, has_byte, is_implementation_version, is_literal, is_literal_byte, is_text, may_compare}
-use Rattle.ul_marker.specs.Comparisons.{comparison_of, containment, extra_literal, python_full, sign_formula, text_sign, within}
-use Rattle.ul_comparison.specs.Formulas.{Formula, IsExtraLiteral, extra, python, opaque}
-use Rattle.ul_marker.specs.Grammar.{AreJoined, IsAtomOf, IsChain, IsConjunction, IsDisjunction, IsMarker, Spells}
+use Rattle.ul_specifier.proofs.ForCallers.{before_all-kept, clause-read}
+use Rattle.ul_comparison.specs.Atoms.{is_implementation_version, is_literal, is_text, may_compare}
+use Rattle.ul_marker.specs.Comparisons.{comparison_of, containment, extra_literal, python_full, sign_formula, within}
+use Rattle.ul_comparison.specs.Formulas.{Formula, IsExtraLiteral, opaque}
+use Rattle.ul_marker.specs.Grammar.{AreJoined, IsAtomOf, IsConjunction, IsMarker, Spells}
 use Rattle.ul_comparison.specs.Printed.{Comparison, IsComparison, atom_text, bound, bound_clause, bound_op, bound_sign, comparison_formula, comparison_text, equality_sign, extra_is, interpreter_text, kind_sign, atom_is, quote_of, quoted_text, sides, text_is, variable_name}
 use Rattle.ul_marker.specs.PrintedPaths.{ComparisonReads, IsPath, PathsRead, path_formula, path_text, paths_formula, paths_text}
-use Rattle.ul_marker.specs.Reading.{chain_formula, marker_of}
 use Rattle.ul_marker.specs.Words.{is_word_byte, tokens_in, tokens_of}
-use Rattle.ul_marker.specs.declared.reading.Chain.TheVariants.{Conjunction, Disjunction}
 use Rattle.ul_comparison.specs.declared.variable.AtomKind.{AtomKind}
 use Rattle.ul_comparison.specs.declared.variable.AtomKind.TheVariants.{Contains, Within, Below, AtMost as AtMostKind, Same}
 use Rattle.ul_comparison.specs.declared.variable.Variable.{Variable}

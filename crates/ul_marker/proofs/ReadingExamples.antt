@@ -2,11 +2,11 @@
 use Rattle.std.proofs.Common.{refl}
 use Rattle.ul_base.specs.Names.{is_name, normal_form, name_of}
 use Rattle.ul_version.specs.Reading.{after_white, before_white, after_word, digits, after_digits, value_after, number, required_number, marked_digits, epoch, points, release, pre, post, dev, segment, segments, local, fields_of, version_of}
-use Rattle.ul_specifier.specs.Reading.{after_all, before_all, operator, star_clause, plain_clause, clause_after, clause_with}
+use Rattle.ul_specifier.specs.Reading.{operator, star_clause, plain_clause, clause_after, clause_with}
 use Rattle.ul_marker.specs.Comparisons.{comparison_of, containment, extra_literal, sign_formula, versions_of, within}
 use Rattle.ul_marker.specs.Reading.{atom_at, before_close, chain_at, chain_with, each, inner_tokens, marker_of, part_at, pieces_from}
 use Rattle.ul_marker.specs.ReadingVectors.{NoReadings, Readings}
-use Rattle.ul_marker.specs.Words.{front_literal, front_sign, front_token, front_word, run_length, tokens_in, tokens_of, word_token}
+use Rattle.ul_marker.specs.Words.{front_literal, front_sign, front_token, front_word, tokens_in, tokens_of, word_token}
 
 pub readings : Readings
 unfolding is_name normal_form name_of after_white before_white after_word digits after_digits value_after number required_number marked_digits epoch points release pre post dev segment segments local fields_of version_of operator star_clause plain_clause clause_after clause_with comparison_of containment extra_literal sign_formula versions_of within atom_at before_close chain_at chain_with each inner_tokens marker_of part_at pieces_from front_literal front_sign front_token front_word tokens_in tokens_of word_token

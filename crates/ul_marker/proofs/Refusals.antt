@@ -1,7 +1,6 @@
 -- Lemmas on the answers of readers that may lack memory.
 use Rattle.std.proofs.Common.{◌≡◌, Option, None, Err, refl, ap}
-use Rattle.std.specs.Prelude.{List, Vec, ℕ}
-use Rattle.std.specs.Borrow.{Bor}
+use Rattle.std.specs.Prelude.{List, ℕ}
 use Rattle.std.specs.declared.alloc.Global.{Global}
 use Rattle.ul_marker.specs.Readers.{front_view, Reads, ReadsTokens}
 use Rattle.ul_marker.specs.Reading.{marker_in}

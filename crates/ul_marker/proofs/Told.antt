@@ -1,15 +1,13 @@
 -- Printed comparisons are told by what they say.
-use Rattle.std.proofs.Common.{◌≡◌, ◌∙◌, ◌<◌, ◌≤◌, ◌^◌, ℕ, zero, suc, Bool, true, false, true≢false, List, [], ◌∷◌, get_or, length, Option, Some, None, refl, sym, ap, arith}
-use Rattle.std.specs.Prelude.{◌&&◌, ◌==◌, is_none}
-use Rattle.std.proofs.lemmas.Bool.{and_parts, eqb-true}
-use Rattle.ul_version.specs.Fields.{Fields, plain}
+use Rattle.std.proofs.Common.{◌≡◌, ◌∙◌, Bool, true, false, true≢false, [], get_or, refl, sym, ap}
+use Rattle.ul_version.specs.Fields.{Fields}
 use Rattle.ul_specifier.specs.Clauses.{ClauseFields}
 use Rattle.ul_specifier.specs.declared.clause.Op.{Op}
 use Rattle.ul_specifier.specs.declared.clause.Op.TheVariants.{AtLeast}
 use Rattle.ul_comparison.specs.Formulas.{Formula, extra, python, text, opaque}
-use Rattle.ul_comparison.specs.Printed.{Comparison, IsComparison, atom_is, bound, bound_clause, bound_op, comparison_formula, extra_is, text_is}
+use Rattle.ul_comparison.specs.Printed.{Comparison, atom_is, bound, bound_op, comparison_formula, extra_is, text_is}
 use Rattle.ul_marker.specs.PrintedPaths.{ComparisonsAreTold}
-use Rattle.ul_marker.specs.PrintedViews.{IsNoComparison, IsNoInterpreter, is_nil, is_plain}
+use Rattle.ul_marker.specs.PrintedViews.{IsNoComparison, IsNoInterpreter, is_plain}
 
 -- the comparison of a formula, where it is the formula of one
 abbrev lower_of : Op → Bool

@@ -1,9 +1,9 @@
 -- What holds of the parts of all formulas.
-use Rattle.std.specs.Prelude.{◌≡◌, ◌≤◌, ℕ, Bool, true, false, List, Some, length}
+use Rattle.std.specs.Prelude.{◌≡◌, ℕ, true, false, List, Some}
 use Rattle.ul_base.specs.Names.{name_of}
-use Rattle.ul_comparison.specs.Atoms.{AtomFields, IsAtom, has_atom, is_literal}
+use Rattle.ul_comparison.specs.Atoms.{is_literal}
 use Rattle.ul_comparison.specs.Formulas.{Formula}
-use Rattle.ul_marker.specs.Parts.{asks_extra, atoms_of}
+use Rattle.ul_marker.specs.Parts.{asks_extra}
 use Rattle.ul_comparison.specs.Truth.{marker_holds}
 use Rattle.ul_comparison.specs.Worlds.{WorldFields}
 

@@ -1,8 +1,7 @@
 -- What stands in a marker's text: its opaque comparisons, and whether it asks for an extra. Both are asked of the
 -- formula as it was written, even where its truth doesn't depend on them.
-use Rattle.std.specs.Prelude.{◌≡◌, ◌||◌, ◌++◌, ℕ, Bool, true, false, List, [], ◌∷◌, Some}
-use Rattle.ul_base.specs.Names.{name_of}
-use Rattle.ul_comparison.specs.Atoms.{AtomFields, is_literal}
+use Rattle.std.specs.Prelude.{◌||◌, ◌++◌, Bool, true, false, List, [], ◌∷◌}
+use Rattle.ul_comparison.specs.Atoms.{AtomFields}
 use Rattle.ul_comparison.specs.Formulas.{Formula, extra, python, python_list, text, opaque, all, any, Formulas, none, more}
 
 abbrev mutual

@@ -1,7 +1,6 @@
 -- Printed comparisons of the code as plain data, and which formulas have none.
-use Rattle.std.specs.Prelude.{◌≡◌, ◌≢◌, ◌<◌, ◌^◌, ◌&&◌, ◌==◌, ℕ, Bool, true, false, List, [], ◌∷◌, is_none}
+use Rattle.std.specs.Prelude.{◌≢◌, ◌<◌, ◌^◌, ◌&&◌, ◌==◌, ℕ, Bool, true, false, List, [], ◌∷◌, is_none}
 use Rattle.ul_version.specs.Fields.{Fields, plain}
-use Rattle.ul_specifier.specs.Clauses.{has_local}
 use Rattle.ul_comparison.specs.Formulas.{Formula}
 use Rattle.ul_comparison.specs.Printed as Plain
 use Rattle.ul_comparison.specs.Printed.{IsComparison, comparison_formula}

@@ -1,7 +1,7 @@
 -- The tokens of a marker's text (PEP 508, "Environment Markers"): parentheses, words, literals in quotes and
 -- the signs of comparisons. Words are in lower case. Space and tab may stand between tokens, and white space
 -- of any kind at the ends of the text.
-use Rattle.std.specs.Prelude.{ℕ, zero, suc, ◌+◌, ◌==◌, ◌&&◌, ◌||◌, Bool, not, List, [], ◌∷◌, length, take, drop, codes, Option, Some, None, if◌then◌else◌}
+use Rattle.std.specs.Prelude.{ℕ, zero, suc, ◌==◌, ◌&&◌, ◌||◌, Bool, not, List, [], ◌∷◌, length, take, drop, codes, Option, Some, None, if◌then◌else◌}
 use Rattle.std.specs.Str.{bytes_eq}
 pub use Rattle.ul_version.specs.Ascii.{run_length}
 use Rattle.ul_version.specs.Reading.{◌>>=◌, is_white, or_else}

@@ -13,7 +13,7 @@ use std::alloc::Global;
 use ul_specifier::{after_space, before_space};
 
 /// How parts are joined: by `and`, or by `or`.
-#[derive(Clone, Copy, Debug)]
+#[derive(Clone, Copy)]
 pub enum Chain {
     Conjunction,
     Disjunction,

@@ -5,7 +5,7 @@ use Rattle.ul_specifier.specs.Reading.{after_all, is_blank}
 use Rattle.ul_specifier.proofs.ForCallers.{not_empty}
 use Rattle.ul_marker.proofs.Depths.{deep-none, level-push, level_after}
 use Rattle.ul_marker.proofs.Refusals.{tokens-refused}
-use Rattle.ul_marker.proofs.Tokens.{onto, onto-end, onto-next, onto-none, tokens-shorter}
+use Rattle.ul_marker.proofs.Tokens.{onto-end, onto-next, onto-none, tokens-shorter}
 use Rattle.ul_marker.specs.Reading.{marker_in, open_count}
 use Rattle.ul_marker.specs.Words.{front_token, tokens_of}
 use Rattle.ul_marker.specs.declared.words.Token.{Token}
