@@ -24,7 +24,7 @@ union_step bs i k c made next e q =
     ap (λ n. union_in (branches_from n bs) next) (add-one i) ∙ ap (union_in (branches_from (suc i) bs)) q ∙ ap (λ z. union_in z made) (sym e)
 
 pub lowers_itself : (l : List ℕ) (c : Plain) → IsReduced c → c ≢ truth false → Lowers l c c
-lowers_itself l c h n = record { reduced = h; not_false = n; serves = λ d bs t s. s; serves_later = λ f t a s. s }
+lowers_itself l c h n = record { reduced = h; not_false = n; serves = λ f t a s. s }
 
 less_is : (o : Ordering) → is_lt o ≡ true → o ≡ Less
 less_is Less e = refl
@@ -57,8 +57,7 @@ lowers_union l c (node k d cs) u h a e =
     (record {
       reduced = fits_reduced (union_in cs d) k (union_fits cs k d d h.reduced.3 h.reduced.2);
       not_false = union_not_false k d cs [] h.reduced;
-      serves = λ x bs t s. h.serves x bs t (above (less_is (text_cmp k l) a) s);
-      serves_later = λ f t b s. h.serves_later f t b (above_each l k f d t cs (less_is (text_cmp k l) a) b s);
+      serves = λ f t b s. h.serves f t b (above_each l k f d t cs (less_is (text_cmp k l) a) b s);
     })
 
 pub joined_or : (a b t : Plain) → IsJoined Either a b t → t ≡ or_of a b

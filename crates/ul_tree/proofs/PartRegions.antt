@@ -3,11 +3,11 @@ use Rattle.std.proofs.Common.{◌≡◌, ◌≢◌, List, ℕ, Bool, true, false
 use Rattle.std.specs.Ordering.{is_lt, is_eq}
 use Rattle.ul_nodes.specs.Plain.{Plain, truth, node, Branches, done, branch, text_cmp, carries, carried_part, by_order, pick}
 use Rattle.ul_nodes.specs.Reduced.{Fits, FitsAll, IsReduced}
-use Rattle.ul_nodes.specs.Apply.{rest_at, branches_at, part_at}
-use Rattle.ul_nodes.specs.Keys.{top_of, rest_of, branches_of, branches_from, is_level}
+use Rattle.ul_nodes.specs.Apply.{rest_at, part_at}
+use Rattle.ul_nodes.specs.Keys.{top_of, rest_of, branches_of, is_level}
 use Rattle.ul_nodes.specs.Rows.{Results}
 use Rattle.ul_nodes.proofs.ForCallers.{cmp_itself, cmp_equal, cmp_back, cmp_over, cmp_trans, rest_here, rest_elsewhere, part_here, part_elsewhere}
-use Rattle.ul_tree.specs.Simplify.{Simplifies, Pieces, Piece, no_piece, piece, outside, inside}
+use Rattle.ul_tree.specs.Simplify.{Pieces, Piece, no_piece, piece, outside, inside}
 use Rattle.ul_tree.specs.SimplifyViews.{is_above, earlier_top, tops_of, parts_top, Lowers, Lowered, StandsFor}
 use Rattle.ul_tree.proofs.Lowering.{level_between}
 
@@ -120,7 +120,7 @@ later_region l n (node k d bs) a h =
 
 piece_served : {p r : Plain} {o : Option Plain} → Piece p r o → (n : List ℕ) (c : Plain) → Lowers n c r → c ≢ truth false → is_above n p ≡ false → Piece p c o
 piece_served outside n c h m a = absurd (h.not_false refl)
-piece_served (inside {f = f} {t = t} q s) n c h m a = inside m (h.serves_later f t a s)
+piece_served (inside {f = f} {t = t} q s) n c h m a = inside m (h.serves f t a s)
 
 pieces_served : {l : List ℕ} {f r : Plain} {ks : List (List ℕ)} {rs : Results} → Pieces l f r ks rs → (c : Plain)
     → ((v : List ℕ) (o : Option Plain) → Piece (part_at l v f) (part_at l v r) o → Piece (part_at l v f) (part_at l v c) o) → Pieces l f c ks rs

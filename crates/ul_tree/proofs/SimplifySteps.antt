@@ -93,9 +93,7 @@ all_done f r t k q = subst (λ (z : Plain). Simplifies f r z) (sym q) (subst (λ
 
 -- upper levels of the region are taken away
 pub lowered_done : (f c r t : Plain) (l : List ℕ) → Some l ≡ top_of f → Lowered l c r → Simplifies f r t → Simplifies f c t
-lowered_done f c r t l e h s =
-    let n = top_node f l e in
-    subst (λ (z : Plain). Simplifies z c t) (sym n.is) (h.lowers.serves n.rest n.branches t (subst (λ (z : Plain). Simplifies z r t) n.is s))
+lowered_done f c r t l e h s = h.lowers.serves f t (top_not_above l f e) s
 
 -- the pieces of a node and of a region that isn't above it
 pieces_done : (l : List ℕ) (d r : Plain) (bs : Branches) (rs : Results) (o : Option Plain) → is_above l r ≡ false → leaf_truth r ≡ false → r ≢ truth false

@@ -1,6 +1,7 @@
 -- The tree of a truth that changes at each start.
-use Rattle.std.proofs.Common.{◌≡◌, ℕ, ◌^◌, ◌<◌, List, [], ◌∷◌, Bool, true, false, refl, sym, ap, ◌∙◌, arith, subst, inl, inr, Less, Equal, Greater, length, Some}
+use Rattle.std.proofs.Common.{◌≡◌, ℕ, ◌^◌, ◌<◌, List, [], ◌∷◌, Bool, true, false, refl, sym, ap, ◌∙◌, arith, subst, inl, inr, Less, Equal, Greater, length, Some, ◌++◌, ◌+◌, map, drop, append_assoc}
 use Rattle.std.specs.Prelude.{not}
+use Rattle.std.proofs.lemmas.List.{drop_more, map-append}
 use Rattle.std.proofs.lemmas.Bool.{cases_lt, lt-ltb, le-ltb}
 use Rattle.ul_version.specs.Fields.{plain}
 use Rattle.ul_specifier.specs.Clauses.{ClauseFields}
@@ -11,9 +12,11 @@ use Rattle.ul_nodes.specs.Plain.{Plain, truth, node, branch, text_cmp, holds_of,
 use Rattle.ul_nodes.specs.Levels.{python_level}
 use Rattle.ul_nodes.specs.Reduced.{IsReduced, FitsAll, StartsAfter}
 use Rattle.ul_tree.specs.Values.{number_of, tree_holds}
-use Rattle.ul_tree.specs.Views.{python_of, pieces_of}
-use Rattle.ul_tree.specs.Pieces.{meets_at, major_of, minor_of, patch_of, starts_of, steps_of, stepped_of}
+use Rattle.ul_tree.specs.Views.{tree_view, python_of, pieces_of}
+use Rattle.ul_tree.specs.Pieces.{meets_at, major_of, minor_of, patch_of, starts_of, steps_of, stepped_of, flipping}
+use Rattle.ul_tree.specs.declared.tree.Tree.{Tree, Truth}
 use Rattle.ul_nodes.proofs.ForCallers.{cmp_less, cmp_more, cmp_itself}
+use Rattle.ul_tree.proofs.Shapes.{view_truth}
 use Rattle.ul_tree.proofs.Changes.{Climb, flipped_at, starts-climb, starts-hold}
 
 -- ---- its truth
@@ -80,11 +83,6 @@ clause_holds s full w x h =
 
 -- ---- as pieces and parts
 
--- a truth that changes at each start, after each
-abbrev pub flipping : Bool → List ℕ → List Plain
-flipping held [] = []
-flipping held (s ∷ ss) = truth (not held) ∷ flipping (not held) ss
-
 pieces_flipping : (held : Bool) (ss : List ℕ) → pieces_of ss (flipping held ss) ≡ steps_of held ss
 pieces_flipping held [] = refl
 pieces_flipping held (s ∷ ss) = ap (branch (s ∷ []) (truth (not held))) (pieces_flipping (not held) ss)
@@ -92,3 +90,14 @@ pieces_flipping held (s ∷ ss) = ap (branch (s ∷ []) (truth (not held))) (pie
 pub python_stepped : (held : Bool) (ss : List ℕ) → 0 < length ss → python_of (0 ∷ ss) (truth held ∷ flipping held ss) ≡ stepped_of held ss
 python_stepped held [] h = absurd (omega arith)
 python_stepped held (s ∷ ss) h = ap (node python_level (truth held)) (pieces_flipping held (s ∷ ss))
+
+-- one part more
+pub parts_step : (held : Bool) (before after : List Tree) (starts : List ℕ) (i d : ℕ) → i < length starts → after ≡ before ++ Truth (not held) ∷ []
+    → map tree_view after ++ flipping (not held) (drop (i + 1) starts) ≡ map tree_view before ++ flipping held (drop i starts)
+parts_step held before after starts i d h e =
+    let rest = flipping (not held) (drop (i + 1) starts) in
+    ap (λ z. map tree_view z ++ rest) e
+    ∙ ap (λ z. z ++ rest) (map-append tree_view before (Truth (not held) ∷ []))
+    ∙ append_assoc (map tree_view before) (tree_view (Truth (not held)) ∷ []) rest
+    ∙ ap (λ t. map tree_view before ++ (t ∷ rest)) (view_truth (not held))
+    ∙ sym (ap (λ z. map tree_view before ++ flipping held z) (drop_more starts i d h))

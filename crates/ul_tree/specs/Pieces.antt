@@ -69,3 +69,8 @@ steps_of held (s ∷ starts) = branch (s ∷ []) (truth (not held)) (steps_of (n
 -- the tree of a truth that changes at each start
 abbrev pub stepped_of : Bool → List ℕ → Plain
 stepped_of held starts = close python_level (truth held) (steps_of held starts)
+
+-- the parts of a truth that changes at each start, after each
+abbrev pub flipping : Bool → List ℕ → List Plain
+flipping held [] = []
+flipping held (s ∷ starts) = truth (not held) ∷ flipping (not held) starts

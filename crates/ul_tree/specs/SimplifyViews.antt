@@ -1,5 +1,5 @@
 -- What the code of simplifying sees of pieces and regions, as plain data.
-use Rattle.std.specs.Prelude.{ℕ, List, [], ◌∷◌, Bool, true, false, Option, Some, None, option_map, ◌≡◌, zero, suc, if◌then◌else◌}
+use Rattle.std.specs.Prelude.{ℕ, List, [], ◌∷◌, Bool, false, Option, Some, None, option_map, ◌≡◌, zero, suc, if◌then◌else◌}
 use Rattle.std.specs.Ordering.{is_lt}
 use Rattle.ul_nodes.specs.Plain.{Plain, truth, node, Branches, done, branch, text_cmp, by_order, holds_of}
 use Rattle.ul_nodes.specs.Apply.{either, rest_at}
@@ -47,13 +47,11 @@ abbrev pub region_view : {A : Type 0} → (A → Plain) → Option A → Plain �
 region_view view None c = c
 region_view view (Some t) c = view t
 
--- r is what stays of the region c when levels above l are taken away: it serves the nodes of l, and every tree that
--- doesn't begin above l
+-- r is what stays of the region c when levels above l are taken away: it serves every tree that doesn't begin above l
 pub record Lowers (l : List ℕ) (c r : Plain) : Type 0 where
   pub reduced : IsReduced r
   pub not_false : r ≡ truth false → ⊥
-  pub serves : (d : Plain) (bs : Branches) (t : Plain) → Simplifies (node l d bs) r t → Simplifies (node l d bs) c t
-  pub serves_later : (f t : Plain) → is_above l f ≡ false → Simplifies f r t → Simplifies f c t
+  pub serves : (f t : Plain) → is_above l f ≡ false → Simplifies f r t → Simplifies f c t
 
 -- and all of them are
 pub record Lowered (l : List ℕ) (c r : Plain) : Type 0 where
@@ -125,6 +123,12 @@ earlier_level one other = earlier_top (option_map level_view one) (option_map le
 -- what may stand for a region in all parts of a tree
 abbrev pub StandsInParts : Level → Tree → Tree → Option Tree → Type 0
 StandsInParts level tree region made = StandsFor (level_view level) (tree_view tree) (tree_view region) (region_view tree_view made (tree_view region))
+
+-- a tree under a region becomes its level put together from these results of its pieces
+abbrev pub SettlesAs : Level → Tree → Tree → List (Key × Option Tree) → Option Tree → Type 0
+SettlesAs level tree region results rest =
+    Simplifies (tree_view tree) (tree_view region)
+    (settled_level (level_view level) (result_trees results) (option_map tree_view rest) (rest_at (level_view level) (tree_view tree)))
 
 -- the results of pieces at keys of a level
 abbrev pub PiecesAre : Level → Tree → Tree → List Key → List (Key × Option Tree) → Type 0

@@ -6,6 +6,7 @@ ghost use Rattle.ul_tree.specs.Views.{tree_view, points_view};
 ghost use Rattle.ul_nodes.specs.Keys.{same_tops};
 
 use crate::Tree;
+use crate::owned::{beside, boxed, named, with_made};
 use crate::part::{branch_at, branch_count, known, level_of, rest_of};
 use crate::tree::{DEEPEST, deeper};
 use std::alloc::{AllocError, Global};
@@ -48,14 +49,15 @@ pub fn copy_within(alloc: Global, tree: &Tree, room: usize) -> Result<Tree, Allo
         Tree::Truth(value) => Ok(Tree::Truth(*value)),
         Tree::Extra { points, other } => {
             let room = deeper(room)?;
-            let points = copy_points(alloc, points, room)?;
-            let other = Box::new(alloc, copy_within(alloc, other, room)?)?;
+            let copied = copy_points(alloc, points, room)?;
+            let made = boxed(alloc, copy_within(alloc, other, room));
+            let (points, other) = beside(copied, made)?;
             Ok(Tree::Extra { points, other })
         }
         Tree::Python { starts, parts } => {
             let room = deeper(room)?;
-            let starts = Vec::from_slice(alloc, starts.as_slice())?;
-            let parts = copy_parts(alloc, parts, room)?;
+            let copied = Vec::from_slice(alloc, starts.as_slice())?;
+            let (starts, parts) = beside(copied, copy_parts(alloc, parts, room))?;
             Ok(Tree::Python { starts, parts })
         }
         Tree::Text {
@@ -64,8 +66,9 @@ pub fn copy_within(alloc: Global, tree: &Tree, room: usize) -> Result<Tree, Allo
             other,
         } => {
             let room = deeper(room)?;
-            let points = copy_points(alloc, points, room)?;
-            let other = Box::new(alloc, copy_within(alloc, other, room)?)?;
+            let copied = copy_points(alloc, points, room)?;
+            let made = boxed(alloc, copy_within(alloc, other, room));
+            let (points, other) = beside(copied, made)?;
             Ok(Tree::Text {
                 variable: *variable,
                 points,
@@ -74,9 +77,10 @@ pub fn copy_within(alloc: Global, tree: &Tree, room: usize) -> Result<Tree, Allo
         }
         Tree::Opaque { atom, yes, no } => {
             let room = deeper(room)?;
-            let atom = atom.copy(alloc)?;
-            let yes = Box::new(alloc, copy_within(alloc, yes, room)?)?;
-            let no = Box::new(alloc, copy_within(alloc, no, room)?)?;
+            let first = boxed(alloc, copy_within(alloc, yes, room))?;
+            let sides = beside(first, boxed(alloc, copy_within(alloc, no, room)))?;
+            let (both, atom) = beside(sides, atom.copy(alloc))?;
+            let (yes, no) = both;
             Ok(Tree::Opaque { atom, yes, no })
         }
     }
@@ -93,8 +97,8 @@ fn copy_points(
 {
     let mut copied = Vec::new(alloc);
     for point in points {
-        let text = String::from_str(alloc, point.0.as_str())?;
-        copied.push((text, copy_within(alloc, &point.1, room)?))?;
+        let made = named(alloc, point.0.as_str(), copy_within(alloc, &point.1, room));
+        copied = with_made(copied, made)?;
     }
     Ok(copied)
 }
@@ -106,7 +110,7 @@ fn copy_parts(alloc: Global, parts: &[Tree], room: usize) -> Result<Vec<Tree>, A
 {
     let mut copied = Vec::new(alloc);
     for part in parts {
-        copied.push(copy_within(alloc, part, room)?)?;
+        copied = with_made(copied, copy_within(alloc, part, room))?;
     }
     Ok(copied)
 }

@@ -1,5 +1,5 @@
 //! Trees of single comparisons.
-ghost use Rattle.std.specs.Prelude.{◌≡◌, ◌||◌, ℕ, List, IfOk, true};
+ghost use Rattle.std.specs.Prelude.{◌≡◌, ◌||◌, ℕ, List, IfOk, not, true};
 ghost use Rattle.ul_base.specs.Names.{is_name};
 ghost use Rattle.ul_comparison.specs.Atoms.{IsAtom, is_literal, is_text};
 ghost use Rattle.ul_comparison.specs.Formulas.{IsExtraLiteral};
@@ -7,8 +7,10 @@ ghost use Rattle.ul_comparison.specs.Truth.{is_empty};
 ghost use Rattle.ul_tree.specs.TreeFacts.{IsTree, HoldsAs, extra_truth, text_truth, atom_truth};
 ghost use Rattle.ul_tree.specs.Views.{points_view};
 ghost use Rattle.ul_tree.specs.Leaves.{point_of};
+ghost use Rattle.ul_tree.specs.declared.tree.Tree.TheVariants.{Truth};
 
 use crate::Tree;
+use crate::owned::{beside, boxed, named, with_made};
 use std::alloc::{AllocError, Global};
 use ul_base::{Name, NameFault};
 use ul_marker::{Atom, Variable};
@@ -23,8 +25,7 @@ pub fn extra_tree(alloc: Global, literal: &str, equal: bool) -> Result<Tree, All
     if !may_be_extra(alloc, literal)? {
         return Ok(Tree::Truth(!equal));
     }
-    let points = point(alloc, literal, equal)?;
-    let other = Box::new(alloc, Tree::Truth(!equal))?;
+    let (points, other) = branches(alloc, literal, equal)?;
     Ok(Tree::Extra { points, other })
 }
 
@@ -57,8 +58,7 @@ pub fn text_tree(
     ensures reduced { IfOk result IsTree }
     ensures truth { IfOk result (λ t. HoldsAs t (text_truth variable literal.now equal)) }
 {
-    let points = point(alloc, literal, equal)?;
-    let other = Box::new(alloc, Tree::Truth(!equal))?;
+    let (points, other) = branches(alloc, literal, equal)?;
     Ok(Tree::Text {
         variable,
         points,
@@ -72,17 +72,42 @@ pub fn opaque_tree(alloc: Global, atom: &Atom, positive: bool) -> Result<Tree, A
     ensures reduced { IfOk result IsTree }
     ensures truth { IfOk result (λ t. HoldsAs t (atom_truth atom.now positive)) }
 {
-    let atom = atom.copy(alloc)?;
-    let yes = Box::new(alloc, Tree::Truth(positive))?;
-    let no = Box::new(alloc, Tree::Truth(!positive))?;
+    let yes = truth_alone(alloc, positive)?;
+    let sides = beside(yes, truth_alone(alloc, !positive))?;
+    let (both, atom) = beside(sides, atom.copy(alloc))?;
+    let (yes, no) = both;
     Ok(Tree::Opaque { atom, yes, no })
+}
+
+// A truth in memory of its own.
+fn truth_alone(alloc: Global, value: bool) -> Result<Box<Tree>, AllocError>
+    ensures { IfOk result (λ place. place.value ≡ Truth value) }
+{
+    let place = boxed(alloc, Ok(Tree::Truth(value)))?;
+    Ok(place)
+}
+
+// The one point of a comparison, and the part of all else.
+fn branches(
+    alloc: Global,
+    literal: &str,
+    equal: bool,
+) -> Result<(Vec<(String, Tree)>, Box<Tree>), AllocError>
+    ensures point { IfOk result (λ made. points_view made.0.items ≡ point_of literal.now equal) }
+    ensures other { IfOk result (λ made. made.1.value ≡ Truth (not equal)) }
+{
+    let points = point(alloc, literal, equal)?;
+    let made = beside(points, truth_alone(alloc, !equal))?;
+    Ok(made)
 }
 
 // The one point of a comparison.
 fn point(alloc: Global, literal: &str, equal: bool) -> Result<Vec<(String, Tree)>, AllocError>
     ensures { IfOk result (λ ps. points_view ps.items ≡ point_of literal.now equal) }
 {
-    let mut points = Vec::new(alloc);
-    points.push((String::from_str(alloc, literal)?, Tree::Truth(equal)))?;
+    let points = with_made(
+        Vec::new(alloc),
+        named(alloc, literal, Ok(Tree::Truth(equal))),
+    )?;
     Ok(points)
 }

@@ -9,11 +9,13 @@ ghost use Rattle.ul_comparison.specs.Formulas.{AreFormulas, IsFormula};
 ghost use Rattle.ul_comparison.specs.Truth.{as_asked, equal_to, is_listed, marker_holds};
 ghost use Rattle.ul_marker.specs.Views.{marker_view, markers_view};
 ghost use Rattle.ul_tree.specs.Joining.{joint, truths_of, first_trees, last_trees};
+ghost use Rattle.ul_tree.specs.Values.{tree_holds};
 ghost use Rattle.ul_tree.specs.Views.{tree_view};
 
 use crate::Tree;
 use crate::leaf::{extra_tree, opaque_tree, text_tree};
 use crate::operations::{plain_and, plain_not, plain_or};
+use crate::owned::{beside, made_from, with_made};
 use crate::part::truth_value;
 use crate::python::clause_tree;
 use std::alloc::{AllocError, Global};
@@ -67,7 +69,7 @@ fn of_markers(alloc: Global, parts: &[Marker]) -> Result<Vec<Tree>, AllocError>
 {
     let mut trees = Vec::new(alloc);
     for part in parts {
-        trees.push(of_marker(alloc, part)?)?;
+        trees = with_made(trees, of_marker(alloc, part))?;
     }
     Ok(trees)
 }
@@ -83,7 +85,7 @@ pub fn of_python(alloc: Global, specifiers: &Specifiers) -> Result<Tree, AllocEr
 {
     let mut trees = Vec::new(alloc);
     for clause in &specifiers.clauses {
-        trees.push(clause_tree(alloc, clause, true)?)?;
+        trees = with_made(trees, clause_tree(alloc, clause, true))?;
     }
     let tree = joined(alloc, true, trees)?;
     Ok(tree)
@@ -102,13 +104,23 @@ fn list_tree(
 {
     let mut trees = Vec::new(alloc);
     for version in versions {
-        trees.push(version_tree(alloc, version, full)?)?;
+        trees = with_made(trees, version_tree(alloc, version, full))?;
     }
     let tree = joined(alloc, false, trees)?;
+    let tree = within_or_not(alloc, within, tree)?;
+    Ok(tree)
+}
+
+// A tree itself where it is asked for, else its negation.
+fn within_or_not(alloc: Global, within: bool, tree: Tree) -> Result<Tree, AllocError>
+    requires { IsTree tree }
+    ensures reduced { IfOk result IsTree }
+    ensures truth { IfOk result (λ t. HoldsAs t (λ w x. as_asked within (tree_holds (tree_view tree) w x))) }
+{
     if within {
         return Ok(tree);
     }
-    let tree = plain_not(alloc, &tree)?;
+    let tree = made_from(plain_not(alloc, &tree), tree)?;
     Ok(tree)
 }
 
@@ -123,7 +135,7 @@ fn version_tree(alloc: Global, version: &Version, full: bool) -> Result<Tree, Al
         version: version.copy(alloc)?,
         prefix: false,
     };
-    let tree = clause_tree(alloc, &clause, full)?;
+    let tree = made_from(clause_tree(alloc, &clause, full), clause)?;
     Ok(tree)
 }
 
@@ -135,10 +147,26 @@ pub fn joined(alloc: Global, all: bool, trees: Vec<Tree>) -> Result<Tree, AllocE
 {
     let mut trees = trees;
     let count = trees.len();
+    let tree = made_from(joined_some(alloc, all, &mut trees, count), trees)?;
+    Ok(tree)
+}
+
+// All trees of a row, of which there may be none, taken away and joined.
+fn joined_some(
+    alloc: Global,
+    all: bool,
+    trees: &mut Vec<Tree>,
+    count: usize,
+) -> Result<Tree, AllocError>
+    requires count { count ≡ length trees.old.items }
+    requires reduced { All IsTree trees.old.items }
+    ensures reduced { IfOk result IsTree }
+    ensures truth { IfOk result (λ t. HoldsAs t (λ w x. joint all (truths_of trees.old.items w x))) }
+{
     if count == 0 {
         return Ok(Tree::Truth(all));
     }
-    let tree = joined_last(alloc, all, &mut trees, count)?;
+    let tree = joined_last(alloc, all, trees, count)?;
     Ok(tree)
 }
 
@@ -163,8 +191,8 @@ fn joined_last(
         };
     }
     let half = count / 2;
-    let back = joined_last(alloc, all, trees, half)?;
-    let front = joined_last(alloc, all, trees, count - half)?;
+    let last = joined_last(alloc, all, trees, half)?;
+    let (back, front) = beside(last, joined_last(alloc, all, trees, count - half))?;
     let tree = pair(alloc, all, front, back)?;
     Ok(tree)
 }
@@ -183,11 +211,22 @@ fn pair(alloc: Global, all: bool, front: Tree, back: Tree) -> Result<Tree, Alloc
     if let Some(value) = truth_value(&back) {
         return Ok(past_neutral(all, value, back, front));
     }
+    let tree = made_from(both_or_either(alloc, all, &front, &back), (front, back))?;
+    Ok(tree)
+}
+
+// The tree that is true where both trees are, or where one of them is, as is asked.
+fn both_or_either(alloc: Global, all: bool, front: &Tree, back: &Tree) -> Result<Tree, AllocError>
+    requires front_reduced { IsTree front.now }
+    requires back_reduced { IsTree back.now }
+    ensures reduced { IfOk result IsTree }
+    ensures truth { IfOk result (λ t. HoldsAs t (λ w x. joint all (truths_of (front.now ∷ back.now ∷ []) w x))) }
+{
     if all {
-        let tree = plain_and(alloc, &front, &back)?;
+        let tree = plain_and(alloc, front, back)?;
         return Ok(tree);
     }
-    let tree = plain_or(alloc, &front, &back)?;
+    let tree = plain_or(alloc, front, back)?;
     Ok(tree)
 }
 

@@ -1,13 +1,15 @@
 //! Trees of the clauses that an interpreter's version has to meet.
-ghost use Rattle.std.specs.Prelude.{◌≡◌, ℕ, List, IfOk};
+ghost use Rattle.std.specs.Prelude.{◌≡◌, ◌∷◌, ℕ, List, IfOk, map};
+ghost use Rattle.ul_nodes.specs.Plain.{truth};
 ghost use Rattle.ul_version.specs.Fields.{plain};
 ghost use Rattle.ul_specifier.specs.Meaning.{meets_clause};
 ghost use Rattle.ul_tree.specs.TreeFacts.{IsTree, HoldsByPython, meets_release};
 ghost use Rattle.ul_tree.specs.Pieces;
-ghost use Rattle.ul_tree.specs.Pieces.{major_of, minor_of, patch_of, starts_of, stepped_of};
+ghost use Rattle.ul_tree.specs.Pieces.{flipping, major_of, minor_of, patch_of, starts_of, stepped_of};
 ghost use Rattle.ul_tree.specs.Views.{tree_view};
 
 use crate::Tree;
+use crate::owned::{beside, with_one};
 use std::alloc::{AllocError, Global};
 use ul_marker::meets_python;
 use ul_specifier::Clause;
@@ -102,6 +104,29 @@ fn starts(alloc: Global, clause: &Clause, full: bool) -> Result<Vec<u128>, Alloc
     Ok(starts)
 }
 
+// The first interpreter, and those at which a truth changes.
+fn pieces(alloc: Global, starts: &[u128]) -> Result<Vec<u128>, AllocError>
+    ensures { IfOk result (λ v. v.items ≡ 0 ∷ starts.now) }
+{
+    let mut pieces = Vec::new(alloc);
+    pieces.push(0)?;
+    pieces.extend_from_slice(starts)?;
+    Ok(pieces)
+}
+
+// The parts of a truth that changes at each start.
+fn parts(alloc: Global, first: bool, starts: &[u128]) -> Result<Vec<Tree>, AllocError>
+    ensures { IfOk result (λ ts. map tree_view ts.items ≡ truth first ∷ flipping first starts.now) }
+{
+    let mut parts = with_one(Vec::new(alloc), Tree::Truth(first))?;
+    let mut held = first;
+    for start in starts {
+        held = !held;
+        parts = with_one(parts, Tree::Truth(held))?;
+    }
+    Ok(parts)
+}
+
 // The tree of a truth that changes at each start.
 pub fn stepped(alloc: Global, first: bool, starts: &[u128]) -> Result<Tree, AllocError>
     ensures { IfOk result (λ t. tree_view t ≡ stepped_of first starts.now) }
@@ -109,18 +134,7 @@ pub fn stepped(alloc: Global, first: bool, starts: &[u128]) -> Result<Tree, Allo
     if starts.is_empty() {
         return Ok(Tree::Truth(first));
     }
-    let mut pieces = Vec::new(alloc);
-    let mut parts = Vec::new(alloc);
-    pieces.push(0)?;
-    parts.push(Tree::Truth(first))?;
-    let mut held = first;
-    for start in starts {
-        held = !held;
-        pieces.push(*start)?;
-        parts.push(Tree::Truth(held))?;
-    }
-    Ok(Tree::Python {
-        starts: pieces,
-        parts,
-    })
+    let pieces = pieces(alloc, starts)?;
+    let (starts, parts) = beside(pieces, parts(alloc, first, starts))?;
+    Ok(Tree::Python { starts, parts })
 }

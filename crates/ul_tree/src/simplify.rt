@@ -1,15 +1,17 @@
 //! Trees made simpler where only a region counts.
-ghost use Rattle.std.specs.Prelude.{◌≡◌, ◌<◌, ◌≤◌, ◌-◌, IfOk, All, List, ℕ, Some, option_map, true, false};
+ghost use Rattle.std.specs.Prelude.{◌≡◌, ◌<◌, ◌≤◌, ◌-◌, [], IfOk, All, List, ℕ, Some, option_map, true, false};
 ghost use Rattle.ul_tree.specs.TreeFacts.{IsTree, AgreesWithin};
+ghost use Rattle.ul_nodes.specs.Apply.{leaf_truth};
 ghost use Rattle.ul_nodes.specs.Plain.{truth};
 ghost use Rattle.ul_tree.specs.Views.{tree_view};
 ghost use Rattle.ul_nodes.specs.Keys.{level_view, top_of, branches_of, branch_count, AreKeysOf, KeysOf};
 ghost use Rattle.ul_tree.specs.Simplify.{Simplifies, Piece};
-ghost use Rattle.ul_tree.specs.SimplifyViews.{HoldsParts, is_above as is_above_plain, earlier_level, parts_top, region_view, union_parts, IsLowered, StandsInParts, PiecesAre};
+ghost use Rattle.ul_tree.specs.SimplifyViews.{HoldsParts, is_above as is_above_plain, earlier_level, parts_top, region_view, union_parts, result_trees, IsLowered, StandsFor, StandsInParts, PiecesAre, ResultFits, ResultsFit, SettlesAs};
 
 use crate::Tree;
 use crate::copy::copy;
 use crate::join::{Join, joined};
+use crate::owned::{beside, made_from, with_made};
 use crate::part::{Trees, branch_at, branch_count, is_false, known, level_of, rest_of};
 use crate::settle::settled;
 use crate::tree::{DEEPEST, deeper};
@@ -66,7 +68,7 @@ fn union(alloc: Global, tree: &Tree) -> Result<Tree, AllocError>
         return Ok(rest);
     }
     let parts = union_of(alloc, tree, 0, count)?;
-    let union = joined(alloc, Join::Either, rest_of(tree), &parts)?;
+    let union = made_from(joined(alloc, Join::Either, rest_of(tree), &parts), parts)?;
     Ok(union)
 }
 
@@ -84,9 +86,18 @@ fn union_of(alloc: Global, tree: &Tree, low: usize, high: usize) -> Result<Tree,
         return Ok(part);
     }
     let middle = low + count / 2;
-    let front = union_of(alloc, tree, low, middle)?;
-    let back = union_of(alloc, tree, middle, high)?;
-    let union = joined(alloc, Join::Either, &front, &back)?;
+    let first = union_of(alloc, tree, low, middle)?;
+    let (front, back) = beside(first, union_of(alloc, tree, middle, high))?;
+    let union = made_from(joined(alloc, Join::Either, &front, &back), (front, back))?;
+    Ok(union)
+}
+
+// The union of the parts of a tree that is let go.
+fn union_from(alloc: Global, tree: Tree) -> Result<Tree, AllocError>
+    requires { IsTree tree }
+    ensures { IfOk result (λ t. tree_view t ≡ union_parts (tree_view tree)) }
+{
+    let union = made_from(union(alloc, &tree), tree)?;
     Ok(union)
 }
 
@@ -105,10 +116,10 @@ fn lowered(alloc: Global, region: &Tree, level: Level<'_>) -> Result<Option<Tree
         if !is_above(&made, level) {
             return Ok(Some(made));
         }
-        let next = union(alloc, &made)?;
-        made = next;
+        made = union_from(alloc, made)?;
     }
     // Each turn takes a level away: no tree that fits in memory has so many.
+    drop(made);
     Err(AllocError)
 }
 
@@ -194,7 +205,8 @@ fn simplified(alloc: Global, whole: &Tree, within: &Tree, room: usize) -> Result
         Some(level) => {
             let room = deeper(room)?;
             let made = lowered(alloc, within, level)?;
-            let tree = simplified_at(alloc, whole, standing_region(&made, within), level, room)?;
+            let region = standing_region(&made, within);
+            let tree = made_from(simplified_at(alloc, whole, region, level, room), made)?;
             Ok(tree)
         }
     }
@@ -220,18 +232,46 @@ fn simplified_at<'x>(
         let tree = copy(alloc, whole)?;
         return Ok(tree);
     }
-    let keys = level_keys::<Trees>(alloc, level, whole, region)?;
     let made = lowered_for_parts(alloc, whole, region, level)?;
     let lower = standing_region(&made, region);
-    let results = results(alloc, whole, lower, level, &keys, room)?;
+    let found = pieces(alloc, whole, region, lower, level, room);
+    let (results, rest) = made_from(found, made)?;
+    let tree = settled(alloc, level, results, rest, rest_at::<Trees>(whole, level))?;
+    Ok(tree)
+}
+
+// The results of all pieces of a node, with that of the piece without a key; `lower` stands for the region in them.
+#[cycle(simplify)]
+fn pieces<'x>(
+    alloc: Global,
+    whole: &'x Tree,
+    region: &'x Tree,
+    lower: &Tree,
+    level: Level<'_>,
+    room: usize,
+) -> Result<(Vec<(Key<'x>, Option<Tree>)>, Option<Tree>), AllocError>
+    requires whole_reduced { IsTree whole.now }
+    requires top { Some (level_view level) ≡ top_of (tree_view whole.now) }
+    requires region_reduced { IsTree region.now }
+    requires not_false { tree_view region.now ≡ truth false → ⊥ }
+    requires not_true { leaf_truth (tree_view region.now) ≡ false }
+    requires not_above { is_above_plain (level_view level) (tree_view region.now) ≡ false }
+    requires lower { StandsFor (level_view level) (tree_view whole.now) (tree_view region.now) (tree_view lower.now) }
+    ensures settled { IfOk result (λ both. SettlesAs level.entry whole.now region.now both.0.items both.1) }
+    ensures kinds { IfOk result (λ both. KeysOf (level_view level.entry) both.0.items) }
+    ensures results_reduced { IfOk result (λ both. ResultsFit (result_trees both.0.items) []) }
+    ensures rest_reduced { IfOk result (λ both. ResultFits (option_map tree_view both.1) []) }
+{
+    let keys = level_keys::<Trees>(alloc, level, whole, region)?;
+    let results = made_from(results(alloc, whole, lower, level, &keys, room), keys)?;
     let rest = piece(
         alloc,
         rest_at::<Trees>(whole, level),
         rest_at::<Trees>(lower, level),
         room,
-    )?;
-    let tree = settled(alloc, level, results, rest, rest_at::<Trees>(whole, level))?;
-    Ok(tree)
+    );
+    let both = beside(results, rest)?;
+    Ok(both)
 }
 
 // The results of the pieces at keys of a level.
@@ -259,8 +299,8 @@ fn results<'x>(
             part_at::<Trees>(whole, level, *key),
             part_at::<Trees>(region, level, *key),
             room,
-        )?;
-        made.push((*key, result))?;
+        );
+        made = with_made(made, beside(*key, result))?;
     }
     Ok(made)
 }

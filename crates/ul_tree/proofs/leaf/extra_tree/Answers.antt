@@ -16,21 +16,21 @@ pub returns-clause-reduced : goal.returns-clause-reduced
 returns-clause-reduced c =
     let literal = c.args.literal.now in
     let points = c.in_ok-points.points in
-    let other = c.in_ok-other.other in
+    let other = c.in_ok-points.other in
     let may : (is_empty literal || is_name literal) ≡ true = sym c.in_ok-may_be_extra.ensures ∙ c.if-not-branch.false in
     subst (λ (t : Plain). IsReduced t)
     (sym (view_extra points other
-    ∙ ap (λ z. node extra_level (tree_view other.value) z) c.in_ok-points.ensures
-    ∙ ap (λ z. node extra_level z (point_of literal c.args.equal)) (ap tree_view c.in_ok-other.ensures.ok ∙ view_truth _)))
+    ∙ ap (λ z. node extra_level (tree_view other.value) z) c.in_ok-points.ensures.point
+    ∙ ap (λ z. node extra_level z (point_of literal c.args.equal)) (ap tree_view c.in_ok-points.ensures.other ∙ view_truth _)))
     (extra_reduced literal c.args.equal (extra_key literal c.requires may))
 
 pub returns-clause-truth : goal.returns-clause-truth
 returns-clause-truth c w x =
     let literal = c.args.literal.now in
     let points = c.in_ok-points.points in
-    let other = c.in_ok-other.other in
+    let other = c.in_ok-points.other in
     let may : (is_empty literal || is_name literal) ≡ true = sym c.in_ok-may_be_extra.ensures ∙ c.if-not-branch.false in
     ap (λ t. tree_holds t w x) (view_extra points other
-    ∙ ap (λ z. node extra_level (tree_view other.value) z) c.in_ok-points.ensures
-    ∙ ap (λ z. node extra_level z (point_of literal c.args.equal)) (ap tree_view c.in_ok-other.ensures.ok ∙ view_truth _))
+    ∙ ap (λ z. node extra_level (tree_view other.value) z) c.in_ok-points.ensures.point
+    ∙ ap (λ z. node extra_level z (point_of literal c.args.equal)) (ap tree_view c.in_ok-points.ensures.other ∙ view_truth _))
     ∙ extra_holds literal c.args.equal w x may

@@ -12,8 +12,8 @@ pub returns-clause-truth : goal.returns-clause-truth
 returns-clause-truth c w x =
     let v = c.args.variable in
     let points = c.in_ok-points.points in
-    let other = c.in_ok-other.other in
+    let other = c.in_ok-points.other in
     ap (λ t. tree_holds t w x) (view_text v points other
-    ∙ ap (λ z. node (text_level v) (tree_view other.value) z) c.in_ok-points.ensures
-    ∙ ap (λ z. node (text_level v) z (point_of c.args.literal.now c.args.equal)) (ap tree_view c.in_ok-other.ensures.ok ∙ view_truth _))
+    ∙ ap (λ z. node (text_level v) (tree_view other.value) z) c.in_ok-points.ensures.point
+    ∙ ap (λ z. node (text_level v) z (point_of c.args.literal.now c.args.equal)) (ap tree_view c.in_ok-points.ensures.other ∙ view_truth _))
     ∙ text_holds v c.args.literal.now c.args.equal w x

@@ -6,6 +6,7 @@ use Rattle.ul_nodes.specs.Reduced.{IsReduced}
 use Rattle.ul_tree.specs.Values.{tree_holds}
 use Rattle.ul_tree.specs.Views.{tree_view}
 use Rattle.ul_tree.specs.declared.tree.Tree.{Tree}
+use Rattle.ul_tree.proofs.HandedOn.{made_holds}
 use Rattle.ul_tree.proofs.Joint.{last_truths}
 use Rattle.ul_tree.proofs.markers.+joined_last.Goals as goal
 
@@ -19,7 +20,7 @@ joined_last-requires-2 t c =
     let d = c.decreases in
     let xs = c.args.trees.now.items in
     let half = c.args.count / 2 in
-    let left = c.in_ok-back.ensures.left in
+    let left = c.in_ok-last.ensures.left in
     let n = ap (length {A = Tree}) left ∙ length-take (length xs - half) xs in (
       omega (arith, d, c.requires.some, c.if-count-eq1.false),
       (
@@ -36,8 +37,11 @@ returns-clause-truth t c w x =
     let all = c.args.all in
     let xs = c.args.trees.now.items in
     let half = c.args.count / 2 in
-    let front = c.joined_last.new.trees.items in
+    let left = c.joined_last.new.trees.items in
+    let back = c.in_ok-back.back in
+    let both = c.in_ok-back.ensures in
+    let told = made_holds c.joined_last-2.result c.in_ok-back.front _ both.1 c.joined_last-2.ensures.truth in
     c.in_ok-tree.ensures.truth w x
-    ∙ ap (λ b. joint all (b ∷ tree_holds (tree_view c.in_ok-back.back) w x ∷ [])) (c.in_ok-front.ensures.truth w x)
-    ∙ ap (λ b. joint all (joint all (truths_of (drop (length front - (c.args.count - half)) front) w x) ∷ b ∷ [])) (c.in_ok-back.ensures.truth w x)
-    ∙ last_truths all xs c.joined_last.new.trees.items c.args.count half w x (omega arith) c.requires.within c.in_ok-back.ensures.left
+    ∙ ap (λ b. joint all (b ∷ tree_holds (tree_view back) w x ∷ [])) (told w x)
+    ∙ ap (λ b. joint all (joint all (truths_of (drop (length left - (c.args.count - half)) left) w x) ∷ b ∷ [])) (ap (λ z. tree_holds (tree_view z) w x) both.0 ∙ c.in_ok-last.ensures.truth w x)
+    ∙ last_truths all xs left c.args.count half w x (omega arith) c.requires.within c.in_ok-last.ensures.left

@@ -1,20 +1,19 @@
-use Rattle.std.proofs.Common.{◌∷◌, ◌++◌, map, length, sym, ap, ◌∙◌}
-use Rattle.std.proofs.lemmas.List.{append-nil, drop_all}
+use Rattle.std.proofs.Common.{ℕ, ◌∷◌, Global, Vec, map, length, sym, ap, ◌∙◌}
 use Rattle.ul_specifier.proofs.ForCallers.{not_empty}
 use Rattle.ul_tree.specs.Views.{tree_view, python_of}
+use Rattle.ul_tree.proofs.HandedOn.{made_holds}
 use Rattle.ul_tree.proofs.Shapes.{view_python}
-use Rattle.ul_tree.proofs.Stepped.{flipping, python_stepped}
+use Rattle.ul_tree.proofs.Stepped.{python_stepped}
 use Rattle.ul_tree.proofs.python.stepped.Goals as goal
 
 pub returns : goal.returns
 returns c =
     let starts = c.args.starts.now in
-    let pieces = c.loop-start.pieces.items in
-    let parts = c.loop-start.parts.items in
-    let over = drop_all c.loop-start.start-index starts c.loop-start-test.false in
-    let all_pieces = sym (append-nil pieces) ∙ ap (λ z. pieces ++ z) (sym over) ∙ c.loop-start.invariant.pieces in
-    let all_parts = sym (append-nil (map tree_view parts)) ∙ ap (λ z. map tree_view parts ++ flipping c.loop-start.held z) (sym over) ∙ c.loop-start.invariant.parts in
-    view_python c.loop-start.pieces c.loop-start.parts
-    ∙ ap (λ z. python_of z (map tree_view parts)) all_pieces
-    ∙ ap (λ z. python_of (0 ∷ starts) z) all_parts
+    let made = c.in_ok-starts.parts in
+    let both = c.in_ok-starts.ensures in
+    let pieces = ap (λ (z : Vec ℕ Global). z.items) both.0 ∙ c.in_ok-pieces.ensures in
+    let parts = made_holds c.parts.result made _ both.1 c.parts.ensures in
+    view_python c.in_ok-starts.starts made
+    ∙ ap (λ z. python_of z (map tree_view made.items)) pieces
+    ∙ ap (λ z. python_of (0 ∷ starts) z) parts
     ∙ python_stepped c.args.first starts (not_empty (length starts) (sym c.if-is_empty.false ∙ c.is_empty.ensures))

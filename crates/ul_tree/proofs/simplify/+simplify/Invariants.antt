@@ -7,16 +7,19 @@ use Rattle.ul_tree.specs.Simplify.{Pieces}
 use Rattle.ul_tree.proofs.simplify.+simplify.Given as goal
 
 abbrev pub decreases-piece : goal.decreases-piece
-decreases-piece l = 4 * size (tree_view l.whole.now) + 3
+decreases-piece l = 5 * size (tree_view l.whole.now) + 4
 
 abbrev pub decreases-simplified : goal.decreases-simplified
-decreases-simplified l = 4 * size (tree_view l.whole.now) + 2
+decreases-simplified l = 5 * size (tree_view l.whole.now) + 3
 
 abbrev pub decreases-simplified_at : goal.decreases-simplified_at
-decreases-simplified_at l = 4 * size (tree_view l.whole.now) + 1
+decreases-simplified_at l = 5 * size (tree_view l.whole.now) + 2
+
+abbrev pub decreases-pieces : goal.decreases-pieces
+decreases-pieces l = 5 * size (tree_view l.whole.now) + 1
 
 abbrev pub decreases-results : goal.decreases-results
-decreases-results l = 4 * size (tree_view l.whole.now)
+decreases-results l = 5 * size (tree_view l.whole.now)
 
 abbrev pub invariant-results-loop-key : goal.invariant-results-loop-key
 invariant-results-loop-key l = record {

@@ -5,6 +5,11 @@ use Rattle.ul_nodes.specs.Reduced.{IsReduced}
 use Rattle.ul_tree.specs.SimplifyViews.{HoldsParts}
 use Rattle.ul_tree.specs.Views.{tree_view}
 use Rattle.ul_nodes.proofs.ForCallers.{part_reduced}
+use Rattle.ul_tree.specs.Joins.{IsJoined}
+use Rattle.ul_tree.specs.TreeFacts.{IsTree}
+use Rattle.ul_tree.specs.declared.join.Join.TheVariants.{Either}
+use Rattle.ul_tree.specs.declared.tree.Tree.{Tree}
+use Rattle.ul_tree.proofs.HandedOn.{made_holds}
 use Rattle.ul_tree.proofs.Lowering.{one_part, halves_joined}
 use Rattle.ul_tree.proofs.simplify.+union_of.Goals as goal
 
@@ -31,5 +36,17 @@ union_of-requires-2 t c =
 
 pub returns-clause-truth : goal.returns-clause-truth
 returns-clause-truth t c =
-    halves_joined (branches_of (tree_view c.args.tree.now)) c.args.low (c.args.low + (c.args.high - c.args.low) / 2) c.args.high (tree_view c.in_ok-front.front) (tree_view c.in_ok-back.back) (tree_view c.in_ok-union.union)
-    (omega arith) (omega (arith, c.requires.some)) c.in_ok-front.ensures.reduced c.in_ok-back.ensures.reduced c.in_ok-union.ensures.joined c.in_ok-front.ensures.truth c.in_ok-back.ensures.truth
+    let bs = branches_of (tree_view c.args.tree.now) in
+    let low = c.args.low in
+    let high = c.args.high in
+    let middle = low + (high - low) / 2 in
+    let front = c.in_ok-front.front in
+    let back = c.in_ok-front.back in
+    let both = c.in_ok-front.ensures in
+    let made = made_holds c.joined.result c.in_ok-union.union (λ u. IsJoined Either (tree_view front) (tree_view back) (tree_view u)) c.in_ok-union.ensures c.joined.ensures.joined in
+    halves_joined bs low middle high (tree_view front) (tree_view back) (tree_view c.in_ok-union.union) (omega arith) (omega (arith, c.requires.some))
+    (subst IsTree (sym both.0) c.in_ok-first.ensures.reduced)
+    (made_holds c.union_of-2.result back IsTree both.1 c.union_of-2.ensures.reduced)
+    made
+    (subst (λ (z : Tree). HoldsParts bs low (middle - low) (tree_view z)) (sym both.0) c.in_ok-first.ensures.truth)
+    (made_holds c.union_of-2.result back (λ z. HoldsParts bs middle (high - middle) (tree_view z)) both.1 c.union_of-2.ensures.truth)

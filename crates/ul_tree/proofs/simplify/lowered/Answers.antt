@@ -14,4 +14,4 @@ pub loop-preserved : goal.loop-preserved
 loop-preserved c =
     let l = level_view c.args.level in
     let r = tree_view c.args.region.now in
-    lowers_union l r (tree_view c.loop.made) (tree_view c.in_ok-next.next) c.loop.invariant (sym c.is_above-in-loop.ensures ∙ c.if-not-is_above-2.false) c.in_ok-next.ensures
+    lowers_union l r (tree_view c.loop.made) (tree_view c.in_ok-made-2.made) c.loop.invariant (sym c.is_above-in-loop.ensures ∙ c.if-not-is_above-2.false) c.in_ok-made-2.ensures

@@ -7,6 +7,7 @@ use Rattle.ul_nodes.specs.Keys.{branches_of, branch_count}
 use Rattle.ul_tree.specs.SimplifyViews.{HoldsParts}
 use Rattle.ul_tree.specs.Views.{tree_view}
 use Rattle.ul_nodes.proofs.ForCallers.{rest_reduced}
+use Rattle.ul_tree.proofs.HandedOn.{made_holds}
 use Rattle.ul_tree.proofs.Lowering.{no_branches, union_joined}
 use Rattle.ul_tree.proofs.simplify.union.Goals as goal
 
@@ -21,6 +22,7 @@ returns c =
     let t = tree_view c.args.tree.now in
     let p = tree_view c.in_ok-parts.parts in
     let all : c.branch_count-count.result - 0 ≡ branch_count (branches_of t) = omega (arith, c.branch_count-count.ensures) in
+    let made = made_holds c.joined.result c.in_ok-union.union (λ u. IsJoined Either (tree_view c.rest_of-2.result.now) p (tree_view u)) c.in_ok-union.ensures c.joined.ensures.joined in
     union_joined t p (tree_view c.in_ok-union.union) c.requires c.in_ok-parts.ensures.reduced
     (subst (λ n. HoldsParts (branches_of t) 0 n p) all c.in_ok-parts.ensures.truth)
-    (subst (λ (z : Plain). IsJoined Either z p (tree_view c.in_ok-union.union)) c.rest_of-2.ensures c.in_ok-union.ensures.joined)
+    (subst (λ (z : Plain). IsJoined Either z p (tree_view c.in_ok-union.union)) c.rest_of-2.ensures made)

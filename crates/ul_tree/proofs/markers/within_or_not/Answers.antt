@@ -1,0 +1,14 @@
+use Rattle.std.proofs.Common.{ap, sym, ◌∙◌}
+use Rattle.ul_comparison.specs.Truth.{as_asked}
+use Rattle.ul_tree.specs.Values.{tree_holds}
+use Rattle.ul_tree.specs.Views.{tree_view}
+use Rattle.ul_tree.proofs.HandedOn.{made_holds}
+use Rattle.ul_tree.proofs.markers.within_or_not.Goals as goal
+
+pub returns-then-within-clause-truth : goal.returns-then-within-clause-truth
+returns-then-within-clause-truth c w x = ap (λ b. as_asked b (tree_holds (tree_view c.args.tree) w x)) (sym c.if-within.true)
+
+pub returns-clause-truth : goal.returns-clause-truth
+returns-clause-truth c w x =
+    let told = made_holds c.plain_not.result c.in_ok-tree.tree _ c.in_ok-tree.ensures c.plain_not.ensures.truth in
+    told w x ∙ ap (λ b. as_asked b (tree_holds (tree_view c.args.tree) w x)) (sym c.if-within.false)
