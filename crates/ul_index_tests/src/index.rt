@@ -1,13 +1,15 @@
 //! Index documents and eligible releases.
 
-ghost use Rattle.std.specs.Prelude.{◌≡◌, length};
+ghost use Rattle.std.specs.Prelude.{◌≡◌, ◌≤◌, IsTrue, false, length};
 ghost use Rattle.std.specs.Str.{bytes_eq};
 
-use std::alloc::Global;
+use std::alloc::{AllocError, Global};
+use std::fmt::Write;
 use std::test::Fail;
-use ul_base::Name;
+use ul_base::{Name, NameFault};
 use ul_index::{Catalog, IndexFault, document, eligible};
-use ul_requirement::{Package, Release};
+use ul_requirement::{FileEntry, Package, Release};
+use ul_version::Version;
 
 // What documents of `a` are read as. A row has what is told of it; whether its text is a whole document, entries or
 // the files of an entry; and the text, where `N` in a file stands for 62 digits.
@@ -72,126 +74,151 @@ const ELIGIBLE: &str = "2.0a1 |2.0a1|\"a\"\n\
     |1a1 1.0! 0.9.dev0|\n\
     1.9 1.9+x 1.9.post1 1.10 1!0 |1.10 1.9 1!0 1.9.post1 1.9+x|";
 
+// What comes before the first bar of a line, and what comes after it.
+fn cells(line: &str) -> (&str, &str) {
+    line.split_once('|').unwrap_or((line, ""))
+}
+
+fn push_version(alloc: Global, told: &mut String, version: &Version) -> Result<(), AllocError> {
+    let text = version.text(alloc)?;
+    told.push_str(text.as_str())
+}
+
+// The name of a file, and the first two digits of its sum.
+fn push_file(told: &mut String, entry: &FileEntry) -> Result<(), AllocError> {
+    told.push(' ')?;
+    told.push_str(entry.file.as_str())?;
+    told.push('=')?;
+    told.push_str(&entry.sha256.as_str()[..2])
+}
+
 // A release in short: its version, `!` where it was withdrawn, how many requirements and files it has.
-fn release_told(alloc: Global, release: &Release) -> Result<String, Fail> {
-    let version = release.version.text(alloc)?;
+fn push_release(alloc: Global, told: &mut String, release: &Release) -> Result<(), AllocError> {
+    push_version(alloc, told, &release.version)?;
     let yanked = if release.yanked { "!" } else { "" };
-    let requirements = release.requirements.len();
-    let mut files = String::new(alloc);
+    write!(told, "{yanked}/{}", release.requirements.len())?;
     for entry in &release.files {
-        files.push_str(" ")?;
-        files.push_str(entry.file.as_str())?;
-        files.push_str("=")?;
-        files.push_str(&entry.sha256.as_str()[..2])?;
+        push_file(told, entry)?;
     }
-    Ok(format!(in alloc; "{version}{yanked}/{requirements}{files};")?)
+    told.push(';')
 }
 
 // A package in short: the number of entries, and the releases.
-fn package_told(alloc: Global, found: &Package) -> Result<String, Fail> {
+fn package_told(alloc: Global, found: &Package) -> Result<String, AllocError> {
     let mut told = format!(in alloc; "{}:", found.entries)?;
     for release in &found.releases {
-        told.push_str(release_told(alloc, release)?.as_str())?;
+        push_release(alloc, &mut told, release)?;
     }
     Ok(told)
 }
 
-// What a document of `a` is read as: the number of entries and the releases, or the fault.
-fn told(alloc: Global, bytes: &[u8]) -> Result<String, Fail> {
-    match document(alloc, bytes, &Name::read(alloc, "a")?) {
-        Ok(found) => package_told(alloc, &found),
-        Err(IndexFault::NotJson) => Ok(String::from_str(alloc, "not JSON")?),
-        Err(IndexFault::WrongName) => Ok(String::from_str(alloc, "name")?),
-        Err(IndexFault::Shape(place)) => {
+fn fault_told(alloc: Global, fault: &IndexFault) -> Result<String, AllocError> {
+    match fault {
+        IndexFault::NotJson => String::from_str(alloc, "not JSON"),
+        IndexFault::WrongName => String::from_str(alloc, "name"),
+        IndexFault::Shape(place) => {
             let path = place.text(alloc)?;
-            Ok(format!(in alloc; "shape {path}")?)
+            format!(in alloc; "shape {path}")
         }
-        Err(IndexFault::NoMemory) => Err(Fail::from("no memory")),
+        IndexFault::NoMemory => Err(AllocError),
     }
 }
 
-// What a document with these entries is read as.
-fn entries_told(alloc: Global, entries: &str) -> Result<String, Fail> {
-    let text = format!(in alloc; "{{\"name\": \"a\", \"versions\": [{entries}]}}")?;
-    told(alloc, text.as_bytes())
-}
-
-// What an entry with these files is read as. `N` stands for 62 digits.
-fn files_told(alloc: Global, files: &str) -> Result<String, Fail> {
-    let mut text = String::from_str(alloc, "{\"version\": \"1\", \"files\": [")?;
-    let mut first = true;
-    for part in files.split('N') {
-        if !first {
-            text.push_str("00000000000000000000000000000000000000000000000000000000000000")?;
-        }
-        text.push_str(part)?;
-        first = false;
+// What a document of a name is read as: the number of entries and the releases, or the fault.
+fn told(alloc: Global, bytes: &[u8], name: &Name) -> Result<String, AllocError> {
+    match document(alloc, bytes, name) {
+        Ok(found) => package_told(alloc, &found),
+        Err(fault) => fault_told(alloc, &fault),
     }
-    text.push_str("]}")?;
-    entries_told(alloc, text.as_str())
 }
 
-// A row of the table, with what the text is read as.
-fn row(alloc: Global, kind: &str, text: &str) -> Result<String, Fail> {
-    let told = match kind {
-        "e" => entries_told(alloc, text)?,
-        "f" => files_told(alloc, text)?,
-        _ => told(alloc, text.as_bytes())?,
-    };
-    Ok(format!(in alloc; "{told}|{kind}|{text}")?)
+fn is_told(alloc: Global, bytes: &[u8], want: &str) -> Result<bool, NameFault> {
+    let name = Name::read(alloc, "a")?;
+    let told = told(alloc, bytes, &name)?;
+    Ok(told.as_str() == want)
+}
+
+const DIGITS: &str = "00000000000000000000000000000000000000000000000000000000000000";
+
+// What stands before and behind a text of a kind.
+fn around(kind: &str) -> (&'static str, &'static str) {
+    match kind {
+        "e" => ("{\"name\": \"a\", \"versions\": [", "]}"),
+        "f" => (
+            "{\"name\": \"a\", \"versions\": [{\"version\": \"1\", \"files\": [",
+            "]}]}",
+        ),
+        _ => ("", ""),
+    }
+}
+
+// The document of a text of a kind.
+fn document_text(alloc: Global, kind: &str, text: &str) -> Result<String, AllocError> {
+    let (front, back) = around(kind);
+    let short = format!(in alloc; "{front}{text}{back}")?;
+    short.replace(alloc, "N", DIGITS)
+}
+
+fn is_row(alloc: Global, line: &str) -> Result<bool, NameFault> {
+    let (want, rest) = cells(line);
+    let (kind, text) = cells(rest);
+    let text = document_text(alloc, kind, text)?;
+    is_told(alloc, text.as_bytes(), want)
 }
 
 #[test]
 fn documents(rt: HostRuntime) -> Result<(), Fail> {
-    let alloc = rt.alloc();
     for line in DOCUMENTS.lines() {
-        let (_, rest) = line.split_once('|').unwrap_or((line, ""));
-        let (kind, text) = rest.split_once('|').unwrap_or((rest, ""));
-        assert_eq!(rt; row(alloc, kind, text)?.as_str(), line);
+        assert!(rt; is_row(rt.alloc(), line)?, "{line}");
     }
-    assert_eq!(rt; told(alloc, b"\"\xff\"")?.as_str(), "not JSON");
+    Ok(())
+}
+
+#[test]
+fn other_bytes_are_no_document(rt: HostRuntime) -> Result<(), Fail> {
+    assert!(rt; is_told(rt.alloc(), b"\"\xff\"", "not JSON")?);
     Ok(())
 }
 
 // The entry of a version, with `!` behind it where it was withdrawn.
-fn entry(alloc: Global, text: &str) -> Result<String, Fail> {
+fn push_entry(json: &mut String, text: &str) -> Result<(), AllocError> {
     let version = text.strip_suffix("!").unwrap_or(text);
     let yanked = text.ends_with("!");
-    Ok(format!(in alloc; "{{\"version\": \"{version}\", \"yanked\": {yanked}}}")?)
+    let comma = if json.ends_with("[") { "" } else { ", " };
+    write!(
+        json,
+        "{comma}{{\"version\": \"{version}\", \"yanked\": {yanked}}}"
+    )
 }
 
-// The entries of these versions.
-fn entries(alloc: Global, versions: &str) -> Result<String, Fail> {
-    let mut entries = String::new(alloc);
+// A document of these versions.
+fn versions_text(alloc: Global, versions: &str) -> Result<String, AllocError> {
+    let mut json = String::from_str(alloc, "{\"name\": \"a\", \"versions\": [")?;
     for text in versions.split(' ') {
-        if !entries.is_empty() {
-            entries.push_str(", ")?;
-        }
-        entries.push_str(entry(alloc, text)?.as_str())?;
+        push_entry(&mut json, text)?;
     }
-    Ok(entries)
+    json.push_str("]}")?;
+    Ok(json)
 }
 
 // What a document of a name is read as.
-fn package(alloc: Global, name: &str, text: &str) -> Result<Package, Fail> {
-    let name = Name::read(alloc, name)?;
-    let found = document(alloc, text.as_bytes(), &name)?;
-    Ok(found)
+fn package(alloc: Global, name: &str, text: &str) -> Option<Package> {
+    let name = Name::read(alloc, name).ok()?;
+    document(alloc, text.as_bytes(), &name).ok()
 }
 
 // A document's releases of these versions.
-fn releases(alloc: Global, versions: &str) -> Result<Package, Fail> {
-    let entries = entries(alloc, versions)?;
-    let text = format!(in alloc; "{{\"name\": \"a\", \"versions\": [{entries}]}}")?;
+fn releases(alloc: Global, versions: &str) -> Option<Package> {
+    let text = versions_text(alloc, versions).ok()?;
     package(alloc, "a", text.as_str())
 }
 
 // The project's document with these direct requirements.
-fn project(alloc: Global, directs: &str) -> Result<Package, Fail> {
+fn project(alloc: Global, directs: &str) -> Option<Package> {
     let text = format!(in alloc;
         "{{\"name\": \"demo\", \"versions\": [{{\"version\": \"0\", \"requires_dist\": [{directs}]}}]}}"
-    )?;
-    package(alloc, "demo", text.as_str())
+    );
+    package(alloc, "demo", text.ok()?.as_str())
 }
 
 fn release_count(found: &Package) -> usize
@@ -209,102 +236,127 @@ fn have_one_name(one: &Package, other: &Package) -> bool
     name.text() == theirs.text()
 }
 
-// The catalog of a project and a package.
-fn catalog(alloc: Global, project: Package, found: Package) -> Result<Catalog, Fail> {
-    if have_one_name(&project, &found) {
-        return Err(Fail::from("one name"));
+// Whether a project of one release and a package of few have two names.
+fn are_apart(project: &Package, found: &Package) -> bool
+    ensures apart { IsTrue result → bytes_eq project.now.name found.now.name ≡ false }
+    ensures one { IsTrue result → length project.now.releases ≡ 1 }
+    ensures few { IsTrue result → length found.now.releases ≤ 1000000 }
+{
+    if have_one_name(project, found) {
+        return false;
     }
-    if release_count(&project) != 1 {
-        return Err(Fail::from("not one release of the project"));
+    if release_count(project) != 1 {
+        return false;
     }
-    if release_count(&found) > 1_000_000 {
-        return Err(Fail::from("many releases"));
+    release_count(found) <= 1_000_000
+}
+
+// The catalog of a project and a package; none where they make none.
+fn catalog(alloc: Global, project: Package, found: Package) -> Result<Catalog, AllocError> {
+    if are_apart(&project, &found) {
+        let packages = vec![in alloc; project, found]?;
+        return Catalog::of(alloc, packages);
     }
-    let packages = vec![in alloc; project, found]?;
-    let catalog = Catalog::of(alloc, packages)?;
-    Ok(catalog)
+    Err(AllocError)
+}
+
+// The catalog of a project with these direct requirements, and of these versions of `a`.
+fn catalog_of(alloc: Global, directs: &str, versions: &str) -> Option<Catalog> {
+    let project = project(alloc, directs)?;
+    let found = releases(alloc, versions)?;
+    catalog(alloc, project, found).ok()
+}
+
+// The version of a release, and a space.
+fn push_place(
+    alloc: Global,
+    told: &mut String,
+    release: Option<&Release>,
+) -> Result<(), AllocError> {
+    match release {
+        Some(release) => push_version(alloc, told, &release.version)?,
+        None => told.push_str("no place")?,
+    }
+    told.push(' ')
 }
 
 // The versions at places of releases, with a space behind each.
-fn places_told(alloc: Global, releases: &[Release], places: &[u32]) -> Result<String, Fail> {
+fn places_told(alloc: Global, releases: &[Release], places: &[u32]) -> Result<String, AllocError> {
     let mut told = String::new(alloc);
     for place in places {
-        let Some(release) = releases.get(*place as usize) else {
-            return Err(Fail::from("no place"));
-        };
-        told.push_str(release.version.text(alloc)?.as_str())?;
-        told.push_str(" ")?;
+        push_place(alloc, &mut told, releases.get(*place as usize))?;
     }
     Ok(told)
 }
 
-// The catalog of a project with these direct requirements, and of these versions of `a`.
-fn catalog_of(alloc: Global, directs: &str, versions: &str) -> Result<Catalog, Fail> {
-    let project = project(alloc, directs)?;
-    let found = releases(alloc, versions)?;
-    catalog(alloc, project, found)
-}
-
 // The eligible versions of a name in a catalog, with a space behind each.
-fn eligible_in(alloc: Global, catalog: &Catalog, name: &Name) -> Result<String, Fail> {
+fn eligible_in(alloc: Global, catalog: &Catalog, name: &Name) -> Result<String, AllocError> {
     let places = eligible(alloc, catalog, name)?;
-    places_told(alloc, catalog.releases_of(name), &places)
+    places_told(alloc, catalog.releases_of(name), places.as_slice())
 }
 
-// The eligible versions of a name, with a space behind each.
-fn eligible_of(alloc: Global, catalog: &Catalog, name: &str) -> Result<String, Fail> {
+fn is_eligible(
+    alloc: Global,
+    catalog: &Catalog,
+    name: &str,
+    want: &str,
+) -> Result<bool, NameFault> {
     let name = Name::read(alloc, name)?;
-    eligible_in(alloc, catalog, &name)
+    let told = eligible_in(alloc, catalog, &name)?;
+    Ok(told.as_str() == want)
 }
 
-// The eligible versions of `a`, with a space behind each.
-fn eligible_told(alloc: Global, directs: &str, versions: &str) -> Result<String, Fail> {
-    let catalog = catalog_of(alloc, directs, versions)?;
-    eligible_of(alloc, &catalog, "a")
-}
-
-// Versions from 1 up, in another order: those that 7 divides are behind the others.
-fn many_versions(alloc: Global, count: u32) -> Result<String, Fail> {
-    let mut versions = String::from_str(alloc, "0")?;
-    for number in 1..count {
-        if number % 7 != 0 {
-            versions.push_str(format!(in alloc; " {number}")?.as_str())?;
-        }
+// Whether those of these versions of `a` are eligible that are wanted.
+fn is_eligible_row(alloc: Global, line: &str) -> Result<bool, NameFault> {
+    let (want, rest) = cells(line);
+    let (versions, directs) = cells(rest);
+    match catalog_of(alloc, directs, versions) {
+        Some(catalog) => is_eligible(alloc, &catalog, "a", want),
+        None => Ok(false),
     }
-    for number in 1..count {
-        if number % 7 == 0 {
-            versions.push_str(format!(in alloc; " {number}")?.as_str())?;
-        }
-    }
-    Ok(versions)
-}
-
-// The numbers below, with a space behind each.
-fn numbers(alloc: Global, count: u32) -> Result<String, Fail> {
-    let mut numbers = String::new(alloc);
-    for number in 0..count {
-        numbers.push_str(format!(in alloc; "{number} ")?.as_str())?;
-    }
-    Ok(numbers)
 }
 
 #[test]
 fn eligible_releases(rt: HostRuntime) -> Result<(), Fail> {
-    let alloc = rt.alloc();
     for line in ELIGIBLE.lines() {
-        let (want, rest) = line.split_once('|').unwrap_or((line, ""));
-        let (versions, directs) = rest.split_once('|').unwrap_or((rest, ""));
-        assert_eq!(rt; eligible_told(alloc, directs, versions)?.as_str(), want);
+        assert!(rt; is_eligible_row(rt.alloc(), line)?, "{line}");
     }
     Ok(())
 }
 
+// The numbers below, with a space behind each.
+fn push_numbers(line: &mut String, count: u32) -> Result<(), AllocError> {
+    for number in 0..count {
+        write!(line, "{number} ")?;
+    }
+    Ok(())
+}
+
+// The numbers from 1 up that 7 divides, or the others, with a space before each.
+fn push_versions(line: &mut String, count: u32, are_divided: bool) -> Result<(), AllocError> {
+    for number in 1..count {
+        if (number % 7 == 0) == are_divided {
+            write!(line, " {number}")?;
+        }
+    }
+    Ok(())
+}
+
+// A line of so many versions in another order: those that 7 divides are behind the others.
+fn many_versions(alloc: Global, count: u32) -> Result<String, AllocError> {
+    let mut line = String::new(alloc);
+    push_numbers(&mut line, count)?;
+    line.push_str("|0")?;
+    push_versions(&mut line, count, false)?;
+    push_versions(&mut line, count, true)?;
+    line.push_str("|\"a\"")?;
+    Ok(line)
+}
+
 // Whether so many versions in another order are eligible in their own.
-fn are_in_order(alloc: Global, count: u32) -> Result<bool, Fail> {
-    let versions = many_versions(alloc, count)?;
-    let told = eligible_told(alloc, "\"a\"", versions.as_str())?;
-    let want = numbers(alloc, count)?;
-    Ok(told.as_str() == want.as_str())
+fn are_in_order(alloc: Global, count: u32) -> Result<bool, NameFault> {
+    let line = many_versions(alloc, count)?;
+    is_eligible_row(alloc, line.as_str())
 }
 
 #[test]
@@ -313,46 +365,67 @@ fn many_eligible_releases(rt: HostRuntime) -> Result<(), Fail> {
     Ok(())
 }
 
-// Whether a catalog has a package of a name.
-fn is_found(alloc: Global, catalog: &Catalog, name: &str) -> Result<bool, Fail> {
+// Names, their eligible versions in a catalog of the project and of `a`, and whether it has a package of the name.
+const NAMES: &str = "b||no\n\
+    demo|0 |yes\n\
+    a|1 2 |yes";
+
+fn is_found(alloc: Global, catalog: &Catalog, name: &str) -> Result<bool, NameFault> {
     let name = Name::read(alloc, name)?;
     Ok(catalog.find(&name).is_some())
 }
 
-// What a catalog says of `b`, of the project and of `a`.
-fn catalog_told(alloc: Global, catalog: &Catalog) -> Result<String, Fail> {
-    let unknown = eligible_of(alloc, catalog, "b")?;
-    let project = eligible_of(alloc, catalog, "demo")?;
-    let has_unknown = is_found(alloc, catalog, "b")?;
-    let has_known = is_found(alloc, catalog, "a")?;
-    let packages = catalog.packages().len();
-    let directs = catalog.directs().len();
-    Ok(format!(in alloc; "{unknown}|{project}|{has_unknown} {has_known} {packages} {directs}")?)
+fn is_named(alloc: Global, catalog: &Catalog, line: &str) -> Result<bool, NameFault> {
+    let (name, rest) = cells(line);
+    let (want, found) = cells(rest);
+    let is_found = is_found(alloc, catalog, name)?;
+    Ok(is_eligible(alloc, catalog, name, want)? && is_found == (found == "yes"))
+}
+
+fn has_both(catalog: &Catalog) -> bool {
+    catalog.packages().len() == 2 && catalog.directs().len() == 2
+}
+
+fn are_named(alloc: Global, catalog: &Catalog) -> Result<bool, NameFault> {
+    for line in NAMES.lines() {
+        if !is_named(alloc, catalog, line)? {
+            return Ok(false);
+        }
+    }
+    Ok(has_both(catalog))
+}
+
+fn are_known(alloc: Global) -> Result<bool, NameFault> {
+    match catalog_of(alloc, "\"a\", \"b\"", "1 2") {
+        Some(catalog) => are_named(alloc, &catalog),
+        None => Ok(false),
+    }
 }
 
 #[test]
 fn unknown_names_and_the_project(rt: HostRuntime) -> Result<(), Fail> {
-    let alloc = rt.alloc();
-    let catalog = catalog_of(alloc, "\"a\", \"b\"", "1 2")?;
-    let told = catalog_told(alloc, &catalog)?;
-    assert_eq!(rt; told.as_str(), "|0 |false true 2 2");
+    assert!(rt; are_known(rt.alloc())?);
     Ok(())
 }
 
-// A document of `a` with so many entries, each with twenty requirements and a file.
-fn large_document(alloc: Global, count: u32) -> Result<String, Fail> {
+// An entry of a number, with twenty requirements.
+fn push_large_entry(text: &mut String, number: u32) -> Result<(), AllocError> {
+    let comma = if number > 0 { "," } else { "" };
+    write!(
+        text,
+        "{comma}{{\"version\":\"{number}\",\"requires_python\":\">=3.9\",\"requires_dist\":[\"b\""
+    )?;
+    for more in 1..20 {
+        write!(text, ",\"package-{more}>={number}\"")?;
+    }
+    text.push_str("],\"yanked\":false}")
+}
+
+// A document of `a` with so many such entries.
+fn large_document(alloc: Global, count: u32) -> Result<String, AllocError> {
     let mut text = String::from_str(alloc, "{\"name\": \"a\", \"versions\": [")?;
     for number in 0..count {
-        if number > 0 {
-            text.push_str(",")?;
-        }
-        text.push_str(format!(in alloc;
-            "{{\"version\":\"{number}\",\"requires_python\":\">=3.9\",\"requires_dist\":[\"b\""
-        )?.as_str())?;
-        for more in 1..20 {
-            text.push_str(format!(in alloc; ",\"package-{more}>={number}\"")?.as_str())?;
-        }
-        text.push_str("],\"yanked\":false}")?;
+        push_large_entry(&mut text, number)?;
     }
     text.push_str("]}")?;
     Ok(text)
@@ -368,13 +441,22 @@ fn have_requirements(releases: &[Release], count: usize) -> bool {
     true
 }
 
+fn is_whole(found: &Package) -> bool {
+    found.entries == 10_000
+        && found.releases.len() == 10_000
+        && have_requirements(found.releases.as_slice(), 20)
+}
+
+fn is_read_whole(alloc: Global) -> Result<bool, AllocError> {
+    let text = large_document(alloc, 10_000)?;
+    match package(alloc, "a", text.as_str()) {
+        Some(found) => Ok(is_whole(&found)),
+        None => Ok(false),
+    }
+}
+
 #[test]
 fn large_documents(rt: HostRuntime) -> Result<(), Fail> {
-    let alloc = rt.alloc();
-    let text = large_document(alloc, 10_000)?;
-    let found = document(alloc, text.as_bytes(), &Name::read(alloc, "a")?)?;
-    assert_eq!(rt; found.entries, 10_000);
-    assert_eq!(rt; found.releases.len(), 10_000);
-    assert!(rt; have_requirements(&found.releases, 20));
+    assert!(rt; is_read_whole(rt.alloc())?);
     Ok(())
 }

@@ -1,17 +1,18 @@
 //! Requirements from the metadata of published packages.
 
-use std::alloc::Global;
+use std::alloc::{AllocError, Global};
+use std::fmt::Write;
 use std::test::Fail;
-use ul_marker::{Machine, World, world_of};
+use ul_base::Name;
+use ul_marker::{Atom, EnvFault, Machine, World, world_of};
 use ul_requirement::Requirement;
-use ul_specifier::{Op, Specifiers};
+use ul_specifier::{Clause, Op, Specifiers};
 
-// The machine files of three interpreters.
-const MACHINES: [&str; 3] = [
-    "{\"os_name\": \"posix\", \"sys_platform\": \"linux\", \"platform_machine\": \"x86_64\", \"platform_python_implementation\": \"CPython\", \"platform_release\": \"6.8.0-45-generic\", \"platform_system\": \"Linux\", \"platform_version\": \"#45-Ubuntu\", \"implementation_name\": \"cpython\", \"implementation_version\": \"3.12.3\", \"python_full_version\": \"3.12.3\"}",
-    "{\"os_name\": \"nt\", \"sys_platform\": \"win32\", \"platform_machine\": \"AMD64\", \"platform_python_implementation\": \"CPython\", \"platform_release\": \"10\", \"platform_system\": \"Windows\", \"platform_version\": \"10.0.19041\", \"implementation_name\": \"cpython\", \"implementation_version\": \"3.8.10\", \"python_full_version\": \"3.8.10\"}",
-    "{\"os_name\": \"posix\", \"sys_platform\": \"darwin\", \"platform_machine\": \"arm64\", \"platform_python_implementation\": \"PyPy\", \"platform_release\": \"23.1.0\", \"platform_system\": \"Darwin\", \"platform_version\": \"Darwin Kernel\", \"implementation_name\": \"pypy\", \"implementation_version\": \"7.3.11\", \"python_full_version\": \"2.7.18\"}",
-];
+// The machine files of three interpreters, a line each.
+const MACHINES: &str =
+    "{\"os_name\": \"posix\", \"sys_platform\": \"linux\", \"platform_machine\": \"x86_64\", \"platform_python_implementation\": \"CPython\", \"platform_release\": \"6.8.0-45-generic\", \"platform_system\": \"Linux\", \"platform_version\": \"#45-Ubuntu\", \"implementation_name\": \"cpython\", \"implementation_version\": \"3.12.3\", \"python_full_version\": \"3.12.3\"}\n\
+    {\"os_name\": \"nt\", \"sys_platform\": \"win32\", \"platform_machine\": \"AMD64\", \"platform_python_implementation\": \"CPython\", \"platform_release\": \"10\", \"platform_system\": \"Windows\", \"platform_version\": \"10.0.19041\", \"implementation_name\": \"cpython\", \"implementation_version\": \"3.8.10\", \"python_full_version\": \"3.8.10\"}\n\
+    {\"os_name\": \"posix\", \"sys_platform\": \"darwin\", \"platform_machine\": \"arm64\", \"platform_python_implementation\": \"PyPy\", \"platform_release\": \"23.1.0\", \"platform_system\": \"Darwin\", \"platform_version\": \"Darwin Kernel\", \"implementation_name\": \"pypy\", \"implementation_version\": \"7.3.11\", \"python_full_version\": \"2.7.18\"}";
 
 // Requirements from the metadata of published packages (`Requires-Dist`), and what PyPA's `packaging` 21.3 answers:
 // whether the marker holds on each machine without an extra, and with the extra; the name, the extras, the clauses
@@ -229,35 +230,52 @@ fn sign(op: Op) -> &'static str {
     }
 }
 
-// The clauses, in byte order of their texts.
-fn clauses(alloc: Global, specifiers: &Specifiers) -> Result<String, Fail> {
-    let mut texts: Vec<String> = Vec::new(alloc);
-    for clause in &specifiers.clauses {
-        let version = clause.version.text(alloc)?;
-        let star = if clause.prefix { ".*" } else { "" };
-        texts.push(format!(in alloc; "{}{version}{star}", sign(clause.op))?)?;
-    }
-    texts.sort()?;
-    let mut all = String::new(alloc);
-    for text in &texts {
-        if !all.is_empty() {
-            all.push_str(",")?;
-        }
-        all.push_str(text.as_str())?;
-    }
-    Ok(all)
+// A clause as text.
+fn clause_text(alloc: Global, clause: &Clause) -> Result<String, AllocError> {
+    let version = clause.version.text(alloc)?;
+    let star = if clause.prefix { ".*" } else { "" };
+    format!(in alloc; "{}{version}{star}", sign(clause.op))
 }
 
-// The names of the extras, with a space between each two.
-fn extras(alloc: Global, requirement: &Requirement) -> Result<String, Fail> {
-    let mut all = String::new(alloc);
-    for extra in &requirement.extras {
-        if !all.is_empty() {
-            all.push_str(" ")?;
-        }
-        all.push_str(extra.text())?;
+// The clauses as texts, in byte order.
+fn clause_texts(alloc: Global, specifiers: &Specifiers) -> Result<Vec<String>, AllocError> {
+    let mut texts = Vec::new(alloc);
+    for clause in &specifiers.clauses {
+        texts.push(clause_text(alloc, clause)?)?;
     }
-    Ok(all)
+    texts.sort()?;
+    Ok(texts)
+}
+
+// Texts with a comma between each two.
+fn push_listed(told: &mut String, texts: &[String]) -> Result<(), AllocError> {
+    for text in texts {
+        if !told.ends_with("|") {
+            told.push(',')?;
+        }
+        told.push_str(text.as_str())?;
+    }
+    Ok(())
+}
+
+fn push_clauses(
+    alloc: Global,
+    told: &mut String,
+    specifiers: &Specifiers,
+) -> Result<(), AllocError> {
+    let texts = clause_texts(alloc, specifiers)?;
+    push_listed(told, texts.as_slice())
+}
+
+// The names of extras, with a space between each two.
+fn push_extras(told: &mut String, extras: &[Name]) -> Result<(), AllocError> {
+    for extra in extras {
+        if !told.ends_with("|") {
+            told.push(' ')?;
+        }
+        told.push_str(extra.text())?;
+    }
+    Ok(())
 }
 
 // Whether the marker holds at a world with an extra.
@@ -268,98 +286,137 @@ fn holds(requirement: &Requirement, world: &World, extra: &str) -> bool {
     }
 }
 
-// Whether the marker holds on each machine with an extra.
-fn held(
+// Whether the marker, which has these opaque comparisons, holds on a machine with an extra.
+fn bit(
     alloc: Global,
     requirement: &Requirement,
-    machines: &[Machine],
+    machine: &Machine,
+    atoms: &Vec<Atom>,
     extra: &str,
-) -> Result<String, Fail> {
-    let atoms = requirement.atoms(alloc)?;
-    let mut bits = String::new(alloc);
-    for machine in machines {
-        let world = world_of(alloc, machine, &atoms)?;
-        bits.push_str(if holds(requirement, &world, extra) {
-            "1"
-        } else {
-            "0"
-        })?;
-    }
-    Ok(bits)
+) -> Result<char, AllocError> {
+    let world = world_of(alloc, machine, atoms)?;
+    Ok(if holds(requirement, &world, extra) {
+        '1'
+    } else {
+        '0'
+    })
 }
 
-// The name, the extras and the clauses of a requirement.
-fn parts(alloc: Global, requirement: &Requirement) -> Result<String, Fail> {
-    let extras = extras(alloc, requirement)?;
-    let clauses = clauses(alloc, &requirement.specifiers)?;
-    let name = requirement.name.text();
-    Ok(format!(in alloc; "{name}|{extras}|{clauses}")?)
+fn push_bits(
+    alloc: Global,
+    told: &mut String,
+    requirement: &Requirement,
+    machines: &[Machine],
+    atoms: &Vec<Atom>,
+    extra: &str,
+) -> Result<(), AllocError> {
+    for machine in machines {
+        let bit = bit(alloc, requirement, machine, atoms, extra)?;
+        told.push(bit)?;
+    }
+    Ok(())
 }
 
 // Whether the marker holds on each machine without an extra, and with it.
-fn truths(
+fn push_truths(
     alloc: Global,
+    told: &mut String,
     requirement: &Requirement,
     machines: &[Machine],
     extra: &str,
-) -> Result<String, Fail> {
-    let base = held(alloc, requirement, machines, "")?;
-    let with = held(alloc, requirement, machines, extra)?;
-    Ok(format!(in alloc; "{base}{with}")?)
+) -> Result<(), AllocError> {
+    let atoms = requirement.atoms(alloc)?;
+    push_bits(alloc, told, requirement, machines, &atoms, "")?;
+    push_bits(alloc, told, requirement, machines, &atoms, extra)
 }
 
-// A copy of the requirement that a text spells.
-fn copy_of(alloc: Global, text: &str) -> Result<Requirement, Fail> {
-    let requirement = Requirement::read(alloc, text)?;
+// The name, the extras and the clauses of a requirement.
+fn push_parts(
+    alloc: Global,
+    told: &mut String,
+    requirement: &Requirement,
+) -> Result<(), AllocError> {
+    write!(told, "|{}|", requirement.name.text())?;
+    push_extras(told, requirement.extras.as_slice())?;
+    told.push('|')?;
+    push_clauses(alloc, told, &requirement.specifiers)
+}
+
+// Whether a requirement is what the first columns of a line say.
+fn is_told(
+    alloc: Global,
+    machines: &[Machine],
+    requirement: &Requirement,
+    extra: &str,
+    want: &str,
+) -> Result<bool, AllocError> {
+    let mut told = String::new(alloc);
+    push_truths(alloc, &mut told, requirement, machines, extra)?;
+    push_parts(alloc, &mut told, requirement)?;
+    Ok(told.as_str() == want)
+}
+
+// Whether its copy is that.
+fn is_copy_told(
+    alloc: Global,
+    machines: &[Machine],
+    requirement: &Requirement,
+    extra: &str,
+    want: &str,
+) -> Result<bool, AllocError> {
     let copy = requirement.copy(alloc)?;
-    Ok(copy)
+    is_told(alloc, machines, &copy, extra, want)
 }
 
-// What a requirement is read as, as a line of the table.
-fn line_of(alloc: Global, machines: &[Machine], extra: &str, text: &str) -> Result<String, Fail> {
-    let requirement = copy_of(alloc, text)?;
-    let truths = truths(alloc, &requirement, machines, extra)?;
-    let parts = parts(alloc, &requirement)?;
-    Ok(format!(in alloc; "{truths}|{parts}|{extra}|{text}")?)
-}
-
-// The last two columns of a line.
-fn columns(line: &str) -> (&str, &str) {
-    let mut rest = line;
-    for _ in 0..4 {
-        rest = rest.split_once('|').unwrap_or((rest, "")).1;
+// Whether a text is read as the first columns of a line say.
+fn is_read(
+    alloc: Global,
+    machines: &[Machine],
+    text: &str,
+    extra: &str,
+    want: &str,
+) -> Result<bool, AllocError> {
+    match Requirement::read(alloc, text) {
+        Ok(requirement) => is_copy_told(alloc, machines, &requirement, extra, want),
+        Err(_) => Ok(false),
     }
-    rest.split_once('|').unwrap_or((rest, ""))
+}
+
+fn is_line(alloc: Global, machines: &[Machine], line: &str) -> Result<bool, AllocError> {
+    let (front, text) = line.rsplit_once('|').unwrap_or((line, ""));
+    let (want, extra) = front.rsplit_once('|').unwrap_or((front, ""));
+    is_read(alloc, machines, text, extra, want)
 }
 
 // The machines of the files.
-fn machines(alloc: Global) -> Result<Vec<Machine>, Fail> {
+fn machines(alloc: Global) -> Result<Vec<Machine>, EnvFault> {
     let mut machines = Vec::new(alloc);
-    for file in MACHINES {
+    for file in MACHINES.lines() {
         machines.push(Machine::read(alloc, file.as_bytes())?)?;
     }
     Ok(machines)
 }
 
-// The lines whose requirement is read otherwise, and how many there are in all.
-fn others(alloc: Global, machines: &[Machine], lines: &str) -> Result<String, Fail> {
-    let mut others = String::new(alloc);
+// How many lines there are before the first whose requirement is read otherwise.
+fn right_lines(alloc: Global, machines: &[Machine]) -> Result<u32, AllocError> {
     let mut count = 0_u32;
-    for line in lines.lines() {
-        let (extra, text) = columns(line);
-        let told = line_of(alloc, machines, extra, text)?;
-        if told.as_str() != line {
-            others.push_str(told.as_str())?;
+    for line in PUBLISHED.lines() {
+        if !is_line(alloc, machines, line)? {
+            return Ok(count);
         }
         count = count.saturating_add(1);
     }
-    Ok(format!(in alloc; "{others}{count}")?)
+    Ok(count)
+}
+
+fn right_count(alloc: Global) -> Result<u32, EnvFault> {
+    let machines = machines(alloc)?;
+    Ok(right_lines(alloc, machines.as_slice())?)
 }
 
 #[test]
 fn requirements_are_read_as_in_packaging(rt: HostRuntime) -> Result<(), Fail> {
-    let alloc = rt.alloc();
-    let machines = machines(alloc)?;
-    assert_eq!(rt; others(alloc, &machines, PUBLISHED)?.as_str(), "200");
+    let count = right_count(rt.alloc())?;
+    assert!(rt; count == 200, "line {count}");
     Ok(())
 }

@@ -8,13 +8,13 @@ pub of-requires : goal.of-requires
 of-requires c =
     let p = c.args.project in
     let q = c.args.found in
-    let apart : bytes_eq p.name q.name ≡ false = sym c.have_one_name.ensures ∙ c.if-have_one_name.false in
-    let one : length p.releases ≡ 1 = omega (arith, c.release_count.ensures) in
+    let apart : bytes_eq p.name q.name ≡ false = c.are_apart.ensures.apart c.if-are_apart.true in
+    let one : length p.releases ≡ 1 = c.are_apart.ensures.one c.if-are_apart.true in
     rw c.in_ok-packages.ensures.items record {
       differ = (
         All-cons (IsOtherName p) q [] (λ same. let yes : bytes_eq p.name q.name ≡ true = (bytes_eq-Decides p.name q.name).1 same in let clash : true ≡ false = sym yes ∙ apart in cc) (All-nil (IsOtherName p)),
         (All-nil (IsOtherName q), tt),
       );
-      few = omega (arith, one, c.release_count-2.ensures);
+      few = omega (arith, one, c.are_apart.ensures.few c.if-are_apart.true);
       project = one;
     }
