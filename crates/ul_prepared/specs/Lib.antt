@@ -1,6 +1,7 @@
 pub mod Prepared
 pub mod Project
 pub mod Orders
+pub mod Directs
 pub mod KeptPlaces
 pub mod Releases
 pub mod Clauses

@@ -6,7 +6,7 @@ ghost use Rattle.ul_prepared.specs.Prepared.{PlannedBefore};
 
 use crate::names::{name_facts, releases_of};
 use crate::prepared::{NameFacts, Planned};
-use crate::wish_index::WishIndex;
+use crate::sources::Sources;
 use std::alloc::{AllocError, Global};
 use std::collections::{HashMap, HashSet};
 use ul_base::{Name, Node};
@@ -36,14 +36,13 @@ pub(crate) struct Gathered<'a> {
 // What is known of a name, and the releases of its eligible versions.
 fn known_of<'a>(
     alloc: Global,
-    catalog: &'a Catalog,
-    wish: &WishIndex<'_>,
+    sources: &Sources<'a, '_>,
     name: &Name,
 ) -> Result<(NameFacts, Releases<'a>), AllocError>
-    ensures { IfOk result (λ k. IsKnown catalog.now wish.now k.0 k.1) }
+    ensures { IfOk result (λ k. IsKnown sources.now.0 sources.now.1 k.0 k.1) }
 {
-    let list = releases_of(alloc, catalog, name)?;
-    let facts = name_facts(alloc, catalog, wish, name, list.as_slice())?;
+    let list = releases_of(alloc, sources.catalog(), name)?;
+    let facts = name_facts(alloc, sources, name, list.as_slice())?;
     Ok((facts, Releases { list }))
 }
 
@@ -65,17 +64,16 @@ impl<'a> Gathered<'a> {
     fn meet_name(
         &mut self,
         alloc: Global,
-        catalog: &'a Catalog,
-        wish: &WishIndex<'_>,
+        sources: &Sources<'a, '_>,
         name: &Name,
     ) -> Result<(), AllocError>
-        requires { AreKnown catalog.now wish.now self.old.names.items self.old.releases.items }
-        ensures { IfOk result (λ _. AreKnown catalog.now wish.now self.new.names.items self.new.releases.items) }
+        requires { AreKnown sources.now.0 sources.now.1 self.old.names.items self.old.releases.items }
+        ensures { IfOk result (λ _. AreKnown sources.now.0 sources.now.1 self.new.names.items self.new.releases.items) }
     {
         if self.places.contains_key(name) {
             return Ok(());
         }
-        let (facts, releases) = known_of(alloc, catalog, wish, name)?;
+        let (facts, releases) = known_of(alloc, sources, name)?;
         let own = name.copy(alloc)?;
         let place = self.names.len();
         self.names.push(facts)?;
@@ -88,17 +86,16 @@ impl<'a> Gathered<'a> {
     fn meet(
         &mut self,
         alloc: Global,
-        catalog: &'a Catalog,
-        wish: &WishIndex<'_>,
+        sources: &Sources<'a, '_>,
         node: &Node,
     ) -> Result<(), AllocError>
-        requires { AreKnown catalog.now wish.now self.old.names.items self.old.releases.items }
-        ensures { IfOk result (λ _. AreKnown catalog.now wish.now self.new.names.items self.new.releases.items) }
+        requires { AreKnown sources.now.0 sources.now.1 self.old.names.items self.old.releases.items }
+        ensures { IfOk result (λ _. AreKnown sources.now.0 sources.now.1 self.new.names.items self.new.releases.items) }
     {
         if self.seen.contains(node) {
             return Ok(());
         }
-        self.meet_name(alloc, catalog, wish, &node.name)?;
+        self.meet_name(alloc, sources, &node.name)?;
         let own = node.copy(alloc)?;
         self.nodes.push(own)?;
         let own = node.copy(alloc)?;
@@ -110,12 +107,11 @@ impl<'a> Gathered<'a> {
     fn meet_targets(
         &mut self,
         alloc: Global,
-        catalog: &'a Catalog,
-        wish: &WishIndex<'_>,
+        sources: &Sources<'a, '_>,
         requirement: &Requirement,
     ) -> Result<(), AllocError>
-        requires { AreKnown catalog.now wish.now self.old.names.items self.old.releases.items }
-        ensures { IfOk result (λ _. AreKnown catalog.now wish.now self.new.names.items self.new.releases.items) }
+        requires { AreKnown sources.now.0 sources.now.1 self.old.names.items self.old.releases.items }
+        ensures { IfOk result (λ _. AreKnown sources.now.0 sources.now.1 self.new.names.items self.new.releases.items) }
     {
         // a name is taken in with its base
         if requirement.extras.is_empty() && self.places.contains_key(&requirement.name) {
@@ -123,7 +119,7 @@ impl<'a> Gathered<'a> {
         }
         let targets = requirement.targets(alloc)?;
         for target in &targets {
-            self.meet(alloc, catalog, wish, target)?;
+            self.meet(alloc, sources, target)?;
         }
         Ok(())
     }
@@ -132,15 +128,14 @@ impl<'a> Gathered<'a> {
     fn meet_release(
         &mut self,
         alloc: Global,
-        catalog: &'a Catalog,
-        wish: &WishIndex<'_>,
+        sources: &Sources<'a, '_>,
         release: &Release,
     ) -> Result<(), AllocError>
-        requires { AreKnown catalog.now wish.now self.old.names.items self.old.releases.items }
-        ensures { IfOk result (λ _. AreKnown catalog.now wish.now self.new.names.items self.new.releases.items) }
+        requires { AreKnown sources.now.0 sources.now.1 self.old.names.items self.old.releases.items }
+        ensures { IfOk result (λ _. AreKnown sources.now.0 sources.now.1 self.new.names.items self.new.releases.items) }
     {
         for requirement in &release.requirements {
-            self.meet_targets(alloc, catalog, wish, requirement)?;
+            self.meet_targets(alloc, sources, requirement)?;
         }
         Ok(())
     }
@@ -149,12 +144,11 @@ impl<'a> Gathered<'a> {
     fn meet_releases(
         &mut self,
         alloc: Global,
-        catalog: &'a Catalog,
-        wish: &WishIndex<'_>,
+        sources: &Sources<'a, '_>,
         place: usize,
     ) -> Result<(), AllocError>
-        requires { AreKnown catalog.now wish.now self.old.names.items self.old.releases.items }
-        ensures { IfOk result (λ _. AreKnown catalog.now wish.now self.new.names.items self.new.releases.items) }
+        requires { AreKnown sources.now.0 sources.now.1 self.old.names.items self.old.releases.items }
+        ensures { IfOk result (λ _. AreKnown sources.now.0 sources.now.1 self.new.names.items self.new.releases.items) }
     {
         for k in 0..usize::MAX {
             let Some(own) = self.releases.get(place) else {
@@ -164,7 +158,7 @@ impl<'a> Gathered<'a> {
                 return Ok(());
             };
             let release: &'a Release = *release;
-            self.meet_release(alloc, catalog, wish, release)?;
+            self.meet_release(alloc, sources, release)?;
         }
         Err(AllocError)
     }
@@ -183,21 +177,21 @@ pub(crate) fn gather_all<'a>(
 ) -> Result<Gathered<'a>, AllocError>
     ensures { IfOk result (λ g. AreKnown catalog.now wish.now g.names.items g.releases.items) }
 {
-    let wish = WishIndex::of(alloc, wish)?;
+    let sources = Sources::of(alloc, catalog, wish)?;
     let mut all = Gathered::new(alloc);
     for start in starts {
         let base = Node {
             name: start.name.copy(alloc)?,
             extra: None,
         };
-        all.meet(alloc, catalog, &wish, &base)?;
-        all.meet(alloc, catalog, &wish, start)?;
+        all.meet(alloc, &sources, &base)?;
+        all.meet(alloc, &sources, start)?;
     }
     for place in 0..usize::MAX {
         if place >= all.names.len() {
             return Ok(all);
         }
-        all.meet_releases(alloc, catalog, &wish, place)?;
+        all.meet_releases(alloc, &sources, place)?;
     }
     Err(AllocError)
 }

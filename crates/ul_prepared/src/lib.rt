@@ -8,6 +8,7 @@ mod names;
 mod permitted;
 mod planning;
 mod prepared;
+mod sources;
 mod wish_index;
 
 pub use prepared::{NameFacts, Planned, Prepared};

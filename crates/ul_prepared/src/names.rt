@@ -2,9 +2,7 @@
 ghost use Rattle.std.specs.Prelude.{◌≡◌, ◌<◌, ◌^◌, IfOk, ◌++◌, Some, filter, length, map, not, reverse, slice_get};
 ghost use Rattle.std.specs.List.{list_any};
 ghost use Rattle.std.specs.Ordering.{is_eq};
-ghost use Rattle.std.specs.Str.{bytes_eq};
 ghost use Rattle.ul_version.specs.Order.{version_cmp};
-ghost use Rattle.ul_index.specs.Catalogs.{directs};
 ghost use Rattle.ul_index.specs.Eligible.{eligible, version_at};
 ghost use Rattle.ul_index.specs.Preference as spec;
 ghost use Rattle.ul_index.specs.Preference.{is_kept};
@@ -14,13 +12,13 @@ ghost use Rattle.ul_prepared.specs.Prepared.{IsName};
 ghost use Rattle.ul_prepared.specs.Releases.{AreReleasesOf};
 
 use crate::prepared::NameFacts;
-use crate::wish_index::WishIndex;
+use crate::sources::Sources;
 use std::alloc::{AllocError, Global};
 use ul_base::Name;
 use ul_index::laws::eligible_rises;
 use ul_index::{Catalog, eligible};
 use ul_problem::{Places, Versions};
-use ul_requirement::{Mode, Release, Requirement};
+use ul_requirement::{Mode, Release};
 use ul_version::Version;
 
 // The release at a place.
@@ -94,27 +92,14 @@ fn flags_of(alloc: Global, kept: &[&Version], versions: &[Version]) -> Result<Ve
     Ok(flags)
 }
 
-// Whether the project requires a name.
-fn is_direct(directs: &[Requirement], name: &Name) -> bool
-    ensures { result ≡ list_any (λ q. bytes_eq q.name name.now) directs.now }
-{
-    for requirement in directs {
-        let own: &Name = &requirement.name;
-        if own.text() == name.text() {
-            return true;
-        }
-    }
-    false
-}
-
 // Whether the versions of a name are tried from the oldest on.
-fn is_oldest_first(catalog: &Catalog, mode: Mode, name: &Name) -> bool
-    ensures { result ≡ spec.is_oldest_first mode (spec.is_direct catalog.now name.now) }
+fn is_oldest_first(sources: &Sources<'_, '_>, name: &Name) -> bool
+    ensures { result ≡ spec.is_oldest_first sources.now.1.mode (spec.is_direct sources.now.0 name.now) }
 {
-    match mode {
+    match sources.wish().mode() {
         Mode::Highest => false,
         Mode::Lowest => true,
-        Mode::LowestDirect => is_direct(catalog.directs(), name),
+        Mode::LowestDirect => sources.is_direct(name),
     }
 }
 
@@ -220,21 +205,20 @@ pub(crate) fn releases_of<'a>(
 /// Only for want of memory.
 pub(crate) fn name_facts(
     alloc: Global,
-    catalog: &Catalog,
-    wish: &WishIndex<'_>,
+    sources: &Sources<'_, '_>,
     name: &Name,
     releases: &[&Release],
 ) -> Result<NameFacts, AllocError>
-    requires versions { map (λ r. r.now.version) releases.now ≡ eligible catalog.now name.now }
-    requires rising { Increases VersionBefore (eligible catalog.now name.now) }
+    requires versions { map (λ r. r.now.version) releases.now ≡ eligible sources.now.0 name.now }
+    requires rising { Increases VersionBefore (eligible sources.now.0 name.now) }
     requires few { length releases.now < 2 ^ 32 }
     ensures name { IfOk result (λ f. f.name ≡ name.now) }
-    ensures facts { IfOk result (IsName catalog.now wish.now) }
+    ensures facts { IfOk result (IsName sources.now.0 sources.now.1) }
 {
     let versions = versions_of(alloc, releases)?;
-    let kept = wish.kept(alloc, name)?;
+    let kept = sources.wish().kept(alloc, name)?;
     let flags = flags_of(alloc, kept.as_slice(), versions.as_slice())?;
-    let oldest = is_oldest_first(catalog, wish.mode(), name);
+    let oldest = is_oldest_first(sources, name);
     let order = tried(alloc, flags.as_slice(), oldest)?;
     let name = name.copy(alloc)?;
     let versions = Versions::of(alloc, versions)?;
