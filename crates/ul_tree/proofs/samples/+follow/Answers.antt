@@ -1,4 +1,4 @@
-use Rattle.std.proofs.Common.{◌≡◌, refl, ap, ◌∙◌, arith, false, subst, string_bytes}
+use Rattle.std.proofs.Common.{◌≡◌, refl, ap, ◌∙◌, arith, true, false, subst, string_bytes}
 use Rattle.ul_tree.specs.FirstParts.{is_false, first_branch}
 use Rattle.ul_nodes.specs.Levels.{extra_level, python_level, text_level, atom_level}
 use Rattle.ul_nodes.specs.Plain.{Plain}
@@ -115,3 +115,13 @@ follow-requires-in-Opaque t c =
     let d = c.decreases in
     let s = o.smaller in
     rw c.deref-in-Opaque-2.ensures (omega (arith, s, d), ((l, o.fits), o.not_false))
+
+pub follow-requires-then-is_false : goal.follow-requires-then-is_false
+follow-requires-then-is_false t c =
+    let l = atom_level c.in-Opaque.atom in
+    let e = ap tree_view c.in-Opaque.is ∙ view-Opaque c.in-Opaque.atom c.in-Opaque.yes c.in-Opaque.no in
+    let is : is_false (tree_view c.in-Opaque.yes.value) ≡ true = cc (c.is_false.ensures, c.deref-in-Opaque.ensures, c.if-is_false.true) in
+    let o = by_no _ c.requires.reduced.0 c.in-Opaque.atom _ _ c.requires.reduced.1 e is in
+    let d = c.decreases in
+    let s = o.smaller in
+    rw c.deref-then-is_false.ensures (omega (arith, s, d), ((l, o.fits), o.not_false))
