@@ -1,11 +1,12 @@
-use Rattle.std.proofs.Common.{◌≡◌, Ok, ℕ, Global, Vec, [], ◌∷◌, ◌++◌, map, ap, sym, ◌∙◌, arith, drop, ◌+◌, string_bytes, append_assoc}
+use Rattle.std.proofs.Common.{◌≡◌, Ok, ℕ, Global, Box, Vec, [], ◌∷◌, ◌++◌, map, ap, sym, ◌∙◌, arith, drop, ◌+◌, string_bytes, append_assoc}
 use Rattle.std.proofs.lemmas.List.{append-nil, drop_all, drop_more, map-append}
-use Rattle.ul_nodes.specs.Plain.{node}
-use Rattle.ul_nodes.specs.Levels.{extra_level, text_level}
+use Rattle.ul_nodes.specs.Plain.{node, done, branch}
+use Rattle.ul_nodes.specs.Levels.{extra_level, text_level, atom_level}
 use Rattle.ul_nodes.specs.Keys.{then_branches}
 use Rattle.ul_tree.specs.Views.{tree_view, points_view, python_of}
 use Rattle.ul_tree.proofs.HandedOn.{made_holds}
-use Rattle.ul_tree.proofs.Shapes.{view_extra, view_python, view_text}
+use Rattle.ul_tree.proofs.Shapes.{view_extra, view_python, view_text, view_opaque}
+use Rattle.ul_tree.specs.declared.tree.Tree.{Tree}
 use Rattle.ul_tree.proofs.Rebuilt.{then_none, points_copied}
 use Rattle.ul_tree.proofs.copy.+copy.Goals as goal
 
@@ -86,3 +87,23 @@ copy_parts-returns t c =
     let copied = map tree_view c.loop-part.copied.items in
     let over = drop_all c.loop-part.part-index c.args.parts.now c.loop-part-test.false in
     sym (append-nil copied) ∙ ap (λ z. copied ++ map tree_view z) (sym over) ∙ c.loop-part.invariant
+
+pub copy_within-returns-in_ok-both-in-Opaque : goal.copy_within-returns-in_ok-both-in-Opaque
+copy_within-returns-in_ok-both-in-Opaque t c =
+    let both = c.in_ok-both-in-Opaque.both in
+    let atom = c.in_ok-both-in-Opaque.atom in
+    let made = c.in_ok-both-in-Opaque.ensures in
+    let sides = c.in_ok-sides-in-Opaque.sides in
+    let pair = c.in_ok-sides-in-Opaque.ensures in
+    let first = c.in_ok-first-in-Opaque.first in
+    let of = c.in-Opaque.atom in
+    let same = made_holds c.copy.result atom _ made.1 c.copy.ensures in
+    let held = made_holds c.copy_within-in-Opaque.result first.value _ c.in_ok-first-in-Opaque.ensures c.copy_within-in-Opaque.ensures in
+    let alone = made_holds c.boxed-in-Opaque.result sides.1 _ pair.1 c.boxed-in-Opaque.ensures in
+    let failed = made_holds c.copy_within-in-Opaque-2.result sides.1.value _ alone c.copy_within-in-Opaque-2.ensures in
+    view_opaque atom both.0 both.1
+    ∙ ap (λ (z : Box Tree Global × Box Tree Global). node (atom_level atom) (tree_view z.1.value) (branch (1 ∷ []) (tree_view z.0.value) done)) made.0
+    ∙ ap (λ z. node (atom_level z) (tree_view sides.1.value) (branch (1 ∷ []) (tree_view sides.0.value) done)) same
+    ∙ ap (λ z. node (atom_level of) z (branch (1 ∷ []) (tree_view sides.0.value) done)) (failed ∙ ap tree_view c.deref-in-Opaque-2.ensures)
+    ∙ ap (λ z. node (atom_level of) (tree_view c.in-Opaque.no.value) (branch (1 ∷ []) z done)) (ap (λ (z : Box Tree Global). tree_view z.value) pair.0 ∙ held ∙ ap tree_view c.deref-in-Opaque.ensures)
+    ∙ sym (ap tree_view c.in-Opaque.is ∙ view_opaque of c.in-Opaque.yes c.in-Opaque.no)
