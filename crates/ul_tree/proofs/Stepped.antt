@@ -8,7 +8,7 @@ use Rattle.ul_specifier.specs.Clauses.{ClauseFields}
 use Rattle.ul_specifier.specs.Meaning.{meets_clause}
 use Rattle.ul_comparison.specs.Truth.{python_release}
 use Rattle.ul_comparison.specs.Worlds.{WorldFields, IsWorld}
-use Rattle.ul_nodes.specs.Plain.{Plain, truth, node, branch, text_cmp, holds_of, holds_in}
+use Rattle.ul_nodes.specs.Plain.{truth, node, branch, text_cmp, holds_of, holds_in}
 use Rattle.ul_nodes.specs.Levels.{python_level}
 use Rattle.ul_nodes.specs.Reduced.{IsReduced, FitsAll, StartsAfter}
 use Rattle.ul_tree.specs.Values.{number_of, tree_holds}

@@ -1,11 +1,12 @@
-use Rattle.std.proofs.Common.{◌≡◌, Ok, ap, sym, ◌∙◌, arith, drop, ◌+◌, string_bytes}
-use Rattle.std.proofs.lemmas.List.{drop_all}
-use Rattle.ul_nodes.specs.Plain.{node}
-use Rattle.ul_nodes.specs.Levels.{extra_level, text_level}
+use Rattle.std.proofs.Common.{◌≡◌, Ok, ℕ, Global, Box, Vec, [], ◌∷◌, ◌++◌, map, ap, sym, ◌∙◌, arith, drop, ◌+◌, string_bytes, append_assoc}
+use Rattle.std.proofs.lemmas.List.{append-nil, drop_all, drop_more, map-append}
+use Rattle.ul_nodes.specs.Plain.{node, done, branch}
+use Rattle.ul_nodes.specs.Levels.{extra_level, text_level, atom_level}
 use Rattle.ul_nodes.specs.Keys.{then_branches}
-use Rattle.ul_tree.specs.Views.{tree_view, points_view}
+use Rattle.ul_tree.specs.Views.{tree_view, points_view, python_of}
 use Rattle.ul_tree.proofs.HandedOn.{made_holds}
-use Rattle.ul_tree.proofs.Shapes.{view_extra, view_text}
+use Rattle.ul_tree.proofs.Shapes.{view_extra, view_python, view_text, view_opaque}
+use Rattle.ul_tree.specs.declared.tree.Tree.{Tree}
 use Rattle.ul_tree.proofs.Rebuilt.{then_none, points_copied}
 use Rattle.ul_tree.proofs.copy.+copy.Goals as goal
 
@@ -53,3 +54,56 @@ copy_points-loop-point-preserved t c =
     ap (λ xs. then_branches (points_view xs) (points_view (drop (i + 1) items))) more.2
     ∙ points_copied c.loop-point.copied.items items i c.point-item.result one.0 one.1 c.loop-point-test.true c.point-item.is (text ∙ c.as_str.ensures.value) part
     ∙ c.loop-point.invariant
+
+pub copy_within-returns-in_ok-starts-in-Python : goal.copy_within-returns-in_ok-starts-in-Python
+copy_within-returns-in_ok-starts-in-Python t c =
+    let starts = c.in_ok-starts-in-Python.starts in
+    let parts = c.in_ok-starts-in-Python.parts in
+    let both = c.in_ok-starts-in-Python.ensures in
+    let told = made_holds c.copy_parts.result parts _ both.1 c.copy_parts.ensures in
+    view_python starts parts
+    ∙ ap (λ (z : Vec ℕ Global). python_of z.items (map tree_view parts.items)) both.0
+    ∙ ap (λ z. python_of z (map tree_view parts.items)) (c.in_ok-copied-in-Python.ensures.items ∙ c.as_slice.ensures.value)
+    ∙ ap (python_of c.in-Python.starts.items) (told ∙ ap (map tree_view) c.deref-in-Python.ensures.value)
+    ∙ sym (ap tree_view c.in-Python.is ∙ view_python c.in-Python.starts c.in-Python.parts)
+
+pub copy_parts-loop-part-preserved : goal.copy_parts-loop-part-preserved
+copy_parts-loop-part-preserved t c =
+    let items = c.args.parts.now in
+    let i = c.loop-part.part-index in
+    let before = c.loop-part.copied.items in
+    let left = map tree_view (drop (i + 1) items) in
+    let more = c.in_ok-copied.ensures in
+    let told = made_holds c.copy_within.result more.0 _ more.1 c.copy_within.ensures in
+    ap (λ z. map tree_view z ++ left) more.2
+    ∙ ap (λ z. z ++ left) (map-append tree_view before (more.0 ∷ []))
+    ∙ append_assoc (map tree_view before) (tree_view more.0 ∷ []) left
+    ∙ ap (λ z. map tree_view before ++ (z ∷ left)) (told ∙ ap tree_view c.part-item.is)
+    ∙ sym (ap (λ z. map tree_view before ++ map tree_view z) (drop_more items i c.part-item.result c.loop-part-test.true))
+    ∙ c.loop-part.invariant
+
+pub copy_parts-returns : goal.copy_parts-returns
+copy_parts-returns t c =
+    let copied = map tree_view c.loop-part.copied.items in
+    let over = drop_all c.loop-part.part-index c.args.parts.now c.loop-part-test.false in
+    sym (append-nil copied) ∙ ap (λ z. copied ++ map tree_view z) (sym over) ∙ c.loop-part.invariant
+
+pub copy_within-returns-in_ok-both-in-Opaque : goal.copy_within-returns-in_ok-both-in-Opaque
+copy_within-returns-in_ok-both-in-Opaque t c =
+    let both = c.in_ok-both-in-Opaque.both in
+    let atom = c.in_ok-both-in-Opaque.atom in
+    let made = c.in_ok-both-in-Opaque.ensures in
+    let sides = c.in_ok-sides-in-Opaque.sides in
+    let pair = c.in_ok-sides-in-Opaque.ensures in
+    let first = c.in_ok-first-in-Opaque.first in
+    let of = c.in-Opaque.atom in
+    let same = made_holds c.copy.result atom _ made.1 c.copy.ensures in
+    let held = made_holds c.copy_within-in-Opaque.result first.value _ c.in_ok-first-in-Opaque.ensures c.copy_within-in-Opaque.ensures in
+    let alone = made_holds c.boxed-in-Opaque.result sides.1 _ pair.1 c.boxed-in-Opaque.ensures in
+    let failed = made_holds c.copy_within-in-Opaque-2.result sides.1.value _ alone c.copy_within-in-Opaque-2.ensures in
+    view_opaque atom both.0 both.1
+    ∙ ap (λ (z : Box Tree Global × Box Tree Global). node (atom_level atom) (tree_view z.1.value) (branch (1 ∷ []) (tree_view z.0.value) done)) made.0
+    ∙ ap (λ z. node (atom_level z) (tree_view sides.1.value) (branch (1 ∷ []) (tree_view sides.0.value) done)) same
+    ∙ ap (λ z. node (atom_level of) z (branch (1 ∷ []) (tree_view sides.0.value) done)) (failed ∙ ap tree_view c.deref-in-Opaque-2.ensures)
+    ∙ ap (λ z. node (atom_level of) (tree_view c.in-Opaque.no.value) (branch (1 ∷ []) z done)) (ap (λ (z : Box Tree Global). tree_view z.value) pair.0 ∙ held ∙ ap tree_view c.deref-in-Opaque.ensures)
+    ∙ sym (ap tree_view c.in-Opaque.is ∙ view_opaque of c.in-Opaque.yes c.in-Opaque.no)

@@ -6,6 +6,7 @@ use Rattle.ul_nodes.specs.Reduced.{IsReduced}
 use Rattle.ul_tree.specs.Values.{tree_holds}
 use Rattle.ul_tree.specs.Views.{tree_view}
 use Rattle.ul_tree.specs.declared.tree.Tree.{Tree}
+use Rattle.ul_tree.specs.TreeFacts.{IsTree}
 use Rattle.ul_tree.proofs.HandedOn.{made_holds}
 use Rattle.ul_tree.proofs.Joint.{last_truths}
 use Rattle.ul_tree.proofs.markers.+joined_last.Goals as goal
@@ -45,3 +46,9 @@ returns-clause-truth t c w x =
     ∙ ap (λ b. joint all (b ∷ tree_holds (tree_view back) w x ∷ [])) (told w x)
     ∙ ap (λ b. joint all (joint all (truths_of (drop (length left - (c.args.count - half)) left) w x) ∷ b ∷ [])) (ap (λ z. tree_holds (tree_view z) w x) both.0 ∙ c.in_ok-last.ensures.truth w x)
     ∙ last_truths all xs left c.args.count half w x (omega arith) c.requires.within c.in_ok-last.ensures.left
+
+pub pair-requires-clause-front_reduced : goal.pair-requires-clause-front_reduced
+pair-requires-clause-front_reduced t c = made_holds c.joined_last-2.result c.in_ok-back.front _ c.in_ok-back.ensures.1 c.joined_last-2.ensures.reduced
+
+pub pair-requires-clause-back_reduced : goal.pair-requires-clause-back_reduced
+pair-requires-clause-back_reduced t c = subst IsTree (sym c.in_ok-back.ensures.0) c.in_ok-last.ensures.reduced

@@ -1,10 +1,18 @@
-use Rattle.std.proofs.Common.{ap, sym, ◌∙◌, true, false, map}
+use Rattle.std.proofs.Common.{List, ◌++◌, ◌+◌, drop, ap, sym, ◌∙◌, subst, true, false, map}
+use Rattle.std.specs.Prelude.{All}
+use Rattle.std.proofs.lemmas.List.{drop_more}
+use Rattle.std.proofs.lemmas.List.Elements.{All-push}
+use Rattle.ul_comparison.specs.Formulas.{AreFormulas}
 use Rattle.std.specs.Str.{bytes_eq}
 use Rattle.ul_comparison.specs.Truth.{as_asked, equals_extra, is_listed, marker_holds, python_release}
-use Rattle.ul_marker.specs.Views.{marker_view}
+use Rattle.ul_marker.specs.Views.{marker_view, markers_view}
+use Rattle.ul_marker.specs.declared.marker.Marker.{Marker}
+use Rattle.ul_tree.specs.TreeFacts.{IsTree, HoldsAtWorlds}
+use Rattle.ul_tree.specs.declared.tree.Tree.{Tree}
+use Rattle.ul_tree.proofs.HandedOn.{made_holds}
 use Rattle.ul_comparison.specs.Worlds.{text_at}
-use Rattle.ul_tree.specs.Joining.{joint}
-use Rattle.ul_tree.proofs.Joint.{all_joint, any_joint, made_then}
+use Rattle.ul_tree.specs.Joining.{joint, truths_of}
+use Rattle.ul_tree.proofs.Joint.{all_joint, any_joint, made_then, truths_all, truths_more}
 use Rattle.ul_tree.proofs.MarkerViews.{marker_all, marker_any, marker_extra, marker_list, marker_opaque, marker_python, marker_text}
 use Rattle.ul_tree.proofs.markers.+of_marker.Goals as goal
 
@@ -65,3 +73,25 @@ of_marker-returns-in_ok-tree-in-Any-clause-truth t c w x h =
     ∙ ap (joint false) (c.in_ok-trees-in-Any.ensures.truth w x h ∙ ap (map (λ m. marker_holds (marker_view m) w x)) c.deref-in-Any.ensures.value)
     ∙ any_joint parts.items w x
     ∙ sym (ap (λ f. marker_holds f w x) (ap marker_view c.in-Any.is ∙ marker_any parts))
+
+pub of_markers-loop-part-preserved : goal.of_markers-loop-part-preserved
+of_markers-loop-part-preserved t c =
+    let more = c.in_ok-trees.ensures in
+    let trees = c.loop-part.trees.items in
+    let items = c.args.parts.now in
+    let i = c.loop-part.part-index in
+    let reduced = made_holds c.of_marker.result more.0 IsTree more.1 c.of_marker.ensures.reduced in
+    let truth = made_holds c.of_marker.result more.0 (λ t. HoldsAtWorlds t (marker_holds (marker_view c.part-item.result))) more.1 c.of_marker.ensures.truth in
+    let next = ap markers_view (drop_more items i c.part-item.result c.loop-part-test.true) in
+    record {
+      left = (subst AreFormulas next c.loop-part.invariant.left).1;
+      reduced = subst (λ (xs : List Tree). All IsTree xs) (sym more.2) (All-push IsTree trees more.0 c.loop-part.invariant.reduced reduced);
+      truth = λ w x h.
+          let f = λ (m : Marker). marker_holds (marker_view m) w x in
+          ap (λ z. truths_of z w x ++ map f (drop (i + 1) items)) more.2
+          ∙ truths_more f trees more.0 items i c.part-item.result w x c.loop-part-test.true c.part-item.is (truth w x h) (c.loop-part.invariant.truth w x h);
+    }
+
+pub of_markers-returns-clause-truth : goal.of_markers-returns-clause-truth
+of_markers-returns-clause-truth t c w x h =
+    truths_all (λ (m : Marker). marker_holds (marker_view m) w x) c.loop-part.trees.items c.args.parts.now c.loop-part.part-index w x c.loop-part-test.false (c.loop-part.invariant.truth w x h)

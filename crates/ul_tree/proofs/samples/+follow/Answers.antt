@@ -1,4 +1,4 @@
-use Rattle.std.proofs.Common.{◌≡◌, refl, ap, ◌∙◌, arith, false, subst, string_bytes}
+use Rattle.std.proofs.Common.{◌≡◌, refl, ap, ◌∙◌, arith, true, false, subst, string_bytes}
 use Rattle.ul_tree.specs.FirstParts.{is_false, first_branch}
 use Rattle.ul_nodes.specs.Levels.{extra_level, python_level, text_level, atom_level}
 use Rattle.ul_nodes.specs.Plain.{Plain}
@@ -6,7 +6,7 @@ use Rattle.ul_nodes.specs.Reduced.{Fits}
 use Rattle.ul_tree.specs.Sample.{fresh, with_level}
 use Rattle.ul_tree.specs.Views.{tree_view, points_view, python_of}
 use Rattle.ul_tree.proofs.NextParts.{pieces_even}
-use Rattle.ul_tree.proofs.Follow.{view-Extra, view-Python, view-Text, view-Opaque, by_point, by_other, by_piece, by_yes, world_goes_on, if_ok_along}
+use Rattle.ul_tree.proofs.Follow.{view-Extra, view-Python, view-Text, view-Opaque, by_point, by_other, by_piece, by_yes, by_no, world_goes_on, if_ok_along}
 use Rattle.ul_tree.proofs.samples.+follow.Goals as goal
 
 pub follow-requires : goal.follow-requires
@@ -79,3 +79,49 @@ returns-in_ok-add-in-Opaque t c =
     let o = by_yes _ c.requires.reduced.0 c.in-Opaque.atom _ _ c.requires.reduced.1 e not_false in
     if_ok_along c.follow-in-Opaque.result _ _ _ (rw c.deref-in-Opaque-2.ensures at c.follow-in-Opaque.ensures)
     (world_goes_on _ l _ _ o c.args.found.now c.add.new.self c.in_ok-add-in-Opaque.ensures)
+
+pub follow-requires-in-None : goal.follow-requires-in-None
+follow-requires-in-None t c =
+    let e = ap tree_view c.in-Extra.is ∙ view-Extra c.in-Extra.points c.in-Extra.other in
+    let o = by_other _ c.requires.reduced.0 extra_level _ _ c.requires.reduced.1 e refl (c.in-None.ensures ∙ ap (λ z. first_branch (points_view z)) c.deref.ensures.value) in
+    let d = c.decreases in
+    let s = o.smaller in
+    rw c.deref-in-None.ensures (omega (arith, s, d), ((extra_level, o.fits), o.not_false))
+
+pub follow-requires-in-Some-first_piece : goal.follow-requires-in-Some-first_piece
+follow-requires-in-Some-first_piece t c =
+    let e = ap tree_view c.in-Python.is ∙ view-Python c.in-Python.starts c.in-Python.parts in
+    let o = by_piece _ c.requires.reduced.0 c.in-Python.starts.items c.in-Python.parts.items c.requires.reduced.1 e _ _
+    (rw (c.deref-in-Python.ensures.value, c.deref-in-Python-2.ensures.value) at c.in-Some-first_piece.ensures) in
+    let d = c.decreases in
+    let s = o.smaller in
+    (omega (arith, s, d), ((python_level, o.fits), o.not_false))
+
+pub follow-requires-in-None-first_point : goal.follow-requires-in-None-first_point
+follow-requires-in-None-first_point t c =
+    let l = text_level c.in-Text.variable in
+    let e = ap tree_view c.in-Text.is ∙ view-Text c.in-Text.variable c.in-Text.points c.in-Text.other in
+    let o = by_other _ c.requires.reduced.0 l _ _ c.requires.reduced.1 e refl (c.in-None-first_point.ensures ∙ ap (λ z. first_branch (points_view z)) c.deref-in-Text.ensures.value) in
+    let d = c.decreases in
+    let s = o.smaller in
+    rw c.deref-in-None-first_point-2.ensures (omega (arith, s, d), ((l, o.fits), o.not_false))
+
+pub follow-requires-in-Opaque : goal.follow-requires-in-Opaque
+follow-requires-in-Opaque t c =
+    let l = atom_level c.in-Opaque.atom in
+    let e = ap tree_view c.in-Opaque.is ∙ view-Opaque c.in-Opaque.atom c.in-Opaque.yes c.in-Opaque.no in
+    let not_false : is_false (tree_view c.in-Opaque.yes.value) ≡ false = cc (c.is_false.ensures, c.deref-in-Opaque.ensures, c.if-is_false.false) in
+    let o = by_yes _ c.requires.reduced.0 c.in-Opaque.atom _ _ c.requires.reduced.1 e not_false in
+    let d = c.decreases in
+    let s = o.smaller in
+    rw c.deref-in-Opaque-2.ensures (omega (arith, s, d), ((l, o.fits), o.not_false))
+
+pub follow-requires-then-is_false : goal.follow-requires-then-is_false
+follow-requires-then-is_false t c =
+    let l = atom_level c.in-Opaque.atom in
+    let e = ap tree_view c.in-Opaque.is ∙ view-Opaque c.in-Opaque.atom c.in-Opaque.yes c.in-Opaque.no in
+    let is : is_false (tree_view c.in-Opaque.yes.value) ≡ true = cc (c.is_false.ensures, c.deref-in-Opaque.ensures, c.if-is_false.true) in
+    let o = by_no _ c.requires.reduced.0 c.in-Opaque.atom _ _ c.requires.reduced.1 e is in
+    let d = c.decreases in
+    let s = o.smaller in
+    rw c.deref-then-is_false.ensures (omega (arith, s, d), ((l, o.fits), o.not_false))

@@ -1,14 +1,16 @@
-use Rattle.std.proofs.Common.{◌<◌, ◌++◌, ◌∷◌, [], List, Option, Global, Vec, ap, sym, ◌∙◌, refl, subst, arith}
+use Rattle.std.proofs.Common.{◌≡◌, ◌≢◌, false, ◌<◌, ◌++◌, ◌∷◌, [], List, Option, Global, Vec, ap, sym, ◌∙◌, refl, subst, arith}
 use Rattle.std.specs.Option.{option_map}
-use Rattle.ul_nodes.specs.Plain.{Plain}
+use Rattle.ul_nodes.specs.Plain.{Plain, truth}
 use Rattle.ul_nodes.specs.Reduced.{IsReduced}
 use Rattle.ul_nodes.specs.Apply.{size, rest_at}
 use Rattle.ul_tree.specs.Views.{tree_view}
-use Rattle.ul_nodes.specs.Keys.{level_view, keys_view}
+use Rattle.ul_nodes.specs.Keys.{level_view, keys_view, AreKeysOf, KeysOf}
 use Rattle.ul_nodes.specs.Rows.{results_view}
 use Rattle.ul_tree.specs.Simplify.{Simplifies, Pieces, Piece, settled_level}
-use Rattle.ul_tree.proofs.SimplifySteps.{tree_part, tree_rest, region_part, region_rest, part_smaller, rest_smaller, piece_outside, piece_inside, truth_done, all_done, lowered_done, level_done, result_reduced, results_reduced, simpler_reduced}
+use Rattle.ul_tree.specs.SimplifyViews.{is_above}
+use Rattle.ul_tree.proofs.SimplifySteps.{not_false_is, tree_part, tree_rest, region_part, region_rest, part_smaller, rest_smaller, piece_outside, piece_inside, truth_done, all_done, lowered_done, level_done, result_reduced, results_reduced, simpler_reduced}
 use Rattle.ul_tree.proofs.HandedOn.{made_holds}
+use Rattle.ul_tree.proofs.PartRegions.{stands_as}
 use Rattle.ul_tree.proofs.PiecesInCode.{results_step, results_end, kind_step}
 use Rattle.ul_nodes.specs.declared.level.Key.{Key}
 use Rattle.ul_tree.specs.declared.tree.Tree.{Tree}
@@ -137,3 +139,70 @@ simplified_at-settled-requires-clause-reduced t c =
     let settles = made_holds c.pieces-found.result (results, rest) _ c.in_ok-results.ensures c.pieces-found.ensures.settled in
     subst (λ (z : Plain). IsReduced (settled_level l rs o z)) (sym c.rest_at.ensures.part)
     (simpler_reduced f (tree_view c.args.region.now) (settled_level l rs o (rest_at l f)) settles c.requires.whole_reduced c.requires.region_reduced)
+
+pub piece-simplified-requires : goal.piece-simplified-requires
+piece-simplified-requires t c =
+    let d = c.decreases in
+    (omega (arith, d), (c.requires.whole_reduced, (c.requires.within_reduced, not_false_is (tree_view c.args.within.now) (sym c.is_false.ensures ∙ c.if-is_false.false))))
+
+pub pieces-results-requires : goal.pieces-results-requires
+pieces-results-requires t c =
+    let s = c.requires.lower in
+    let d = c.decreases in
+    (omega (arith, d), (c.requires.whole_reduced, (c.requires.top, (s.reduced, (s.not_above, subst (λ (z : List Key). AreKeysOf (level_view c.args.level) z) (sym c.deref.ensures.value) c.in_ok-keys.ensures.kinds)))))
+
+pub simplified-simplified_at-requires : goal.simplified-simplified_at-requires
+simplified-simplified_at-requires t c =
+    let low = c.in_ok-made-in-Some.ensures in
+    let e = sym c.standing_region-region.ensures in
+    let d = c.decreases in (
+      omega (arith, d),
+      (
+        c.requires.whole_reduced,
+        (
+          c.in-Some.ensures,
+          (
+            subst (λ (z : Plain). IsReduced z) e low.lowers.reduced,
+            (subst (λ (z : Plain). z ≢ truth false) e low.lowers.not_false, subst (λ (z : Plain). is_above (level_view c.in-Some.level) z ≡ false) e low.not_above),
+          ),
+        ),
+      ),
+    )
+
+pub simplified_at-pieces-found-requires : goal.simplified_at-pieces-found-requires
+simplified_at-pieces-found-requires t c =
+    let l = level_view c.args.level in
+    let f = tree_view c.args.whole.now in
+    let r = tree_view c.args.region.now in
+    let w = tree_view c.standing_region-lower.result.now in
+    let q = c.requires in
+    let d = c.decreases in (
+      omega (arith, d),
+      (
+        q.whole_reduced,
+        (q.top, (q.region_reduced, (q.not_false, (sym c.known.ensures ∙ c.if-known.false, (q.not_above, stands_as l f r _ w c.standing_region-lower.ensures c.in_ok-made.ensures))))),
+      ),
+    )
+
+pub simplified_at-returns : goal.simplified_at-returns
+simplified_at-returns t c =
+    let l = level_view c.args.level in
+    let results = c.in_ok-results.results in
+    let rest = c.in_ok-results.rest in
+    subst (λ (z : Plain). Simplifies (tree_view c.args.whole.now) (tree_view c.args.region.now) z)
+    (sym (c.in_ok-tree-2.ensures ∙ ap (settled_level l (results_view tree_view results.items) (option_map tree_view rest)) c.rest_at.ensures.part))
+    (made_holds c.pieces-found.result (results, rest) _ c.in_ok-results.ensures c.pieces-found.ensures.settled)
+
+pub simplified_at-settled-requires-clause-kinds : goal.simplified_at-settled-requires-clause-kinds
+simplified_at-settled-requires-clause-kinds t c = made_holds c.pieces-found.result (c.in_ok-results.results, c.in_ok-results.rest) _ c.in_ok-results.ensures c.pieces-found.ensures.kinds
+
+pub simplified_at-settled-requires-clause-results_reduced : goal.simplified_at-settled-requires-clause-results_reduced
+simplified_at-settled-requires-clause-results_reduced t c = made_holds c.pieces-found.result (c.in_ok-results.results, c.in_ok-results.rest) _ c.in_ok-results.ensures c.pieces-found.ensures.results_reduced
+
+pub simplified_at-settled-requires-clause-rest_reduced : goal.simplified_at-settled-requires-clause-rest_reduced
+simplified_at-settled-requires-clause-rest_reduced t c = made_holds c.pieces-found.result (c.in_ok-results.results, c.in_ok-results.rest) _ c.in_ok-results.ensures c.pieces-found.ensures.rest_reduced
+
+pub pieces-returns-clause-kinds : goal.pieces-returns-clause-kinds
+pieces-returns-clause-kinds t c =
+    subst (λ (z : Vec (Key × Option Tree) Global). KeysOf (level_view c.args.level) z.items) (sym c.in_ok-both.ensures.0)
+    (made_holds c.results.result c.in_ok-results.results _ c.in_ok-results.ensures c.results.ensures.kinds)

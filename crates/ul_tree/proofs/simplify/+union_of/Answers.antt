@@ -50,3 +50,12 @@ returns-clause-truth t c =
     made
     (subst (λ (z : Tree). HoldsParts bs low (middle - low) (tree_view z)) (sym both.0) c.in_ok-first.ensures.truth)
     (made_holds c.union_of-2.result back (λ z. HoldsParts bs middle (high - middle) (tree_view z)) both.1 c.union_of-2.ensures.truth)
+
+pub returns-clause-reduced : goal.returns-clause-reduced
+returns-clause-reduced t c = made_holds c.joined.result c.in_ok-union.union _ c.in_ok-union.ensures c.joined.ensures.reduced
+
+pub joined-requires-clause-left_reduced : goal.joined-requires-clause-left_reduced
+joined-requires-clause-left_reduced t c = subst IsTree (sym c.in_ok-front.ensures.0) c.in_ok-first.ensures.reduced
+
+pub joined-requires-clause-right_reduced : goal.joined-requires-clause-right_reduced
+joined-requires-clause-right_reduced t c = made_holds c.union_of-2.result c.in_ok-front.back _ c.in_ok-front.ensures.1 c.union_of-2.ensures.reduced

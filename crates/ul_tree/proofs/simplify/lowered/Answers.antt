@@ -15,3 +15,6 @@ loop-preserved c =
     let l = level_view c.args.level in
     let r = tree_view c.args.region.now in
     lowers_union l r (tree_view c.loop.made) (tree_view c.in_ok-made-2.made) c.loop.invariant (sym c.is_above-in-loop.ensures ∙ c.if-not-is_above-2.false) c.in_ok-made-2.ensures
+
+pub returns-then-not-is_above-2 : goal.returns-then-not-is_above-2
+returns-then-not-is_above-2 c = record { lowers = c.loop.invariant; not_above = sym c.is_above-in-loop.ensures ∙ c.if-not-is_above-2.true }
