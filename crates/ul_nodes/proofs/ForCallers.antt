@@ -13,3 +13,6 @@ pub use Rattle.ul_nodes.proofs.Halves.{rest_here, rest_elsewhere, branches_here,
 -- ---- rows of results and parts
 pub use Rattle.ul_nodes.proofs.Viewed.{own_viewed, first_viewed, last_viewed, earliest_viewed, latest_viewed, part_viewed, standing_viewed}
 pub use Rattle.ul_nodes.proofs.Viewed.{own_known, first_known, last_known, earliest_known, latest_known, part_known, standing_known}
+-- ---- branches that are being made, and closed levels
+pub use Rattle.ul_nodes.proofs.Making.{then_none, then_then, made_push, stands_then, stands_kept, head_tail, all_push, next_kind}
+pub use Rattle.ul_nodes.proofs.Closed.{one_mark}

@@ -5,4 +5,6 @@ pub mod PartsByKeys
 pub mod Halves
 pub mod Merged
 pub mod Viewed
+pub mod Making
+pub mod Closed
 pub mod ForCallers

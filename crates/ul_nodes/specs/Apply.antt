@@ -47,6 +47,11 @@ abbrev pub outs : (List ℕ → Plain) → Bool → List (List ℕ) → Plain �
 outs g m [] d = done
 outs g m (k ∷ ks) d = if same (g k) d then outs g m ks d else branch k (g k) (outs g m ks (carried_part m (g k) d))
 
+-- the branches of keys and parts, those left out that say what stands already
+abbrev pub reduced_branches : Bool → List (List ℕ × Plain) → Plain → Branches
+reduced_branches m [] d = done
+reduced_branches m (p ∷ ps) d = if same p.1 d then reduced_branches m ps d else branch p.0 p.1 (reduced_branches m ps (carried_part m p.1 d))
+
 -- a node with these branches, or its other part alone where it has none
 abbrev pub close : List ℕ → Plain → Branches → Plain
 close l d done = d

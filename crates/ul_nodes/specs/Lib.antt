@@ -4,3 +4,4 @@ pub mod Reduced
 pub mod Apply
 pub mod Keys
 pub mod Rows
+pub mod Closing

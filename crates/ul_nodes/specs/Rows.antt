@@ -1,7 +1,8 @@
 -- Rows of keys, each with what its piece became: what is found in them, and how they are seen as plain data.
-use Rattle.std.specs.Prelude.{ℕ, List, [], ◌∷◌, map, Bool, true, false, Option, Some, None, option_map}
+use Rattle.std.specs.Prelude.{ℕ, List, [], ◌∷◌, map, Bool, true, false, Option, Some, None, option_map, ◌≡◌}
 use Rattle.ul_nodes.specs.Plain.{Plain, Branches, done, branch, carried_part}
-use Rattle.ul_nodes.specs.Keys.{key_view}
+use Rattle.ul_nodes.specs.Apply.{same}
+use Rattle.ul_nodes.specs.Keys.{key_view, has_kind, then_branches, KeysOf}
 use Rattle.ul_nodes.specs.declared.level.Key.{Key}
 
 -- ---- results of pieces
@@ -67,6 +68,24 @@ parts_view view = map (λ p. (key_view p.0, view p.1))
 abbrev pub made_view : {A : Type 0} → (A → Plain) → List (Key × A) → Branches
 made_view view [] = done
 made_view view (p ∷ ps) = branch (key_view p.0) (view p.1) (made_view view ps)
+
+-- a branch more, unless its part is the one that stands
+abbrev pub more_branches : Bool → Branches → List ℕ → Plain → Branches
+more_branches true bs k next = bs
+more_branches false bs k next = then_branches bs (branch k next done)
+
+-- the same of branches that were made
+abbrev pub IsAdded : {A : Type 0} → (A → Plain) → Bool → A → Key → A → List (Key × A) → List (Key × A) → Type 0
+IsAdded view carried other key next before after =
+    made_view view after ≡ more_branches (same (view next) (stands carried (made_view view before) (view other))) (made_view view before) (key_view key) (view next)
+
+-- a branch more keeps that the keys are those of a level
+abbrev pub KeepsKeys : {A : Type 0} → Key → List (Key × A) → List (Key × A) → Type 0
+KeepsKeys key before after = (l : List ℕ) → KeysOf l before → has_kind l key ≡ true → KeysOf l after
+
+-- keys of a level stay keys of it
+abbrev pub KeepsLevel : {A B : Type 0} → List (Key × A) → List (Key × B) → Type 0
+KeepsLevel before after = (l : List ℕ) → KeysOf l before → KeysOf l after
 
 -- a fact of what there is, if there is something
 abbrev pub IfSome : {A : Type 0} → (A → Type 0) → Option A → Type 0

@@ -1,0 +1,33 @@
+use Rattle.std.proofs.Common.{◌≡◌, ap, sym, ◌∙◌, arith, true, false, refl}
+use Rattle.std.specs.List.{All}
+use Rattle.ul_nodes.specs.Keys.{is_number_key}
+use Rattle.ul_nodes.specs.Closing.{number_of}
+use Rattle.ul_nodes.proofs.Making.{head_tail}
+use Rattle.ul_nodes.proofs.Closed.{row_step, rows_end}
+use Rattle.ul_nodes.proofs.closing.pieces_of.Goals as goal
+use Rattle.ul_nodes.proofs.closing.pieces_of.Goals.{In-Some}
+
+-- the next branch has a number, and so do those after it
+next_is : (g : _) (c : In-Some g) → (is_number_key c.in-Some.key ≡ true) × All (λ e. is_number_key e.0 ≡ true) c.next.new.self.rest.items
+next_is g c = head_tail (λ e. is_number_key e.0 ≡ true) (c.in-Some.key, c.in-Some.part) c.loop-key.key-iterator.rest.items c.next.new.self.rest.items c.in-Some.ensures.steps.0 c.loop-key.invariant.kinds
+
+pub loop-key-preserved : goal.loop-key-preserved
+loop-key-preserved g c = record {
+  starts = row_step (λ e. number_of e.0) c.loop-key.starts.items c.push-in-Number.new.self.items c.in-Number.number (c.in-Some.key, c.in-Some.part) c.loop-key.key-iterator.rest.items c.next.new.self.rest.items _
+      c.in_ok-push-in-Number.ensures.items (sym (ap number_of c.in-Number.is)) c.in-Some.ensures.steps.0 c.loop-key.invariant.starts;
+  parts = row_step (λ e. e.1) c.loop-key.parts.items c.push-in-Number-2.new.self.items c.in-Some.part (c.in-Some.key, c.in-Some.part) c.loop-key.key-iterator.rest.items c.next.new.self.rest.items _
+      c.in_ok-push-in-Number-2.ensures.items refl c.in-Some.ensures.steps.0 c.loop-key.invariant.parts;
+  kinds = (next_is g (goal.at.loop-key-preserved g c).In-Some).1;
+}
+
+pub unreachable-requires : goal.unreachable-requires
+unreachable-requires g c = let r : true ≡ false = sym (next_is g (goal.at.unreachable-requires g c).In-Some).0 ∙ ap is_number_key c.in-Literal.is in cc
+
+pub unreachable-requires-in-Holds : goal.unreachable-requires-in-Holds
+unreachable-requires-in-Holds g c = let r : true ≡ false = sym (next_is g (goal.at.unreachable-requires-in-Holds g c).In-Some).0 ∙ ap is_number_key c.in-Holds.is in cc
+
+pub returns-clause-starts : goal.returns-clause-starts
+returns-clause-starts g c = rows_end (λ e. number_of e.0) c.loop-key.starts.items _ c.loop-key.key-iterator.rest.items (omega (arith, c.in-None.ensures.steps.0, c.loop-key.key-iterator.rest.ok)) c.loop-key.invariant.starts
+
+pub returns-clause-parts : goal.returns-clause-parts
+returns-clause-parts g c = rows_end (λ e. e.1) c.loop-key.parts.items _ c.loop-key.key-iterator.rest.items (omega (arith, c.in-None.ensures.steps.0, c.loop-key.key-iterator.rest.ok)) c.loop-key.invariant.parts
