@@ -3,6 +3,7 @@ pub mod Project
 pub mod Orders
 pub mod KeptPlaces
 pub mod Releases
+pub mod Parts
 pub mod Clauses
 pub mod Permitted
 pub mod Aims
