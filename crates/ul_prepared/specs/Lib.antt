@@ -4,6 +4,7 @@ pub mod Orders
 pub mod Directs
 pub mod KeptPlaces
 pub mod Releases
+pub mod Parts
 pub mod Clauses
 pub mod Permitted
 pub mod Aims

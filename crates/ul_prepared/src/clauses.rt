@@ -1,64 +1,121 @@
-//! Which of a name's versions meet clauses. Versions rise, so most clauses are met by a front or a back of them, or by those of one
-//! release.
-ghost use Rattle.std.specs.Prelude.{◌≡◌, ◌<◌, ◌≤◌, ◌-◌, ◌^◌, IfOk, cond, filter, length, map, true};
+//! Which of a name's versions meet clauses. Versions rise, so most clauses are met by those from one place to another,
+//! and the places are found by halves. `>` and `<` leave out some versions of their version's release, so these are
+//! asked one by one.
+ghost use Rattle.std.specs.Prelude.{◌≡◌, ◌<◌, ◌≤◌, ◌-◌, ◌^◌, IfOk, cond, filter, length, map, not, true};
 ghost use Rattle.std.specs.List.{range_with_len};
 ghost use Rattle.ul_problem.specs.Problems.{Increases, VersionBefore};
 ghost use Rattle.ul_ranges.specs.Flags.{front, less};
 ghost use Rattle.ul_specifier.specs.Meaning.{meets_clause, meets_list};
 ghost use Rattle.ul_prepared.specs.Clauses;
-ghost use Rattle.ul_prepared.specs.Clauses.{core, is_met_at, CountsBefore, CountsThrough};
+ghost use Rattle.ul_prepared.specs.Clauses.{equals_by, is_compatible_with, is_met_at, is_from, is_strict, is_up_to};
 
+use crate::parts::{Part, count_before, count_through};
 use std::alloc::{AllocError, Global};
-use std::cmp::Ordering;
 use ul_ranges::Ordinals;
 use ul_specifier::{Clause, Op, Specifiers};
-use ul_version::{Public, Version};
+use ul_version::Version;
 
-// A version's epoch and release.
-fn core(version: &Version) -> Public<'_>
-    ensures { result ≡ core version.now }
+// The set, of this size, of the numbers from one on that are below another.
+fn between(alloc: Global, size: u32, low: u32, high: u32) -> Result<Ordinals, AllocError>
+    requires low { low ≤ size }
+    requires high { high ≤ size }
+    ensures { IfOk result (λ s. s ≡ less (front size high) (front size low)) }
 {
-    Public {
-        epoch: version.epoch,
-        release: version.release.as_slice(),
-        pre: None,
-        post: None,
-        dev: None,
+    let mut set = Ordinals::front(alloc, size, high)?;
+    let fronts = Ordinals::front(alloc, size, low)?;
+    set.put_less(alloc, &fronts)?;
+    Ok(set)
+}
+
+// Which of rising versions equal a version by a part.
+fn equal_set(
+    alloc: Global,
+    part: Part,
+    version: &Version,
+    versions: &[Version],
+) -> Result<Ordinals, AllocError>
+    requires few { length versions.now < 2 ^ 32 }
+    requires rising { Increases VersionBefore versions.now }
+    ensures { IfOk result (λ s. s ≡ map (equals_by part version.now) versions.now) }
+{
+    let size = versions.len() as u32;
+    let low = count_before(part, version, versions) as u32;
+    let high = count_through(part, version, versions) as u32;
+    let set = between(alloc, size, low, high)?;
+    Ok(set)
+}
+
+// Which of rising versions don't equal a version by a part.
+fn unequal_set(
+    alloc: Global,
+    part: Part,
+    version: &Version,
+    versions: &[Version],
+) -> Result<Ordinals, AllocError>
+    requires few { length versions.now < 2 ^ 32 }
+    requires rising { Increases VersionBefore versions.now }
+    ensures { IfOk result (λ s. s ≡ map (λ c. not (equals_by part version.now c)) versions.now) }
+{
+    let mut set = Ordinals::all(alloc, versions.len() as u32)?;
+    let equal = equal_set(alloc, part, version, versions)?;
+    set.put_less(alloc, &equal)?;
+    Ok(set)
+}
+
+// Which of rising versions, without their local parts, are at least a version.
+fn set_from(alloc: Global, version: &Version, versions: &[Version]) -> Result<Ordinals, AllocError>
+    requires few { length versions.now < 2 ^ 32 }
+    requires rising { Increases VersionBefore versions.now }
+    ensures { IfOk result (λ s. s ≡ map (is_from version.now) versions.now) }
+{
+    let size = versions.len() as u32;
+    let low = count_before(Part::Public, version, versions) as u32;
+    let set = between(alloc, size, low, size)?;
+    Ok(set)
+}
+
+// Which of rising versions, without their local parts, are at most a version.
+fn set_up_to(alloc: Global, version: &Version, versions: &[Version]) -> Result<Ordinals, AllocError>
+    requires few { length versions.now < 2 ^ 32 }
+    requires rising { Increases VersionBefore versions.now }
+    ensures { IfOk result (λ s. s ≡ map (is_up_to version.now) versions.now) }
+{
+    let size = versions.len() as u32;
+    let high = count_through(Part::Public, version, versions) as u32;
+    let set = Ordinals::front(alloc, size, high)?;
+    Ok(set)
+}
+
+// Which of rising versions are compatible with a version: at least it, and equal to it up to the last number of its
+// release.
+fn compatible_set(
+    alloc: Global,
+    version: &Version,
+    versions: &[Version],
+) -> Result<Ordinals, AllocError>
+    requires few { length versions.now < 2 ^ 32 }
+    requires rising { Increases VersionBefore versions.now }
+    ensures { IfOk result (λ s. s ≡ map (is_compatible_with version.now) versions.now) }
+{
+    let count = version.release.len().saturating_sub(1);
+    let mut set = set_from(alloc, version, versions)?;
+    let series = equal_set(alloc, Part::Prefix(count), version, versions)?;
+    set.put_meet(alloc, &series)?;
+    Ok(set)
+}
+
+// By which part `==` and `!=` compare: with `.*` by as many numbers as the version has, and without it also by the local
+// part where the version has one.
+fn equality_part(clause: &Clause) -> Part
+    ensures { result ≡ Clauses.equality_part clause.now }
+{
+    if clause.prefix {
+        Part::Prefix(clause.version.release.len())
+    } else if clause.version.local.is_empty() {
+        Part::Public
+    } else {
+        Part::Whole
     }
-}
-
-// A version beside another one, by epoch and release alone.
-fn side(version: &Version, candidate: &Version) -> Ordering
-    ensures { result ≡ Clauses.side version.now candidate.now }
-{
-    core(candidate).cmp(&core(version))
-}
-
-// Whether an operator admits the versions before its version's release.
-fn admits_before(op: Op) -> bool
-    ensures { result ≡ Clauses.admits_before op }
-{
-    match op {
-        Op::Unequal | Op::AtMost | Op::Less => true,
-        Op::Equal | Op::AtLeast | Op::More | Op::Compatible => false,
-    }
-}
-
-// Whether an operator admits the versions after its version's release.
-fn admits_after(op: Op) -> bool
-    ensures { result ≡ Clauses.admits_after op }
-{
-    match op {
-        Op::Unequal | Op::AtLeast | Op::More => true,
-        Op::Equal | Op::AtMost | Op::Less | Op::Compatible => false,
-    }
-}
-
-// Whether a clause treats all versions before its version's release alike, and all after it.
-fn is_sided(clause: &Clause) -> bool
-    ensures { result ≡ Clauses.is_sided clause.now }
-{
-    !clause.prefix && !matches!(clause.op, Op::Compatible)
 }
 
 // Whether the version at a place meets a clause.
@@ -86,31 +143,11 @@ fn met_between(
         .collect(alloc)
 }
 
-// How many of rising versions come before a version's release.
-fn count_before(version: &Version, versions: &[Version]) -> usize
-    requires { Increases VersionBefore versions.now }
-    ensures { CountsBefore version.now versions.now result }
+// Whether an operator admits the versions after its version's release.
+fn admits_after(op: Op) -> bool
+    ensures { result ≡ Clauses.admits_after op }
 {
-    versions.partition_point(|other| side(version, other).is_lt())
-}
-
-// How many of rising versions don't come after a version's release.
-fn count_through(version: &Version, versions: &[Version]) -> usize
-    requires { Increases VersionBefore versions.now }
-    ensures { CountsThrough version.now versions.now result }
-{
-    versions.partition_point(|other| !side(version, other).is_gt())
-}
-
-// The set, of this size, of the numbers from a count on.
-fn back(alloc: Global, size: u32, count: u32) -> Result<Ordinals, AllocError>
-    requires { count ≤ size }
-    ensures { IfOk result (λ s. s ≡ less (front size size) (front size count)) }
-{
-    let all = Ordinals::front(alloc, size, size)?;
-    let fronts = Ordinals::front(alloc, size, count)?;
-    let set = all.less(alloc, &fronts)?;
-    Ok(set)
+    matches!(op, Op::More)
 }
 
 fn chosen(first: bool, one: u32, other: u32) -> u32
@@ -119,35 +156,27 @@ fn chosen(first: bool, one: u32, other: u32) -> u32
     if first { one } else { other }
 }
 
-// Which of rising versions meet a sided clause.
-fn sided_set(alloc: Global, clause: &Clause, versions: &[Version]) -> Result<Ordinals, AllocError>
+// Which of rising versions meet a clause of `>` or `<`: all those after its version's release or all those before it,
+// and those of the release that meet it.
+fn strict_set(alloc: Global, clause: &Clause, versions: &[Version]) -> Result<Ordinals, AllocError>
     requires few { length versions.now < 2 ^ 32 }
     requires rising { Increases VersionBefore versions.now }
-    requires sided { Clauses.is_sided clause.now ≡ true }
+    requires strict { is_strict clause.now.op ≡ true }
     ensures { IfOk result (λ s. s ≡ map (meets_clause clause.now) versions.now) }
 {
     let size = versions.len() as u32;
-    let low = count_before(&clause.version, versions) as u32;
-    let high = count_through(&clause.version, versions) as u32;
+    let low = count_before(Part::Release, &clause.version, versions) as u32;
+    let high = count_through(Part::Release, &clause.version, versions) as u32;
     let members = met_between(alloc, clause, versions, low, high)?;
-    let before = chosen(admits_before(clause.op), low, 0);
-    let after = chosen(admits_after(clause.op), high, size);
+    let after = admits_after(clause.op);
     let mut set = Ordinals::of_list(alloc, size, &members)?;
-    let fronts = Ordinals::front(alloc, size, before)?;
-    set.put_join(alloc, &fronts)?;
-    let backs = back(alloc, size, after)?;
-    set.put_join(alloc, &backs)?;
-    Ok(set)
-}
-
-// Which of versions meet a clause, one by one.
-fn plain_set(alloc: Global, clause: &Clause, versions: &[Version]) -> Result<Ordinals, AllocError>
-    requires { length versions.now < 2 ^ 32 }
-    ensures { IfOk result (λ s. s ≡ map (meets_clause clause.now) versions.now) }
-{
-    let size = versions.len() as u32;
-    let members = met_between(alloc, clause, versions, 0, size)?;
-    let set = Ordinals::of_list(alloc, size, &members)?;
+    let others = between(
+        alloc,
+        size,
+        chosen(after, high, 0),
+        chosen(after, size, low),
+    )?;
+    set.put_join(alloc, &others)?;
     Ok(set)
 }
 
@@ -157,10 +186,14 @@ fn clause_set(alloc: Global, clause: &Clause, versions: &[Version]) -> Result<Or
     requires rising { Increases VersionBefore versions.now }
     ensures { IfOk result (λ s. s ≡ map (meets_clause clause.now) versions.now) }
 {
-    if is_sided(clause) {
-        sided_set(alloc, clause, versions)
-    } else {
-        plain_set(alloc, clause, versions)
+    let version = &clause.version;
+    match clause.op {
+        Op::Equal => equal_set(alloc, equality_part(clause), version, versions),
+        Op::Unequal => unequal_set(alloc, equality_part(clause), version, versions),
+        Op::AtLeast => set_from(alloc, version, versions),
+        Op::AtMost => set_up_to(alloc, version, versions),
+        Op::Compatible => compatible_set(alloc, version, versions),
+        Op::More | Op::Less => strict_set(alloc, clause, versions),
     }
 }
 
@@ -174,8 +207,7 @@ fn clauses_set(
     requires rising { Increases VersionBefore versions.now }
     ensures { IfOk result (λ s. s ≡ map (meets_list clauses.now) versions.now) }
 {
-    let size = versions.len() as u32;
-    let mut set = Ordinals::front(alloc, size, size)?;
+    let mut set = Ordinals::all(alloc, versions.len() as u32)?;
     for clause in clauses {
         let one = clause_set(alloc, clause, versions)?;
         set.put_meet(alloc, &one)?;

@@ -5,6 +5,7 @@ mod aims;
 mod clauses;
 mod gathering;
 mod names;
+mod parts;
 mod permitted;
 mod planning;
 mod prepared;
