@@ -18,3 +18,5 @@ mod printed;
 mod specifier;
 #[cfg(test)]
 mod texts;
+#[cfg(test)]
+mod worlds;

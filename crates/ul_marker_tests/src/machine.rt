@@ -35,37 +35,28 @@ fn file(alloc: Global, left_out: &str, version: &str) -> Result<String, Fail> {
     Ok(text)
 }
 
-fn interpreter(alloc: Global, machine: &Machine) -> Result<String, Fail> {
+fn is_interpreter(alloc: Global, machine: &Machine, want: &str) -> Result<bool, AllocError> {
     let (major, minor, patch) = machine.python;
     let text = format!(in alloc; "{major} {minor} {patch}")?;
-    Ok(text)
+    Ok(text.as_str() == want)
 }
 
-fn fault_text(alloc: Global, fault: EnvFault) -> Result<String, Fail> {
+// Whether a fault is the one of a name; of a missing key that is the key.
+fn is_fault(fault: &EnvFault, want: &str) -> bool {
     match fault {
-        EnvFault::NotJson => Ok(String::from_str(alloc, "not json")?),
-        EnvFault::Missing(key) => missing(alloc, key.as_str()),
-        EnvFault::PythonForm => Ok(String::from_str(alloc, "form")?),
-        EnvFault::NoMemory => Err(Fail::from("no memory")),
+        EnvFault::NotJson => want == "not json",
+        EnvFault::Missing(key) => key.as_str() == want,
+        EnvFault::PythonForm => want == "form",
+        EnvFault::NoMemory => false,
     }
 }
 
-fn missing(alloc: Global, key: &str) -> Result<String, Fail> {
-    let text = format!(in alloc; "missing {key}")?;
-    Ok(text)
-}
-
-// What bytes are read as: the version, or the fault.
-fn told(alloc: Global, bytes: &[u8]) -> Result<String, Fail> {
+// Whether bytes are read as a machine with this version, or refused by this fault.
+fn is_told(alloc: Global, bytes: &[u8], want: &str) -> Result<bool, AllocError> {
     match Machine::read(alloc, bytes) {
-        Ok(machine) => interpreter(alloc, &machine),
-        Err(fault) => fault_text(alloc, fault),
+        Ok(machine) => is_interpreter(alloc, &machine, want),
+        Err(fault) => Ok(is_fault(&fault, want)),
     }
-}
-
-fn is_told(alloc: Global, bytes: &[u8], want: &str) -> Result<bool, Fail> {
-    let told = told(alloc, bytes)?;
-    Ok(told.as_str() == want)
 }
 
 // What a machine file with a version of Python is read as, and the version.
@@ -83,7 +74,7 @@ const PYTHONS: &str = "3 12 4|3.12.4\n\
 fn is_python(alloc: Global, line: &str) -> Result<bool, Fail> {
     let (want, version) = cells(line);
     let text = file(alloc, "", version)?;
-    is_told(alloc, text.as_bytes(), want)
+    Ok(is_told(alloc, text.as_bytes(), want)?)
 }
 
 #[test]
@@ -96,51 +87,50 @@ fn files_are_read_or_the_first_fault_is_told(rt: HostRuntime) -> Result<(), Fail
 
 // A machine file in which a key has no text, beside a key whose name ends alike.
 fn file_of_number(alloc: Global, key: &str) -> Result<String, Fail> {
-    let name = format!(in alloc; "\"{key}\": \"")?;
-    let number = format!(in alloc; "\"{key}\": 1, \"x{key}\": \"")?;
-    let text = file(alloc, "", "3.12")?;
-    Ok(text.replace(alloc, name.as_str(), number.as_str())?)
+    let mut text = file(alloc, key, "3.12")?;
+    text.pop();
+    write!(text, ", \"{key}\": 1, \"x{key}\": \"{key}\"}}")?;
+    Ok(text)
 }
 
-fn is_missed(alloc: Global, key: &str, text: &str) -> Result<bool, Fail> {
-    let want = missing(alloc, key)?;
-    is_told(alloc, text.as_bytes(), want.as_str())
+fn is_missed(alloc: Global, text: String, key: &str) -> Result<bool, AllocError> {
+    is_told(alloc, text.as_bytes(), key)
+}
+
+// Whether a key is missed where it is left out, and where it has a number.
+fn is_missed_twice(alloc: Global, key: &str) -> Result<bool, Fail> {
+    let left_out = is_missed(alloc, file(alloc, key, "3.12")?, key)?;
+    let number = is_missed(alloc, file_of_number(alloc, key)?, key)?;
+    Ok(left_out && number)
 }
 
 #[test]
 fn each_key_is_missed(rt: HostRuntime) -> Result<(), Fail> {
     for key in KEYS.split(' ') {
-        let (without, number) = (
-            file(rt.alloc(), key, "3.12")?,
-            file_of_number(rt.alloc(), key)?,
-        );
-        assert!(rt;
-            is_missed(rt.alloc(), key, without.as_str())?,
-            "without {key}"
-        );
-        assert!(rt;
-            is_missed(rt.alloc(), key, number.as_str())?,
-            "{key} a number"
-        );
+        assert!(rt; is_missed_twice(rt.alloc(), key)?, "{key}");
     }
     Ok(())
 }
 
+// What texts are read as, and the texts: they are no object, or lack the first key.
+const OTHERS: &str = "not json|\n\
+    not json|[]\n\
+    not json|\"os_name\"\n\
+    not json|null\n\
+    not json|{\n\
+    not json|{\"os_name\": 1,}\n\
+    os_name|{}\n\
+    os_name|{\"os_name\": \"\", \"os_name\": null}";
+
+fn is_refused(alloc: Global, line: &str) -> Result<bool, AllocError> {
+    let (want, text) = cells(line);
+    is_told(alloc, text.as_bytes(), want)
+}
+
 #[test]
-fn other_bytes_are_no_object(rt: HostRuntime) -> Result<(), Fail> {
-    for bytes in [
-        b"".as_slice(),
-        b"[]",
-        b"\"os_name\"",
-        b"null",
-        b"{",
-        b"{\"os_name\": \"\xff\"}",
-        b"{\"os_name\": 1,}",
-    ] {
-        assert!(rt; is_told(rt.alloc(), bytes, "not json")?);
-    }
-    for text in ["{}", "{\"os_name\": \"\", \"os_name\": null}"] {
-        assert!(rt; is_told(rt.alloc(), text.as_bytes(), "missing os_name")?);
+fn other_texts_are_refused(rt: HostRuntime) -> Result<(), Fail> {
+    for line in OTHERS.split('\n') {
+        assert!(rt; is_refused(rt.alloc(), line)?, "{line}");
     }
     Ok(())
 }
@@ -158,10 +148,14 @@ fn long_text(alloc: Global) -> Result<String, AllocError> {
     Ok(long)
 }
 
-fn long_machine(alloc: Global) -> Result<Machine, Fail> {
+fn long_file(alloc: Global) -> Result<String, Fail> {
     let long = long_text(alloc)?;
     let text = file(alloc, "", "3.12.4")?;
-    let text = text.replace(alloc, "#1 SMP", long.as_str())?;
+    Ok(text.replace(alloc, "#1 SMP", long.as_str())?)
+}
+
+fn long_machine(alloc: Global) -> Result<Machine, Fail> {
+    let text = long_file(alloc)?;
     machine_of(alloc, text.as_str())
 }
 
@@ -175,11 +169,21 @@ fn has_long_text(machine: &Machine) -> bool {
     machine.texts.len() == 8
 }
 
+// Whether a long file is read.
+fn is_long_read(alloc: Global) -> Result<bool, Fail> {
+    let machine = long_machine(alloc)?;
+    let version = machine.implementation_version.as_str();
+    Ok(has_long_text(&machine) && version == "3.10.4rc1")
+}
+
+// Whether bytes that are no text are no object.
+fn is_no_text(alloc: Global) -> Result<bool, AllocError> {
+    is_told(alloc, b"{\"os_name\": \"\xff\"}", "not json")
+}
+
 #[test]
-fn long_files_are_read(rt: HostRuntime) -> Result<(), Fail> {
-    let machine = long_machine(rt.alloc())?;
-    assert!(rt; has_long_text(&machine));
-    assert!(rt; machine.implementation_version.as_str() == "3.10.4rc1");
+fn files_are_long_texts(rt: HostRuntime) -> Result<(), Fail> {
+    assert!(rt; is_long_read(rt.alloc())? && is_no_text(rt.alloc())?);
     Ok(())
 }
 
@@ -198,13 +202,10 @@ const COMPARISONS: &str =
     1 implementation_version < 'x'|0 implementation_version < '3 or later'|1 'rc' in implementation_version|\
     1 implementation_version in '3.10.4rc1 x'|1 sys_platform in 'sys_platform'|0 'q' in platform_version";
 
-// The comparisons that a marker's text is: one, or none where it is no opaque comparison.
-fn atoms_of(alloc: Global, text: &str) -> Result<Vec<Atom>, AllocError> {
-    let mut atoms = Vec::new(alloc);
-    if let Ok(Marker::Opaque { atom, .. }) = Marker::read(alloc, text) {
-        atoms.push(atom)?;
-    }
-    Ok(atoms)
+// The opaque comparisons of a marker's text.
+fn atoms_of(alloc: Global, text: &str) -> Result<Vec<Atom>, Fail> {
+    let marker = Marker::read(alloc, text)?;
+    Ok(marker.atoms(alloc)?)
 }
 
 fn is_compared(alloc: Global, machine: &Machine, line: &str) -> Result<bool, Fail> {
@@ -253,17 +254,22 @@ fn are_in_order(truths: &[Atom]) -> bool {
     true
 }
 
-fn is_of_many(alloc: Global, machine: &Machine) -> Result<bool, Fail> {
+// Whether a world has 300 comparisons in order: these, and not another one.
+fn is_of_many(world: &World, atoms: &[Atom], other: &Atom) -> bool {
+    let few = world.truths.len() == 300 && world.python == (3, 10, 4) && !world.has(other);
+    few && has_all(world, atoms) && are_in_order(&world.truths)
+}
+
+fn has_many(alloc: Global, machine: &Machine) -> Result<bool, Fail> {
+    let other = atom(alloc, "os_name below a")?;
     let atoms = many_atoms(alloc)?;
     let world = world_of(alloc, machine, &atoms)?;
-    let other = atom(alloc, "os_name below a")?;
-    let few = world.truths.len() == 300 && world.python == (3, 10, 4) && !world.has(&other);
-    Ok(few && has_all(&world, &atoms) && are_in_order(&world.truths))
+    Ok(is_of_many(&world, &atoms, &other))
 }
 
 #[test]
 fn truths_of_a_world_stand_in_order(rt: HostRuntime) -> Result<(), Fail> {
     let machine = machine(rt.alloc())?;
-    assert!(rt; is_of_many(rt.alloc(), &machine)?);
+    assert!(rt; has_many(rt.alloc(), &machine)?);
     Ok(())
 }

@@ -1,15 +1,15 @@
 //! Truths of markers at worlds, the order of atoms, and the texts of a world, as tables.
 
-use crate::texts::{atom, atoms, cells, digit, front, read_atom, read_world, variable, world};
+use crate::texts::{atoms, digit, front, read_atom, read_world, variable, world};
+use crate::worlds::{Described, holds, others, truths, worlds};
 use std::alloc::{AllocError, Global};
 use std::fmt::Write;
 use std::test::Fail;
 use ul_marker::{Atom, Marker, World, meets_python};
 use ul_specifier::{Clause, Op};
-use ul_version::Version;
 
 // Three machines: the interpreter, the eight texts, and the comparisons that hold.
-const MACHINES: [((u32, u32, u32), &str, &str); 3] = [
+const MACHINES: [Described; 3] = [
     (
         (3, 8, 5),
         "posix|linux|x86_64|CPython|6.1.0|Linux|#1 SMP|cpython",
@@ -27,183 +27,57 @@ const MACHINES: [((u32, u32, u32), &str, &str); 3] = [
     ),
 ];
 
-fn worlds(alloc: Global) -> Result<Vec<World>, Fail> {
-    let mut worlds = Vec::new(alloc);
-    for (python, machine, truths) in MACHINES {
-        let truths = atoms(alloc, truths)?;
-        worlds.push(world(alloc, python, machine, truths)?)?;
-    }
-    Ok(worlds)
-}
+// No extra, and an extra.
+const EXTRAS: &str = ",test";
 
-// Where a marker holds: for each of the three worlds, without an extra and with the extra `test`.
-fn truths(alloc: Global, worlds: &[World], marker: &Marker) -> Result<String, AllocError> {
-    let mut truths = String::new(alloc);
-    for world in worlds {
-        truths.push_str(digit(marker.holds(world, "")))?;
-        truths.push_str(digit(marker.holds(world, "test")))?;
-    }
-    Ok(truths)
-}
-
-fn holds(alloc: Global, worlds: &[World], marker: &Marker, want: &str) -> Result<bool, AllocError> {
-    let truths = truths(alloc, worlds, marker)?;
-    Ok(truths.as_str() == want)
-}
-
-// `== LITERAL`
-fn extra(alloc: Global, text: &str) -> Result<Marker, AllocError> {
-    let (sign, literal) = front(text);
-    let literal = String::from_str(alloc, literal)?;
-    Ok(Marker::Extra {
-        literal,
-        equal: sign == "==",
-    })
-}
-
-// `== VARIABLE LITERAL`
-fn text(alloc: Global, text: &str) -> Result<Marker, AllocError> {
-    let (sign, rest) = front(text);
-    let (name, literal) = front(rest);
-    let literal = String::from_str(alloc, literal)?;
-    Ok(Marker::Text {
-        variable: variable(name),
-        literal,
-        equal: sign == "==",
-    })
-}
-
-// `== VARIABLE KIND LITERAL`
-fn opaque(alloc: Global, text: &str) -> Result<Marker, Fail> {
-    let (sign, rest) = front(text);
-    let atom = atom(alloc, rest)?;
-    Ok(Marker::Opaque {
-        atom,
-        positive: sign == "==",
-    })
-}
-
-fn versions(alloc: Global, text: &str) -> Result<Vec<Version>, Fail> {
-    let mut versions = Vec::new(alloc);
-    for version in text.split_whitespace() {
-        versions.push(Version::read(alloc, version)?)?;
-    }
-    Ok(versions)
-}
-
-// `in full VERSIONS`
-fn list(alloc: Global, text: &str) -> Result<Marker, Fail> {
-    let (sign, rest) = front(text);
-    let (width, rest) = front(rest);
-    let versions = versions(alloc, rest)?;
-    Ok(Marker::PythonList {
-        full: width == "full",
-        versions,
-        within: sign == "in",
-    })
-}
-
-fn op(sign: &str) -> Op {
-    match sign {
-        ">=" => Op::AtLeast,
-        "<" => Op::Less,
-        _ => Op::Equal,
-    }
-}
-
-// `== full VERSION`
-fn python(alloc: Global, text: &str) -> Result<Marker, Fail> {
-    let (sign, rest) = front(text);
-    let (width, version) = front(rest);
-    let clause = Clause::read(alloc, op(sign), version)?;
-    Ok(Marker::Python {
-        full: width == "full",
-        clause,
-    })
-}
-
-fn marker(alloc: Global, line: &str) -> Result<Marker, Fail> {
-    let (kind, rest) = front(line);
-    match kind {
-        "extra" => Ok(extra(alloc, rest)?),
-        "text" => Ok(text(alloc, rest)?),
-        "opaque" => opaque(alloc, rest),
-        "list" => list(alloc, rest),
-        _ => python(alloc, rest),
-    }
-}
-
-// Where a marker holds, and the marker.
-const MARKERS: &str = "010101 extra == test\n\
-    101010 extra != test\n\
-    101010 extra == \n\
-    000000 extra == te st\n\
-    110000 python == minor 3.8\n\
-    000000 python == full 3.8\n\
-    110000 python == full 3.8.*\n\
-    001100 python >= minor 3.9\n\
-    000011 python < full 3.8.5\n\
-    001111 list in minor 2.7 3.10\n\
-    001100 list in full 2.7 3.10\n\
-    110000 list out minor 2.7 3.10\n\
-    000000 list in minor \n\
-    111111 list out full \n\
-    110011 text == os_name posix\n\
-    111100 text != implementation_name pypy\n\
-    111100 opaque == os_name contains n\n\
-    000011 opaque != os_name contains n\n\
-    000000 opaque == os_name within n";
-
-fn is_held(alloc: Global, worlds: &[World], line: &str) -> Result<bool, Fail> {
-    let (want, rest) = front(line);
-    let marker = marker(alloc, rest)?;
-    Ok(holds(alloc, worlds, &marker, want)?)
-}
-
-#[test]
-fn markers_hold_as_defined(rt: HostRuntime) -> Result<(), Fail> {
-    let worlds = worlds(rt.alloc())?;
-    for line in MARKERS.split('\n') {
-        assert!(rt; is_held(rt.alloc(), &worlds, line)?, "{line}");
-    }
-    Ok(())
-}
-
-// Where all and where any of two markers hold, one of an extra and one of a platform.
-const JOINED: &str = "100000 111010 == |== sys_platform linux\n\
-    010000 110101 == test|== sys_platform linux\n\
-    000000 010101 == test|== sys_platform plan9";
-
-fn pair(alloc: Global, line: &str) -> Result<Vec<Marker>, AllocError> {
-    let (first, second) = cells(line);
-    let mut parts = Vec::new(alloc);
-    parts.push(extra(alloc, first)?)?;
-    parts.push(text(alloc, second)?)?;
-    Ok(parts)
-}
-
-fn is_joined(alloc: Global, worlds: &[World], line: &str) -> Result<bool, AllocError> {
-    let (all, rest) = front(line);
-    let (any, rest) = front(rest);
-    let both = Marker::All(pair(alloc, rest)?);
-    let either = Marker::Any(pair(alloc, rest)?);
-    Ok(holds(alloc, worlds, &both, all)? && holds(alloc, worlds, &either, any)?)
-}
+// Markers, and where each holds: at each of the three worlds, without an extra and with the extra `test`.
+const MARKERS: &str = "010101 extra == 'test'\n\
+    101010 extra != 'test'\n\
+    101010 extra == ''\n\
+    000000 extra == 'te st'\n\
+    110000 python_version == '3.8'\n\
+    000000 python_full_version == '3.8'\n\
+    110000 python_full_version == '3.8.*'\n\
+    001100 python_version >= '3.9'\n\
+    000011 python_full_version < '3.8.5'\n\
+    001111 python_version in '2.7 3.10'\n\
+    001100 python_full_version in '2.7 3.10'\n\
+    110000 python_version not in '2.7 3.10'\n\
+    000000 python_version in ''\n\
+    111111 python_full_version not in ''\n\
+    110011 os_name == 'posix'\n\
+    111100 implementation_name != 'pypy'\n\
+    111100 'n' in os_name\n\
+    000011 'n' not in os_name\n\
+    000000 os_name in 'n'\n\
+    100000 extra == '' and sys_platform == 'linux'\n\
+    111010 extra == '' or sys_platform == 'linux'\n\
+    010000 extra == 'test' and sys_platform == 'linux'\n\
+    110101 extra == 'test' or sys_platform == 'linux'\n\
+    000000 extra == 'test' and sys_platform == 'plan9'\n\
+    010101 extra == 'test' or sys_platform == 'plan9'";
 
 // Whether no marker holds nowhere as a choice, and everywhere as a list.
 fn is_empty_joined(alloc: Global, worlds: &[World]) -> Result<bool, AllocError> {
     let all = Marker::All(Vec::new(alloc));
     let any = Marker::Any(Vec::new(alloc));
-    Ok(holds(alloc, worlds, &all, "111111")? && holds(alloc, worlds, &any, "000000")?)
+    are_empty(alloc, worlds, &all, &any)
+}
+
+fn are_empty(
+    alloc: Global,
+    worlds: &[World],
+    all: &Marker,
+    any: &Marker,
+) -> Result<bool, AllocError> {
+    Ok(holds(alloc, worlds, EXTRAS, all, "111111")? && holds(alloc, worlds, EXTRAS, any, "000000")?)
 }
 
 #[test]
-fn joined_markers_hold_as_defined(rt: HostRuntime) -> Result<(), Fail> {
-    let worlds = worlds(rt.alloc())?;
-    for line in JOINED.split('\n') {
-        assert!(rt; is_joined(rt.alloc(), &worlds, line)?, "{line}");
-    }
+fn markers_hold_as_defined(rt: HostRuntime) -> Result<(), Fail> {
+    let worlds = worlds(rt.alloc(), MACHINES)?;
     assert!(rt; is_empty_joined(rt.alloc(), &worlds)?);
+    assert_eq!(rt; others(rt.alloc(), &worlds, EXTRAS, MARKERS)?.as_str(), "");
     Ok(())
 }
 
@@ -244,46 +118,56 @@ fn atoms_are_ordered(rt: HostRuntime) -> Result<(), Fail> {
     Ok(())
 }
 
-// Whether a comparison is one, and the comparison.
-const ATOMS: &str = "1 python_version contains ~ '\n\
-    0 python_version within a\n\
-    0 os_name same a\n\
-    1 implementation_version below \"\n\
-    0 os_name below '\"\n\
-    0 os_name below a\\b\n\
-    0 os_name below \u{7f}\n\
-    0 os_name below a\tb";
+// Whether a comparison is one, and the comparison; whether a world is one, and the comparisons that hold at it, as
+// lines.
+const CHECKED: &str = "atom 1 python_version contains ~ '|\
+    atom 0 python_version within a|\
+    atom 0 os_name same a|\
+    atom 1 implementation_version below \"|\
+    atom 0 os_name below '\"|\
+    atom 0 os_name below a\\b|\
+    atom 0 os_name below \u{7f}|\
+    atom 0 os_name below a\tb|\
+    world 1 os_name below a\nos_name below b|\
+    world 0 os_name below b\nos_name below a|\
+    world 0 os_name below a\nos_name below a|\
+    none 0 ";
 
-// Whether a world is one, and the two comparisons that hold at it.
-const WORLDS: &str = "1 os_name below a|os_name below b\n\
-    0 os_name below b|os_name below a\n\
-    0 os_name below a|os_name below a";
-
-fn is_atom(alloc: Global, line: &str) -> Result<bool, AllocError> {
-    let (want, rest) = front(line);
-    let atom = read_atom(alloc, rest)?;
-    Ok(digit(atom.is_some()) == want)
+fn is_atom(alloc: Global, text: &str) -> Result<bool, AllocError> {
+    let atom = read_atom(alloc, text)?;
+    Ok(atom.is_some())
 }
 
-fn is_world(alloc: Global, line: &str) -> Result<bool, Fail> {
-    let (want, rest) = front(line);
-    let (first, second) = cells(rest);
-    let mut truths = Vec::new(alloc);
-    truths.push(atom(alloc, first)?)?;
-    truths.push(atom(alloc, second)?)?;
+fn is_world(alloc: Global, lines: &str) -> Result<bool, Fail> {
+    let truths = atoms(alloc, lines)?;
     let world = read_world(alloc, MACHINES[0].0, MACHINES[0].1, truths)?;
-    Ok(digit(world.is_some()) == want)
+    Ok(world.is_some())
+}
+
+// Whether there is a world without texts.
+fn is_bare_world(alloc: Global) -> bool {
+    World::of((3, 8, 5), Vec::new(alloc), Vec::new(alloc)).is_some()
+}
+
+fn is_one(alloc: Global, kind: &str, text: &str) -> Result<bool, Fail> {
+    match kind {
+        "atom" => Ok(is_atom(alloc, text)?),
+        "world" => is_world(alloc, text),
+        _ => Ok(is_bare_world(alloc)),
+    }
+}
+
+fn is_checked(alloc: Global, case: &str) -> Result<bool, Fail> {
+    let (kind, rest) = front(case);
+    let (want, text) = front(rest);
+    Ok(digit(is_one(alloc, kind, text)?) == want)
 }
 
 #[test]
 fn atoms_and_worlds_are_checked(rt: HostRuntime) -> Result<(), Fail> {
-    for line in ATOMS.split('\n') {
-        assert!(rt; is_atom(rt.alloc(), line)?, "{line}");
+    for case in CHECKED.split('|') {
+        assert!(rt; is_checked(rt.alloc(), case)?, "{case}");
     }
-    for line in WORLDS.split('\n') {
-        assert!(rt; is_world(rt.alloc(), line)?, "{line}");
-    }
-    assert!(rt; World::of((3, 8, 5), Vec::new(rt.alloc()), Vec::new(rt.alloc())).is_none());
     Ok(())
 }
 
@@ -306,10 +190,9 @@ fn is_named(world: &World, line: &str) -> bool {
 
 #[test]
 fn texts_stand_in_the_order_of_their_variables(rt: HostRuntime) -> Result<(), Fail> {
-    let worlds = worlds(rt.alloc())?;
-    let first = worlds.first().ok_or("no world")?;
+    let world = world(rt.alloc(), MACHINES[0].0, MACHINES[0].1, "")?;
     for line in NAMED.split('\n') {
-        assert!(rt; is_named(first, line), "{line}");
+        assert!(rt; is_named(&world, line), "{line}");
     }
     Ok(())
 }
@@ -341,22 +224,37 @@ fn is_alike(
     copy: &Marker,
     marker: &Marker,
 ) -> Result<bool, AllocError> {
-    let truths = truths(alloc, worlds, marker)?;
-    holds(alloc, worlds, copy, truths.as_str())
+    let truths = truths(alloc, worlds, EXTRAS, marker)?;
+    holds(alloc, worlds, EXTRAS, copy, truths.as_str())
+}
+
+// Whether a marker is what a line says, and a copy is the same.
+fn is_told(
+    alloc: Global,
+    worlds: &[World],
+    copy: &Marker,
+    marker: &Marker,
+    line: &str,
+) -> Result<bool, AllocError> {
+    let (count, rest) = front(line);
+    let (asks, _) = front(rest);
+    Ok(
+        has_parts(alloc, marker, count, asks)?
+            && has_parts(alloc, copy, count, asks)?
+            && is_alike(alloc, worlds, copy, marker)?,
+    )
 }
 
 fn is_copied(alloc: Global, worlds: &[World], line: &str) -> Result<bool, Fail> {
-    let (count, rest) = front(line);
-    let (asks, text) = front(rest);
+    let (_, text) = front(front(line).1);
     let marker = Marker::read(alloc, text)?;
     let copy = marker.copy(alloc)?;
-    let told = has_parts(alloc, &marker, count, asks)? && has_parts(alloc, &copy, count, asks)?;
-    Ok(told && is_alike(alloc, worlds, &copy, &marker)?)
+    Ok(is_told(alloc, worlds, &copy, &marker, line)?)
 }
 
 #[test]
 fn parts_are_told_and_copied(rt: HostRuntime) -> Result<(), Fail> {
-    let worlds = worlds(rt.alloc())?;
+    let worlds = worlds(rt.alloc(), MACHINES)?;
     for line in PARTS.split('|') {
         assert!(rt; is_copied(rt.alloc(), &worlds, line)?, "{line}");
     }
@@ -381,10 +279,19 @@ fn long_copy(alloc: Global) -> Result<Marker, Fail> {
     Ok(marker.copy(alloc)?)
 }
 
+fn is_long(alloc: Global, worlds: &[World], marker: &Marker) -> Result<bool, AllocError> {
+    let count = marker.atoms(alloc)?.len();
+    Ok(count == 300 && holds(alloc, worlds, EXTRAS, marker, "111100")?)
+}
+
+fn is_long_copied(alloc: Global) -> Result<bool, Fail> {
+    let marker = long_copy(alloc)?;
+    let worlds = worlds(alloc, MACHINES)?;
+    Ok(is_long(alloc, &worlds, &marker)?)
+}
+
 #[test]
 fn long_markers_are_copied(rt: HostRuntime) -> Result<(), Fail> {
-    let (worlds, marker) = (worlds(rt.alloc())?, long_copy(rt.alloc())?);
-    assert!(rt; marker.atoms(rt.alloc())?.len() == 300);
-    assert!(rt; holds(rt.alloc(), &worlds, &marker, "111100")?);
+    assert!(rt; is_long_copied(rt.alloc())?);
     Ok(())
 }

@@ -1,6 +1,6 @@
 //! Readings of markers, as tables.
 
-use crate::texts::{digit, front};
+use crate::texts::{digit, front, parts};
 use std::alloc::{AllocError, Global};
 use std::fmt::Write;
 use std::test::Fail;
@@ -56,30 +56,28 @@ fn read_digit(alloc: Global, text: &str) -> Result<&'static str, MarkerFault> {
     Ok(digit(is_read(alloc, text)?))
 }
 
-// Which relations are read with a variable on the left, as digits.
-fn on_left(alloc: Global, variable: &str) -> Result<String, Fail> {
+// Which relations are read between two sides, as digits.
+fn relations(alloc: Global, left: &str, right: &str) -> Result<String, Fail> {
     let mut read = String::new(alloc);
     for relation in RELATIONS.split(',') {
-        let text = format!(in alloc; "{variable} {relation} '3.8'")?;
+        let text = format!(in alloc; "{left} {relation} {right}")?;
         read.push_str(read_digit(alloc, text.as_str())?)?;
     }
     Ok(read)
 }
 
-// Which are read with the variable on the right.
-fn on_right(alloc: Global, variable: &str) -> Result<String, Fail> {
-    let mut read = String::new(alloc);
-    for relation in RELATIONS.split(',') {
-        let text = format!(in alloc; "'3.8' {relation} {variable}")?;
-        read.push_str(read_digit(alloc, text.as_str())?)?;
-    }
-    Ok(read)
+fn has_relations(alloc: Global, left: &str, right: &str, want: &str) -> Result<bool, Fail> {
+    let read = relations(alloc, left, right)?;
+    Ok(read.as_str() == want)
 }
 
 fn is_row(alloc: Global, line: &str) -> Result<bool, Fail> {
     let (variable, want) = front(line);
     let (left, right) = front(want);
-    Ok(on_left(alloc, variable)?.as_str() == left && on_right(alloc, variable)?.as_str() == right)
+    Ok(
+        has_relations(alloc, variable, "'3.8'", left)?
+            && has_relations(alloc, "'3.8'", variable, right)?,
+    )
 }
 
 #[test]
@@ -134,19 +132,9 @@ fn long_list(alloc: Global, count: u32) -> Result<String, Fail> {
     Ok(text)
 }
 
-fn parts(alloc: Global, text: &str) -> Result<usize, MarkerFault> {
-    match Marker::read(alloc, text)? {
-        Marker::Any(parts) => Ok(parts.len()),
-        _ => Ok(0),
-    }
-}
-
-#[test]
-fn parentheses_nest_and_lists_are_long(rt: HostRuntime) -> Result<(), Fail> {
-    assert!(rt; is_nested_read(rt.alloc(), 64)? && !is_nested_read(rt.alloc(), 65)?);
-    let text = long_list(rt.alloc(), 20000)?;
-    assert!(rt; parts(rt.alloc(), text.as_str())? == 20001);
-    Ok(())
+fn is_long_read(alloc: Global) -> Result<bool, Fail> {
+    let text = long_list(alloc, 20000)?;
+    Ok(parts(alloc, text.as_str())? == 20001)
 }
 
 // So many pieces, and a comparison behind them.
@@ -157,15 +145,29 @@ fn deep(alloc: Global, piece: &str, count: usize, last: &str) -> Result<String, 
     Ok(text)
 }
 
-#[test]
-fn deep_texts_are_refused_at_once(rt: HostRuntime) -> Result<(), Fail> {
-    let text = deep(rt.alloc(), "(", 1_000_000, "")?;
-    assert!(rt;
-        !is_read(rt.alloc(), text.as_str())?,
-        "a million parentheses"
-    );
+fn is_deep_read(alloc: Global, piece: &str, count: usize, last: &str) -> Result<bool, Fail> {
+    let text = deep(alloc, piece, count, last)?;
+    Ok(is_read(alloc, text.as_str())?)
+}
+
+// Whether a million parentheses are read, or many nests one behind the other.
+fn is_deepest_read(alloc: Global, nests: bool) -> Result<bool, Fail> {
+    if !nests {
+        return is_deep_read(alloc, "(", 1_000_000, "");
+    }
     let piece = "((os_name == 'a') and extra == 'b') or ";
-    let text = deep(rt.alloc(), piece, 10_000, "os_name != 'c'")?;
-    assert!(rt; is_read(rt.alloc(), text.as_str())?, "one behind the other");
+    is_deep_read(alloc, piece, 10_000, "os_name != 'c'")
+}
+
+#[test]
+fn parentheses_nest(rt: HostRuntime) -> Result<(), Fail> {
+    assert!(rt; is_nested_read(rt.alloc(), 64)? && !is_nested_read(rt.alloc(), 65)?);
+    Ok(())
+}
+
+#[test]
+fn texts_are_long(rt: HostRuntime) -> Result<(), Fail> {
+    let long = is_long_read(rt.alloc())? && is_deepest_read(rt.alloc(), true)?;
+    assert!(rt; long && !is_deepest_read(rt.alloc(), false)?);
     Ok(())
 }

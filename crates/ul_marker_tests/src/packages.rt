@@ -1,24 +1,48 @@
 //! Markers, some from the metadata of published packages, evaluated at three machines.
 
-use crate::texts::{cells, digit, front, world};
-use std::alloc::{AllocError, Global};
+use crate::worlds::{Described, others, worlds};
 use std::test::Fail;
-use ul_marker::{Atom, Marker, MarkerFault, World};
 
-// The interpreters of three machines, and their texts in the order of the text variables.
-const INTERPRETERS: [(u32, u32, u32); 3] = [(3, 12, 3), (3, 8, 10), (3, 9, 18)];
-
-const MACHINES: [&str; 3] = [
-    "posix|linux|x86_64|CPython|6.8.0-45-generic|Linux|#45-Ubuntu SMP Fri Aug 30 12:02:04 UTC 2024|cpython",
-    "nt|win32|AMD64|CPython|10|Windows|10.0.19041|cpython",
-    "posix|darwin|arm64|PyPy|23.1.0|Darwin|Darwin Kernel Version 23.1.0|pypy",
-];
-
-// The opaque comparisons of the markers below that hold on each machine.
-const TRUTHS: [&str; 3] = [
-    "'linux' in sys_platform;sys_platform in 'linux linux2';'64' in platform_machine;platform_machine in 'x86_64 AMD64';platform_machine in 'x86_64 X86_64 aarch64 AARCH64 ppc64le amd64 AMD64 win32 WIN32';'Py' in platform_python_implementation;'generic' in platform_release;platform_system in 'Linux Darwin';'Ubuntu' in platform_version;implementation_name in 'cpython pypy'",
-    "'win' in sys_platform;sys_platform in 'darwin win32 cygwin';'64' in platform_machine;platform_machine in 'x86_64 AMD64';platform_machine in 'x86_64 X86_64 aarch64 AARCH64 ppc64le amd64 AMD64 win32 WIN32';'Py' in platform_python_implementation;implementation_name in 'cpython pypy'",
-    "'win' in sys_platform;sys_platform in 'darwin win32 cygwin';'64' in platform_machine;'arm' in platform_machine;'Py' in platform_python_implementation;'PyPy' in platform_python_implementation;platform_system in 'Linux Darwin';'Darwin' in platform_version;implementation_name in 'cpython pypy'",
+// Three machines, with the opaque comparisons of the markers below that hold on each.
+const MACHINES: [Described; 3] = [
+    (
+        (3, 12, 3),
+        "posix|linux|x86_64|CPython|6.8.0-45-generic|Linux|#45-Ubuntu SMP Fri Aug 30 12:02:04 UTC 2024|cpython",
+        "sys_platform contains linux\n\
+        sys_platform within linux linux2\n\
+        platform_machine contains 64\n\
+        platform_machine within x86_64 AMD64\n\
+        platform_machine within x86_64 X86_64 aarch64 AARCH64 ppc64le amd64 AMD64 win32 WIN32\n\
+        platform_python_implementation contains Py\n\
+        platform_release contains generic\n\
+        platform_system within Linux Darwin\n\
+        platform_version contains Ubuntu\n\
+        implementation_name within cpython pypy",
+    ),
+    (
+        (3, 8, 10),
+        "nt|win32|AMD64|CPython|10|Windows|10.0.19041|cpython",
+        "sys_platform contains win\n\
+        sys_platform within darwin win32 cygwin\n\
+        platform_machine contains 64\n\
+        platform_machine within x86_64 AMD64\n\
+        platform_machine within x86_64 X86_64 aarch64 AARCH64 ppc64le amd64 AMD64 win32 WIN32\n\
+        platform_python_implementation contains Py\n\
+        implementation_name within cpython pypy",
+    ),
+    (
+        (3, 9, 18),
+        "posix|darwin|arm64|PyPy|23.1.0|Darwin|Darwin Kernel Version 23.1.0|pypy",
+        "sys_platform contains win\n\
+        sys_platform within darwin win32 cygwin\n\
+        platform_machine contains 64\n\
+        platform_machine contains arm\n\
+        platform_python_implementation contains Py\n\
+        platform_python_implementation contains PyPy\n\
+        platform_system within Linux Darwin\n\
+        platform_version contains Darwin\n\
+        implementation_name within cpython pypy",
+    ),
 ];
 
 // Markers from the metadata of published packages (`Requires-Dist`), and whether each holds on each machine with the
@@ -258,67 +282,11 @@ const OWN: &str = "000 platform_release == '10.0'|texts are compared as texts, n
     --- python_version == 'three'|a literal beside a Python variable is a version\n\
     --- python_version === '3.8'|this operator is left out";
 
-// The opaque comparison that a marker's text is.
-fn opaque(alloc: Global, text: &str) -> Result<Atom, Fail> {
-    match Marker::read(alloc, text)? {
-        Marker::Opaque { atom, .. } => Ok(atom),
-        _ => Err(Fail::from("no opaque comparison")),
-    }
-}
-
-fn comparisons(alloc: Global, texts: &str) -> Result<Vec<Atom>, Fail> {
-    let mut truths = Vec::new(alloc);
-    for text in texts.split(';') {
-        truths.push(opaque(alloc, text)?)?;
-    }
-    Ok(truths)
-}
-
-fn worlds(alloc: Global) -> Result<Vec<World>, Fail> {
-    let mut worlds = Vec::new(alloc);
-    for (python, (machine, truths)) in INTERPRETERS.iter().zip(MACHINES.iter().zip(TRUTHS)) {
-        let truths = comparisons(alloc, truths)?;
-        worlds.push(world(alloc, *python, machine, truths)?)?;
-    }
-    Ok(worlds)
-}
-
-// Whether a marker holds at each world with the extra `test`, as digits.
-fn digits(alloc: Global, worlds: &[World], marker: &Marker) -> Result<String, AllocError> {
-    let mut digits = String::new(alloc);
-    for world in worlds {
-        digits.push_str(digit(marker.holds(world, "test")))?;
-    }
-    Ok(digits)
-}
-
-// Whether a marker's text holds where it should; `---` where it should have no reading.
-fn holds(alloc: Global, worlds: &[World], text: &str, want: &str) -> Result<bool, MarkerFault> {
-    match Marker::read(alloc, text) {
-        Ok(marker) => Ok(digits(alloc, worlds, &marker)?.as_str() == want),
-        Err(MarkerFault::NoReading) => Ok(want == "---"),
-        Err(MarkerFault::NoMemory) => Err(MarkerFault::NoMemory),
-    }
-}
-
-// The lines of a table whose marker holds elsewhere than the line says. What stands behind a bar is a reason.
-fn others(alloc: Global, worlds: &[World], table: &str) -> Result<String, Fail> {
-    let mut others = String::new(alloc);
-    for line in table.lines() {
-        let (case, _) = cells(line);
-        let (want, text) = front(case);
-        if !holds(alloc, worlds, text, want)? {
-            others.push_str(line)?;
-        }
-    }
-    Ok(others)
-}
-
 #[test]
 fn markers_hold_as_in_packaging(rt: HostRuntime) -> Result<(), Fail> {
-    let worlds = worlds(rt.alloc())?;
+    let worlds = worlds(rt.alloc(), MACHINES)?;
     for table in [PUBLISHED, MARKERS, OWN] {
-        assert_eq!(rt; others(rt.alloc(), &worlds, table)?.as_str(), "");
+        assert_eq!(rt; others(rt.alloc(), &worlds, "test", table)?.as_str(), "");
     }
     Ok(())
 }

@@ -1,6 +1,6 @@
 //! Printed comparisons, which are read back.
 
-use crate::texts::{atom, cells};
+use crate::texts::{atom, cells, parts};
 use std::alloc::{AllocError, Global};
 use std::test::Fail;
 use ul_marker::printed::{push_atom, push_bound, push_extra, push_text};
@@ -34,19 +34,14 @@ fn printed(alloc: Global) -> Result<String, AllocError> {
     Ok(out)
 }
 
-// How many parts a marker has that is a choice.
-fn parts(alloc: Global, text: &str) -> Result<usize, Fail> {
-    match Marker::read(alloc, text)? {
-        Marker::Any(parts) => Ok(parts.len()),
-        _ => Ok(0),
-    }
+fn is_list(alloc: Global) -> Result<bool, Fail> {
+    let out = printed(alloc)?;
+    Ok(out.as_str() == LIST && parts(alloc, LIST)? == 3)
 }
 
 #[test]
 fn comparisons_are_printed(rt: HostRuntime) -> Result<(), Fail> {
-    let out = printed(rt.alloc())?;
-    assert_eq!(rt; out.as_str(), LIST);
-    assert!(rt; parts(rt.alloc(), LIST)? == 3);
+    assert!(rt; is_list(rt.alloc())?);
     Ok(())
 }
 
@@ -63,14 +58,19 @@ fn is_printed(alloc: Global, atom: &Atom, positive: bool, want: &str) -> Result<
     Ok(out.as_str() == want)
 }
 
-fn is_read(alloc: Global, atom: &Atom, positive: bool, text: &str) -> Result<bool, Fail> {
-    match Marker::read(alloc, text)? {
+fn is_opaque(marker: &Marker, atom: &Atom, positive: bool) -> bool {
+    match marker {
         Marker::Opaque {
             atom: read,
             positive: sign,
-        } => Ok(read.cmp(atom).is_eq() && sign == positive),
-        _ => Ok(false),
+        } => read.cmp(atom).is_eq() && *sign == positive,
+        _ => false,
     }
+}
+
+fn is_read(alloc: Global, atom: &Atom, positive: bool, text: &str) -> Result<bool, Fail> {
+    let marker = Marker::read(alloc, text)?;
+    Ok(is_opaque(&marker, atom, positive))
 }
 
 fn comes_back(alloc: Global, atom: &Atom, positive: bool, text: &str) -> Result<bool, Fail> {
@@ -100,11 +100,16 @@ fn quotes(alloc: Global) -> Result<String, AllocError> {
     Ok(literal)
 }
 
-fn is_text_of(alloc: Global, text: &str, literal: &str) -> Result<bool, Fail> {
-    match Marker::read(alloc, text)? {
-        Marker::Text { literal: read, .. } => Ok(read.as_str() == literal),
-        _ => Ok(false),
+fn is_text(marker: &Marker, literal: &str) -> bool {
+    match marker {
+        Marker::Text { literal: read, .. } => read.as_str() == literal,
+        _ => false,
     }
+}
+
+fn is_text_of(alloc: Global, text: &str, literal: &str) -> Result<bool, Fail> {
+    let marker = Marker::read(alloc, text)?;
+    Ok(is_text(&marker, literal))
 }
 
 // Whether a literal is printed in so many bytes, and read back.
@@ -114,12 +119,20 @@ fn is_printed_long(alloc: Global, literal: &str, bytes: usize) -> Result<bool, F
     Ok(out.len() == bytes && is_text_of(alloc, out.as_str(), literal)?)
 }
 
+fn is_quotes_printed(alloc: Global) -> Result<bool, Fail> {
+    let literal = quotes(alloc)?;
+    Ok(is_literal(literal.as_bytes()) && is_printed_long(alloc, literal.as_str(), 10_022)?)
+}
+
+// Whether a literal has both quotes.
+fn has_both_quotes(alloc: Global) -> Result<bool, AllocError> {
+    let mut literal = quotes(alloc)?;
+    literal.push_str("\"")?;
+    Ok(is_literal(literal.as_bytes()))
+}
+
 #[test]
 fn long_literals_are_printed(rt: HostRuntime) -> Result<(), Fail> {
-    let mut literal = quotes(rt.alloc())?;
-    assert!(rt; is_literal(literal.as_bytes()));
-    assert!(rt; is_printed_long(rt.alloc(), literal.as_str(), 10_022)?);
-    literal.push_str("\"")?;
-    assert!(rt; !is_literal(literal.as_bytes()));
+    assert!(rt; is_quotes_printed(rt.alloc())? && !has_both_quotes(rt.alloc())?);
     Ok(())
 }

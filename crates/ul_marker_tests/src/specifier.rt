@@ -139,14 +139,6 @@ fn is_row(alloc: Global, line: &str) -> Result<bool, Fail> {
     Ok(met.as_str() == want)
 }
 
-#[test]
-fn clauses_are_met_as_in_packaging(rt: HostRuntime) -> Result<(), Fail> {
-    for line in GRID.lines() {
-        assert!(rt; is_row(rt.alloc(), line)?, "{line}");
-    }
-    Ok(())
-}
-
 fn is_example(alloc: Global, line: &str) -> Result<bool, Fail> {
     let (text, rest) = front(line);
     let (version, rest) = front(rest);
@@ -175,13 +167,19 @@ fn texts_are_refused(rt: HostRuntime) {
     }
 }
 
-#[test]
-fn texts_are_read(rt: HostRuntime) -> Result<(), Fail> {
-    let list = Specifiers::read(rt.alloc(), "\t>= 1 , !=1.5.*,<2,\r\n")?;
-    let clause = Clause::read(rt.alloc(), Op::Less, " \u{b}1.5.*\n")?;
-    let version = clause.version.text(rt.alloc())?;
-    assert!(rt; list.clauses.len() == 3 && version.as_str() == "1.5");
-    Ok(())
+fn count(alloc: Global, text: &str) -> Result<usize, Fail> {
+    let specifiers = Specifiers::read(alloc, text)?;
+    Ok(specifiers.clauses.len())
+}
+
+fn is_version(alloc: Global, clause: &Clause, want: &str) -> Result<bool, AllocError> {
+    let text = clause.version.text(alloc)?;
+    Ok(text.as_str() == want)
+}
+
+fn is_clause_of(alloc: Global, op: Op, text: &str, want: &str) -> Result<bool, Fail> {
+    let clause = Clause::read(alloc, op, text)?;
+    Ok(is_version(alloc, &clause, want)?)
 }
 
 // Whether a clause says the same of a version as of its release.
@@ -203,22 +201,34 @@ fn are_plain(clauses: &[Clause], version: &Version) -> bool {
     true
 }
 
-fn meets_alike(alloc: Global, line: &str) -> Result<bool, Fail> {
-    let (text, _) = front(line);
-    let specifiers = Specifiers::read(alloc, text)?;
+fn is_met_alike(alloc: Global, clauses: &[Clause], version: &str) -> Result<bool, Fail> {
+    let version = Version::read(alloc, version)?;
+    Ok(are_plain(clauses, &version))
+}
+
+fn meet_alike(alloc: Global, clauses: &[Clause]) -> Result<bool, Fail> {
     for version in "1.0.0 1.1.0 1.10.0 0.9.1".split(' ') {
-        let version = Version::read(alloc, version)?;
-        if !are_plain(&specifiers.clauses, &version) {
+        if !is_met_alike(alloc, clauses, version)? {
             return Ok(false);
         }
     }
-    Ok(!specifiers.clauses.is_empty())
+    Ok(true)
+}
+
+fn meets_alike(alloc: Global, line: &str) -> Result<bool, Fail> {
+    let (text, _) = front(line);
+    let specifiers = Specifiers::read(alloc, text)?;
+    let alike = meet_alike(alloc, &specifiers.clauses)?;
+    Ok(alike && !specifiers.clauses.is_empty())
 }
 
 #[test]
-fn plain_versions_meet_alike(rt: HostRuntime) -> Result<(), Fail> {
+fn clauses_are_met_as_in_packaging(rt: HostRuntime) -> Result<(), Fail> {
     for line in GRID.lines() {
-        assert!(rt; meets_alike(rt.alloc(), line)?, "{line}");
+        assert!(rt;
+            is_row(rt.alloc(), line)? && meets_alike(rt.alloc(), line)?,
+            "{line}"
+        );
     }
     Ok(())
 }
@@ -256,12 +266,16 @@ const SUMS: &str = "1 0 >=1,<2.0rc1\n\
     0 0 ==1.0.*\n\
     0 0 ==1.0+x";
 
+fn pins_one(alloc: Global, specifiers: &Specifiers) -> Result<&'static str, Fail> {
+    let version = Version::read(alloc, "1")?;
+    Ok(digit(specifiers.pins(&version)))
+}
+
 fn is_summed_up(alloc: Global, line: &str) -> Result<bool, Fail> {
     let (names_pre, rest) = front(line);
     let (pinned, text) = front(rest);
     let specifiers = Specifiers::read(alloc, text)?;
-    let version = Version::read(alloc, "1")?;
-    let pins = digit(specifiers.pins(&version)) == pinned;
+    let pins = pins_one(alloc, &specifiers)? == pinned;
     Ok(pins && digit(specifiers.names_pre()) == names_pre)
 }
 
@@ -283,12 +297,20 @@ fn long_text(alloc: Global, clauses: usize) -> Result<String, AllocError> {
     Ok(text)
 }
 
-fn is_long(alloc: Global, clauses: usize) -> Result<bool, Fail> {
+fn long_list(alloc: Global, clauses: usize) -> Result<Specifiers, Fail> {
     let text = long_text(alloc, clauses)?;
-    let list = Specifiers::read(alloc, text.as_str())?;
+    Ok(Specifiers::read(alloc, text.as_str())?)
+}
+
+fn lower_count(alloc: Global, list: &Specifiers) -> Result<usize, AllocError> {
     let lower = list.lower_part(alloc)?;
-    let long = list.clauses.len() == clauses.saturating_add(1) && lower.clauses.len() == clauses;
-    Ok(long && meets(alloc, &list, "2")?)
+    Ok(lower.clauses.len())
+}
+
+fn is_long(alloc: Global, clauses: usize) -> Result<bool, Fail> {
+    let list = long_list(alloc, clauses)?;
+    let long = list.clauses.len() == clauses.saturating_add(1);
+    Ok(long && lower_count(alloc, &list)? == clauses && meets(alloc, &list, "2")?)
 }
 
 #[test]
@@ -299,15 +321,16 @@ fn lists_are_long(rt: HostRuntime) -> Result<(), Fail> {
     Ok(())
 }
 
-fn copied(alloc: Global, op: Op, version: &str) -> Result<String, Fail> {
+fn is_copied(alloc: Global, op: Op, version: &str) -> Result<bool, Fail> {
     let clause = Clause::read(alloc, op, version)?;
     let copy = clause.copy(alloc)?;
-    Ok(copy.version.text(alloc)?)
+    Ok(is_version(alloc, &copy, version)?)
 }
 
 #[test]
-fn clauses_are_copied(rt: HostRuntime) -> Result<(), Fail> {
-    let copied = copied(rt.alloc(), Op::Equal, "1!2.3.4.5.6.7.8.9.10+a.b")?;
-    assert_eq!(rt; copied.as_str(), "1!2.3.4.5.6.7.8.9.10+a.b");
+fn clauses_are_read_and_copied(rt: HostRuntime) -> Result<(), Fail> {
+    let read = count(rt.alloc(), "\t>= 1 , !=1.5.*,<2,\r\n")? == 3;
+    let clause = is_clause_of(rt.alloc(), Op::Less, " \u{b}1.5.*\n", "1.5")?;
+    assert!(rt; read && clause && is_copied(rt.alloc(), Op::Equal, "1!2.3.4.5.6.7.8.9.10+a.b")?);
     Ok(())
 }

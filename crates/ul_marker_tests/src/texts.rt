@@ -2,7 +2,7 @@
 
 use std::alloc::{AllocError, Global};
 use std::test::Fail;
-use ul_marker::{Atom, AtomKind, Variable, World};
+use ul_marker::{Atom, AtomKind, Marker, MarkerFault, Variable, World};
 
 const VARIABLES: [Variable; 11] = [
     Variable::OsName,
@@ -93,12 +93,27 @@ pub(crate) fn read_world(
     Ok(World::of(python, texts, truths))
 }
 
-/// The same, which is a world.
+/// The same, which is a world; the comparisons are lines.
 pub(crate) fn world(
     alloc: Global,
     python: (u32, u32, u32),
     machine: &str,
-    truths: Vec<Atom>,
+    truths: &str,
 ) -> Result<World, Fail> {
+    let truths = atoms(alloc, truths)?;
     Ok(read_world(alloc, python, machine, truths)?.ok_or("no world")?)
+}
+
+// How many parts a marker has that is a choice.
+fn part_count(marker: &Marker) -> usize {
+    match marker {
+        Marker::Any(parts) => parts.len(),
+        _ => 0,
+    }
+}
+
+/// How many parts the marker of a text has that is a choice.
+pub(crate) fn parts(alloc: Global, text: &str) -> Result<usize, MarkerFault> {
+    let marker = Marker::read(alloc, text)?;
+    Ok(part_count(&marker))
 }
