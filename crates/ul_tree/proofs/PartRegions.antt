@@ -3,11 +3,11 @@ use Rattle.std.proofs.Common.{◌≡◌, ◌≢◌, List, ℕ, Bool, true, false
 use Rattle.std.specs.Ordering.{is_lt, is_eq}
 use Rattle.ul_nodes.specs.Plain.{Plain, truth, node, Branches, done, branch, text_cmp, carries, carried_part, by_order, pick}
 use Rattle.ul_nodes.specs.Reduced.{Fits, FitsAll, IsReduced}
-use Rattle.ul_nodes.specs.Apply.{rest_at, branches_at, part_at}
-use Rattle.ul_nodes.specs.Keys.{top_of, rest_of, branches_of, branches_from, is_level}
+use Rattle.ul_nodes.specs.Apply.{rest_at, part_at}
+use Rattle.ul_nodes.specs.Keys.{top_of, rest_of, branches_of, is_level}
 use Rattle.ul_nodes.specs.Rows.{Results}
 use Rattle.ul_nodes.proofs.ForCallers.{cmp_itself, cmp_equal, cmp_back, cmp_over, cmp_trans, rest_here, rest_elsewhere, part_here, part_elsewhere}
-use Rattle.ul_tree.specs.Simplify.{Simplifies, Pieces, Piece, no_piece, piece, outside, inside}
+use Rattle.ul_tree.specs.Simplify.{Pieces, Piece, no_piece, piece, outside, inside}
 use Rattle.ul_tree.specs.SimplifyViews.{is_above, earlier_top, tops_of, parts_top, Lowers, Lowered, StandsFor}
 use Rattle.ul_tree.proofs.Lowering.{level_between}
 

@@ -11,7 +11,7 @@ use Rattle.ul_nodes.specs.Plain.{Plain, truth, node, branch, text_cmp, holds_of,
 use Rattle.ul_nodes.specs.Levels.{python_level}
 use Rattle.ul_nodes.specs.Reduced.{IsReduced, FitsAll, StartsAfter}
 use Rattle.ul_tree.specs.Values.{number_of, tree_holds}
-use Rattle.ul_tree.specs.Views.{python_of, pieces_of}
+use Rattle.ul_nodes.specs.Closing.{python_of, pieces_of}
 use Rattle.ul_tree.specs.Pieces.{meets_at, major_of, minor_of, patch_of, starts_of, steps_of, stepped_of}
 use Rattle.ul_nodes.proofs.ForCallers.{cmp_less, cmp_more, cmp_itself}
 use Rattle.ul_tree.proofs.Changes.{Climb, flipped_at, starts-climb, starts-hold}

@@ -5,7 +5,8 @@ use Rattle.ul_nodes.specs.Levels.{extra_level, text_level}
 use Rattle.ul_nodes.specs.Keys.{then_branches}
 use Rattle.ul_tree.specs.Views.{tree_view, points_view}
 use Rattle.ul_tree.proofs.Shapes.{view_extra, view_text}
-use Rattle.ul_tree.proofs.Rebuilt.{then_none, points_copied}
+use Rattle.ul_tree.proofs.Rebuilt.{points_copied}
+use Rattle.ul_nodes.proofs.ForCallers.{then_none}
 use Rattle.ul_tree.proofs.copy.+copy.Goals as goal
 
 pub copy_within-returns-in_ok-other-in-Extra : goal.copy_within-returns-in_ok-other-in-Extra

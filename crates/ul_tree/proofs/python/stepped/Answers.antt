@@ -1,7 +1,8 @@
 use Rattle.std.proofs.Common.{◌∷◌, ◌++◌, map, length, sym, ap, ◌∙◌}
 use Rattle.std.proofs.lemmas.List.{append-nil, drop_all}
 use Rattle.ul_specifier.proofs.ForCallers.{not_empty}
-use Rattle.ul_tree.specs.Views.{tree_view, python_of}
+use Rattle.ul_tree.specs.Views.{tree_view}
+use Rattle.ul_nodes.specs.Closing.{python_of}
 use Rattle.ul_tree.proofs.Shapes.{view_python}
 use Rattle.ul_tree.proofs.Stepped.{flipping, python_stepped}
 use Rattle.ul_tree.proofs.python.stepped.Goals as goal
