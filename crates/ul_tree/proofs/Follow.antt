@@ -8,7 +8,8 @@ use Rattle.ul_nodes.specs.Levels.{extra_level, python_level, text_level, atom_le
 use Rattle.ul_nodes.specs.Plain.{Plain, node, Branches, done, branch, carries}
 use Rattle.ul_nodes.specs.Reduced.{Fits}
 use Rattle.ul_tree.specs.Sample.{with_level, beside, sample_from}
-use Rattle.ul_tree.specs.Views.{tree_view, points_view, pieces_view, python_of}
+use Rattle.ul_tree.specs.Views.{tree_view, points_view, pieces_view}
+use Rattle.ul_nodes.specs.Closing.{python_of}
 use Rattle.ul_tree.specs.declared.tree.Tree.{Tree, Extra, Python, Text, Opaque, the_lemmas}
 use Rattle.std.proofs.Common.{map}
 use Rattle.ul_tree.proofs.NextParts.{GoesOn, point_goes_on, other_goes_on, piece_goes_on, holds_goes_on, fails_goes_on}

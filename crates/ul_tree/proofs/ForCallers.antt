@@ -13,11 +13,9 @@ pub use Rattle.ul_tree.proofs.Smaller.{rests_smaller, parts_smaller}
 pub use Rattle.ul_tree.proofs.Steps.{no_key, step_kept, keys_left, applied_is, closed_reduced, rest_at_reduced, part_at_reduced}
 pub use Rattle.ul_tree.proofs.Shortcuts.{enough, one_result, at_once, apply_steps, join_shortcuts, implies_by_join}
 -- ---- rows of branches, parts and results that are being made
-pub use Rattle.ul_tree.proofs.Rebuilt.{then_none, then_then}
-pub use Rattle.ul_tree.proofs.Made.{made_push, added_more, stands_then, stands_added, stands_kept}
-pub use Rattle.ul_tree.proofs.Pieces.{one_mark, close_some}
-pub use Rattle.ul_tree.proofs.PiecesInCode.{filled_step, results_more, results_step, results_end, next_kind, kinds_step, kind_step}
-pub use Rattle.ul_tree.proofs.PiecesInCode.{branch_step, branches_end, next_part, parts_reduced, first_reduced, other_reduced}
+pub use Rattle.ul_nodes.proofs.ForCallers.{then_none, made_push}
+pub use Rattle.ul_tree.proofs.PiecesInCode.{filled_step, results_more, results_step, results_end, kinds_step, kind_step}
+pub use Rattle.ul_tree.proofs.PiecesInCode.{parts_fit, parts_reduced, first_reduced, other_reduced}
 -- ---- simplifying
 pub use Rattle.ul_tree.proofs.SimplifySteps.{tree_part, tree_rest, region_part, region_rest, part_smaller, rest_smaller, false_is, not_false_is}
 pub use Rattle.ul_tree.proofs.SimplifySteps.{piece_outside, piece_inside, piece_more, no_more, truth_done, all_done, lowered_done, level_done}

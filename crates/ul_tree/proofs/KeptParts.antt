@@ -2,13 +2,13 @@
 use Rattle.std.proofs.Common.{◌≡◌, List, ℕ, [], ◌∷◌, ◌++◌, Bool, true, false, cond, refl, ap, sym, ◌∙◌, subst, Option, Some, None}
 use Rattle.ul_nodes.specs.Plain.{Plain, Branches, branch, carries}
 use Rattle.ul_nodes.specs.Reduced.{Fits}
-use Rattle.ul_nodes.specs.Apply.{same, close}
+use Rattle.ul_nodes.specs.Apply.{same, close, reduced_branches}
 use Rattle.ul_nodes.specs.Rows.{Results, own_or, first_result, earliest, latest, parts_view, last_part}
 use Rattle.ul_nodes.specs.Keys.{key_view}
 use Rattle.ul_nodes.specs.declared.level.Key.{Key}
 use Rattle.ul_nodes.proofs.ForCallers.{same_true, same_itself}
-use Rattle.ul_tree.specs.Simplify.{filled_results, reduced_branches, settled_level}
-use Rattle.ul_tree.specs.SimplifyViews.{left_out, kept_results, PartsFit, ResultFits, ResultsFit}
+use Rattle.ul_tree.specs.Simplify.{filled_results, settled_level}
+use Rattle.ul_tree.specs.SimplifyViews.{left_out, kept_results, PartsFit, ResultsFit}
 use Rattle.ul_tree.proofs.Settled.{own_fits}
 use Rattle.ul_tree.proofs.PiecesInCode.{settled_is}
 

@@ -13,8 +13,6 @@ pub mod Changes
 pub mod Stepped
 pub mod Leaves
 pub mod Joint
-pub mod Made
-pub mod Pieces
 pub mod Smaller
 pub mod Steps
 pub mod Atoms

@@ -9,7 +9,8 @@ use Rattle.ul_nodes.specs.Levels.{python_level, atom_level}
 use Rattle.ul_nodes.specs.Plain.{Plain, truth, node, Branches, done, branch, carries, carried_part}
 use Rattle.ul_nodes.specs.Reduced.{Fits, FitsAll, HasBranch}
 use Rattle.ul_tree.specs.Sample.{Step, beside, or_else, longer_path, first_path, first_in, with_level, with_path, sample_from}
-use Rattle.ul_tree.specs.Views.{tree_view, pieces_of, pieces_view, python_of}
+use Rattle.ul_tree.specs.Views.{tree_view, pieces_view}
+use Rattle.ul_nodes.specs.Closing.{pieces_of, python_of}
 use Rattle.ul_tree.specs.declared.tree.Tree.{Tree}
 use Rattle.ul_tree.proofs.Leads.{Stands, stands}
 

@@ -1,20 +1,18 @@
 -- Lists of pieces and of parts, as the code has them.
-use Rattle.std.proofs.Common.{◌≡◌, ℕ, suc, ◌+◌, ◌<◌, ◌≤◌, List, [], ◌∷◌, ◌++◌, length, drop, get_or, Option, Bool, true, false, cond, refl, ap, sym, ◌∙◌, arith, add-one, append-nil, subst}
+use Rattle.std.proofs.Common.{◌≡◌, ℕ, zero, suc, ◌+◌, ◌<◌, ◌≤◌, List, [], ◌∷◌, ◌++◌, length, drop, get_or, Option, Bool, true, refl, ap, sym, ◌∙◌, arith, add-one, append-nil, subst}
 use Rattle.std.specs.List.{All}
 use Rattle.std.specs.Option.{option_map}
 use Rattle.std.proofs.lemmas.List.{drop_all}
 use Rattle.std.proofs.Math.Seq.{drop-cons}
 use Rattle.std.proofs.lemmas.List.Elements.{All-push}
-use Rattle.ul_nodes.specs.Plain.{Plain, Branches, done, branch, carries, carried_part}
+use Rattle.ul_nodes.specs.Plain.{Plain, Branches, carries}
 use Rattle.ul_nodes.specs.Reduced.{Fits, IsReduced}
-use Rattle.ul_nodes.specs.Apply.{part_at, same, close}
-use Rattle.ul_nodes.specs.Keys.{key_view, keys_view, has_kind, then_branches, KeysOf}
-use Rattle.ul_nodes.specs.Rows.{stands, Results, own_or, earliest, latest, results_view, parts_view, last_part}
-use Rattle.ul_tree.specs.Joins.{more_branches}
-use Rattle.ul_tree.specs.Simplify.{Pieces, Piece, filled_results, reduced_branches, settled_from, settled_level}
+use Rattle.ul_nodes.specs.Apply.{part_at, close, reduced_branches}
+use Rattle.ul_nodes.specs.Keys.{key_view, keys_view, has_kind, KeysOf}
+use Rattle.ul_nodes.specs.Rows.{Results, own_or, earliest, latest, results_view, parts_view, last_part}
+use Rattle.ul_tree.specs.Simplify.{Pieces, Piece, filled_results, settled_from, settled_level}
 use Rattle.ul_tree.specs.SimplifyViews.{PartsFit, ResultFits, ResultsFit}
-use Rattle.ul_tree.proofs.Rebuilt.{then_none, then_then}
-use Rattle.ul_tree.proofs.Made.{stands_then}
+use Rattle.ul_nodes.proofs.ForCallers.{next_kind}
 use Rattle.ul_tree.proofs.Settled.{filled_fit, own_fits, earliest_fits, latest_fits}
 use Rattle.ul_tree.proofs.SimplifySteps.{piece_more, no_more}
 use Rattle.ul_nodes.specs.declared.level.Key.{Key}
@@ -51,12 +49,6 @@ pub results_end : {A : Type 0} (view : A → Plain) (l : List ℕ) (f r : Plain)
 results_end view l f r items i made h before =
     subst (λ (z : Results). Pieces l f r (keys_view items) z) (append-nil (results_view view made)) (before [] (no_more l f r (keys_view (drop i items)) (ap keys_view (drop_all i items h))))
 
--- a fact of the first of a list, and of those after it
-pub next_kind : {A : Type 0} (l : List ℕ) (x : Key × A) (left rest : List (Key × A)) → left ≡ x ∷ rest → KeysOf l left → (has_kind l x.0 ≡ true) × KeysOf l rest
-next_kind l x left rest e h =
-    let g = subst (λ (z : List (Key × _)). KeysOf l z) e h in
-    (g 0 x (omega arith), λ k d m. g (suc k) d (omega arith))
-
 -- one part more has a key of its level
 pub kinds_step : {A B : Type 0} (l : List ℕ) (x : Key × A) (y : B) (made next : List (Key × B)) (left rest : List (Key × A)) → left ≡ x ∷ rest → next ≡ made ++ (x.0, y) ∷ []
     → KeysOf l made × KeysOf l left → KeysOf l next × KeysOf l rest
@@ -64,27 +56,10 @@ kinds_step l x y made next left rest e q h =
     let n = next_kind l x left rest e h.1 in
     (subst (λ (z : List (Key × _)). KeysOf l z) (sym q) (All-push (λ i. has_kind l i.0 ≡ true) made (x.0, y) h.0 n.0), n.1)
 
-branch_added : (m : Bool) (made : Branches) (k : List ℕ) (x d : Plain) (ps : List (List ℕ × Plain)) (b : Bool)
-    → then_branches (more_branches b made k x) (reduced_branches m ps (stands m (more_branches b made k x) d))
-    ≡ then_branches made (cond b (reduced_branches m ps (stands m made d)) (branch k x (reduced_branches m ps (carried_part m x (stands m made d)))))
-branch_added m made k x d ps true = refl
-branch_added m made k x d ps false =
-    then_then made k x (reduced_branches m ps (stands m (then_branches made (branch k x done)) d)) ∙ ap (λ z. then_branches made (branch k x (reduced_branches m ps z))) (stands_then m made k x d)
-
--- one branch more
-pub branch_step : {A : Type 0} (view : A → Plain) (m : Bool) (made next whole : Branches) (p : Key × A) (left rest : List (Key × A)) (d : Plain) → left ≡ p ∷ rest → next ≡ more_branches (same (view p.1) (stands m made d)) made (key_view p.0) (view p.1)
-    → then_branches made (reduced_branches m (parts_view view left) (stands m made d)) ≡ whole → then_branches next (reduced_branches m (parts_view view rest) (stands m next d)) ≡ whole
-branch_step view m made next whole p left rest d e q h =
-    ap (λ z. then_branches z (reduced_branches m (parts_view view rest) (stands m z d))) q
-    ∙ branch_added m made (key_view p.0) (view p.1) d (parts_view view rest) (same (view p.1) (stands m made d))
-    ∙ sym (ap (λ z. then_branches made (reduced_branches m (parts_view view z) (stands m made d))) e) ∙ h
-
-pub branches_end : {A : Type 0} (view : A → Plain) (m : Bool) (made whole : Branches) (left : List (Key × A)) (d : Plain) → length left ≡ 0 → then_branches made (reduced_branches m (parts_view view left) (stands m made d)) ≡ whole → made ≡ whole
-branches_end view m made whole [] d e h = sym (then_none made) ∙ h
-branches_end view m made whole (p ∷ ps) d e h = absurd (omega arith)
-
-pub next_part : {A : Type 0} (view : A → Plain) (p : Key × A) (left rest : List (Key × A)) (l : List ℕ) → left ≡ p ∷ rest → PartsFit (parts_view view left) l → Fits (view p.1) l × PartsFit (parts_view view rest) l
-next_part view p left rest l e h = subst (λ (z : List (Key × _)). PartsFit (parts_view view z) l) e h
+pub parts_fit : {A : Type 0} (view : A → Plain) (ps : List (Key × A)) → PartsFit (parts_view view ps) [] → All (λ p. IsReduced (view p.1)) ps
+parts_fit view [] h k d m = absurd (omega (arith, m))
+parts_fit view (p ∷ ps) h zero d m = h.0
+parts_fit view (p ∷ ps) h (suc k) d m = parts_fit view ps h.1 k d (omega arith)
 
 pub parts_reduced : {A : Type 0} (view : A → Plain) (ps : List (Key × A)) (rs : Results) (z : Plain) (l : List ℕ) → parts_view view ps ≡ filled_results rs z → ResultsFit rs l → Fits z l → PartsFit (parts_view view ps) l
 parts_reduced view ps rs z l e h x = subst (λ (y : List (List ℕ × Plain)). PartsFit y l) (sym e) (filled_fit rs l z h x)

@@ -1,18 +1,12 @@
 -- Branches that were made, before those that are left.
-use Rattle.std.proofs.Common.{◌≡◌, ℕ, ◌+◌, ◌<◌, List, [], ◌∷◌, ◌++◌, length, drop, get_or, Global, refl, ap, sym, ◌∙◌, String, string_bytes}
+use Rattle.std.proofs.Common.{arith, ◌≡◌, ℕ, ◌+◌, ◌<◌, List, [], ◌∷◌, ◌++◌, map, length, drop, get_or, Global, refl, ap, sym, ◌∙◌, String, string_bytes}
 use Rattle.std.proofs.lemmas.List.{drop_more}
-use Rattle.ul_nodes.specs.Plain.{Plain, Branches, done, branch}
+use Rattle.ul_nodes.specs.Plain.{Branches, branch}
+use Rattle.ul_nodes.specs.Closing.{keyed_branches}
 use Rattle.ul_nodes.specs.Keys.{then_branches}
 use Rattle.ul_tree.specs.Views.{tree_view, points_view}
 use Rattle.ul_tree.specs.declared.tree.Tree.{Tree}
-
-pub then_none : (ps : Branches) → then_branches ps done ≡ ps
-then_none done = refl
-then_none (branch k p ps) = ap (branch k p) (then_none ps)
-
-pub then_then : (ps : Branches) (k : List ℕ) (x : Plain) (qs : Branches) → then_branches (then_branches ps (branch k x done)) qs ≡ then_branches ps (branch k x qs)
-then_then done k x qs = refl
-then_then (branch j p ps) k x qs = ap (branch j p) (then_then ps k x qs)
+use Rattle.ul_nodes.proofs.ForCallers.{then_none}
 
 -- ---- points
 
@@ -34,3 +28,18 @@ points_copied xs items i d k t h same key part =
     ∙ ap (λ j. then_branches (points_view xs) (branch j (tree_view t) (points_view (drop (i + 1) items)))) key
     ∙ ap (λ z. then_branches (points_view xs) (branch (string_bytes d.0) z (points_view (drop (i + 1) items)))) part
     ∙ sym (ap (then_branches (points_view xs)) (points_left items i d h same))
+
+-- a point more, of the next text and the next part
+pub point_step : (xs next : List (String Global × Tree)) (text : String Global) (t : Tree) (texts texts_rest : List (String Global)) (parts parts_rest : List Tree) (whole : Branches) → next ≡ xs ++ (text, t) ∷ []
+    → texts ≡ text ∷ texts_rest → parts ≡ t ∷ parts_rest → then_branches (points_view xs) (keyed_branches (map string_bytes texts) (map tree_view parts)) ≡ whole
+    → then_branches (points_view next) (keyed_branches (map string_bytes texts_rest) (map tree_view parts_rest)) ≡ whole
+point_step xs next text t texts texts_rest parts parts_rest whole n e s h =
+    ap (λ z. then_branches (points_view z) (keyed_branches (map string_bytes texts_rest) (map tree_view parts_rest))) n
+    ∙ points_push xs (text, t) (keyed_branches (map string_bytes texts_rest) (map tree_view parts_rest))
+    ∙ sym (λ i. then_branches (points_view xs) (keyed_branches (map string_bytes (e i)) (map tree_view (s i)))) ∙ h
+
+pub points_end : (xs : List (String Global × Tree)) (texts : List (String Global)) (parts : List Tree) (whole : Branches) → length texts ≡ 0 → length texts ≡ length parts
+    → then_branches (points_view xs) (keyed_branches (map string_bytes texts) (map tree_view parts)) ≡ whole → points_view xs ≡ whole
+points_end xs [] [] whole e n h = sym (then_none (points_view xs)) ∙ h
+points_end xs [] (p ∷ parts) whole e n h = absurd (omega (arith, n))
+points_end xs (t ∷ texts) parts whole e n h = absurd (omega (arith, e))

@@ -3,9 +3,9 @@
 use Rattle.std.proofs.Common.{◌≡◌, ℕ, List, [], ◌∷◌, Bool, true, false, refl, ap, sym, ◌∙◌, Less, Equal, Greater, Ordering, Option, Some, None, ◌⊎◌, inl, inr, cond, subst}
 use Rattle.ul_nodes.specs.Plain.{Plain, truth, node, Branches, done, branch, text_cmp, carries, carried_part, by_order, pick, holds_of}
 use Rattle.ul_nodes.specs.Reduced.{Fits, FitsAll, StartsAfter}
-use Rattle.ul_nodes.specs.Apply.{same, keys, key_union, rest_at, branches_at, part_at}
+use Rattle.ul_nodes.specs.Apply.{same, keys, key_union, rest_at, branches_at, part_at, reduced_branches}
 use Rattle.ul_nodes.specs.Rows.{Results, own_or, first_result, last_result, earliest, latest}
-use Rattle.ul_tree.specs.Simplify.{filled_results, reduced_branches, settled_level}
+use Rattle.ul_tree.specs.Simplify.{filled_results, settled_level}
 use Rattle.ul_tree.specs.SimplifyViews.{ResultFits, ResultsFit, PartsFit}
 use Rattle.ul_nodes.proofs.ForCallers.{cmp_itself, cmp_equal, cmp_trans, same_true, same_false, Rise, part_among, pick_among, starts_weaker, within_left, within_right, rise_merged, rise_keys, close_fits, close_holds}
 use Rattle.ul_tree.proofs.Picks.{holds_pick}

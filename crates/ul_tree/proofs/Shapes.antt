@@ -6,7 +6,8 @@ use Rattle.ul_nodes.specs.Plain.{Plain, truth, node, done, branch}
 use Rattle.ul_nodes.specs.Levels.{extra_level, python_level, text_level, atom_level}
 use Rattle.ul_nodes.specs.Reduced.{IsReduced, FitsAll}
 use Rattle.ul_nodes.specs.Keys.{branches_of, branch_count, branches_from}
-use Rattle.ul_tree.specs.Views.{tree_view, points_view, pieces_of, python_of}
+use Rattle.ul_tree.specs.Views.{tree_view, points_view}
+use Rattle.ul_nodes.specs.Closing.{pieces_of, python_of}
 use Rattle.ul_tree.specs.declared.tree.Tree.{Tree, Truth, Extra, Python, Text, Opaque, the_lemmas}
 
 pub view_truth : (b : Bool) → tree_view (Truth b) ≡ truth b

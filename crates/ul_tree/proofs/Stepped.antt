@@ -12,7 +12,8 @@ use Rattle.ul_nodes.specs.Plain.{truth, node, branch, text_cmp, holds_of, holds_
 use Rattle.ul_nodes.specs.Levels.{python_level}
 use Rattle.ul_nodes.specs.Reduced.{IsReduced, FitsAll, StartsAfter}
 use Rattle.ul_tree.specs.Values.{number_of, tree_holds}
-use Rattle.ul_tree.specs.Views.{tree_view, python_of, pieces_of}
+use Rattle.ul_nodes.specs.Closing.{python_of, pieces_of}
+use Rattle.ul_tree.specs.Views.{tree_view}
 use Rattle.ul_tree.specs.Pieces.{meets_at, major_of, minor_of, patch_of, starts_of, steps_of, stepped_of, flipping}
 use Rattle.ul_tree.specs.declared.tree.Tree.{Tree, Truth}
 use Rattle.ul_nodes.proofs.ForCallers.{cmp_less, cmp_more, cmp_itself}

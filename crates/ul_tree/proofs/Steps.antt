@@ -5,15 +5,12 @@ use Rattle.ul_nodes.specs.Plain.{Plain, truth, node, Branches, done, branch, tex
 use Rattle.ul_nodes.specs.Reduced.{IsReduced, Fits, FitsAll}
 use Rattle.ul_nodes.specs.Apply.{size, same, outs, close, keys, key_union, rest_at, branches_at, part_at, first_of, apply_at, apply}
 use Rattle.ul_nodes.specs.Keys.{key_view, keys_view, then_branches, top_of}
-use Rattle.ul_nodes.specs.Rows.{stands}
-use Rattle.ul_tree.specs.Joins.{more_branches}
+use Rattle.ul_nodes.specs.Rows.{stands, more_branches}
 use Rattle.ul_nodes.specs.declared.level.Key.{Key}
 use Rattle.ul_nodes.specs.declared.level.Key.TheVariants.{Literal}
-use Rattle.ul_nodes.proofs.ForCallers.{cmp_equal, cmp_itself, fits_weaker, rest_reduced}
+use Rattle.ul_nodes.proofs.ForCallers.{cmp_equal, cmp_itself, fits_weaker, rest_reduced, then_then, stands_then}
 use Rattle.ul_tree.proofs.Picks.{fits_pick, size_pick}
 use Rattle.ul_tree.proofs.Applied.{applied, seen_node, top_smaller}
-use Rattle.ul_tree.proofs.Rebuilt.{then_then}
-use Rattle.ul_tree.proofs.Made.{stands_then}
 
 next_added : (g : List ℕ → Plain) (m : Bool) (k : List ℕ) (ks : List (List ℕ)) (d : Plain) (bs : Branches) (b : Bool)
     → then_branches (more_branches b bs k (g k)) (outs g m ks (stands m (more_branches b bs k (g k)) d)) ≡ then_branches bs (cond b (outs g m ks (stands m bs d)) (branch k (g k) (outs g m ks (carried_part m (g k) (stands m bs d)))))

@@ -1,9 +1,9 @@
 -- The rule by which a tree f is made simpler where only a region c counts, which isn't false. Both are cut into
 -- pieces level by level; where the region is false, a piece takes over what a neighbouring piece became.
-use Rattle.std.specs.Prelude.{ℕ, List, [], ◌∷◌, Bool, true, false, Option, Some, None, ◌≡◌, if◌then◌else◌}
+use Rattle.std.specs.Prelude.{ℕ, List, [], ◌∷◌, Bool, true, false, Option, Some, None, ◌≡◌}
 use Rattle.std.specs.declared.cmp.Ordering.TheVariants.{Less}
-use Rattle.ul_nodes.specs.Plain.{Plain, truth, node, Branches, done, branch, text_cmp, carries, carried_part}
-use Rattle.ul_nodes.specs.Apply.{same, keys, branches_at, rest_at, part_at, key_union, close}
+use Rattle.ul_nodes.specs.Plain.{Plain, truth, node, Branches, done, branch, text_cmp, carries}
+use Rattle.ul_nodes.specs.Apply.{keys, branches_at, rest_at, part_at, key_union, close, reduced_branches}
 use Rattle.ul_nodes.specs.Rows.{Results, own_or, earliest, latest}
 use Rattle.ul_tree.specs.Laws.{or_of}
 
@@ -16,11 +16,6 @@ union_in (branch k c rest) t = union_in rest (or_of t c)
 abbrev pub filled_results : Results → Plain → List (List ℕ × Plain)
 filled_results [] z = []
 filled_results (r ∷ rs) z = (r.0, own_or r.1 z) ∷ filled_results rs (own_or r.1 z)
-
--- the branches of keys and parts, those left out that say what stands already
-abbrev pub reduced_branches : Bool → List (List ℕ × Plain) → Plain → Branches
-reduced_branches m [] d = done
-reduced_branches m (p ∷ ps) d = if same p.1 d then reduced_branches m ps d else branch p.0 p.1 (reduced_branches m ps (carried_part m p.1 d))
 
 -- a level put together from the results of its pieces, where z serves those before the first result
 abbrev pub settled_from : List ℕ → Results → Option Plain → Plain → Plain

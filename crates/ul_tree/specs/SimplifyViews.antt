@@ -6,7 +6,7 @@ use Rattle.ul_nodes.specs.Apply.{either, rest_at}
 use Rattle.ul_nodes.specs.Reduced.{IsReduced, Fits}
 use Rattle.ul_nodes.specs.Keys.{keys_view, level_view, branches_from, branches_of, rest_of, top_of}
 use Rattle.ul_nodes.specs.Rows.{Results, own_or, results_view, parts_view}
-use Rattle.ul_tree.specs.Simplify.{Simplifies, Pieces, Piece, reduced_branches, settled_level, union_in}
+use Rattle.ul_tree.specs.Simplify.{Simplifies, Pieces, Piece, settled_level, union_in}
 use Rattle.ul_tree.specs.Views.{tree_view}
 use Rattle.ul_nodes.specs.declared.level.Level.{Level}
 use Rattle.ul_tree.specs.declared.tree.Tree.{Tree}
@@ -99,10 +99,6 @@ result_trees = results_view tree_view
 -- parts of keys, of trees
 abbrev pub part_trees : List (Key × Tree) → List (List ℕ × Plain)
 part_trees = parts_view tree_view
-
--- the branches of parts, those left out that say what stands already
-abbrev pub reduced_parts : Bool → List (Key × Tree) → Tree → Branches
-reduced_parts carried parts other = reduced_branches carried (part_trees parts) (tree_view other)
 
 -- a level put together from the results of its pieces
 abbrev pub settled_tree : Level → List (Key × Option Tree) → Option Tree → Tree → Plain

@@ -1,8 +1,9 @@
 -- The plain data that a tree stands for. A node whose shape no tree has (pieces of the interpreter that don't
 -- begin at 0, or not as many parts as starts) stands for plain data that isn't reduced.
-use Rattle.std.specs.Prelude.{ℕ, zero, suc, List, [], ◌∷◌, map, String, string_bytes, false}
+use Rattle.std.specs.Prelude.{ℕ, List, [], ◌∷◌, map, String, string_bytes}
 use Rattle.std.specs.declared.alloc.Global.{Global}
-use Rattle.ul_nodes.specs.Levels.{extra_level, python_level, text_level, atom_level}
+use Rattle.ul_nodes.specs.Closing.{pieces_of, python_of}
+use Rattle.ul_nodes.specs.Levels.{extra_level, text_level, atom_level}
 use Rattle.ul_nodes.specs.Plain.{Plain, truth, node, Branches, done, branch}
 use Rattle.ul_tree.specs.declared.tree.Tree.{Tree, fold-Tree}
 use Rattle.ul_tree.specs.declared.tree.Tree.TheOpen.{Tree-F}
@@ -11,24 +12,6 @@ use Rattle.ul_tree.specs.declared.tree.Tree.TheOpen.{Tree-F}
 abbrev pub points_of : List (String Global × Plain) → Branches
 points_of [] = done
 points_of (p ∷ ps) = branch (string_bytes p.0) p.1 (points_of ps)
-
--- the branches of the pieces after the first; a branch without a key where the numbers of starts and parts differ
-abbrev pub pieces_of : List ℕ → List Plain → Branches
-pieces_of [] [] = done
-pieces_of [] (p ∷ ps) = branch [] p done
-pieces_of (s ∷ ss) [] = branch [] (truth false) done
-pieces_of (s ∷ ss) (p ∷ ps) = branch (s ∷ []) p (pieces_of ss ps)
-
--- a node without branches
-abbrev pub shapeless : Plain
-shapeless = node python_level (truth false) done
-
--- the node of the interpreter
-abbrev pub python_of : List ℕ → List Plain → Plain
-python_of [] ps = shapeless
-python_of (suc s ∷ ss) ps = shapeless
-python_of (zero ∷ ss) [] = shapeless
-python_of (zero ∷ ss) (p ∷ ps) = node python_level p (pieces_of ss ps)
 
 -- one level of a tree
 abbrev pub view_step : Tree-F Plain → Plain

@@ -1,25 +1,25 @@
 //! A tree made of two, part by part.
-ghost use Rattle.std.specs.Prelude.{◌≡◌, ℕ, List, IfOk, All, true, false, option_map};
+ghost use Rattle.std.specs.Prelude.{◌≡◌, length, map, string_bytes, IfOk};
 ghost use Rattle.ul_tree.specs.TreeFacts.{IsTree};
-ghost use Rattle.ul_nodes.specs.Plain.{node, truth};
-ghost use Rattle.ul_nodes.specs.Levels.{python_level, atom_level};
+ghost use Rattle.ul_nodes.specs.Plain.{truth};
 ghost use Rattle.ul_nodes.specs.Reduced.{IsReduced};
 ghost use Rattle.ul_nodes.specs.Apply.{close};
 ghost use Rattle.ul_tree.specs.Views.{tree_view, points_view};
-ghost use Rattle.ul_nodes.specs.Keys.{level_view, is_literal_key, is_number_key, KeysOf};
-ghost use Rattle.ul_nodes.specs.Rows.{stands, IfSome};
-ghost use Rattle.ul_tree.specs.Joins.{truth_of, IsJoined, at_once_view, past_truth, trees_made, IsAdded, KeepsKeys, IsNodeOf, IsClosed};
+ghost use Rattle.ul_nodes.specs.Closing.{keyed_branches};
+ghost use Rattle.ul_nodes.specs.Keys.{level_view, KeysOf};
+ghost use Rattle.ul_nodes.specs.Rows.{IfSome};
+ghost use Rattle.ul_tree.specs.Joins.{truth_of, IsJoined, at_once_view, past_truth, trees_made, IsClosed};
 ghost use Rattle.ul_tree.specs.JoinSteps.{JoinsTo};
 
 use crate::Tree;
-use crate::copy::{copy_within, same};
+use crate::copy::copy_within;
 use crate::part::{Trees, known, truth_value};
 use crate::tree::{DEEPEST, deeper};
 use std::alloc::{AllocError, Global};
-use ul_marker::Atom;
+use ul_nodes::branches::add;
+use ul_nodes::closing::{Closed, closed_level};
 use ul_nodes::level::{Key, Level};
 use ul_nodes::nodes::{first_level, level_keys, part_at, rest_at};
-use ul_nodes::results::standing;
 
 /// How two truths are joined.
 #[derive(Clone, Copy)]
@@ -41,84 +41,25 @@ impl Join {
     }
 }
 
-// A branch more, unless its part is the one that stands.
-pub fn add<'a>(
-    made: &mut Vec<(Key<'a>, Tree)>,
-    other: &Tree,
-    carried: bool,
-    key: Key<'a>,
-    next: Tree,
-) -> Result<(), AllocError>
-    requires next_reduced { IsTree next }
-    requires stands_reduced { IsReduced (stands carried (trees_made made.old.items) (tree_view other.now)) }
-    ensures made { IfOk result (λ u. IsAdded carried other.now key.entry next made.old.items made.new.items) }
-    ensures kinds { IfOk result (λ u. KeepsKeys key.entry made.old.items made.new.items) }
-{
-    if same(&next, standing(made, other, carried)) {
-        return Ok(());
-    }
-    made.push((key, next))?;
-    Ok(())
-}
-
-// Points of branches.
-fn points_of(alloc: Global, made: Vec<(Key<'_>, Tree)>) -> Result<Vec<(String, Tree)>, AllocError>
-    requires { All (λ e. is_literal_key e.0 ≡ true) made.items }
-    ensures { IfOk result (λ ps. points_view ps.items ≡ trees_made made.entry.items) }
+// Points: texts with their parts.
+fn points_of(
+    alloc: Global,
+    texts: Vec<String>,
+    parts: Vec<Tree>,
+) -> Result<Vec<(String, Tree)>, AllocError>
+    requires { length texts.items ≡ length parts.items }
+    ensures { IfOk result (λ ps. points_view ps.items
+        ≡ keyed_branches (map string_bytes texts.items) (map tree_view parts.items)) }
 {
     let mut points = Vec::new(alloc);
-    for (key, part) in made {
-        match key {
-            Key::Literal(text) => points.push((String::from_str(alloc, text)?, part))?,
-            Key::Number(_) => unreachable!(),
-            Key::Holds => unreachable!(),
+    let mut left = parts.into_iter();
+    for text in texts {
+        match left.next() {
+            None => unreachable!(),
+            Some(part) => points.push((text, part))?,
         }
     }
     Ok(points)
-}
-
-// The node of the interpreter that has these branches.
-fn pieces_of(alloc: Global, other: Tree, made: Vec<(Key<'_>, Tree)>) -> Result<Tree, AllocError>
-    requires { All (λ e. is_number_key e.0 ≡ true) made.items }
-    ensures { IfOk result (IsNodeOf python_level other made.entry.items) }
-{
-    let mut starts = Vec::new(alloc);
-    let mut parts = Vec::new(alloc);
-    starts.push(0)?;
-    parts.push(other)?;
-    for (key, part) in made {
-        match key {
-            Key::Number(number) => {
-                starts.push(number)?;
-                parts.push(part)?;
-            }
-            Key::Literal(_) => unreachable!(),
-            Key::Holds => unreachable!(),
-        }
-    }
-    Ok(Tree::Python { starts, parts })
-}
-
-// The node of an opaque comparison that has these branches, of which there is one.
-fn marked(
-    alloc: Global,
-    atom: &Atom,
-    other: Tree,
-    made: Vec<(Key<'_>, Tree)>,
-) -> Result<Tree, AllocError>
-    requires { IsReduced (node (atom_level atom.now) (tree_view other) (trees_made made.items)) }
-    ensures { IfOk result (IsNodeOf (atom_level atom.now) other made.entry.items) }
-{
-    let mut made = made;
-    match made.pop() {
-        None => unreachable!(),
-        Some((_, part)) => {
-            let atom = atom.copy(alloc)?;
-            let yes = Box::new(alloc, part)?;
-            let no = Box::new(alloc, other)?;
-            Ok(Tree::Opaque { atom, yes, no })
-        }
-    }
 }
 
 // A node of a level that has these branches; its other part where it has none.
@@ -132,18 +73,26 @@ pub fn closed(
     requires reduced { IsReduced (close (level_view level) (tree_view other) (trees_made made.items)) }
     ensures { IfOk result (IsClosed (level_view level.entry) other made.entry.items) }
 {
-    if made.is_empty() {
-        return Ok(other);
-    }
-    match level {
-        Level::Extra => {
-            let points = points_of(alloc, made)?;
+    let lists = closed_level(alloc, level, other, made)?;
+    match lists {
+        Closed::Part(part) => Ok(part),
+        Closed::Extra {
+            texts,
+            parts,
+            other,
+        } => {
+            let points = points_of(alloc, texts, parts)?;
             let other = Box::new(alloc, other)?;
             Ok(Tree::Extra { points, other })
         }
-        Level::Python => pieces_of(alloc, other, made),
-        Level::Text(variable) => {
-            let points = points_of(alloc, made)?;
+        Closed::Python { starts, parts } => Ok(Tree::Python { starts, parts }),
+        Closed::Text {
+            variable,
+            texts,
+            parts,
+            other,
+        } => {
+            let points = points_of(alloc, texts, parts)?;
             let other = Box::new(alloc, other)?;
             Ok(Tree::Text {
                 variable,
@@ -151,7 +100,12 @@ pub fn closed(
                 other,
             })
         }
-        Level::Opaque(atom) => marked(alloc, atom, other, made),
+        Closed::Opaque { atom, holds, fails } => {
+            let atom = atom.copy(alloc)?;
+            let yes = Box::new(alloc, holds)?;
+            let no = Box::new(alloc, fails)?;
+            Ok(Tree::Opaque { atom, yes, no })
+        }
     }
 }
 
@@ -290,7 +244,7 @@ fn joined_parts(
                     part_at::<Trees>(right, level, *key),
                     room,
                 )?;
-                add(&mut made, &other, carried, *key, next)?;
+                add(&Trees, &mut made, &other, carried, *key, next)?;
             }
             let tree = closed(alloc, level, other, made)?;
             Ok(tree)

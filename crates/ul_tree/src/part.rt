@@ -8,6 +8,8 @@ ghost use Rattle.ul_tree.specs.Sample.{asks_extra as asks_extra_plain};
 ghost use Rattle.ul_tree.specs.Views.{tree_view, points_view};
 
 use crate::Tree;
+use crate::copy::same;
+use ul_nodes::branches::Sameness;
 use ul_nodes::level::{Key, Level};
 use ul_nodes::nodes::{Branch, Nodes};
 
@@ -39,6 +41,20 @@ impl Nodes for Trees {
 
     fn branch_at(node: &Tree, index: usize) -> Branch<'_, Tree> {
         branch_at(node, index)
+    }
+}
+
+impl Sameness for Trees {
+    ghost use Rattle.ul_tree.specs.Views.{tree_view};
+
+    type Part = Tree;
+
+    ghost tree = { tree_view };
+
+    ghost known = { λ trees t. Unit {0} };
+
+    fn is_same(&self, left: &Tree, right: &Tree) -> bool {
+        same(left, right)
     }
 }
 

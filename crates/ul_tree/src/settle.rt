@@ -4,14 +4,15 @@ ghost use Rattle.ul_tree.specs.TreeFacts.{IsTree};
 ghost use Rattle.ul_tree.specs.Views.{tree_view};
 ghost use Rattle.ul_nodes.specs.Reduced.{IsReduced};
 ghost use Rattle.ul_nodes.specs.Keys.{level_view, KeysOf};
-ghost use Rattle.ul_tree.specs.Joins.{trees_made};
 ghost use Rattle.ul_nodes.specs.Rows.{own_or};
-ghost use Rattle.ul_tree.specs.SimplifyViews.{PartsFit, ResultFits, ResultsFit, result_trees, part_trees, left_out, kept_trees, reduced_parts, settled_tree};
+ghost use Rattle.ul_tree.specs.SimplifyViews.{ResultFits, ResultsFit, result_trees, part_trees, left_out, kept_trees, settled_tree};
 
 use crate::Tree;
 use crate::copy::copy;
-use crate::join::{add, closed};
+use crate::join::closed;
+use crate::part::Trees;
 use std::alloc::{AllocError, Global};
+use ul_nodes::branches::reduced_branches;
 use ul_nodes::level::{Key, Level};
 use ul_nodes::results::{earliest, last_part, latest};
 
@@ -57,25 +58,6 @@ fn kept_parts<'a>(
     Ok(parts)
 }
 
-// The branches of parts, those left out that say what stands already.
-fn reduced_branches<'a>(
-    alloc: Global,
-    parts: Vec<(Key<'a>, Tree)>,
-    other: &Tree,
-    carried: bool,
-) -> Result<Vec<(Key<'a>, Tree)>, AllocError>
-    requires parts_reduced { PartsFit (part_trees parts.items) [] }
-    requires other_reduced { IsTree other.now }
-    ensures branches { IfOk result (λ bs. trees_made bs.items ≡ reduced_parts carried parts.entry.items other.now) }
-    ensures kinds { IfOk result (λ bs. (l : List ℕ) → KeysOf l parts.entry.items → KeysOf l bs.items) }
-{
-    let mut made: Vec<(Key<'a>, Tree)> = Vec::new(alloc);
-    for (key, part) in parts {
-        add(&mut made, other, carried, key, part)?;
-    }
-    Ok(made)
-}
-
 /// A level put together from the results of its pieces: a piece without one takes that of the nearest earlier
 /// piece with one, else of the nearest later, else `otherwise`.
 pub fn settled(
@@ -96,7 +78,7 @@ pub fn settled(
     let first = copy(alloc, earliest(carried, &results, &rest, otherwise))?;
     let other = kept_or_copied(alloc, rest, latest(carried, &results, &first))?;
     let parts = kept_parts(alloc, carried, results, &first)?;
-    let made = reduced_branches(alloc, parts, &other, carried)?;
+    let made = reduced_branches(&Trees, alloc, parts, &other, carried)?;
     let tree = closed(alloc, level, other, made)?;
     Ok(tree)
 }

@@ -3,11 +3,13 @@ use Rattle.std.proofs.lemmas.List.{append-nil, drop_all, drop_more, map-append}
 use Rattle.ul_nodes.specs.Plain.{node, done, branch}
 use Rattle.ul_nodes.specs.Levels.{extra_level, text_level, atom_level}
 use Rattle.ul_nodes.specs.Keys.{then_branches}
-use Rattle.ul_tree.specs.Views.{tree_view, points_view, python_of}
+use Rattle.ul_nodes.specs.Closing.{python_of}
+use Rattle.ul_nodes.proofs.ForCallers.{then_none}
+use Rattle.ul_tree.specs.Views.{tree_view, points_view}
 use Rattle.ul_tree.proofs.HandedOn.{made_holds}
 use Rattle.ul_tree.proofs.Shapes.{view_extra, view_python, view_text, view_opaque}
 use Rattle.ul_tree.specs.declared.tree.Tree.{Tree}
-use Rattle.ul_tree.proofs.Rebuilt.{then_none, points_copied}
+use Rattle.ul_tree.proofs.Rebuilt.{points_copied}
 use Rattle.ul_tree.proofs.copy.+copy.Goals as goal
 
 pub copy_points-returns : goal.copy_points-returns

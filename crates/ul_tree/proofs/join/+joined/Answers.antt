@@ -11,8 +11,7 @@ use Rattle.ul_tree.specs.Joins.{truth_of}
 use Rattle.ul_nodes.specs.declared.level.Key.{Key}
 use Rattle.ul_tree.proofs.Applied.{applied}
 use Rattle.ul_tree.proofs.Smaller.{rests_smaller, parts_smaller}
-use Rattle.ul_tree.proofs.Rebuilt.{then_none}
-use Rattle.ul_tree.proofs.Made.{stands_kept}
+use Rattle.ul_nodes.proofs.ForCallers.{then_none, stands_kept}
 use Rattle.ul_tree.proofs.Shortcuts.{at_once}
 use Rattle.ul_tree.proofs.Steps.{no_key, step_kept, keys_left, applied_is, closed_reduced, rest_at_reduced, part_at_reduced}
 use Rattle.ul_tree.proofs.join.+joined.Goals as goal

@@ -4,7 +4,8 @@ use Rattle.ul_nodes.specs.Levels.{extra_level, python_level, text_level, atom_le
 use Rattle.ul_nodes.specs.Plain.{Plain}
 use Rattle.ul_nodes.specs.Reduced.{Fits}
 use Rattle.ul_tree.specs.Sample.{fresh, with_level}
-use Rattle.ul_tree.specs.Views.{tree_view, points_view, python_of}
+use Rattle.ul_tree.specs.Views.{tree_view, points_view}
+use Rattle.ul_nodes.specs.Closing.{python_of}
 use Rattle.ul_tree.proofs.NextParts.{pieces_even}
 use Rattle.ul_tree.proofs.Follow.{view-Extra, view-Python, view-Text, view-Opaque, by_point, by_other, by_piece, by_yes, by_no, world_goes_on, if_ok_along}
 use Rattle.ul_tree.proofs.samples.+follow.Goals as goal

@@ -4,8 +4,8 @@ use Rattle.ul_tree.specs.Views.{tree_view}
 use Rattle.ul_nodes.specs.Keys.{key_view}
 use Rattle.ul_nodes.specs.Rows.{own_or, results_view, parts_view, last_part}
 use Rattle.ul_tree.specs.SimplifyViews.{kept_results}
-use Rattle.ul_nodes.proofs.ForCallers.{part_viewed}
-use Rattle.ul_tree.proofs.PiecesInCode.{kinds_step, next_kind}
+use Rattle.ul_nodes.proofs.ForCallers.{part_viewed, next_kind}
+use Rattle.ul_tree.proofs.PiecesInCode.{kinds_step}
 use Rattle.ul_tree.proofs.KeptParts.{kept_less, kept_step}
 use Rattle.ul_tree.proofs.settle.kept_parts.Goals as goal
 

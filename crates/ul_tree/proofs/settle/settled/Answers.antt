@@ -8,7 +8,7 @@ use Rattle.ul_nodes.specs.Reduced.{IsReduced}
 use Rattle.ul_tree.specs.Simplify.{settled_level}
 use Rattle.ul_tree.specs.Views.{tree_view}
 use Rattle.ul_nodes.proofs.ForCallers.{earliest_viewed, latest_viewed}
-use Rattle.ul_tree.proofs.PiecesInCode.{first_reduced, other_reduced}
+use Rattle.ul_tree.proofs.PiecesInCode.{parts_fit, first_reduced, other_reduced}
 use Rattle.ul_tree.proofs.KeptParts.{kept_reduced, kept_is}
 use Rattle.ul_tree.proofs.settle.settled.Goals as goal
 use Rattle.ul_tree.proofs.settle.settled.Goals.{In_ok-first, In_ok-other, In_ok-made}
@@ -26,10 +26,11 @@ first_fits c =
 latest_is : (c : In_ok-other) → tree_view c.latest.result.now ≡ latest c.is_carried-carried.result (results_view tree_view c.deref-2.result.now) (tree_view c.in_ok-first.first)
 latest_is c = ap tree_view c.latest.ensures ∙ latest_viewed tree_view c.is_carried-carried.result c.deref-2.result.now c.in_ok-first.first
 
-pub reduced_branches-requires-clause-parts_reduced : goal.reduced_branches-requires-clause-parts_reduced
-reduced_branches-requires-clause-parts_reduced c =
-    kept_reduced tree_view c.is_carried-carried.result c.in_ok-parts.parts.items (results_view tree_view c.args.results.items) (tree_view c.in_ok-first.first) [] c.in_ok-parts.ensures.parts c.requires.results_reduced
-    (first_fits (goal.at.reduced_branches-requires-clause-parts_reduced c).In_ok-first)
+pub reduced_branches-requires-clause-rows_reduced : goal.reduced_branches-requires-clause-rows_reduced
+reduced_branches-requires-clause-rows_reduced c =
+    parts_fit tree_view c.in_ok-parts.parts.items
+    (kept_reduced tree_view c.is_carried-carried.result c.in_ok-parts.parts.items (results_view tree_view c.args.results.items) (tree_view c.in_ok-first.first) [] c.in_ok-parts.ensures.parts c.requires.results_reduced
+    (first_fits (goal.at.reduced_branches-requires-clause-rows_reduced c).In_ok-first))
 
 pub reduced_branches-requires-clause-other_reduced : goal.reduced_branches-requires-clause-other_reduced
 reduced_branches-requires-clause-other_reduced c =
