@@ -16,7 +16,7 @@ use Rattle.ul_nodes.specs.Plain.{Plain, truth, node, Branches, done, branch, tex
 use Rattle.ul_nodes.specs.Reduced.{IsReduced, Fits, FitsAll, HasBranch}
 use Rattle.ul_nodes.specs.Apply.{keys, same}
 use Rattle.ul_nodes.proofs.ForCallers.{same_true, same_itself, cmp_equal, cmp_itself, fits_weaker}
-use Rattle.ul_tree.specs.Views.{pieces_of}
+use Rattle.ul_nodes.specs.Closing.{pieces_of}
 use Rattle.std.specs.Ordering.{is_eq}
 use Rattle.ul_algebra.specs.declared.labels.DiagramLabel.{DiagramLabel}
 use Rattle.ul_algebra.specs.declared.labels.DiagramLabel.TheVariants.{Truth, Extra, Python, Text, Opaque}

@@ -10,7 +10,7 @@ use Rattle.ul_nodes.specs.Apply.{keys, leaf_truth, truth_value}
 use Rattle.ul_tree.specs.FirstParts.{is_false}
 use Rattle.ul_nodes.specs.Keys.{top_of, rest_of, branches_of, branch_count, branches_from, is_key_of}
 use Rattle.ul_nodes.specs.declared.level.Key.TheVariants.{Number}
-use Rattle.ul_tree.specs.Views.{python_of, pieces_of}
+use Rattle.ul_nodes.specs.Closing.{python_of, pieces_of}
 use Rattle.ul_algebra.specs.declared.labels.DiagramLabel.{DiagramLabel}
 use Rattle.ul_algebra.specs.declared.labels.DiagramLabel.TheVariants.{Truth}
 use Rattle.ul_algebra.specs.Made.{Seen}

@@ -16,11 +16,3 @@ head_tail {A} P x left rest e h =
 -- with one more
 pub all_push : {A : Type 0} (P : A → Type 0) (xs ys : List A) (x : A) → ys ≡ xs ++ x ∷ [] → All P xs → P x → All P ys
 all_push {A} P xs ys x e h p = subst (λ (z : List A). All P z) (sym e) (All-push P xs x h p)
-
--- what all of a list have the last has
-pub last_of_all : {A : Type 0} (P : A → Type 0) (all front : List A) (x : A) → all ≡ front ++ x ∷ [] → All P all → P x
-last_of_all {A} P all front x e h = go front (subst (λ (z : List A). All P z) e h)
-  where
-    go : (front : List A) → All P (front ++ x ∷ []) → P x
-    go [] h = h 0 x (omega arith)
-    go (y ∷ front) h = go front (λ k d m. h (suc k) d (omega arith))

@@ -1,9 +1,9 @@
 -- A level that is put together from the results of its pieces.
 use Rattle.std.proofs.Common.{◌≡◌, ℕ, List, Option, Bool, ap, ◌∙◌}
-use Rattle.ul_nodes.specs.Apply.{close}
+use Rattle.ul_nodes.specs.Apply.{close, reduced_branches}
 use Rattle.ul_nodes.specs.Plain.{Plain, Branches, carries}
 use Rattle.ul_nodes.specs.Rows.{Results, own_or, earliest, latest}
-use Rattle.ul_tree.specs.Simplify.{filled_results, reduced_branches, settled_from, settled_level}
+use Rattle.ul_tree.specs.Simplify.{filled_results, settled_from, settled_level}
 
 -- it is the one of the rule
 pub settled_is : (l : List ℕ) (m : Bool) (rs : Results) (o : Option Plain) (d z e : Plain) (ps : List (List ℕ × Plain)) (bs : Branches) → m ≡ carries l → z ≡ earliest m rs o d → e ≡ own_or o (latest m rs z)

@@ -6,8 +6,7 @@ use Rattle.ul_nodes.specs.Apply.{close}
 use Rattle.ul_nodes.specs.Keys.{key_view, top_of, rest_of, branches_of, branches_from, branch_count, then_branches, is_key_of, has_kind}
 use Rattle.ul_nodes.specs.Rows.{made_view}
 use Rattle.ul_nodes.specs.declared.level.Key.{Key}
-use Rattle.ul_nodes.proofs.ForCallers.{from_end}
-use Rattle.ul_tree.proofs.ForCallers.{made_push, then_none}
+use Rattle.ul_nodes.proofs.ForCallers.{from_end, made_push, then_none}
 
 -- a tree that has a top level is a node
 pub a_node : (l : List ℕ) (t : Plain) → Some l ≡ top_of t → top_of t ≢ None

@@ -1,21 +1,17 @@
 -- The branches, results and parts of a diagram that is being made.
-use Rattle.std.specs.Prelude.{ℕ, suc, ◌+◌, ◌<◌, ◌≡◌, List, [], ◌∷◌, map, All, Option, option_map, Bool, true}
+use Rattle.std.specs.Prelude.{ℕ, suc, ◌+◌, ◌<◌, ◌≡◌, List, All, Option, option_map}
 use Rattle.ul_interner.specs.Known.{Held, Known}
 use Rattle.ul_interner.specs.Marked.{Marked}
-use Rattle.ul_comparison.specs.Atoms.{AtomFields}
-use Rattle.ul_nodes.specs.Levels.{python_level, atom_level}
-use Rattle.ul_nodes.specs.Plain.{Plain, Branches, node, carries}
-use Rattle.ul_nodes.specs.Apply.{apply, close, outs, part_at, same, size}
-use Rattle.ul_nodes.specs.Rows.{made_view, stands, Results, results_view, parts_view, IfSome}
-use Rattle.ul_tree.specs.Joins.{more_branches}
-use Rattle.ul_nodes.specs.Keys.{level_view, key_view, keys_view, has_kind, branches_of, rest_of, KeysOf}
-use Rattle.ul_tree.specs.Simplify.{Pieces, Piece, filled_results, reduced_branches, settled_level, union_in}
+use Rattle.ul_nodes.specs.Plain.{Plain, Branches, carries}
+use Rattle.ul_nodes.specs.Apply.{apply, close, outs, part_at, size}
+use Rattle.ul_nodes.specs.Rows.{made_view, Results, results_view, parts_view, IfSome}
+use Rattle.ul_nodes.specs.Keys.{level_view, keys_view, branches_of, rest_of}
+use Rattle.ul_tree.specs.Simplify.{Pieces, Piece, filled_results, settled_level, union_in}
 use Rattle.ul_tree.specs.SimplifyViews.{region_view, Lowered}
-use Rattle.ul_tree.specs.Views.{python_of}
 use Rattle.ul_nodes.specs.declared.level.Key.{Key}
 use Rattle.ul_nodes.specs.declared.level.Level.{Level}
 use Rattle.ul_algebra.specs.Joinings.{truth_of}
-use Rattle.ul_algebra.specs.Spelled.{keyed_node, tree_of}
+use Rattle.ul_algebra.specs.Spelled.{tree_of}
 use Rattle.ul_algebra.specs.declared.labels.DiagramLabel.{DiagramLabel}
 use Rattle.ul_algebra.specs.declared.questions.Joining.{Joining}
 
@@ -59,40 +55,11 @@ PartsKnown h ps = All (λ p. Known h p.1) ps
 abbrev pub KnownWith : Seen → Seen → Type 0
 KnownWith d p = (h : Held DiagramLabel) → Known h d → Known h p
 
--- whoever knows branches and the other part knows the parts of their node
-abbrev pub PartsKnownWith : List (Key × Seen) → Seen → List Seen → Type 0
-PartsKnownWith made other parts = (h : Held DiagramLabel) → PartsKnown h made → Known h other → AreKnown h parts
-
 -- whoever knows the results of pieces and the first part knows the parts
 abbrev pub FilledKnownWith : List (Key × Option Seen) → Seen → List (Key × Seen) → Type 0
 FilledKnownWith results first parts = (h : Held DiagramLabel) → ResultsKnown h results → Known h first → PartsKnown h parts
 
--- keys of a level stay keys of it
-abbrev pub KeepsLevel : {A B : Type 0} → List (Key × A) → List (Key × B) → Type 0
-KeepsLevel before after = (l : List ℕ) → KeysOf l before → KeysOf l after
-
 -- ---- joining
-
--- a branch more, unless its part is the one that stands
-abbrev pub IsAdded : Bool → Seen → Key → Seen → List (Key × Seen) → List (Key × Seen) → Type 0
-IsAdded carried other key next before after =
-    diagrams_made after ≡ more_branches (same (tree_of next) (stands carried (diagrams_made before) (tree_of other))) (diagrams_made before) (key_view key) (tree_of next)
-
--- a branch more keeps that the keys are those of a level
-abbrev pub KeepsKeys : Key → List (Key × Seen) → List (Key × Seen) → Type 0
-KeepsKeys key before after = (l : List ℕ) → KeysOf l before → has_kind l key ≡ true → KeysOf l after
-
--- keys and parts are those of branches and the other part
-abbrev pub AreKeyed : Seen → List (Key × Seen) → List (List ℕ) → List Seen → Type 0
-AreKeyed other made points parts = (l : List ℕ) → keyed_node l points (map tree_of parts) ≡ node l (tree_of other) (diagrams_made made)
-
--- the same of starts and the parts of pieces
-abbrev pub ArePieces : Seen → List (Key × Seen) → List ℕ → List Seen → Type 0
-ArePieces other made starts parts = python_of starts (map tree_of parts) ≡ node python_level (tree_of other) (diagrams_made made)
-
--- parts are those where an opaque comparison holds, and where it doesn't
-abbrev pub AreHalves : AtomFields → Seen → List (Key × Seen) → List Seen → Type 0
-AreHalves atom other made parts = keyed_node (atom_level atom) ((1 ∷ []) ∷ []) (map tree_of parts) ≡ node (atom_level atom) (tree_of other) (diagrams_made made)
 
 -- the branches of keys: the parts of two diagrams there, joined, without those that say what stands already
 abbrev pub AreJoined : Joining → Level → Seen → Seen → List Key → Seen → List (Key × Seen) → Type 0
@@ -108,10 +75,6 @@ closed_tree level other made = close (level_view level) (tree_of other) (diagram
 -- the parts of keys: each piece's own result, or the part before it
 abbrev pub filled_parts : List (Key × Option Seen) → Seen → List (List ℕ × Plain)
 filled_parts results first = filled_results (result_diagrams results) (tree_of first)
-
--- the branches of parts, those left out that say what stands already
-abbrev pub reduced_parts : Bool → List (Key × Seen) → Seen → Branches
-reduced_parts carried parts other = reduced_branches carried (part_diagrams parts) (tree_of other)
 
 -- a level put together from the results of its pieces
 abbrev pub settled_tree : Level → List (Key × Option Seen) → Option Seen → Seen → Plain

@@ -6,7 +6,7 @@ use Rattle.ul_core.specs.declared.trees.Tree.TheFolds.{fold-Tree}
 use Rattle.ul_interner.specs.Marked.{Marked, plain}
 use Rattle.ul_nodes.specs.Levels.{extra_level, text_level, atom_level}
 use Rattle.ul_nodes.specs.Plain.{Plain, truth, node, Branches, done, branch}
-use Rattle.ul_tree.specs.Views.{shapeless, python_of}
+use Rattle.ul_nodes.specs.Closing.{shapeless, python_of}
 use Rattle.ul_algebra.specs.declared.labels.DiagramLabel.{DiagramLabel}
 use Rattle.ul_algebra.specs.declared.labels.DiagramLabel.TheVariants.{Truth, Extra, Python, Text, Opaque}
 

@@ -2,7 +2,7 @@
 use Rattle.std.specs.Prelude.{◌≡◌, [], ◌∷◌, true, false}
 use Rattle.ul_nodes.specs.Levels.{extra_level, python_level}
 use Rattle.ul_nodes.specs.Plain.{truth, node, done, branch}
-use Rattle.ul_tree.specs.Views.{shapeless}
+use Rattle.ul_nodes.specs.Closing.{shapeless}
 use Rattle.ul_algebra.specs.declared.labels.DiagramLabel.TheVariants.{Truth, Extra, Python}
 use Rattle.ul_algebra.specs.Hashes.{label_hash}
 use Rattle.ul_algebra.specs.Spelled.{spelling}

@@ -1,15 +1,13 @@
 //! A diagram made of two, part by part.
-ghost use Rattle.std.specs.Prelude.{◌≡◌, ℕ, List, Some, IfOk, All, true};
+ghost use Rattle.std.specs.Prelude.{◌≡◌, ◌∷◌, ◌++◌, [], Some, IfOk};
 ghost use Rattle.ul_interner.specs.Known.{Known, Knows};
-ghost use Rattle.ul_nodes.specs.Plain.{node};
-ghost use Rattle.ul_nodes.specs.Levels.{atom_level};
 ghost use Rattle.ul_nodes.specs.Reduced.{IsReduced};
 ghost use Rattle.ul_nodes.specs.Apply.{first_of};
-ghost use Rattle.ul_nodes.specs.Rows.{stands, IfSome};
-ghost use Rattle.ul_nodes.specs.Keys.{level_view, is_literal_key, is_number_key, AreKeysOf, KeysOf};
+ghost use Rattle.ul_nodes.specs.Rows.{IfSome};
+ghost use Rattle.ul_nodes.specs.Keys.{level_view, AreKeysOf, KeysOf};
 ghost use Rattle.ul_algebra.specs.Answers.{IsDiagram};
 ghost use Rattle.ul_algebra.specs.Joinings.{IsJoin, IsJoinAtOnce, at_once_tree, FollowsSide};
-ghost use Rattle.ul_algebra.specs.Made.{diagrams_made, PartsKnown, PartsKnownWith, IsAdded, KeepsKeys, AreKeyed, ArePieces, AreHalves, AreJoined, closed_tree};
+ghost use Rattle.ul_algebra.specs.Made.{PartsKnown, AreJoined, closed_tree};
 ghost use Rattle.ul_algebra.specs.Spelled.{tree_of};
 
 use crate::Diagram;
@@ -21,109 +19,28 @@ use crate::nodes::{Diagrams, known, truth_value};
 use crate::questions::{AtOnce, Joining, Operation};
 use std::alloc::{AllocError, Global};
 use std::sync::Wait;
-use ul_marker::Atom;
+use ul_nodes::branches::add;
+use ul_nodes::closing::{Closed, closed_level};
 use ul_nodes::level::{Key, Level};
 use ul_nodes::nodes::{first_level, level_keys, part_at, rest_at};
-use ul_nodes::results::standing;
 
-// A branch more, unless its part is the one that stands.
-pub(crate) fn add<'a>(
-    algebra: &Algebra<'_>,
-    made: &mut Vec<(Key<'a>, Diagram)>,
-    other: &Diagram,
-    carried: bool,
-    key: Key<'a>,
-    next: Diagram,
-) -> Result<(), AllocError>
-    requires next { IsDiagram algebra.now next }
-    requires other { Known algebra.now other.now }
-    requires parts { PartsKnown algebra.now made.old.items }
-    requires stands_reduced { IsReduced (stands carried (diagrams_made made.old.items) (tree_of other.now)) }
-    ensures made { IfOk result (λ u. IsAdded carried other.now key.entry next made.old.items made.new.items) }
-    ensures kinds { IfOk result (λ u. KeepsKeys key.entry made.old.items made.new.items) }
-    ensures parts { IfOk result (λ u. PartsKnown algebra.now made.new.items) }
+// The parts of keys, and then the other part.
+fn parts_and_other(parts: Vec<Diagram>, other: Diagram) -> Result<Vec<Diagram>, AllocError>
+    ensures { IfOk result (λ ps. ps.items ≡ parts.items ++ (other ∷ [])) }
 {
-    if algebra.same(&next, standing(made, other, carried)) {
-        return Ok(());
-    }
-    made.push((key, next))?;
-    Ok(())
+    let mut parts = parts;
+    parts.push(other)?;
+    Ok(parts)
 }
 
-// The points and the parts of branches, and then the other part.
-fn points_of(
-    alloc: Global,
-    made: Vec<(Key<'_>, Diagram)>,
-    other: &Diagram,
-) -> Result<(Points, Vec<Diagram>), AllocError>
-    requires { All (λ e. is_literal_key e.0 ≡ true) made.items }
-    ensures tree { IfOk result (λ r. AreKeyed other.now made.entry.items r.0 r.1.items) }
-    ensures known { IfOk result (λ r. PartsKnownWith made.entry.items other.now r.1.items) }
+// The parts of an opaque comparison: where it holds, and where it doesn't.
+fn halves(alloc: Global, holds: Diagram, fails: Diagram) -> Result<Vec<Diagram>, AllocError>
+    ensures { IfOk result (λ ps. ps.items ≡ holds ∷ fails ∷ []) }
 {
-    let mut texts = Vec::new(alloc);
     let mut parts = Vec::new(alloc);
-    for (key, part) in made {
-        match key {
-            Key::Literal(text) => {
-                texts.push(String::from_str(alloc, text)?)?;
-                parts.push(part)?;
-            }
-            Key::Number(_) => unreachable!(),
-            Key::Holds => unreachable!(),
-        }
-    }
-    parts.push(other.share()?)?;
-    Ok((Points::of(texts), parts))
-}
-
-// The starts and the parts of pieces, the first of which is the other part.
-fn pieces_of(
-    alloc: Global,
-    other: &Diagram,
-    made: Vec<(Key<'_>, Diagram)>,
-) -> Result<(Starts, Vec<Diagram>), AllocError>
-    requires { All (λ e. is_number_key e.0 ≡ true) made.items }
-    ensures tree { IfOk result (λ r. ArePieces other.now made.entry.items r.0 r.1.items) }
-    ensures known { IfOk result (λ r. PartsKnownWith made.entry.items other.now r.1.items) }
-{
-    let mut starts = Vec::new(alloc);
-    let mut parts = Vec::new(alloc);
-    starts.push(0)?;
-    parts.push(other.share()?)?;
-    for (key, part) in made {
-        match key {
-            Key::Number(number) => {
-                starts.push(number)?;
-                parts.push(part)?;
-            }
-            Key::Literal(_) => unreachable!(),
-            Key::Holds => unreachable!(),
-        }
-    }
-    Ok((Starts::of(starts), parts))
-}
-
-// The parts of the one branch of an opaque comparison: where it holds, and where it doesn't.
-fn marked(
-    alloc: Global,
-    atom: &Atom,
-    made: Vec<(Key<'_>, Diagram)>,
-    other: &Diagram,
-) -> Result<Vec<Diagram>, AllocError>
-    requires { IsReduced (node (atom_level atom.now) (tree_of other.now) (diagrams_made made.items)) }
-    ensures tree { IfOk result (λ ps. AreHalves atom.now other.now made.entry.items ps.items) }
-    ensures known { IfOk result (λ ps. PartsKnownWith made.entry.items other.now ps.items) }
-{
-    let mut made = made;
-    match made.pop() {
-        None => unreachable!(),
-        Some((_, part)) => {
-            let mut parts = Vec::new(alloc);
-            parts.push(part)?;
-            parts.push(other.share()?)?;
-            Ok(parts)
-        }
-    }
+    parts.push(holds)?;
+    parts.push(fails)?;
+    Ok(parts)
 }
 
 // A node of a level that has these branches; its other part where it has none.
@@ -143,28 +60,38 @@ pub(crate) fn closed<R: Wait>(
     ensures tree { IfOk result (λ d. tree_of d ≡ closed_tree level.entry other.now made.entry.items) }
     ensures known { IfOk result (Known algebra.new) }
 {
-    if made.is_empty() {
-        return other.share();
-    }
-    match level {
-        Level::Extra => {
-            let (points, parts) = points_of(alloc, made, other)?;
+    let lists = closed_level(alloc, level, other.share()?, made)?;
+    match lists {
+        Closed::Part(part) => Ok(part),
+        Closed::Extra {
+            texts,
+            parts,
+            other,
+        } => {
+            let points = Points::of(texts);
+            let parts = parts_and_other(parts, other)?;
             let d = algebra.node(rt, alloc, DiagramLabel::Extra { points }, parts)?;
             Ok(d)
         }
-        Level::Python => {
-            let (starts, parts) = pieces_of(alloc, other, made)?;
+        Closed::Python { starts, parts } => {
+            let starts = Starts::of(starts);
             let d = algebra.node(rt, alloc, DiagramLabel::Python { starts }, parts)?;
             Ok(d)
         }
-        Level::Text(variable) => {
-            let (points, parts) = points_of(alloc, made, other)?;
+        Closed::Text {
+            variable,
+            texts,
+            parts,
+            other,
+        } => {
+            let points = Points::of(texts);
+            let parts = parts_and_other(parts, other)?;
             let d = algebra.node(rt, alloc, DiagramLabel::Text { variable, points }, parts)?;
             Ok(d)
         }
-        Level::Opaque(of) => {
-            let parts = marked(alloc, of, made, other)?;
-            let atom = of.copy(alloc)?;
+        Closed::Opaque { atom, holds, fails } => {
+            let parts = halves(alloc, holds, fails)?;
+            let atom = atom.copy(alloc)?;
             let d = algebra.node(rt, alloc, DiagramLabel::Opaque { atom }, parts)?;
             Ok(d)
         }
@@ -388,7 +315,7 @@ fn branches<'x, R: Wait>(
             part_at::<Diagrams>(b, level, *key),
             room,
         )?;
-        add(algebra, &mut made, other, carried, *key, next)?;
+        add(&*algebra, &mut made, other, carried, *key, next)?;
     }
     Ok(made)
 }

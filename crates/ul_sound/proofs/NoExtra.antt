@@ -2,14 +2,14 @@
 use Rattle.std.proofs.Common.{◌≡◌, ℕ, zero, suc, List, [], ◌∷◌, Bool, true, false, Option, Some, None, refl, sym, ap, ◌∙◌, subst, Less, Equal, Greater}
 use Rattle.std.specs.declared.cmp.Ordering.{Ordering}
 use Rattle.ul_comparison.specs.Worlds.{WorldFields}
-use Rattle.ul_nodes.specs.Apply.{part_at, close}
+use Rattle.ul_nodes.specs.Apply.{part_at, close, reduced_branches}
 use Rattle.ul_nodes.specs.Levels.{extra_level}
 use Rattle.ul_nodes.specs.Plain.{Plain, truth, node, Branches, done, branch, text_cmp, by_order, carries, carried_part, pick}
 use Rattle.ul_nodes.specs.Reduced.{IsReduced, Fits, FitsAll}
 use Rattle.ul_tree.specs.Regions.{IsRegionTree}
 use Rattle.ul_tree.specs.Sample.{asks_extra}
 use Rattle.ul_nodes.specs.Rows.{Results, own_or, first_result, last_result, earliest, latest}
-use Rattle.ul_tree.specs.Simplify.{filled_results, reduced_branches, settled_level, Simplifies, at_truth, anywhere, above, by_pieces, Pieces, no_piece, piece, Piece, outside, inside}
+use Rattle.ul_tree.specs.Simplify.{filled_results, settled_level, Simplifies, at_truth, anywhere, above, by_pieces, Pieces, no_piece, piece, Piece, outside, inside}
 use Rattle.ul_tree.specs.Values.{tree_holds, value_of}
 use Rattle.ul_nodes.proofs.ForCallers.{cmp_itself, fits_weaker}
 use Rattle.ul_tree.proofs.ForCallers.{no_extra, no_extra_fits, simplify_laws}

@@ -10,7 +10,7 @@ use Rattle.ul_nodes.specs.Keys.{level_view, key_view, keys_view, has_kind}
 use Rattle.ul_nodes.specs.declared.level.Key.{Key}
 use Rattle.ul_tree.proofs.ForCallers.{applied}
 use Rattle.ul_tree.proofs.ForCallers.{rests_smaller, parts_smaller}
-use Rattle.ul_tree.proofs.ForCallers.{then_none, stands_kept}
+use Rattle.ul_nodes.proofs.ForCallers.{then_none, stands_kept}
 use Rattle.ul_tree.proofs.ForCallers.{no_key, step_kept, keys_left, applied_is, closed_reduced, rest_at_reduced, part_at_reduced}
 use Rattle.ul_algebra.specs.Spelled.{tree_of}
 use Rattle.ul_algebra.specs.Made.{diagrams_made}
@@ -179,11 +179,11 @@ branches-joined-requires g t c =
 pub branches-returns-in_err-next-clause-knows : goal.branches-returns-in_err-next-clause-knows
 branches-returns-in_err-next-clause-knows g t c = knows_then _ _ _ c.loop-key.invariant.knows c.in_err-next.ensures.knows
 
-pub branches-add-requires-clause-other : goal.branches-add-requires-clause-other
-branches-add-requires-clause-other g t c = known_stays c.args.algebra.now c.joined.new.algebra (knows_then _ _ _ c.loop-key.invariant.knows c.in_ok-next.ensures.knows) c.args.other.now c.requires.other.known
+pub branches-add-requires-clause-other_known : goal.branches-add-requires-clause-other_known
+branches-add-requires-clause-other_known g t c = known_stays c.args.algebra.now c.joined.new.algebra (knows_then _ _ _ c.loop-key.invariant.knows c.in_ok-next.ensures.knows) c.args.other.now c.requires.other.known
 
-pub branches-add-requires-clause-parts : goal.branches-add-requires-clause-parts
-branches-add-requires-clause-parts g t c =
+pub branches-add-requires-clause-made_known : goal.branches-add-requires-clause-made_known
+branches-add-requires-clause-made_known g t c =
     all_more (λ e. Known c.loop-key.algebra e.1) (λ e. Known c.joined.new.algebra e.1) c.loop-key.made.items (λ e k. known_stays c.loop-key.algebra c.joined.new.algebra c.in_ok-next.ensures.knows e.1 k) c.loop-key.invariant.parts
 
 pub branches-returns-in_err-add-clause-knows : goal.branches-returns-in_err-add-clause-knows
@@ -209,7 +209,7 @@ branches-loop-key-preserved g t c =
           (rw left at (c.loop-key.invariant.made n h));
       stands_reduced = stands_kept _ c.is_carried-carried.result (diagrams_made c.loop-key.made.items) _ v (tree_of c.in_ok-next.next) _ c.in_ok-add.ensures.made c.in_ok-next.ensures.reduced c.loop-key.invariant.stands_reduced;
       kinds = c.in_ok-add.ensures.kinds l c.loop-key.invariant.kinds (c.requires.kinds i no_key c.loop-key-test.true);
-      parts = c.in_ok-add.ensures.parts;
+      parts = c.in_ok-add.ensures.known;
     }
 
 pub branches-returns-clause-made : goal.branches-returns-clause-made

@@ -4,7 +4,7 @@ use Rattle.std.proofs.Common.{◌≡◌, ◌<◌, suc, ap, sym, ◌∙◌, arith
 use Rattle.ul_nodes.specs.Plain.{branch}
 use Rattle.ul_nodes.specs.Levels.{extra_level, text_level, atom_level}
 use Rattle.ul_nodes.specs.Keys.{branches_of, branch_count, branches_from, is_key_of}
-use Rattle.ul_tree.specs.Views.{python_of}
+use Rattle.ul_nodes.specs.Closing.{python_of}
 use Rattle.ul_interner.specs.Marked.{parts_of}
 use Rattle.ul_interner.proofs.ForCallers.{known_part}
 use Rattle.ul_algebra.specs.Spelled.{tree_of}
