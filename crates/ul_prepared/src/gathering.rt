@@ -106,6 +106,25 @@ impl<'a> Gathered<'a> {
         Ok(())
     }
 
+    // Takes in a node that a region starts from, and its base before it.
+    fn meet_start(
+        &mut self,
+        alloc: Global,
+        catalog: &'a Catalog,
+        wish: &WishIndex<'_>,
+        start: &Node,
+    ) -> Result<(), AllocError>
+        requires { AreKnown catalog.now wish.now self.old.names.items self.old.releases.items }
+        ensures { IfOk result (λ _. AreKnown catalog.now wish.now self.new.names.items self.new.releases.items) }
+    {
+        let base = Node {
+            name: start.name.copy(alloc)?,
+            extra: None,
+        };
+        self.meet(alloc, catalog, wish, &base)?;
+        self.meet(alloc, catalog, wish, start)
+    }
+
     // Takes the targets of a requirement in.
     fn meet_targets(
         &mut self,
@@ -186,12 +205,7 @@ pub(crate) fn gather_all<'a>(
     let wish = WishIndex::of(alloc, wish)?;
     let mut all = Gathered::new(alloc);
     for start in starts {
-        let base = Node {
-            name: start.name.copy(alloc)?,
-            extra: None,
-        };
-        all.meet(alloc, catalog, &wish, &base)?;
-        all.meet(alloc, catalog, &wish, start)?;
+        all.meet_start(alloc, catalog, &wish, start)?;
     }
     for place in 0..usize::MAX {
         if place >= all.names.len() {
