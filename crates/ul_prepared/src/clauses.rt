@@ -104,8 +104,8 @@ fn compatible_set(
     Ok(set)
 }
 
-// By which part `==` and `!=` compare: with `.*` by as many numbers as the version has, and without it also by the local
-// part where the version has one.
+// By which part `==` and `!=` compare: with `.*` by as many numbers as the version has, and without it by the local part
+// too where the version has one.
 fn equality_part(clause: &Clause) -> Part
     ensures { result ≡ Clauses.equality_part clause.now }
 {
@@ -136,7 +136,8 @@ fn met_between(
     low: u32,
     high: u32,
 ) -> Result<Vec<u32>, AllocError>
-    ensures { IfOk result (λ v. v.items ≡ filter (is_met_at clause.now versions.now) (range_with_len low (high - low))) }
+    ensures { IfOk result (λ v. v.items
+        ≡ filter (is_met_at clause.now versions.now) (range_with_len low (high - low))) }
 {
     (low..high)
         .filter(|place| is_met_at(clause, versions, *place))

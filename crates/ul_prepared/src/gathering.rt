@@ -103,6 +103,24 @@ impl<'a> Gathered<'a> {
         Ok(())
     }
 
+    // Takes in a node that a region starts from, and its base before it.
+    fn meet_start(
+        &mut self,
+        alloc: Global,
+        sources: &Sources<'a, '_>,
+        start: &Node,
+    ) -> Result<(), AllocError>
+        requires { AreKnown sources.now.0 sources.now.1 self.old.names.items self.old.releases.items }
+        ensures { IfOk result (λ _. AreKnown sources.now.0 sources.now.1 self.new.names.items self.new.releases.items) }
+    {
+        let base = Node {
+            name: start.name.copy(alloc)?,
+            extra: None,
+        };
+        self.meet(alloc, sources, &base)?;
+        self.meet(alloc, sources, start)
+    }
+
     // Takes the targets of a requirement in.
     fn meet_targets(
         &mut self,
@@ -180,12 +198,7 @@ pub(crate) fn gather_all<'a>(
     let sources = Sources::of(alloc, catalog, wish)?;
     let mut all = Gathered::new(alloc);
     for start in starts {
-        let base = Node {
-            name: start.name.copy(alloc)?,
-            extra: None,
-        };
-        all.meet(alloc, &sources, &base)?;
-        all.meet(alloc, &sources, start)?;
+        all.meet_start(alloc, &sources, start)?;
     }
     for place in 0..usize::MAX {
         if place >= all.names.len() {

@@ -81,6 +81,16 @@ fn number_of(op: Op) -> u64 {
     }
 }
 
+// A number of the parts that tell the versions of one release apart.
+fn suffix_print(seed: u64, version: &Version) -> u64 {
+    let pre = match version.pre {
+        Some(pre) => pre.number,
+        None => 0,
+    };
+    let print = mixed(mixed(seed, pre), version.post.unwrap_or(0));
+    mixed(print, version.dev.unwrap_or(0))
+}
+
 // A number of a clause: equal clauses have equal ones, and others mostly not.
 fn print_of(seed: u64, clause: &Clause) -> u64 {
     let version: &Version = &clause.version;
@@ -88,7 +98,7 @@ fn print_of(seed: u64, clause: &Clause) -> u64 {
     for number in &version.release {
         print = mixed(print, *number);
     }
-    print
+    suffix_print(print, version)
 }
 
 // A number of specifiers on a name: equal ones have equal ones, and others mostly not.
