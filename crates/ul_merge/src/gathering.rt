@@ -87,7 +87,7 @@ fn level_at<K: Key + Drop, V: Copy + Drop>(
     None
 }
 
-// Puts an entry into the group at a place, or into a new one, which gets a place in the index.
+// Puts an entry into the group at a place, or into a new one.
 fn put<K: Key + Drop, V: Copy + Drop>(
     alloc: Global,
     groups: &mut Vec<Group<K, V>>,

@@ -59,23 +59,25 @@ fn either<R: Wait>(
     Ok(d)
 }
 
-// Where parts are cut in two: where their leaves' places first differ by the highest power of two. So parts of different
-// lists that lie between the same places are joined alike, and the algebra knows their union. In the middle where the
-// leaves' places don't differ.
+// How many uses lie before the first of those whose leaves' places are nearer to the last one's than to the first one's:
+// the two differ by some highest power of two, which a place has or hasn't.
+fn turn_of(uses: &[Use]) -> usize {
+    if uses.is_empty() {
+        return 0;
+    }
+    let first = uses[0].leaf;
+    let last = uses[uses.len() - 1].leaf;
+    uses.partition_point(|one| (one.leaf ^ first) < (one.leaf ^ last))
+}
+
+// Where parts are cut in two: at such a turn, so that parts of different lists that lie between the same places are
+// joined alike, and the algebra knows their union; in the middle where the leaves' places don't differ.
 fn cut_of(uses: &[Use], count: usize) -> usize
     requires { 2 ≤ count }
     ensures low { 0 < result }
     ensures high { result < count }
 {
-    let mut cut = 0;
-    let mut most = 0;
-    for place in 1..uses.len() {
-        let apart = uses[place - 1].leaf ^ uses[place].leaf;
-        if apart > most {
-            most = apart;
-            cut = place;
-        }
-    }
+    let cut = turn_of(uses);
     if cut == 0 {
         return count / 2;
     }

@@ -1,4 +1,3 @@
-use Rattle.ul_region.proofs.ForCallers.{still}
 use Rattle.ul_merge.proofs.MadeEdges.{failed, made_edge, meets_there, no_world}
 use Rattle.ul_merge.proofs.edges.edge_to.Goals as goal
 
