@@ -29,6 +29,7 @@ module _ {K V : Type 0} (cmp : K → K → Ordering) where
 
 -- ---- values under a key, of an entry or of a group
 
+-- a key and the values under it
 abbrev pub Bundle : Type 0 → Type 0 → Type 0
 Bundle K V = K × List V
 

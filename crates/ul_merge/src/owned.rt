@@ -1,7 +1,7 @@
 //! Owned values that are handed on in one place.
 //!
-//! A function that lets go of a value has a step for each of its parts, on each of its ways; a call that takes the value
-//! has one.
+//! A function that lets go of a value has a step for each of its parts, on each of its ways; a call that takes the
+//! value has one.
 
 ghost use Rattle.std.specs.Prelude.{◌≡◌, IfOk, Ok};
 

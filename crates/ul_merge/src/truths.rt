@@ -59,8 +59,8 @@ fn either<R: Wait>(
     Ok(d)
 }
 
-// How many uses lie before the first of those whose leaves' places are nearer to the last one's than to the first one's:
-// the two differ by some highest power of two, which a place has or hasn't.
+// How many uses lie before those whose leaves' places agree with the last one's, and not with the first one's, in the
+// highest power of two in which the two differ.
 fn turn_of(uses: &[Use]) -> usize {
     if uses.is_empty() {
         return 0;
