@@ -38,10 +38,10 @@ pub no_world : (d : DiagramMark) → tree_of d ≡ truth false → (w : WorldFie
 no_world d e w is = ap (λ (u : Plain). tree_holds u w []) e
 
 -- the edge
-pub made_edge : (h : PassView) (d : DiagramMark) (s : Plain) (n : Node) (v : Fields) (target : Node) (version : Fields) (m : Plain)
-    → IsRegion h d → (tree_of d ≡ truth false → ⊥) → Simplifies (tree_of d) s m → target ≡ n → version ≡ v
-    → IsMadeEdge n v (region_at d) s (record { target = target; version = version; marker = m })
-made_edge h d s n v target version m t not k e f = record {
+pub made_edge : (h : PassView) (d : DiagramMark) (s m : Plain) (n : Node) (v : Fields) {edge : Edge}
+    → IsRegion h d → (tree_of d ≡ truth false → ⊥) → Simplifies (tree_of d) s m → edge.target ≡ n → edge.version ≡ v → edge.marker ≡ m
+    → IsMadeEdge n v (region_at d) s edge
+made_edge h d s m n v t not k e f i = record {
   target = e;
   version = f;
   somewhere = has_world h d t not;
@@ -49,7 +49,7 @@ made_edge h d s n v target version m t not k e f = record {
     tree = tree_of d;
     reduced = t.truth.reduced;
     truth = λ w x is. ((λ r. sym (t.truth.truth w x is) ∙ r), (λ r. t.truth.truth w x is ∙ r));
-    simplifies = k;
+    simplifies = subst (Simplifies (tree_of d) s) (sym i) k;
   };
 }
 

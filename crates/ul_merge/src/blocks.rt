@@ -1,5 +1,5 @@
 //! Packages of a lock.
-ghost use Rattle.std.specs.Prelude.{◌≡◌, IfOk, All, map};
+ghost use Rattle.std.specs.Prelude.{◌≡◌, [], IfOk, OnOk, All, map};
 ghost use Rattle.ul_interner.specs.Known.{Knows};
 ghost use Rattle.ul_requirement.specs.Truth.{base, with_extra};
 ghost use Rattle.ul_index.specs.Catalogs.{requirements};
@@ -228,24 +228,25 @@ fn block_of<R: Wait>(
     })
 }
 
-/// The packages that leaves chose, in order.
-pub(crate) fn made_blocks<R: Wait>(
+/// Puts the packages that leaves chose, in order, into an empty list.
+pub(crate) fn put_blocks<R: Wait>(
     rt: &R,
     alloc: Global,
     algebra: &mut Algebra<'_>,
     sources: &Sources<'_>,
     groups: &[Group<PairKey<'_>, Member<'_>>],
-) -> Result<Vec<Locked>, AllocError>
+    blocks: &mut Vec<Locked>,
+) -> Result<(), AllocError>
     requires sources { AreSources algebra.old sources.now }
     requires groups { All (IsPairGroup sources.now.choices.now) groups.now }
+    requires none { blocks.old.items ≡ [] }
     ensures knows { Knows algebra.old algebra.new }
-    ensures blocks { IfOk result (λ v. AreMade (MakesBlock (catalog_in sources.now) (leaves_in sources.now)
-        (supported_in sources.now)) groups.now v.items) }
+    ensures blocks { OnOk result (AreMade (MakesBlock (catalog_in sources.now) (leaves_in sources.now)
+        (supported_in sources.now)) groups.now blocks.new.items) }
 {
-    let mut blocks = Vec::with_capacity(alloc, groups.len())?;
     for group in groups {
         let block = block_of(rt, alloc, algebra, sources, group)?;
         blocks.push(block)?;
     }
-    Ok(blocks)
+    Ok(())
 }

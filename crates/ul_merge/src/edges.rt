@@ -9,13 +9,14 @@ ghost use Rattle.ul_merge.specs.Made.{AreMade, at_most_one};
 
 use crate::gathering::Group;
 use crate::keys::PickKey;
+use crate::owned::beside;
 use crate::targets::Use;
 use crate::truths::{simplified, union_of};
 use std::alloc::{AllocError, Global};
 use std::sync::Wait;
 use ul_algebra::{Algebra, Diagram};
 use ul_base::Node;
-use ul_lock_lines::Edge;
+use ul_lock_lines::{Edge, Region};
 use ul_region::truth_at;
 use ul_requirement::Requirement;
 use ul_version::Version;
@@ -35,6 +36,27 @@ fn part_in<R: Wait>(
 {
     let d = algebra.and(rt, alloc, region, truth)?;
     Ok(d)
+}
+
+// An edge to a target.
+fn edge_with(
+    alloc: Global,
+    target: &Node,
+    version: &Version,
+    marker: Region,
+) -> Result<Edge, AllocError>
+    ensures target { IfOk result (λ e. e.target ≡ target.now) }
+    ensures version { IfOk result (λ e. e.version ≡ version.now) }
+    ensures marker { IfOk result (λ e. e.marker ≡ marker) }
+{
+    let (marker, target) = beside(marker, target.copy(alloc))?;
+    let (kept, version) = beside((marker, target), version.copy(alloc))?;
+    let (marker, target) = kept;
+    Ok(Edge {
+        target,
+        version,
+        marker,
+    })
 }
 
 // The edge to a target that is true in a part of the supported region; none exactly where it is true nowhere.
@@ -57,13 +79,8 @@ fn edge_to<R: Wait>(
         return Ok(None);
     }
     let marker = simplified(rt, alloc, algebra, truth, supported)?;
-    let target = target.copy(alloc)?;
-    let version = version.copy(alloc)?;
-    Ok(Some(Edge {
-        target,
-        version,
-        marker,
-    }))
+    let edge = edge_with(alloc, target, version, marker)?;
+    Ok(Some(edge))
 }
 
 // Adds the diagram at a place, if there is one.
@@ -106,14 +123,15 @@ fn truth_in<R: Wait>(
     algebra: &mut Algebra<'_>,
     regions: &[Diagram],
     truths: &[Diagram],
+    uses: &[Use],
 ) -> Result<Diagram, AllocError>
     requires regions { All (IsRegion algebra.old) regions.now }
     requires truths { All (IsRegion algebra.old) truths.now }
     ensures knows { Knows algebra.old algebra.new }
     ensures truth { IfOk result (λ d. IsTruth algebra.new d (both_hold regions.now truths.now)) }
 {
-    let region = union_of(rt, alloc, algebra, regions)?;
-    let truth = union_of(rt, alloc, algebra, truths)?;
+    let region = union_of(rt, alloc, algebra, regions, uses)?;
+    let truth = union_of(rt, alloc, algebra, truths, uses)?;
     let d = part_in(rt, alloc, algebra, &region, &truth)?;
     Ok(d)
 }
@@ -138,7 +156,14 @@ fn edge_of<R: Wait>(
     let uses: &Vec<Use> = &group.values;
     let mine = regions_at(alloc, regions, uses.as_slice())?;
     let holds = truths_at(alloc, truths, uses.as_slice())?;
-    let truth = truth_in(rt, alloc, algebra, mine.as_slice(), holds.as_slice())?;
+    let truth = truth_in(
+        rt,
+        alloc,
+        algebra,
+        mine.as_slice(),
+        holds.as_slice(),
+        uses.as_slice(),
+    )?;
     let key = &group.key;
     let edge = edge_to(rt, alloc, algebra, key.node, key.version, &truth, supported)?;
     Ok(edge)

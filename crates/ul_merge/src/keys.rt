@@ -4,6 +4,29 @@ use std::cmp::Ordering;
 use ul_base::{Name, Node};
 use ul_version::Version;
 
+// A number of a list and one more.
+fn mixed(seed: u64, number: u64) -> u64 {
+    seed.wrapping_mul(1_099_511_628_211).wrapping_add(number)
+}
+
+// A number of a name.
+fn name_number(seed: u64, name: &Name) -> u64 {
+    let mut number = seed;
+    for byte in name.text().as_bytes() {
+        number = mixed(number, u64::from(*byte));
+    }
+    number
+}
+
+// A number of a version: those of one release have the same.
+fn version_number(seed: u64, version: &Version) -> u64 {
+    let mut number = seed;
+    for part in &version.release {
+        number = mixed(number, *part);
+    }
+    number
+}
+
 /// A node at a version.
 #[derive(Clone, Copy, Drop)]
 pub(crate) struct PickKey<'a> {
@@ -35,6 +58,14 @@ impl<'a> Key for PickKey<'a> {
             order => order,
         }
     }
+
+    fn number(&self) -> u64 {
+        let number = version_number(name_number(0, &self.node.name), self.version);
+        match &self.node.extra {
+            None => number,
+            Some(extra) => name_number(number, extra),
+        }
+    }
 }
 
 /// A package at a version.
@@ -60,6 +91,10 @@ impl<'a> Key for PairKey<'a> {
             order => order,
         }
     }
+
+    fn number(&self) -> u64 {
+        version_number(name_number(0, self.name), self.version)
+    }
 }
 
 /// An extra.
@@ -79,5 +114,9 @@ impl<'a> Key for ExtraKey<'a> {
 
     fn order(&self, other: &ExtraKey<'a>) -> Ordering {
         self.name.cmp(other.name)
+    }
+
+    fn number(&self) -> u64 {
+        name_number(0, self.name)
     }
 }

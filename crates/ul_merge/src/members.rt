@@ -1,7 +1,7 @@
 //! Which leaves chose which nodes, by packages.
 ghost use Rattle.std.specs.Prelude.{◌≡◌, ◌++◌, IfOk, OnOk, map, option_map};
 ghost use Rattle.ul_merge.specs.Members.{AreMembers};
-ghost use Rattle.ul_merge.specs.Rows.{all_members, base_rows, chosen_member, extra_entry, extra_rows, leaf_members, member_of, member_row};
+ghost use Rattle.ul_merge.specs.Rows.{all_members, base_row, base_rows, chosen_member, extra_entry, extra_row, extra_rows, leaf_members, member_of, member_row};
 
 use crate::choices::Choices;
 use crate::gathering::{Entry, Group, groups_of};
@@ -83,17 +83,43 @@ pub(crate) fn members_of<'a>(
     Ok(groups)
 }
 
+// Adds the leaf of a member that is a base.
+fn put_base(users: &mut Vec<usize>, member: &Member<'_>) -> Result<(), AllocError>
+    ensures { OnOk result (users.new.items
+        ≡ users.old.items ++ base_row member.now.node.now.extra member.now.leaf) }
+{
+    if member.node.extra.is_none() {
+        users.push(member.leaf)?;
+    }
+    Ok(())
+}
+
 /// The leaves that chose the base.
 pub(crate) fn base_users(alloc: Global, members: &[Member<'_>]) -> Result<Vec<usize>, AllocError>
     ensures { IfOk result (λ v. v.items ≡ base_rows (map member_of members.now)) }
 {
     let mut users = Vec::new(alloc);
     for member in members {
-        if member.node.extra.is_none() {
-            users.push(member.leaf)?;
-        }
+        put_base(&mut users, member)?;
     }
     Ok(users)
+}
+
+// Adds the leaf of a member that is an extra.
+fn put_extra<'a>(
+    entries: &mut Vec<Entry<ExtraKey<'a>, usize>>,
+    member: &Member<'a>,
+) -> Result<(), AllocError>
+    ensures { OnOk result (map extra_entry entries.new.items
+        ≡ map extra_entry entries.old.items ++ extra_row member.now.node.now.extra member.now.leaf) }
+{
+    if let Some(name) = &member.node.extra {
+        entries.push(Entry {
+            key: ExtraKey { name },
+            value: member.leaf,
+        })?;
+    }
+    Ok(())
 }
 
 /// The leaves that chose an extra, by the extras' names.
@@ -105,12 +131,7 @@ pub(crate) fn extra_entries<'a>(
 {
     let mut entries = Vec::new(alloc);
     for member in members {
-        if let Some(name) = &member.node.extra {
-            entries.push(Entry {
-                key: ExtraKey { name },
-                value: member.leaf,
-            })?;
-        }
+        put_extra(&mut entries, member)?;
     }
     Ok(entries)
 }

@@ -8,7 +8,7 @@ ghost use Rattle.ul_sound.specs.Merged.{AreBlocks, IsMergedLock};
 ghost use Rattle.ul_merge.specs.Merging.{AreLeaves};
 ghost use Rattle.ul_merge.specs.Views.{ForkLeaf, leaf_of};
 
-use crate::blocks::made_blocks;
+use crate::blocks::put_blocks;
 use crate::choices::choices_of;
 use crate::forks::fork_regions;
 use crate::members::members_of;
@@ -85,7 +85,8 @@ fn packages_of<R: Wait>(
         choices: choices.as_slice(),
         catalog,
     };
-    let blocks = made_blocks(rt, alloc, algebra, &sources, groups.as_slice())?;
+    let mut blocks = Vec::with_capacity(alloc, groups.len())?;
+    put_blocks(rt, alloc, algebra, &sources, groups.as_slice(), &mut blocks)?;
     Ok(Packages::of(blocks))
 }
 

@@ -1,5 +1,5 @@
 //! Truths of edges: unions of diagrams, and what they become under the supported region.
-ghost use Rattle.std.specs.Prelude.{IfOk, All, false, ◌||◌};
+ghost use Rattle.std.specs.Prelude.{IfOk, All, false, ◌||◌, ◌<◌, ◌≤◌};
 ghost use Rattle.ul_interner.specs.Known.{Knows};
 ghost use Rattle.ul_tree.specs.Simplify.{Simplifies};
 ghost use Rattle.ul_algebra.specs.Answers.{IsDiagram};
@@ -7,6 +7,7 @@ ghost use Rattle.ul_algebra.specs.Spelled.{tree_of};
 ghost use Rattle.ul_region.specs.Truths.{IsRegion, IsTruth, region_at};
 ghost use Rattle.ul_merge.specs.Unions.{MeetSomewhere, some_holds};
 
+use crate::targets::Use;
 use std::alloc::{AllocError, Global};
 use std::sync::Wait;
 use ul_algebra::{Algebra, Diagram};
@@ -58,12 +59,49 @@ fn either<R: Wait>(
     Ok(d)
 }
 
-// The union of regions, by halves.
+// How many uses lie before those whose leaves' places agree with the last one's, and not with the first one's, in the
+// highest power of two in which the two differ.
+fn turn_of(uses: &[Use]) -> usize {
+    if uses.is_empty() {
+        return 0;
+    }
+    let first = uses[0].leaf;
+    let last = uses[uses.len() - 1].leaf;
+    uses.partition_point(|one| (one.leaf ^ first) < (one.leaf ^ last))
+}
+
+// Where parts are cut in two: at such a turn, so that parts of different lists that lie between the same places are
+// joined alike, and the algebra knows their union; in the middle where the leaves' places don't differ.
+fn cut_of(uses: &[Use], count: usize) -> usize
+    requires { 2 ≤ count }
+    ensures low { 0 < result }
+    ensures high { result < count }
+{
+    let cut = turn_of(uses);
+    if cut == 0 {
+        return count / 2;
+    }
+    if cut >= count {
+        return count / 2;
+    }
+    cut
+}
+
+// Uses before and behind a place.
+fn cut_at(uses: &[Use], place: usize) -> (&[Use], &[Use]) {
+    if place < uses.len() {
+        return uses.split_at(place);
+    }
+    (uses, &[])
+}
+
+/// The union of regions, each with the use that it is of.
 pub(crate) fn union_of<R: Wait>(
     rt: &R,
     alloc: Global,
     algebra: &mut Algebra<'_>,
     parts: &[Diagram],
+    uses: &[Use],
 ) -> Result<Diagram, AllocError>
     requires { All (IsRegion algebra.old) parts.now }
     ensures knows { Knows algebra.old algebra.new }
@@ -77,9 +115,11 @@ pub(crate) fn union_of<R: Wait>(
         let d = parts[0].share()?;
         return Ok(d);
     }
-    let (front, back) = parts.split_at(parts.len() / 2);
-    let first = union_of(rt, alloc, algebra, front)?;
-    let second = union_of(rt, alloc, algebra, back)?;
+    let cut = cut_of(uses, parts.len());
+    let (front, back) = parts.split_at(cut);
+    let (front_uses, back_uses) = cut_at(uses, cut);
+    let first = union_of(rt, alloc, algebra, front, front_uses)?;
+    let second = union_of(rt, alloc, algebra, back, back_uses)?;
     let d = either(rt, alloc, algebra, &first, &second)?;
     Ok(d)
 }

@@ -30,6 +30,6 @@ returns-clause-truth g t c = both_union _ _ _ _ _ _ _ _ _ c.split_at.ensures.by_
 
 pub union_of-requires-2 : goal.union_of-requires-2
 union_of-requires-2 g t c = let d = c.decreases in λ κs within. (
-  omega (arith, d, c.split_at.ensures.back_len, c.if-parts-eq0.false, c.if-parts-eq1.false),
+  omega (arith, d, c.split_at.ensures.back_len, c.cut_of-cut.ensures.low, c.cut_of-cut.ensures.high),
   (within, back_still _ _ _ _ _ c.in_ok-first.ensures.knows c.split_at.ensures.back c.requires),
 )

@@ -3,7 +3,7 @@ use Rattle.ul_interner.proofs.ForCallers.{knows_then}
 use Rattle.ul_merge.specs.Blocks.{MakesBlock, catalog_in, leaves_in, supported_in}
 use Rattle.ul_merge.proofs.BlockFacts.{sources_still}
 use Rattle.ul_merge.proofs.Makes.{made_more}
-use Rattle.ul_merge.proofs.blocks.made_blocks.Goals as goal
+use Rattle.ul_merge.proofs.blocks.put_blocks.Goals as goal
 
 pub block_of-requires-clause-sources : goal.block_of-requires-clause-sources
 block_of-requires-clause-sources g c = sources_still _ _ _ c.loop-group.invariant.knows c.requires.sources
