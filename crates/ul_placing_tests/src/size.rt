@@ -9,8 +9,9 @@ use ul_base::{Files, ReadRefused};
 use ul_problem::Problem;
 use ul_project::project;
 
-/// A folder of so many packages `p0`, `p1` and so on, each of so many releases. Each release of the first `askers` packages has so
-/// many requirements, with as many different specifiers.
+/// A folder of so many packages `p0`, `p1` and so on, each of so many releases. Each release of the first `askers`
+/// packages has so many requirements, with as many different specifiers. A version is a number behind the text
+/// `version`, and a specifier a number between the texts of `specifier`.
 #[derive(Drop)]
 struct Numbered {
     alloc: Global,
@@ -19,6 +20,8 @@ struct Numbered {
     askers: usize,
     requirements: usize,
     specifiers: usize,
+    version: &'static str,
+    specifier: (&'static str, &'static str),
 }
 
 // Puts the requirement of a number of a release of a package.
@@ -26,7 +29,7 @@ fn push_requirement(
     alloc: Global,
     json: &mut String,
     to: usize,
-    low: usize,
+    specifier: (&str, usize, &str),
     number: usize,
 ) -> Result<(), AllocError> {
     let marker = match number % 3 {
@@ -35,7 +38,8 @@ fn push_requirement(
         _ => "; sys_platform == 'win32'",
     };
     let comma = if number == 0 { "" } else { ", " };
-    json.push_str(format!(in alloc; "{comma}\"p{to}>=1.{low}{marker}\"")?.as_str())
+    let (before, bound, after) = specifier;
+    json.push_str(format!(in alloc; "{comma}\"p{to}{before}{bound}{after}{marker}\"")?.as_str())
 }
 
 impl Numbered {
@@ -46,21 +50,18 @@ impl Numbered {
         release: usize,
     ) -> Result<(), AllocError> {
         let comma = if release == 0 { "" } else { ", " };
+        let version = self.version;
         let head = format!(in self.alloc;
-            "{comma}{{\"version\": \"1.{release}\", \"requires_dist\": ["
+            "{comma}{{\"version\": \"{version}{release}\", \"requires_dist\": ["
         )?;
         json.push_str(head.as_str())?;
         if self.packages > 0 && self.specifiers > 0 && package < self.askers {
             for number in 0..self.requirements {
                 let to = package.wrapping_add(number.wrapping_mul(7)).wrapping_add(1)
                     % self.packages;
-                push_requirement(
-                    self.alloc,
-                    json,
-                    to,
-                    release.wrapping_add(number) % self.specifiers,
-                    number,
-                )?;
+                let bound = release.wrapping_add(number) % self.specifiers;
+                let specifier = (self.specifier.0, bound, self.specifier.1);
+                push_requirement(self.alloc, json, to, specifier, number)?;
             }
         }
         json.push_str("]}")
@@ -133,22 +134,27 @@ struct Size {
     askers: usize,
     requirements: usize,
     specifiers: usize,
+    version: &'static str,
+    specifier: (&'static str, &'static str),
     marker: &'static str,
     nodes: usize,
     needs: usize,
 }
 
-// The last two would take some seconds if each specifier were compared with each version, or each requirement with each other one.
-const SIZES: [Size; 6] = [
+// From the fifth on each would take some seconds if each specifier were compared with each version, or each requirement
+// with each other one. The last has versions of one release alone.
+const SIZES: [Size; 9] = [
     Size {
         packages: 30,
         releases: 20,
         askers: 30,
         requirements: 15,
         specifiers: 50,
+        version: "1.",
+        specifier: (">=1.", ""),
         marker: "sys_platform == 'win32'",
         nodes: 31,
-        needs: 6_001,
+        needs: 4_001,
     },
     Size {
         packages: 30,
@@ -156,6 +162,8 @@ const SIZES: [Size; 6] = [
         askers: 30,
         requirements: 15,
         specifiers: 50,
+        version: "1.",
+        specifier: (">=1.", ""),
         marker: "python_version >= '0'",
         nodes: 31,
         needs: 9_001,
@@ -166,6 +174,8 @@ const SIZES: [Size; 6] = [
         askers: 2,
         requirements: 1,
         specifiers: 50,
+        version: "1.",
+        specifier: (">=1.", ""),
         marker: "python_version >= '0'",
         nodes: 3,
         needs: 4_001,
@@ -176,6 +186,8 @@ const SIZES: [Size; 6] = [
         askers: 600,
         requirements: 3,
         specifiers: 50,
+        version: "1.",
+        specifier: (">=1.", ""),
         marker: "python_version >= '0'",
         nodes: 601,
         needs: 7_201,
@@ -186,6 +198,8 @@ const SIZES: [Size; 6] = [
         askers: 2,
         requirements: 1,
         specifiers: 2_000,
+        version: "1.",
+        specifier: (">=1.", ""),
         marker: "python_version >= '0'",
         nodes: 3,
         needs: 4_001,
@@ -194,11 +208,49 @@ const SIZES: [Size; 6] = [
         packages: 1_500,
         releases: 1,
         askers: 1,
-        requirements: 3_000,
+        requirements: 2_000,
         specifiers: 1,
+        version: "1.",
+        specifier: (">=1.", ""),
         marker: "python_version >= '0'",
         nodes: 1_501,
         needs: 3_001,
+    },
+    Size {
+        packages: 2,
+        releases: 2_000,
+        askers: 2,
+        requirements: 1,
+        specifiers: 2_000,
+        version: "1.",
+        specifier: ("~=1.", ".0"),
+        marker: "python_version >= '0'",
+        nodes: 3,
+        needs: 4_001,
+    },
+    Size {
+        packages: 2,
+        releases: 2_000,
+        askers: 2,
+        requirements: 1,
+        specifiers: 2_000,
+        version: "1.",
+        specifier: ("==1.", ".*"),
+        marker: "python_version >= '0'",
+        nodes: 3,
+        needs: 4_001,
+    },
+    Size {
+        packages: 2,
+        releases: 2_000,
+        askers: 2,
+        requirements: 1,
+        specifiers: 2_000,
+        version: "1.0.post",
+        specifier: (">=1.0.post", ""),
+        marker: "python_version >= '0'",
+        nodes: 3,
+        needs: 4_001,
     },
 ];
 
@@ -213,6 +265,8 @@ fn projects_at_size(rt: HostRuntime) -> Result<(), Fail> {
             askers: size.askers,
             requirements: size.requirements,
             specifiers: size.specifiers,
+            version: size.version,
+            specifier: size.specifier,
         };
         let counts = counts_in(&rt, alloc, &mut files, size.marker)?;
         assert!(rt;
