@@ -2,7 +2,7 @@
 
 ghost use Rattle.std.specs.Prelude.{None};
 
-use std::alloc::Global;
+use std::alloc::{AllocError, Global};
 use ul_base::{Files, MemFiles, ReadRefused};
 
 /// Files in memory whose contents aren't told.
@@ -23,12 +23,37 @@ impl Files for Untold {
     }
 }
 
-/// A folder that has a document of one release for each name that begins with `d`, and no other. The documents are padded
-/// with blanks to `size` bytes, and there is a further byte behind that of the name `d-long`.
+/// A folder that has a document of one release for each name that begins with `d`, and no other. The documents are
+/// padded with blanks to `size` bytes, and there is a further byte behind that of the name `d-long`.
 #[derive(Drop)]
 pub struct Padded {
     pub alloc: Global,
     pub size: usize,
+}
+
+// The name that a path asks for, where it begins with `d`.
+fn name_in(path: &str) -> Option<&str> {
+    let name = path.strip_prefix("ix/")?.strip_suffix(".json")?;
+    if name.starts_with("d") {
+        return Some(name);
+    }
+    None
+}
+
+fn push_blanks(alloc: Global, text: &mut String, size: usize) -> Result<(), AllocError> {
+    let blanks = " ".repeat(alloc, size.saturating_sub(text.len()))?;
+    text.push_str(blanks.as_str())
+}
+
+fn padded_text(alloc: Global, name: &str, size: usize) -> Result<Vec<u8>, AllocError> {
+    let mut text = format!(in alloc;
+        "{{\"name\": \"{name}\", \"versions\": [{{\"version\": \"1\"}}]}}"
+    )?;
+    push_blanks(alloc, &mut text, size)?;
+    if name == "d-long" {
+        text.push(' ')?;
+    }
+    Ok(text.into_bytes())
 }
 
 impl Files for Padded {
@@ -39,25 +64,10 @@ impl Files for Padded {
     ghost last_failed = { λ _. None };
 
     fn read(&mut self, path: &str, limit: u64) -> Result<Option<Vec<u8>>, ReadRefused> {
-        let Some(name) = path.strip_prefix("ix/") else {
+        let Some(name) = name_in(path) else {
             return Ok(None);
         };
-        let Some(name) = name.strip_suffix(".json") else {
-            return Ok(None);
-        };
-        if !name.starts_with("d") {
-            return Ok(None);
-        }
-        let alloc = self.alloc;
-        let mut text = format!(in alloc;
-            "{{\"name\": \"{name}\", \"versions\": [{{\"version\": \"1\"}}]}}"
-        )?;
-        let blanks = " ".repeat(alloc, self.size.saturating_sub(text.len()))?;
-        text.push_str(blanks.as_str())?;
-        if name == "d-long" {
-            text.push(' ')?;
-        }
-        let bytes = text.into_bytes();
+        let bytes = padded_text(self.alloc, name, self.size)?;
         if bytes.len() as u64 > limit {
             return Err(ReadRefused::TooLong);
         }

@@ -1,12 +1,11 @@
 //! Small folders: what is read, in which order, what counts, and which fault comes first.
 use crate::files::Untold;
-use crate::told::told;
-use std::alloc::Global;
-use std::test::Fail;
+use crate::told::is_told;
+use std::alloc::{AllocError, Global};
 use ul_base::MemFiles;
 
-// A row has what is told, the project's requirements, the number of the read that fails (or `-`), and the documents, which
-// `~` separates, each behind its name and a blank. `V` stands for `"versions": [`, and `R` for `"requires_dist": [`.
+// A row has what is told, the project's requirements, the number of the read that fails (or `-`), and the documents,
+// which `~` separates, each behind its name and a blank. `V` stands for `"versions": [`, and `R` for `"requires_dist": [`.
 const ROWS: &str = "demo 1/1, b 0/0, a 0/0, #'b', 'A', 'b>1'#-#\n\
     demo 1/1, #'demo'#0#demo []\n\
     demo 1/1, a 2/2, d 0/0, c 0/0, b 1/1, e 0/0, #'a', 'd'#-#a {\"name\": \"a\", V{\"version\": \"1\", R\"c\", \"b\", \"demo\"]}, {\"version\": \"2\", R\"a\", \"c\"]}]}~b {\"name\": \"b\", V{\"version\": \"1\", R\"a\", \"e\"]}]}\n\
@@ -24,73 +23,82 @@ const ROWS: &str = "demo 1/1, b 0/0, a 0/0, #'b', 'A', 'b>1'#-#\n\
     ix/b.json: name#'a', 'b'#-#b {\"name\": \"a\", V]}\n\
     ix/a.json: shape versions[1].version#'a'#-#a {\"name\": \"a\", V{\"version\": \"1\", R\"c\"]}, {\"version\": 1}]}";
 
-// The bytes of a document, with the short words in full.
-fn document(alloc: Global, text: &str) -> Result<Vec<u8>, Fail> {
-    let mut bytes = String::new(alloc);
-    for letter in text.chars() {
-        match letter {
-            'V' => bytes.push_str("\"versions\": [")?,
-            'R' => bytes.push_str("\"requires_dist\": [")?,
-            _ => bytes.push(letter)?,
-        }
-    }
-    Ok(bytes.into_bytes())
+// The path and the bytes of a document, with the short words in full.
+fn document(alloc: Global, name: &str, text: &str) -> Result<(String, Vec<u8>), AllocError> {
+    let text = text.replace(alloc, "V", "\"versions\": [")?;
+    let text = text.replace(alloc, "R", "\"requires_dist\": [")?;
+    let path = format!(in alloc; "ix/{name}.json")?;
+    Ok((path, text.into_bytes()))
 }
 
 // The documents of a row.
-fn documents(alloc: Global, texts: &str) -> Result<Vec<(String, Vec<u8>)>, Fail> {
+fn documents(alloc: Global, texts: &str) -> Result<Vec<(String, Vec<u8>)>, AllocError> {
     let mut files = Vec::new(alloc);
     for text in texts.split('~') {
         if let Some((name, text)) = text.split_once(' ') {
-            let path = format!(in alloc; "ix/{name}.json")?;
-            files.push((path, document(alloc, text)?))?;
+            files.push(document(alloc, name, text)?)?;
         }
     }
     Ok(files)
 }
 
-// Files with the documents of a row, of which one read may fail.
-fn files_of(alloc: Global, texts: &str, failing: &str) -> Result<MemFiles, Fail> {
+// The numbers of the reads that fail.
+fn failing_reads(alloc: Global, failing: &str) -> Result<Vec<u64>, AllocError> {
     let mut numbers = Vec::new(alloc);
     if let Ok(number) = failing.parse::<u64>() {
         numbers.push(number)?;
     }
-    Ok(MemFiles::of(alloc, documents(alloc, texts)?, numbers))
+    Ok(numbers)
 }
 
-// What is told of a row twice: with files that are told, and with files that aren't.
-fn row_told(alloc: Global, requirements: &str, failing: &str, texts: &str) -> Result<String, Fail> {
+// Files with the documents of a row, of which one read may fail.
+fn files_of(alloc: Global, failing: &str, texts: &str) -> Result<MemFiles, AllocError> {
+    let numbers = failing_reads(alloc, failing)?;
+    let files = documents(alloc, texts)?;
+    Ok(MemFiles::of(alloc, files, numbers))
+}
+
+// Whether a row is told with files that are told.
+fn is_told_of(
+    alloc: Global,
+    file: &str,
+    failing: &str,
+    texts: &str,
+    want: &str,
+) -> Result<bool, AllocError> {
+    let mut files = files_of(alloc, failing, texts)?;
+    is_told(alloc, &mut files, file, want)
+}
+
+// Whether it is told so with files that aren't.
+fn is_told_of_untold(
+    alloc: Global,
+    file: &str,
+    failing: &str,
+    texts: &str,
+    want: &str,
+) -> Result<bool, AllocError> {
+    let files = files_of(alloc, failing, texts)?;
+    is_told(alloc, &mut Untold { files }, file, want)
+}
+
+fn is_case(alloc: Global, file: &str, rest: &str, want: &str) -> Result<bool, AllocError> {
+    let (failing, texts) = rest.split_once('#').unwrap_or((rest, ""));
+    let is_told = is_told_of(alloc, file, failing, texts, want)?;
+    Ok(is_told && is_told_of_untold(alloc, file, failing, texts, want)?)
+}
+
+fn is_row(alloc: Global, row: &str) -> Result<bool, AllocError> {
+    let (want, rest) = row.split_once('#').unwrap_or((row, ""));
+    let (requirements, rest) = rest.split_once('#').unwrap_or((rest, ""));
     let file = format!(in alloc; "[project]\nname = 'demo'\ndependencies = [{requirements}]\n")?;
-    let mut files = files_of(alloc, texts, failing)?;
-    let told_of_files = told(alloc, &mut files, file.as_str())?;
-    let mut untold = Untold {
-        files: files_of(alloc, texts, failing)?,
-    };
-    let told_of_untold = told(alloc, &mut untold, file.as_str())?;
-    if told_of_files.as_str() == told_of_untold.as_str() {
-        return Ok(told_of_files);
-    }
-    Ok(format!(in alloc; "{told_of_files} and {told_of_untold}")?)
-}
-
-// The rows for which something else is told than stands there.
-fn other_rows(alloc: Global) -> Result<String, Fail> {
-    let mut other = String::new(alloc);
-    for row in ROWS.lines() {
-        let (want, rest) = row.split_once('#').unwrap_or((row, ""));
-        let (requirements, rest) = rest.split_once('#').unwrap_or((rest, ""));
-        let (failing, texts) = rest.split_once('#').unwrap_or((rest, ""));
-        let found = row_told(alloc, requirements, failing, texts)?;
-        if found.as_str() != want {
-            other.push_str(format!(in alloc; "{found} in place of {row}\n")?.as_str())?;
-        }
-    }
-    Ok(other)
+    is_case(alloc, file.as_str(), rest, want)
 }
 
 #[test]
-fn small_folders(rt: HostRuntime) -> Result<(), Fail> {
-    let other = other_rows(rt.alloc())?;
-    assert_eq!(rt; other.as_str(), "");
+fn small_folders(rt: HostRuntime) -> Result<(), AllocError> {
+    for row in ROWS.lines() {
+        assert!(rt; is_row(rt.alloc(), row)?, "{row}");
+    }
     Ok(())
 }

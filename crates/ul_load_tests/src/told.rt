@@ -1,65 +1,123 @@
 //! What a project loads, in one line.
-use std::alloc::Global;
-use std::test::Fail;
+use std::alloc::{AllocError, Global};
+use std::fmt::Write;
 use ul_base::Files;
-use ul_index::{Catalog, IndexFault};
+use ul_index::{Catalog, IndexFault, Place};
 use ul_load::{LoadFault, load_project};
-use ul_project::project;
+use ul_project::{Project, project};
+use ul_requirement::Package;
 
-// Each package: its name, how many entries its document has, and how many releases it has.
-fn catalog_text(alloc: Global, catalog: &Catalog) -> Result<String, Fail> {
+// The name, how many entries the document has, and how many releases there are.
+fn push_package(text: &mut String, found: &Package) -> Result<(), AllocError> {
+    let (entries, releases) = (found.entries, found.releases.len());
+    write!(text, "{} {entries}/{releases}, ", found.name.text())
+}
+
+fn catalog_text(alloc: Global, catalog: &Catalog) -> Result<String, AllocError> {
     let mut text = String::new(alloc);
     for found in catalog.packages() {
-        let name = found.name.text();
-        let entries = found.entries;
-        let releases = found.releases.len();
-        text.push_str(format!(in alloc; "{name} {entries}/{releases}, ")?.as_str())?;
+        push_package(&mut text, found)?;
     }
     Ok(text)
 }
 
-fn document_fault_text(alloc: Global, path: &str, fault: IndexFault) -> Result<String, Fail> {
+fn shape_text(alloc: Global, path: &str, place: &Place) -> Result<String, AllocError> {
+    let place = place.text(alloc)?;
+    format!(in alloc; "{path}: shape {place}")
+}
+
+fn document_fault_text(
+    alloc: Global,
+    path: &str,
+    fault: &IndexFault,
+) -> Result<String, AllocError> {
     match fault {
-        IndexFault::NotJson => Ok(format!(in alloc; "{path}: not JSON")?),
-        IndexFault::WrongName => Ok(format!(in alloc; "{path}: name")?),
-        IndexFault::Shape(place) => {
-            let place = place.text(alloc)?;
-            Ok(format!(in alloc; "{path}: shape {place}")?)
-        }
-        IndexFault::NoMemory => Ok(format!(in alloc; "{path}: no memory")?),
+        IndexFault::NotJson => format!(in alloc; "{path}: not JSON"),
+        IndexFault::WrongName => format!(in alloc; "{path}: name"),
+        IndexFault::Shape(place) => shape_text(alloc, path, place),
+        IndexFault::NoMemory => Err(AllocError),
     }
 }
 
-fn fault_text(alloc: Global, fault: LoadFault) -> Result<String, Fail> {
+fn limit_text(fault: &LoadFault) -> &'static str {
     match fault {
-        LoadFault::Read(path) => Ok(format!(in alloc; "read {path}")?),
-        LoadFault::TooLong(path) => Ok(format!(in alloc; "file-bytes {path}")?),
+        LoadFault::TooManyBytes => "total-bytes",
+        LoadFault::TooManyPackages => "packages",
+        LoadFault::TooManyReleases => "releases",
+        LoadFault::TooManyAtoms => "comparisons",
+        _ => "no memory",
+    }
+}
+
+fn fault_text(alloc: Global, fault: &LoadFault) -> Result<String, AllocError> {
+    match fault {
+        LoadFault::Read(path) => format!(in alloc; "read {path}"),
+        LoadFault::TooLong(path) => format!(in alloc; "file-bytes {path}"),
         LoadFault::Document(path, fault) => document_fault_text(alloc, path.as_str(), fault),
-        LoadFault::TooManyBytes => Ok(String::from_str(alloc, "total-bytes")?),
-        LoadFault::TooManyPackages => Ok(String::from_str(alloc, "packages")?),
-        LoadFault::TooManyReleases => Ok(String::from_str(alloc, "releases")?),
-        LoadFault::TooManyAtoms => Ok(String::from_str(alloc, "comparisons")?),
-        LoadFault::NoMemory => Ok(String::from_str(alloc, "no memory")?),
+        _ => String::from_str(alloc, limit_text(fault)),
     }
 }
 
-/// What the project of a file loads from the folder `ix`: the packages, or the fault.
-pub fn told<F: Files>(alloc: Global, files: &mut F, file: &str) -> Result<String, Fail> {
-    let project = project(alloc, file.as_bytes())?;
-    match load_project(alloc, files, "ix", &project) {
+// What a project loads from the folder `ix`: the packages, or the fault.
+fn loaded<F: Files>(alloc: Global, files: &mut F, project: &Project) -> Result<String, AllocError> {
+    match load_project(alloc, files, "ix", project) {
         Ok(catalog) => catalog_text(alloc, &catalog),
-        Err(fault) => fault_text(alloc, fault),
+        Err(fault) => fault_text(alloc, &fault),
     }
 }
 
-/// What a project loads in short: how many packages, or the fault.
-pub fn counted<F: Files>(alloc: Global, files: &mut F, file: &str) -> Result<String, Fail> {
-    let project = project(alloc, file.as_bytes())?;
-    match load_project(alloc, files, "ix", &project) {
-        Ok(catalog) => {
-            let count = catalog.packages().len();
-            Ok(format!(in alloc; "{count} packages")?)
+fn is_loaded<F: Files>(
+    alloc: Global,
+    files: &mut F,
+    project: &Project,
+    want: &str,
+) -> Result<bool, AllocError> {
+    let told = loaded(alloc, files, project)?;
+    Ok(told.as_str() == want)
+}
+
+/// Whether this is told of what the project of a file loads from the folder `ix`.
+pub fn is_told<F: Files>(
+    alloc: Global,
+    files: &mut F,
+    file: &str,
+    want: &str,
+) -> Result<bool, AllocError> {
+    match project(alloc, file.as_bytes()) {
+        Ok(project) => {
+            let told = is_loaded(alloc, files, &project, want);
+            drop(project);
+            told
         }
-        Err(fault) => fault_text(alloc, fault),
+        Err(_) => Ok(false),
+    }
+}
+
+fn count_text(alloc: Global, catalog: &Catalog) -> Result<String, AllocError> {
+    let count = catalog.packages().len();
+    format!(in alloc; "{count} packages")
+}
+
+// What a project loads in short: how many packages, or the fault.
+fn count_loaded<F: Files>(
+    alloc: Global,
+    files: &mut F,
+    project: &Project,
+) -> Result<String, AllocError> {
+    match load_project(alloc, files, "ix", project) {
+        Ok(catalog) => count_text(alloc, &catalog),
+        Err(fault) => fault_text(alloc, &fault),
+    }
+}
+
+/// That of a project's file; nothing where it is none.
+pub fn counted<F: Files>(alloc: Global, files: &mut F, file: &str) -> Result<String, AllocError> {
+    match project(alloc, file.as_bytes()) {
+        Ok(project) => {
+            let told = count_loaded(alloc, files, &project);
+            drop(project);
+            told
+        }
+        Err(_) => Ok(String::new(alloc)),
     }
 }
