@@ -8,7 +8,7 @@ use Rattle.ul_nodes.specs.Keys.{level_view, key_view, keys_view}
 use Rattle.ul_tree.specs.SimplifyViews.{is_above as is_above_plain}
 use Rattle.ul_tree.specs.Simplify.{Simplifies, Pieces, Piece, settled_level}
 use Rattle.ul_tree.proofs.ForCallers.{no_key}
-use Rattle.ul_tree.proofs.ForCallers.{tree_part, tree_rest, region_part, region_rest, part_smaller, rest_smaller, piece_outside, piece_inside, truth_done, all_done, level_done, result_reduced, results_reduced, simpler_reduced}
+use Rattle.ul_tree.proofs.ForCallers.{tree_part, tree_rest, region_part, region_rest, part_smaller, rest_smaller, piece_outside, piece_inside, truth_done, all_done, lowered_done, level_done, result_reduced, results_reduced, simpler_reduced}
 use Rattle.ul_nodes.specs.declared.level.Key.{Key}
 use Rattle.ul_algebra.specs.Spelled.{tree_of}
 use Rattle.ul_algebra.specs.Made.{result_diagrams, OwnKnown}
@@ -112,6 +112,12 @@ simplified_anew-returns-in_err-d-in-Some-clause-knows g t c = knows_then _ _ _ c
 
 pub simplified_anew-returns-in_ok-d-in-Some-clause-knows : goal.simplified_anew-returns-in_ok-d-in-Some-clause-knows
 simplified_anew-returns-in_ok-d-in-Some-clause-knows g t c = knows_then _ _ _ c.in_ok-made-in-Some.ensures.knows c.in_ok-d-in-Some.ensures.knows
+
+pub simplified_anew-returns-in_ok-d-in-Some-clause-rule : goal.simplified_anew-returns-in_ok-d-in-Some-clause-rule
+simplified_anew-returns-in_ok-d-in-Some-clause-rule g t c =
+    let f = tree_of c.args.f.now in
+    let d = tree_of c.in_ok-d-in-Some.d in
+    lowered_done f (tree_of c.args.c.now) _ d (level_view c.in-Some.level) c.in-Some.ensures c.in_ok-made-in-Some.ensures.lowered (subst (λ (z : Plain). Simplifies f z d) c.region.ensures.part c.in_ok-d-in-Some.ensures.rule)
 
 pub simplified_anew-returns-in_ok-d-in-None-clause-rule : goal.simplified_anew-returns-in_ok-d-in-None-clause-rule
 simplified_anew-returns-in_ok-d-in-None-clause-rule g t c = truth_done (tree_of c.args.f.now) (tree_of c.args.c.now) (tree_of c.in_ok-d-in-None.d) c.in-None.ensures (ap tree_of c.in_ok-d-in-None.ensures)
