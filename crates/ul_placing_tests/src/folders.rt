@@ -2,6 +2,7 @@
 ghost use Rattle.std.specs.Prelude.{None};
 
 use std::alloc::{AllocError, Global};
+use std::fmt::Write;
 use ul_base::{Files, ReadRefused};
 
 /// Documents of a text: parts between `|`, each a name and a colon, and then releases between `/`, each a version and,
@@ -18,17 +19,16 @@ fn name_in(path: &str) -> &str {
     path.strip_suffix(".json").unwrap_or(path)
 }
 
+// What stands before an item of a list.
+fn comma(json: &str) -> &'static str {
+    if json.ends_with("[") { "" } else { ", " }
+}
+
 // Puts a list of texts, which commas separate.
 fn push_list(json: &mut String, list: &str) -> Result<(), AllocError> {
-    let mut first = true;
     for text in list.split(',') {
-        if !first {
-            json.push_str(", ")?;
-        }
-        json.push('"')?;
-        json.push_str(text.trim())?;
-        json.push('"')?;
-        first = false;
+        let comma = comma(json.as_str());
+        write!(json, "{comma}\"{}\"", text.trim())?;
     }
     Ok(())
 }
@@ -37,28 +37,22 @@ fn push_list(json: &mut String, list: &str) -> Result<(), AllocError> {
 fn push_release(json: &mut String, release: &str) -> Result<(), AllocError> {
     let (version, rest) = release.split_once('@').unwrap_or((release, ""));
     let (python, requirements) = rest.split_once('@').unwrap_or((rest, ""));
-    json.push_str("{\"version\": \"")?;
-    json.push_str(version.trim())?;
-    json.push_str("\", \"requires_python\": \"")?;
-    json.push_str(python.trim())?;
-    json.push_str("\", \"requires_dist\": [")?;
+    let (comma, version, python) = (comma(json.as_str()), version.trim(), python.trim());
+    write!(
+        json,
+        "{comma}{{\"version\": \"{version}\", \"requires_python\": \"{python}\", \"requires_dist\": ["
+    )?;
     if !requirements.is_empty() {
         push_list(json, requirements)?;
     }
-    json.push_str("]}")?;
-    Ok(())
+    json.push_str("]}")
 }
 
 // The document of a name and its releases.
 fn document(alloc: Global, name: &str, releases: &str) -> Result<String, AllocError> {
     let mut json = format!(in alloc; "{{\"name\": \"{name}\", \"versions\": [")?;
-    let mut first = true;
     for release in releases.split('/') {
-        if !first {
-            json.push_str(", ")?;
-        }
         push_release(&mut json, release)?;
-        first = false;
     }
     json.push_str("]}")?;
     Ok(json)

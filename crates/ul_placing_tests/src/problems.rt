@@ -98,12 +98,18 @@ fn region_of<R: Wait>(
     Ok(region)
 }
 
+fn pair_of(alloc: Global, name: &str, version: &str) -> Result<(Name, Version), Fail> {
+    let version = Version::read(alloc, version)?;
+    let name = Name::read(alloc, name)?;
+    Ok((name, version))
+}
+
 // The names and versions of an old lock, `NAME VERSION` between commas.
 fn kept_of(alloc: Global, text: &str) -> Result<Vec<(Name, Version)>, Fail> {
     let mut kept = Vec::new(alloc);
     for part in text.split(',') {
         if let Some((name, version)) = part.split_once(' ') {
-            kept.push((Name::read(alloc, name)?, Version::read(alloc, version)?))?;
+            kept.push(pair_of(alloc, name, version)?)?;
         }
     }
     Ok(kept)
@@ -131,6 +137,35 @@ pub fn catalog_of<F: Files>(
     }
 }
 
+// The problem of a region, for a catalog and what is wished.
+fn problem_at<R: Wait>(
+    rt: &R,
+    alloc: Global,
+    catalog: &Catalog,
+    wish: &Wish,
+    algebra: &mut Algebra<'_>,
+    region: &Diagram,
+) -> Result<Problem, Fail>
+    requires { IsRegion algebra.old region.now }
+{
+    let nodes = starts_of(alloc, catalog)?;
+    let starts = nodes.as_slice();
+    Ok(problem_of(rt, alloc, catalog, starts, wish, algebra, region)?)
+}
+
+// The problem of the region of a marker, with a given algebra.
+fn problem_over<R: Wait>(
+    rt: &R,
+    alloc: Global,
+    catalog: &Catalog,
+    wish: &Wish,
+    algebra: &mut Algebra<'_>,
+    marker: &str,
+) -> Result<Problem, Fail> {
+    let region = region_of(rt, alloc, algebra, marker)?;
+    problem_at(rt, alloc, catalog, wish, algebra, &region)
+}
+
 /// The problem of the region of a marker, for a catalog and what is wished.
 pub fn problem_in<R: Wait>(
     rt: &R,
@@ -139,34 +174,62 @@ pub fn problem_in<R: Wait>(
     wish: &Wish,
     marker: &str,
 ) -> Result<Problem, Fail> {
-    let starts = starts_of(alloc, catalog)?;
     let (interner, pass) = Interner::<DiagramLabel>::begin(alloc)?;
     let mut algebra = Algebra::begin(alloc, &interner, pass);
-    let region = region_of(rt, alloc, &mut algebra, marker)?;
-    let problem = problem_of(
-        rt,
-        alloc,
-        catalog,
-        starts.as_slice(),
-        wish,
-        &mut algebra,
-        &region,
-    )?;
-    Ok(problem)
+    problem_over(rt, alloc, catalog, wish, &mut algebra, marker)
 }
 
-/// The problem of a region, for a project's file, a folder and an old lock.
-pub fn told_in<R: Wait, F: Files>(
+// Whether the problem of a region is told so.
+fn is_told<R: Wait>(
+    rt: &R,
+    alloc: Global,
+    catalog: &Catalog,
+    wish: &Wish,
+    marker: &str,
+    want: &str,
+) -> Result<bool, Fail> {
+    let problem = problem_in(rt, alloc, catalog, wish, marker)?;
+    Ok(told(alloc, &problem)?.as_str() == want)
+}
+
+// That for a project, its catalog and an old lock.
+fn is_told_of<R: Wait>(
+    rt: &R,
+    alloc: Global,
+    project: &Project,
+    catalog: &Catalog,
+    kept: &str,
+    marker: &str,
+    want: &str,
+) -> Result<bool, Fail> {
+    let wish = wish_of(alloc, project, kept)?;
+    is_told(rt, alloc, catalog, &wish, marker, want)
+}
+
+// That for a project, a folder and an old lock.
+fn is_told_over<R: Wait, F: Files>(
+    rt: &R,
+    alloc: Global,
+    project: &Project,
+    files: &mut F,
+    kept: &str,
+    marker: &str,
+    want: &str,
+) -> Result<bool, Fail> {
+    let catalog = catalog_of(alloc, files, project)?;
+    is_told_of(rt, alloc, project, &catalog, kept, marker, want)
+}
+
+/// Whether the problem of a region is told so, for a project's file, a folder and an old lock.
+pub fn is_told_in<R: Wait, F: Files>(
     rt: &R,
     alloc: Global,
     file: &str,
     files: &mut F,
     kept: &str,
     marker: &str,
-) -> Result<String, Fail> {
+    want: &str,
+) -> Result<bool, Fail> {
     let project = project(alloc, file.as_bytes())?;
-    let catalog = catalog_of(alloc, files, &project)?;
-    let wish = wish_of(alloc, &project, kept)?;
-    let problem = problem_in(rt, alloc, &catalog, &wish, marker)?;
-    Ok(told(alloc, &problem)?)
+    is_told_over(rt, alloc, &project, files, kept, marker, want)
 }

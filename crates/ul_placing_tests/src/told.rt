@@ -1,5 +1,6 @@
 //! Problems in one line.
 use std::alloc::{AllocError, Global};
+use std::fmt::Write;
 use ul_base::Node;
 use ul_problem::{Need, NeedRow, NodeFacts, Problem};
 use ul_ranges::Ordinals;
@@ -21,47 +22,47 @@ fn push_node(text: &mut String, node: &Node) -> Result<(), AllocError> {
     Ok(())
 }
 
-fn push_needs(alloc: Global, text: &mut String, needs: &[Need]) -> Result<(), AllocError> {
+fn push_needs(text: &mut String, needs: &[Need]) -> Result<(), AllocError> {
     for need in needs {
         let place = need.node;
-        text.push_str(format!(in alloc; " {place}:")?.as_str())?;
+        write!(text, " {place}:")?;
         push_set(text, &need.permitted)?;
     }
     Ok(())
 }
 
 // The needs of each version, behind a bar each.
-fn push_rows(alloc: Global, text: &mut String, rows: &[NeedRow]) -> Result<(), AllocError> {
+fn push_rows(text: &mut String, rows: &[NeedRow]) -> Result<(), AllocError> {
     for row in rows {
         text.push_str(" |")?;
-        push_needs(alloc, text, row.as_slice())?;
+        push_needs(text, row.as_slice())?;
     }
     Ok(())
 }
 
 // A node: its name, the place of its base, the order of its versions, the barred ones, and the needs of each version.
-fn push_facts(alloc: Global, text: &mut String, facts: &NodeFacts) -> Result<(), AllocError> {
+fn push_facts(text: &mut String, facts: &NodeFacts) -> Result<(), AllocError> {
     push_node(text, &facts.node)?;
     if let Some(base) = facts.base {
-        text.push_str(format!(in alloc; " of {base}")?.as_str())?;
+        write!(text, " of {base}")?;
     }
     for place in facts.order.as_slice() {
-        text.push_str(format!(in alloc; " {place}")?.as_str())?;
+        write!(text, " {place}")?;
     }
     text.push_str(" -")?;
     push_set(text, &facts.barred)?;
-    push_rows(alloc, text, facts.needs.as_slice())
+    push_rows(text, facts.needs.as_slice())
 }
 
 /// A problem: its roots, and its nodes.
 pub fn told(alloc: Global, problem: &Problem) -> Result<String, AllocError> {
     let mut text = String::new(alloc);
     for root in problem.roots() {
-        text.push_str(format!(in alloc; "{root} ")?.as_str())?;
+        write!(text, "{root} ")?;
     }
     for facts in problem.nodes() {
         text.push_str("; ")?;
-        push_facts(alloc, &mut text, facts)?;
+        push_facts(&mut text, facts)?;
     }
     Ok(text)
 }
