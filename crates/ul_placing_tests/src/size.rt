@@ -154,7 +154,7 @@ const SIZES: [Size; 9] = [
         specifier: (">=1.", ""),
         marker: "sys_platform == 'win32'",
         nodes: 31,
-        needs: 4_001,
+        needs: 6_001,
     },
     Size {
         packages: 30,
@@ -208,7 +208,7 @@ const SIZES: [Size; 9] = [
         packages: 1_500,
         releases: 1,
         askers: 1,
-        requirements: 2_000,
+        requirements: 3_000,
         specifiers: 1,
         version: "1.",
         specifier: (">=1.", ""),
