@@ -141,8 +141,8 @@ struct Size {
     needs: usize,
 }
 
-// From the fifth on each would take some seconds if each specifier were compared with each version, or each requirement
-// with each other one. The last has versions of one release alone.
+// From the fifth on each has millions of pairs of a specifier and a version, or of two requirements, which aren't
+// compared one by one. The last has versions of one release alone.
 const SIZES: [Size; 9] = [
     Size {
         packages: 30,
