@@ -5,6 +5,7 @@ pub mod Nodes
 pub mod Memory
 pub mod ListedFiles
 pub mod Lists
+pub mod HandedOn
 pub mod Members
 pub mod KeptLists
 pub mod Increasing

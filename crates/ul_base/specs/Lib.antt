@@ -7,6 +7,7 @@ pub mod ListedFiles
 pub mod Sinks
 pub mod MemSink
 pub mod Kept
+pub mod Owned
 pub mod Reached
 pub mod Increasing
 pub mod Examples

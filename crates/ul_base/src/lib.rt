@@ -1,4 +1,4 @@
-//! The lowest layer: names and nodes, and the world outside (files, a sink, a gate).
+//! The lowest layer: names and nodes, the world outside (files, a sink, a gate), and owned values handed on.
 //!
 //! A name is a package's or an extra's, in its normal form. A node is what is resolved: a name, or an extra of it.
 //! `Files`, `Sink` and `Gate` are all that the program asks of the world; `MemFiles`, `SureFiles`, `MemSink` and
@@ -13,6 +13,7 @@ mod mem_files;
 mod mem_sink;
 mod name;
 mod node;
+pub mod owned;
 mod sink;
 
 pub use files::{Files, ReadRefused};

@@ -10,10 +10,10 @@ use crate::orders::{
     any_edge, any_extra, any_file, edge_tops, extra_tops, file_tops, is_second, key_is,
     package_tops, version_tops,
 };
-use crate::owned::{beside, refused};
 use crate::states::{State, Top, complete, filing, fresh, listing, needing, paused, tabled, whole};
 use std::alloc::{AllocError, Global};
 use ul_base::Name;
+use ul_base::owned::{beside, refused};
 use ul_lock_lines::{Edge, Edges, Extra, Extras, Files, Line, Packages};
 use ul_lock_text::{Head, Sheet};
 use ul_requirement::FileEntry;

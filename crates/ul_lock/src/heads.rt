@@ -7,10 +7,10 @@ ghost use Rattle.ul_lock_text.specs.Sheet.{forks_key};
 ghost use Rattle.ul_lock.specs.declared.states.State.TheVariants.{Start, Begun, Rooted, Bounded, Forking, Headed, Gapped};
 
 use crate::orders::{key_is, two_or_more};
-use crate::owned::{beside, refused};
 use crate::states::State;
 use std::alloc::{AllocError, Global};
 use ul_base::Name;
+use ul_base::owned::{beside, refused};
 use ul_lock_lines::{Edition, Line, Packages, Region, Regions};
 use ul_lock_text::Head;
 

@@ -6,7 +6,6 @@ mod heads;
 pub mod laws;
 mod locks;
 mod orders;
-mod owned;
 mod states;
 mod targets;
 mod texts;

@@ -12,9 +12,9 @@ use crate::heads::{
     after_first, after_fork, after_forks, after_nothing, after_root, after_supported,
 };
 use crate::orders::any_extra;
-use crate::owned::{beside, refused};
 use std::alloc::{AllocError, Global};
 use ul_base::Name;
+use ul_base::owned::{beside, refused};
 use ul_lock_lines::{Edges, Edition, Extras, Files, Line, Locked, Packages, Region, Regions};
 use ul_lock_text::{Head, Sheet};
 use ul_version::Version;

@@ -6,9 +6,9 @@ ghost use Rattle.ul_lock.specs.Answers.{Gives};
 ghost use Rattle.ul_lock.specs.Automaton.{lock_reader, step};
 ghost use Rattle.ul_lock.specs.declared.texts.ShapeFault.TheVariants.{NoMemory};
 
-use crate::owned::{beside, refused};
 use crate::states::{State, ended, next};
 use std::alloc::{AllocError, Global};
+use ul_base::owned::{beside, refused};
 use ul_lines::first_line;
 use ul_lock_lines::{Line, line};
 use ul_lock_text::Sheet;

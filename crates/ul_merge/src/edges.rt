@@ -9,13 +9,13 @@ ghost use Rattle.ul_merge.specs.Made.{AreMade, at_most_one};
 
 use crate::gathering::Group;
 use crate::keys::PickKey;
-use crate::owned::beside;
 use crate::targets::Use;
 use crate::truths::{simplified, union_of};
 use std::alloc::{AllocError, Global};
 use std::sync::Wait;
 use ul_algebra::{Algebra, Diagram};
 use ul_base::Node;
+use ul_base::owned::beside;
 use ul_lock_lines::{Edge, Region};
 use ul_region::truth_at;
 use ul_requirement::Requirement;

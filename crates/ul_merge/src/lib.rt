@@ -13,7 +13,6 @@ mod gathering;
 mod keys;
 mod members;
 mod merging;
-mod owned;
 mod releases;
 mod sources;
 mod targets;

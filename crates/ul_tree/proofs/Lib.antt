@@ -3,7 +3,6 @@ pub mod Varied
 pub mod Unique
 pub mod Applied
 pub mod JoinedTrees
-pub mod HandedOn
 pub mod Shapes
 pub mod Rebuilt
 pub mod Compared

@@ -14,7 +14,6 @@ pub mod Pieces
 pub mod Leaves
 pub mod Joining
 pub mod TreeFacts
-pub mod Owned
 pub mod Joins
 pub mod Sample
 pub mod FirstParts

@@ -6,10 +6,10 @@ ghost use Rattle.ul_tree.specs.Views.{tree_view, points_view};
 ghost use Rattle.ul_nodes.specs.Keys.{same_tops};
 
 use crate::Tree;
-use crate::owned::{beside, boxed, named, with_made};
 use crate::part::{branch_at, branch_count, known, level_of, rest_of};
 use crate::tree::{DEEPEST, deeper};
 use std::alloc::{AllocError, Global};
+use ul_base::owned::{beside, boxed, named, with_made};
 
 impl Tree {
     /// An equal tree.

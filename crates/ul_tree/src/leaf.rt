@@ -10,8 +10,8 @@ ghost use Rattle.ul_tree.specs.Leaves.{point_of};
 ghost use Rattle.ul_tree.specs.declared.tree.Tree.TheVariants.{Truth};
 
 use crate::Tree;
-use crate::owned::{beside, boxed, named, with_made};
 use std::alloc::{AllocError, Global};
+use ul_base::owned::{beside, boxed, named, with_made};
 use ul_base::{Name, NameFault};
 use ul_marker::{Atom, Variable};
 

@@ -7,7 +7,6 @@ pub mod laws;
 pub mod leaf;
 pub mod markers;
 mod operations;
-mod owned;
 pub mod part;
 pub mod python;
 mod samples;

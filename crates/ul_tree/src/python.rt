@@ -9,8 +9,8 @@ ghost use Rattle.ul_tree.specs.Pieces.{flipping, major_of, minor_of, patch_of, s
 ghost use Rattle.ul_tree.specs.Views.{tree_view};
 
 use crate::Tree;
-use crate::owned::{beside, with_one};
 use std::alloc::{AllocError, Global};
+use ul_base::owned::{beside, with_one};
 use ul_marker::meets_python;
 use ul_specifier::Clause;
 

@@ -11,12 +11,12 @@ ghost use Rattle.ul_tree.specs.SimplifyViews.{HoldsParts, is_above as is_above_p
 use crate::Tree;
 use crate::copy::copy;
 use crate::join::{Join, joined};
-use crate::owned::{beside, made_from, with_made};
 use crate::part::{Trees, branch_at, branch_count, is_false, known, level_of, rest_of};
 use crate::settle::settled;
 use crate::tree::{DEEPEST, deeper};
 use std::alloc::{AllocError, Global};
 use std::cmp::Ordering;
+use ul_base::owned::{beside, made_from, with_made};
 use ul_nodes::level::{Key, Level};
 use ul_nodes::nodes::{is_at, level_keys, part_at, rest_at};
 

@@ -1,12 +1,19 @@
 //! Owned values that are handed on, or let go, in one place.
 //!
-//! A function that lets go of a tree has a step for each of its parts, on each of its ways; a call that takes the tree
-//! has one.
+//! A function that lets go of a value has a step for each of its parts, on each of its ways; a call that takes the
+//! value has one.
 
-ghost use Rattle.std.specs.Prelude.{◌≡◌, ◌++◌, ◌∷◌, [], IfOk, Ok, string_bytes};
-ghost use Rattle.ul_tree.specs.Owned.{HasOneMore};
+ghost use Rattle.std.specs.Prelude.{◌≡◌, ◌++◌, ◌∷◌, [], IfOk, None, Ok, string_bytes};
+ghost use Rattle.ul_base.specs.Owned.{HasOneMore};
 
 use std::alloc::{AllocError, Global};
+
+/// Nothing, where what was read is let go.
+pub fn refused<T: Drop, S>(_read: T) -> Option<S>
+    ensures { result ≡ None }
+{
+    None
+}
 
 /// What was made, beside what is kept; that is let go where memory ran out.
 pub fn beside<T: Drop, S: Drop>(kept: T, made: Result<S, AllocError>) -> Result<(T, S), AllocError>
