@@ -4,6 +4,7 @@ pub mod Finding
 pub mod Terms
 pub mod Serving
 pub mod Steps
+pub mod Held
 pub mod Decisions
 pub mod Best
 pub mod Laws

@@ -4,7 +4,7 @@ ghost use Rattle.ul_problem.specs.Plain.{base_in};
 ghost use Rattle.ul_problem.specs.Terms.{node_of, set_of};
 ghost use Rattle.ul_problem.specs.Steps.{AreTermsOf, IsStepWithin, base_or, says, pair_of, with_term, term_to_say};
 
-use crate::incompat::Incompat;
+use crate::incompat::{Incompat, Saying};
 use crate::problem::{NodeFacts, Problem};
 use crate::step::Step;
 use crate::term::{Term, Terms};
@@ -28,7 +28,9 @@ impl Step {
                 let term = Term::In(*node, versions.copy(alloc)?);
                 pair(alloc, term, Term::NotIn(*target, permitted.copy(alloc)?))?
             }
-            Step::Python { node, versions } => one(alloc, Term::In(*node, versions.copy(alloc)?))?,
+            Step::Python { node, versions } => {
+                Saying::one(Term::In(*node, versions.copy(alloc)?))
+            }
             Step::Base { node, versions } => {
                 let term = Term::In(*node, versions.copy(alloc)?);
                 pair(
@@ -37,9 +39,9 @@ impl Step {
                     Term::NotIn(base_or_node(nodes, *node), versions.copy(alloc)?),
                 )?
             }
-            Step::Cut { terms, .. } => terms.copy(alloc)?,
+            Step::Cut { terms, .. } => Saying::of(terms.copy(alloc)?),
         };
-        Ok(Incompat::of(terms))
+        Ok(Incompat::said(terms))
     }
 }
 
@@ -65,37 +67,31 @@ fn written(term: Term) -> Option<Term>
 }
 
 // The terms that are there.
-fn listed(alloc: Global, first: Option<Term>, second: Option<Term>) -> Result<Terms, AllocError>
-    ensures { IfOk result (λ ts. ts ≡ with_term first (with_term second [])) }
+fn listed(alloc: Global, first: Option<Term>, second: Option<Term>) -> Saying
+    ensures { result ≡ with_term first (with_term second []) }
 {
-    let mut terms = Vec::new(alloc);
-    if let Some(term) = first {
-        terms.push(term)?;
+    match first {
+        Some(one) => match second {
+            Some(other) => Saying::two(one, other),
+            None => Saying::one(one),
+        },
+        None => match second {
+            Some(other) => Saying::one(other),
+            None => Saying::of(Terms::of(Vec::new(alloc))),
+        },
     }
-    if let Some(term) = second {
-        terms.push(term)?;
-    }
-    Ok(Terms::of(terms))
 }
 
 // Two terms in the order of their nodes, or met into one.
-fn pair(alloc: Global, term: Term, other: Term) -> Result<Terms, AllocError>
+fn pair(alloc: Global, term: Term, other: Term) -> Result<Saying, AllocError>
     requires { node_of term ≡ node_of other → length (set_of term) ≡ length (set_of other) }
     ensures { IfOk result (λ ts. ts ≡ pair_of term other) }
 {
     if term.node() < other.node() {
-        listed(alloc, written(term), written(other))
+        Ok(listed(alloc, written(term), written(other)))
     } else if other.node() < term.node() {
-        listed(alloc, written(other), written(term))
+        Ok(listed(alloc, written(other), written(term)))
     } else {
-        listed(alloc, written(term.meet(alloc, &other)?), None)
+        Ok(listed(alloc, written(term.meet(alloc, &other)?), None))
     }
-}
-
-fn one(alloc: Global, term: Term) -> Result<Terms, AllocError>
-    ensures { IfOk result (λ ts. ts ≡ term ∷ []) }
-{
-    let mut terms = Vec::new(alloc);
-    terms.push(term)?;
-    Ok(Terms::of(terms))
 }

@@ -52,7 +52,14 @@ impl Terms {
     pub fn copy(&self, alloc: Global) -> Result<Terms, AllocError>
         ensures { IfOk result (λ ts. ts ≡ self.now) }
     {
-        let list = copied(alloc, self.list.as_slice())?;
+        Terms::copied(alloc, self.list.as_slice())
+    }
+
+    /// Terms equal to those of a list.
+    pub fn copied(alloc: Global, terms: &[Term]) -> Result<Terms, AllocError>
+        ensures { IfOk result (λ ts. ts ≡ terms.now) }
+    {
+        let list = copied(alloc, terms)?;
         Ok(Terms { list })
     }
 }
