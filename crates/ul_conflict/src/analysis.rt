@@ -66,13 +66,13 @@ fn cut(
             resolved.number = place + 1;
         }
         None => {
-            let copy = terms.copy(alloc)?;
+            let copy = terms.to_terms(alloc)?;
             let left = resolved.number;
             resolved.learned.push(Step::Cut {
                 left,
                 right: cause + 1,
                 node,
-                terms: copy.into_terms(),
+                terms: copy,
             })?;
             resolved.number = (count + resolved.learned.len()) as u64;
         }

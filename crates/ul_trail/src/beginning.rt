@@ -4,6 +4,7 @@ ghost use Rattle.ul_trail.specs.Facts.{one_of};
 ghost use Rattle.ul_trail.specs.First.{base_steps, first_steps, need_steps, node_steps, python_steps, version_steps};
 
 use crate::deciding::single;
+use crate::rooms::steps_in;
 use std::alloc::{AllocError, Global};
 use ul_problem::{Need, NodeFacts, Problem, Step};
 use ul_ranges::Ordinals;
@@ -76,7 +77,7 @@ pub fn steps_of(alloc: Global, problem: &Problem) -> Result<Vec<Step>, AllocErro
     ensures { IfOk result (λ v. v.items ≡ first_steps problem.now.nodes (length problem.now.nodes)) }
 {
     let nodes = problem.nodes();
-    let mut steps = Vec::new(alloc);
+    let mut steps = Vec::with_capacity(alloc, steps_in(nodes))?;
     for node in 0..nodes.len() {
         push_node(alloc, &mut steps, &nodes[node], node as u64)?;
     }

@@ -14,6 +14,7 @@ mod holding;
 pub mod laws;
 mod mark;
 mod propagation;
+mod rooms;
 mod rooting;
 mod standing;
 mod trail;

@@ -19,6 +19,7 @@ use crate::fact::{Fact, Progress};
 use crate::holding::{append, hold, unwind};
 use crate::mark::Mark;
 use crate::propagation::{Cursor, spread};
+use crate::rooms::steps_in;
 use crate::rooting::{Asked, opens, plant, rows, sizes};
 use crate::standing::Standing;
 use crate::watching::Watching;
@@ -311,7 +312,8 @@ fn rooted(alloc: Global, problem: &Problem) -> Result<Trail, AllocError>
     let sizes = sizes(alloc, problem)?;
     let count = sizes.len();
     let known = opens(alloc, sizes.as_slice())?;
-    let rows = rows(alloc, count)?;
+    let rows = rows(alloc, problem.nodes())?;
+    let terms = Vec::with_capacity(alloc, steps_in(problem.nodes()))?;
     let mut standing = Standing {
         sizes,
         known,
@@ -326,10 +328,7 @@ fn rooted(alloc: Global, problem: &Problem) -> Result<Trail, AllocError>
     plant(alloc, problem, &mut standing, &mut asked)?;
     Ok(Trail {
         steps: Vec::new(alloc),
-        watching: Watching {
-            terms: Vec::new(alloc),
-            rows,
-        },
+        watching: Watching { terms, rows },
         standing,
         cursor: Cursor {
             seen: 0,

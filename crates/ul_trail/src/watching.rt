@@ -22,12 +22,13 @@ impl Model for Row {
 }
 
 impl Row {
-    pub fn new(alloc: Global) -> Row
-        ensures { result ≡ [] }
+    /// An empty row with room for so many places.
+    pub fn with_room(alloc: Global, room: usize) -> Result<Row, AllocError>
+        ensures { IfOk result (λ r. r ≡ []) }
     {
-        Row {
-            places: Vec::new(alloc),
-        }
+        Ok(Row {
+            places: Vec::with_capacity(alloc, room)?,
+        })
     }
 
     pub fn as_vec(&self) -> &Vec<u64>
