@@ -1,15 +1,10 @@
 -- Picks of a problem: where they stand, by which names, and with which rows.
 use Rattle.std.specs.Prelude.{All, slice_get}
-use Rattle.std.proofs.Common.{◌≡◌, ◌<◌, ◌+◌, ℕ, zero, suc, List, [], ◌∷◌, ◌++◌, length, get_or, map, take, true, Option, Some, None, arith, sym, ap, subst, ◌∙◌, refl}
-use Rattle.std.specs.Ordering.{is_eq}
-use Rattle.std.specs.declared.cmp.Ordering.{Ordering}
-use Rattle.std.specs.declared.cmp.Ordering.TheVariants.{Less, Equal, Greater}
+use Rattle.std.proofs.Common.{◌≡◌, ◌<◌, ◌+◌, ℕ, zero, suc, List, [], ◌∷◌, ◌++◌, length, get_or, map, take, Option, Some, None, arith, sym, ap, subst, ◌∙◌, refl}
 use Rattle.std.proofs.lemmas.List.{take_more}
 use Rattle.std.proofs.lemmas.List.Elements.{All-nil, All-cons, All-contains}
-use Rattle.std.proofs.lemmas.Option.{none-some, same_Some, slice_get_within, get_or_from_slice_get}
+use Rattle.std.proofs.lemmas.Option.{none-some, same_Some, slice_get_within, slice_get-get_or, get_or_from_slice_get}
 use Rattle.ul_base.specs.declared.node.Node.{Node}
-use Rattle.ul_base.specs.Nodes.{node_cmp}
-use Rattle.ul_base.proofs.ForCallers.{node_cmp_same}
 use Rattle.ul_version.specs.Fields.{Fields}
 use Rattle.ul_problem.specs.Best.{Picks, IsBestFrom}
 use Rattle.ul_problem.specs.Plain.{Plain as Problem, node_at, order_in}
@@ -26,19 +21,13 @@ use Rattle.ul_region.specs.Problem.{IsProblemOf}
 use Rattle.ul_region.specs.Rows.{IsRow}
 use Rattle.ul_region.specs.Truths.{DiagramMark, PassView}
 use Rattle.ul_prepared.specs.Prepared.{IsPrepared, IsPlanned, IsName, IsVersionRow}
+use Rattle.ul_prepared.specs.declared.prepared.Planned.{Planned}
 use Rattle.ul_prepared.specs.declared.prepared.Prepared.{Prepared}
+use Rattle.ul_placing.specs.Placed.{ArePlaced, StandsAt}
 use Rattle.ul_split.specs.Answers.{IsChosen, decided_of}
 use Rattle.ul_split.specs.Split.{AreDecided}
 use Rattle.ul_split.specs.declared.split.Chosen.{Chosen}
 use Rattle.ul_forks.specs.Picks.{HasPick, IsTaken, IsPicked, OneForOne}
-
-tie_is : (o : Ordering) → is_eq o ≡ true → o ≡ Equal
-tie_is Less e = cc
-tie_is Equal e = refl
-tie_is Greater e = cc
-
-pub same_node : (a b : Node) → is_eq (node_cmp a b) ≡ true → a ≡ b
-same_node a b e = node_cmp_same a b (tie_is (node_cmp a b) e)
 
 -- something stands at each place of a list
 pub there : {A : Type 0} (xs : List A) (k : ℕ) → k < length xs → (x : A) × (slice_get xs k ≡ Some x)
@@ -55,6 +44,48 @@ by_facts p n v (Some f) e i at w = record { facts = f; at = e; within = All-cont
 pub best_there : (p : Problem) (d es : Picks) → IsWellFormed p → IsBestFrom p d es → All (HasPick p) es
 best_there p d [] w h = All-nil (HasPick p)
 best_there p d (e ∷ es) w h = All-cons (HasPick p) e es (by_facts p e.0 e.1 (node_at p e.0) refl h.1.0 h.1.1 w) (best_there p (d ++ e ∷ []) es w h.2)
+
+-- ---- the row of a pick
+
+-- what is read at a place of a list stands there
+pub read_at : {A : Type 0} (xs : List A) (k : ℕ) (x d : A) → k < length xs → x ≡ get_or xs k d → slice_get xs k ≡ Some x
+read_at xs k x d l e = slice_get-get_or xs k d l ∙ ap Some (sym e)
+
+module _ (shared : Prepared) (p : Problem) (places : List ℕ) (pick : ℕ × ℕ) (placed : ArePlaced shared p places) (is : HasPick p pick) where
+  pub node_within : pick.0 < length p.nodes
+  node_within = slice_get_within p.nodes pick.0 is.facts is.at
+
+  pub place_within : pick.0 < length places
+  place_within = subst (λ (n : ℕ). pick.0 < n) (sym placed.count) node_within
+
+  module _ (place : ℕ) (read : slice_get places pick.0 ≡ Some place) where
+    -- the node of a pick stands at its place
+    stands : StandsAt shared is.facts place
+    stands = placed.each pick.0 place is.facts is.at read
+
+    pub planned_within : place < length shared.nodes.items
+    planned_within = slice_get_within shared.nodes.items place stands.planned stands.at
+
+    module _ (planned : Planned) (found : slice_get shared.nodes.items place ≡ Some planned) where
+      same : stands.planned ≡ planned
+      same = same_Some stands.planned planned (sym stands.at ∙ found)
+
+      -- there is a row for its version
+      pub version_within : pick.1 < length planned.rows.items
+      version_within = subst (λ (z : Planned). pick.1 < length z.rows.items) same (subst (λ (n : ℕ). pick.1 < n) (sym stands.rows) is.within)
+
+      -- the pick has this row
+      pub pick_taken : (facts : NodeFacts) (d : Chosen) → slice_get p.nodes pick.0 ≡ Some facts → slice_get planned.rows.items pick.1 ≡ Some d.row.now → d.node.now ≡ facts.node → IsTaken shared p pick d
+      pick_taken facts d at row node = record {
+        facts = is.facts;
+        at = is.at;
+        node = node ∙ ap (λ (f : NodeFacts). f.node) (same_Some facts is.facts (sym at ∙ is.at));
+        row = record {
+          planned = planned;
+          is = record { place = place; stands = found; node = subst (λ (z : Planned). z.node ≡ is.facts.node) same stands.node };
+          at = row;
+        };
+      }
 
 -- ---- one more pick
 

@@ -1,13 +1,14 @@
 //! Picks of a region's problem: by their names, and with the rows that all regions share.
-ghost use Rattle.std.specs.Prelude.{◌≡◌, IfOk, IfSome, IsTrue, All};
+ghost use Rattle.std.specs.Prelude.{IfOk, All};
 ghost use Rattle.ul_region.specs.Naming.{AreNamed, IsNamed};
-ghost use Rattle.ul_forks.specs.Picks.{HasPick, HasRowAt, IsTaken, OneForOne, StandsIn};
+ghost use Rattle.ul_placing.specs.Placed.{ArePlaced};
+ghost use Rattle.ul_forks.specs.Picks.{HasPick, IsTaken, OneForOne};
 
 use std::alloc::{AllocError, Global};
 use ul_base::Node;
+use ul_placing::Placed;
 use ul_prepared::{Planned, Prepared};
 use ul_problem::{NodeFacts, Problem};
-use ul_region::Row;
 use ul_split::Chosen;
 use ul_version::Version;
 
@@ -45,79 +46,40 @@ pub(crate) fn named_picks(
     Ok(named)
 }
 
-// Whether two nodes are equal.
-#[tactic(auto, using(crate::proofs::Picking::same_node))]
-fn is_same(one: &Node, other: &Node) -> bool
-    ensures { IsTrue result → one.now ≡ other.now }
-{
-    one.cmp(other).is_eq()
-}
-
-// What is known of a node, of those that all regions share.
-fn planned_of<'p>(nodes: &'p [Planned<'p>], node: &Node) -> Option<&'p Planned<'p>>
-    ensures { IfSome result (λ planned. StandsIn nodes.now node.now planned.now) }
-{
-    let Ok(place) = nodes.binary_search_by(|one| one.node.cmp(node)) else {
-        return None;
-    };
-    if place >= nodes.len() {
-        return None;
-    }
-    let planned: &Planned<'_> = &nodes[place];
-    if !is_same(&planned.node, node) {
-        return None;
-    }
-    Some(planned)
-}
-
-// The row of a node's version, by the version's place.
-fn row_at<'p>(prepared: &'p Prepared<'p>, node: &Node, version: usize) -> Option<&'p Row<'p>>
-    ensures { IfSome result (λ row. HasRowAt prepared.now node.now version row.now) }
-{
-    let Some(planned) = planned_of(prepared.nodes.as_slice(), node) else {
-        return None;
-    };
-    let rows: &[Row<'_>] = planned.rows.as_slice();
-    if version >= rows.len() {
-        return None;
-    }
-    Some(&rows[version])
-}
-
-// A pick with its row. Each node of a region's problem is one of those that all regions share.
+// A pick with its row, which stands at the place of its node.
 fn chosen_at<'p>(
     prepared: &'p Prepared<'p>,
-    problem: &'p Problem,
+    placed: &'p Placed,
     node: u64,
     version: u32,
-) -> Result<Chosen<'p>, AllocError>
-    requires { HasPick problem.now (node, version) }
-    ensures { IfOk result (IsTaken prepared.now problem.now (node, version)) }
+) -> Chosen<'p>
+    requires pick { HasPick placed.now.problem (node, version) }
+    requires places { ArePlaced prepared.now placed.now.problem placed.now.places.items }
+    ensures { IsTaken prepared.now placed.now.problem (node, version) result }
 {
-    let facts: &NodeFacts = &problem.nodes()[node as usize];
-    let Some(row) = row_at(prepared, &facts.node, version as usize) else {
-        return Err(AllocError);
-    };
-    Ok(Chosen {
+    let facts: &NodeFacts = &placed.problem.nodes()[node as usize];
+    let place = placed.places[node as usize];
+    let planned: &Planned<'_> = &prepared.nodes[place as usize];
+    Chosen {
         node: &facts.node,
-        row,
-    })
+        row: &planned.rows[version as usize],
+    }
 }
 
 // Picks with their rows.
 pub(crate) fn chosen_of<'p>(
     alloc: Global,
     prepared: &'p Prepared<'p>,
-    problem: &'p Problem,
+    placed: &'p Placed,
     picks: &[(u64, u32)],
 ) -> Result<Vec<Chosen<'p>>, AllocError>
-    requires { All (HasPick problem.now) picks.now }
-    ensures { IfOk result (λ ds. OneForOne (IsTaken prepared.now problem.now) picks.now ds.items) }
+    requires picks { All (HasPick placed.now.problem) picks.now }
+    requires places { ArePlaced prepared.now placed.now.problem placed.now.places.items }
+    ensures { IfOk result (λ ds. OneForOne (IsTaken prepared.now placed.now.problem) picks.now ds.items) }
 {
     let mut chosen = Vec::with_capacity(alloc, picks.len())?;
     for pick in picks {
-        let one = chosen_at(prepared, problem, pick.0, pick.1)?;
-        chosen.push(one)?;
+        chosen.push(chosen_at(prepared, placed, pick.0, pick.1))?;
     }
     Ok(chosen)
 }

@@ -5,6 +5,7 @@ ghost use Rattle.ul_problem.specs.Best.{IsBest as IsBestOf};
 ghost use Rattle.ul_generations.specs.Outcomes.{IsKnown};
 ghost use Rattle.ul_region.specs.Asked.{IsInRegion};
 ghost use Rattle.ul_region.specs.Truths.{IsRegion, region_at};
+ghost use Rattle.ul_placing.specs.Placed.{ArePlaced};
 ghost use Rattle.ul_forks.specs.Judged.{IsJudged};
 ghost use Rattle.ul_forks.specs.Judge.{IsProblemIn, IsReadyJudge, question_in};
 
@@ -17,9 +18,9 @@ use ul_algebra::{Algebra, Diagram, DiagramLabel, DiagramPass};
 use ul_base::Name;
 use ul_generations::{Judge, Outcome};
 use ul_interner::Interner;
-use ul_placing::problem_in;
+use ul_placing::{Placed, problem_in};
 use ul_prepared::Prepared;
-use ul_problem::{Derivation, Problem};
+use ul_problem::Derivation;
 use ul_region::InRegion;
 use ul_solver::{Answer, solve};
 use ul_split::split_in;
@@ -42,24 +43,25 @@ fn judge_picks<R: Wait>(
     judge: &RegionJudge<'_>,
     algebra: &mut Algebra<'_>,
     place: &InRegion<'_>,
-    problem: &Problem,
+    placed: &Placed,
     picks: &[(u64, u32)],
 ) -> Result<Judged, AllocError>
     requires ready { IsReadyJudge algebra.old judge.now }
     requires place { IsInRegion algebra.old place.now }
     requires truths { place.now.truths.now ≡ judge.now.prepared.now.truths.marks.items }
-    requires problem { IsProblemIn judge.now (region_at place.now.region.now) problem.now }
-    requires best { IsBestOf problem.now picks.now }
+    requires problem { IsProblemIn judge.now (region_at place.now.region.now) placed.now.problem }
+    requires places { ArePlaced judge.now.prepared.now placed.now.problem placed.now.places.items }
+    requires best { IsBestOf placed.now.problem picks.now }
     ensures knows { Knows algebra.old algebra.new }
     ensures outcome { IfOk result (IsJudged (question_in judge.now) place.now.region.now) }
     ensures known { IfOk result (IsKnown (IsRegion algebra.new) (λ _. Unit {0}) (λ _. Unit {0})) }
 {
     ul_region::laws::best_names();
-    let chosen = chosen_of(alloc, judge.prepared, problem, picks)?;
+    let chosen = chosen_of(alloc, judge.prepared, placed, picks)?;
     let found = split_in(algebra, place, chosen.as_slice())?;
     match found {
         None => {
-            let decisions = named_picks(alloc, problem, picks)?;
+            let decisions = named_picks(alloc, &placed.problem, picks)?;
             Ok(Outcome::Done(decisions))
         }
         Some(truth) => {
@@ -76,20 +78,21 @@ fn judge_problem<R: Wait>(
     judge: &RegionJudge<'_>,
     algebra: &mut Algebra<'_>,
     place: &InRegion<'_>,
-    problem: &Problem,
+    placed: &Placed,
 ) -> Result<Judged, AllocError>
     requires ready { IsReadyJudge algebra.old judge.now }
     requires place { IsInRegion algebra.old place.now }
     requires truths { place.now.truths.now ≡ judge.now.prepared.now.truths.marks.items }
-    requires problem { IsProblemIn judge.now (region_at place.now.region.now) problem.now }
+    requires problem { IsProblemIn judge.now (region_at place.now.region.now) placed.now.problem }
+    requires places { ArePlaced judge.now.prepared.now placed.now.problem placed.now.places.items }
     ensures knows { Knows algebra.old algebra.new }
     ensures outcome { IfOk result (IsJudged (question_in judge.now) place.now.region.now) }
     ensures known { IfOk result (IsKnown (IsRegion algebra.new) (λ _. Unit {0}) (λ _. Unit {0})) }
 {
-    match solve(alloc, problem)? {
+    match solve(alloc, &placed.problem)? {
         Answer::Nothing(derivation) => Ok(Outcome::Refused(derivation)),
         Answer::Best { picks, trail: _ } => {
-            let judged = judge_picks(rt, alloc, judge, algebra, place, problem, picks.as_slice())?;
+            let judged = judge_picks(rt, alloc, judge, algebra, place, placed, picks.as_slice())?;
             Ok(judged)
         }
     }
@@ -111,8 +114,8 @@ fn judge_in<R: Wait>(
 {
     let prepared = judge.prepared;
     let place = InRegion::of(rt, alloc, algebra, region, prepared.truths.marks())?;
-    let problem = problem_in(alloc, prepared, algebra, &place)?;
-    let judged = judge_problem(rt, alloc, judge, algebra, &place, &problem)?;
+    let placed = problem_in(alloc, prepared, algebra, &place)?;
+    let judged = judge_problem(rt, alloc, judge, algebra, &place, &placed)?;
     Ok(judged)
 }
 

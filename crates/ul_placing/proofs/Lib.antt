@@ -12,6 +12,7 @@ pub mod Needing
 pub mod OneNode
 pub mod Whole
 pub mod Collecting
+pub mod Standing
 pub mod Agreeing
 pub mod Covering
 pub mod Equal

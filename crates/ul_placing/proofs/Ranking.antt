@@ -18,10 +18,11 @@ use Rattle.ul_placing.specs.Reach.{IsLookedAt}
 use Rattle.ul_placing.specs.declared.reach.NodeAims.{NodeAims}
 use Rattle.ul_placing.proofs.Rising.{from_before, tail, planned_trans}
 
-suc_plus : (r j : ℕ) → r + 1 + j ≡ r + suc j
+-- a number, and the number of places before one
+pub suc_plus : (r j : ℕ) → r + 1 + j ≡ r + suc j
 suc_plus r j = omega arith
 
-plus_none : (r : ℕ) → r ≡ r + 0
+pub plus_none : (r : ℕ) → r ≡ r + 0
 plus_none r = omega arith
 
 -- what is known of a node that was looked at, and its place from a number on

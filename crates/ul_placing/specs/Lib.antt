@@ -2,4 +2,5 @@ pub mod Aims
 pub mod Reach
 pub mod Ranks
 pub mod Facts
+pub mod Placed
 pub mod Laws

@@ -6,9 +6,10 @@ ghost use Rattle.ul_region.specs.Problem.{IsProblemOf};
 ghost use Rattle.ul_region.specs.Truths.{IsRegion, region_at};
 ghost use Rattle.ul_prepared.specs.Prepared.{IsPrepared};
 ghost use Rattle.ul_prepared.specs.Project.{IsProjectOf};
+ghost use Rattle.ul_placing.specs.Placed.{ArePlaced};
 
 use crate::facts::reached_facts;
-use crate::ranks::{ranks_at, ranks_of};
+use crate::ranks::{places_of, ranks_at, ranks_of};
 use crate::reach::reach_of;
 use std::alloc::{AllocError, Global};
 use std::sync::Wait;
@@ -20,6 +21,14 @@ use ul_problem::Problem;
 use ul_region::InRegion;
 use ul_requirement::Wish;
 
+/// The problem of a region, with the places of its nodes among those that all regions share.
+#[derive(Drop)]
+pub struct Placed {
+    pub problem: Problem,
+    /// Of each node of the problem, in order, its place.
+    pub places: Vec<u64>,
+}
+
 /// The problem of a region, from what all regions share.
 ///
 /// # Errors
@@ -30,16 +39,18 @@ pub fn problem_in<'p>(
     prepared: &'p Prepared<'p>,
     algebra: &Algebra<'_>,
     place: &'p InRegion<'p>,
-) -> Result<Problem, AllocError>
+) -> Result<Placed, AllocError>
     requires prepared { IsPrepared algebra.now prepared.now }
     requires place { IsInRegion algebra.now place.now }
     requires truths { place.now.truths.now ≡ prepared.now.truths.marks.items }
     requires project { IsProjectOf prepared.now.catalog.now prepared.now.starts.now }
-    ensures { IfOk result (IsProblemOf prepared.now.catalog.now prepared.now.starts.now prepared.now.wish.now
-        (region_at place.now.region.now)) }
+    ensures problem { IfOk result (λ r. IsProblemOf prepared.now.catalog.now prepared.now.starts.now
+        prepared.now.wish.now (region_at place.now.region.now) r.problem) }
+    ensures places { IfOk result (λ r. ArePlaced prepared.now r.problem r.places.items) }
 {
     let reach = reach_of(alloc, algebra, prepared, place)?;
     let ranks = ranks_of(alloc, reach.aims.as_slice())?;
+    let places = places_of(alloc, reach.aims.as_slice())?;
     let nodes = reached_facts(
         alloc,
         algebra,
@@ -49,7 +60,8 @@ pub fn problem_in<'p>(
         reach.aims.as_slice(),
     )?;
     let roots = ranks_at(alloc, ranks.as_slice(), prepared.roots.as_slice())?;
-    Ok(Problem::of(roots, nodes))
+    let problem = Problem::of(roots, nodes);
+    Ok(Placed { problem, places })
 }
 
 // The problem of a region, from what all regions share: the truths are asked where they hold in the region.
@@ -68,8 +80,8 @@ fn problem_at<'p, R: Wait>(
         (region_at region.now)) }
 {
     let place = InRegion::of(rt, alloc, algebra, region, prepared.truths.marks())?;
-    let problem = problem_in(alloc, &*prepared, algebra, &place)?;
-    Ok(problem)
+    let placed = problem_in(alloc, &*prepared, algebra, &place)?;
+    Ok(placed.problem)
 }
 
 /// The problem of a region.

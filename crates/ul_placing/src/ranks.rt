@@ -1,6 +1,6 @@
 //! Places among the nodes that a region reaches.
 ghost use Rattle.std.specs.Prelude.{◌≡◌, IfOk, get_or, map, option_map};
-ghost use Rattle.ul_placing.specs.Ranks.{ranks_from};
+ghost use Rattle.ul_placing.specs.Ranks.{places_from, ranks_from};
 
 use crate::reach::NodeAims;
 use std::alloc::{AllocError, Global};
@@ -22,6 +22,27 @@ pub(crate) fn ranks_of(alloc: Global, aims: &[Option<NodeAims<'_>>]) -> Result<V
         }
     }
     Ok(ranks)
+}
+
+/// The places of the nodes that are reached, in order.
+///
+/// # Errors
+///
+/// Only for want of memory.
+pub(crate) fn places_of(
+    alloc: Global,
+    aims: &[Option<NodeAims<'_>>],
+) -> Result<Vec<u64>, AllocError>
+    ensures { IfOk result (λ v. v.items ≡ places_from 0 aims.now) }
+{
+    let mut places = Vec::with_capacity(alloc, aims.len())?;
+    for place in 0..aims.len() {
+        let Some(_) = &aims[place] else {
+            continue;
+        };
+        places.push(place as u64)?;
+    }
+    Ok(places)
 }
 
 /// The rank at a place.
