@@ -1,12 +1,11 @@
 -- What the needs of firm requirements aim at is led to.
 use Rattle.std.specs.Prelude.{Contains, slice_get, flat_map}
-use Rattle.std.specs.Borrow.{Bor}
 use Rattle.std.proofs.Common.{◌≡◌, ◌<◌, ℕ, List, [], ◌∷◌, length, map, Some, sym, ap, subst, ◌∙◌, inl, inr, ⊎_elim}
 use Rattle.std.proofs.lemmas.List.Elements.{Contains-append_cases}
 use Rattle.std.proofs.lemmas.Option.{same_Some, slice_get_within}
 use Rattle.ul_base.specs.Reached.{led}
 use Rattle.ul_base.specs.declared.node.Node.{Node}
-use Rattle.ul_base.proofs.ForCallers.{none_in, contains_first, contains_later, contains_cases, contains_map, contains_from_map, contains_from_flat}
+use Rattle.ul_base.proofs.ForCallers.{none_in, contains_first, contains_later, contains_cases, contains_from_map, contains_from_flat}
 use Rattle.ul_version.specs.Fields.{Fields}
 use Rattle.ul_problem.specs.declared.problem.Need.{Need as PlaceNeed}
 use Rattle.ul_requirement.specs.Fields.{RequirementFields, ReleaseFields}
@@ -25,9 +24,8 @@ use Rattle.ul_prepared.specs.Prepared.{IsPrepared, IsAim, AreAims, AreRowAims, I
 use Rattle.ul_prepared.specs.declared.prepared.NameFacts.{NameFacts}
 use Rattle.ul_prepared.specs.declared.prepared.Planned.{Planned}
 use Rattle.ul_prepared.specs.declared.prepared.Prepared.{Prepared}
-use Rattle.ul_placing.specs.Aims.{AreAimsOf, AreFirmNeeds, AreThoseOf, IsFirmIn, lent}
+use Rattle.ul_placing.specs.Aims.{AreAimsOf, AreFirmNeeds, AreThoseOf, IsFirmIn}
 use Rattle.ul_placing.specs.Reach.{IsNodeReached, node_of, targets_of}
-use Rattle.ul_placing.specs.declared.aims.Aims.{Aims}
 use Rattle.ul_placing.proofs.Lists.{there, listed_at, place_of}
 use Rattle.ul_placing.proofs.Shared.{IsPlannedIn, planned_at, name_of, row_at}
 
@@ -102,22 +100,22 @@ leads_to h R p planned x row aims ks k is listed firm c =
     )
 
 -- a place that a node's versions aim at is that of a node to which it leads
-pub aimed_leads : (h : PassView) (R : Region) (p : Prepared) (planned : Planned) (list : List Aims) (m : ℕ) → IsPrepared h p → IsPlannedIn h p planned → AreAimsOf R planned list → Contains (flat_map targets_of list) m
+pub aimed_leads : (h : PassView) (R : Region) (p : Prepared) (planned : Planned) (list : List (List PlaceNeed)) (m : ℕ) → IsPrepared h p → IsPlannedIn h p planned → AreAimsOf R planned list → Contains (flat_map targets_of list) m
     → (to : Planned) × (slice_get p.nodes.items m ≡ Some to) × Leads p.catalog.now R planned.node to.node
 aimed_leads h R p planned list m all is of c =
     let a = contains_from_flat targets_of list m c in
-    let need = contains_from_map node_of a.0.needs.items m a.2 in
+    let need = contains_from_map node_of a.0 m a.2 in
     let at = place_of list a.0 a.1 in
     let within : at.0 < length planned.rows.items = subst (λ (n : ℕ). at.0 < n) of.count (slice_get_within list at.0 a.0 at.1) in
     let row = there planned.rows.items at.0 within in
     let aims = there planned.aims.items at.0 (subst (λ (n : ℕ). at.0 < n) (is.count ∙ sym is.aimed) within) in
     let version = row_at h p planned is at.0 row.0 aims.0 row.1 aims.1 in
-    let to = leads_to h R p planned version.0 row.0 aims.0 (lent a.0.needs.items) need.0.now version.2 (eligible_version h p planned is at.0 version.0 all version.1)
-    (of.each at.0 row.0 aims.0 a.0 row.1 aims.1 at.1) (contains_map (λ (b : Bor PlaceNeed). b.now) a.0.needs.items need.0 need.1) in
+    let to = leads_to h R p planned version.0 row.0 aims.0 a.0 need.0 version.2 (eligible_version h p planned is at.0 version.0 all version.1)
+    (of.each at.0 row.0 aims.0 a.0 row.1 aims.1 at.1) need.1 in
     (to.0, subst (λ (j : ℕ). slice_get p.nodes.items j ≡ Some to.0) (sym need.2) to.1, to.2)
 
 -- a place that a reached node aims at is that of a reached node
-pub aimed_reached : (h : PassView) (R : Region) (p : Prepared) (k m : ℕ) (planned : Planned) (list : List Aims) → IsPrepared h p → slice_get p.nodes.items k ≡ Some planned → IsNodeReached R p k → AreAimsOf R planned list → Contains (flat_map targets_of list) m → IsNodeReached R p m
+pub aimed_reached : (h : PassView) (R : Region) (p : Prepared) (k m : ℕ) (planned : Planned) (list : List (List PlaceNeed)) → IsPrepared h p → slice_get p.nodes.items k ≡ Some planned → IsNodeReached R p k → AreAimsOf R planned list → Contains (flat_map targets_of list) m → IsNodeReached R p m
 aimed_reached h R p k m planned list all at reached of c =
     let to = aimed_leads h R p planned list m all (planned_at h p k planned all at) of c in
     (to.0, to.1, led reached.0.node to.0.node reached.2 (subst (λ (z : Planned). Leads p.catalog.now R z.node to.0.node) (same_Some planned reached.0 (sym at ∙ reached.1)) to.2))

@@ -10,8 +10,7 @@ use Rattle.ul_region.specs.Rows.{IsRow}
 use Rattle.ul_region.specs.Truths.{DiagramMark, PassView}
 use Rattle.ul_region.specs.declared.rows.Row.{Row}
 use Rattle.ul_prepared.specs.declared.prepared.Planned.{Planned}
-use Rattle.ul_placing.specs.Aims.{AreFirmNeeds, AreRowsOf, AreThoseOf, lent}
-use Rattle.ul_placing.specs.declared.aims.Aims.{Aims}
+use Rattle.ul_placing.specs.Aims.{AreFirmNeeds, AreRowsOf, AreThoseOf}
 use Rattle.ul_placing.proofs.Lists.{rest_more, there, read_there, pushed_at}
 
 -- what was collected, and then what is left
@@ -68,21 +67,21 @@ pub length_more : {A : Type 0} (xs now : List A) (a : A) (i : ℕ) → now ≡ x
 length_more xs now a i e h = ap length e ∙ (length-append xs (a ∷ []) ∙ ap (λ (n : ℕ). n + 1) h)
 
 -- the needs of each version so far
-abbrev pub AreAimsTo : Region → Planned → List Aims → Type 0
-AreAimsTo R p list = (v : ℕ) (row : Row) (aims : List (List Need)) (a : Aims) → slice_get p.rows.items v ≡ Some row → slice_get p.aims.items v ≡ Some aims → slice_get list v ≡ Some a → AreFirmNeeds R p.node row aims (lent a.needs.items)
+abbrev pub AreAimsTo : Region → Planned → List (List Need) → Type 0
+AreAimsTo R p list = (v : ℕ) (row : Row) (aims : List (List Need)) (a : List Need) → slice_get p.rows.items v ≡ Some row → slice_get p.aims.items v ≡ Some aims → slice_get list v ≡ Some a → AreFirmNeeds R p.node row aims a
 
 -- the needs of one more version
-pub aims_next : (R : Region) (p : Planned) (i : ℕ) (list now : List Aims) (a : Aims) (row : Row) (aims : List (List Need)) → now ≡ list ++ a ∷ [] → length list ≡ i → AreAimsTo R p list → slice_get p.rows.items i ≡ Some row → slice_get p.aims.items i ≡ Some aims
-    → AreFirmNeeds R p.node row aims (lent a.needs.items) → AreAimsTo R p now
+pub aims_next : (R : Region) (p : Planned) (i : ℕ) (list now : List (List Need)) (a : List Need) (row : Row) (aims : List (List Need)) → now ≡ list ++ a ∷ [] → length list ≡ i → AreAimsTo R p list → slice_get p.rows.items i ≡ Some row → slice_get p.aims.items i ≡ Some aims
+    → AreFirmNeeds R p.node row aims a → AreAimsTo R p now
 aims_next R p i list now a row aims grown long before at aimed firm v r xs b e d f =
     ⊎_elim (λ h. before v r xs b e d h)
     (λ h.
     let same : v ≡ i = h.0 ∙ long in
     let rows : row ≡ r = same_Some row r (sym at ∙ subst (λ (z : ℕ). slice_get p.rows.items z ≡ Some r) same e) in
     let lists : aims ≡ xs = same_Some aims xs (sym aimed ∙ subst (λ (z : ℕ). slice_get p.aims.items z ≡ Some xs) same d) in
-    subst (λ (z : Aims). AreFirmNeeds R p.node r xs (lent z.needs.items)) (sym h.1)
-    (subst (λ (z : List (List Need)). AreFirmNeeds R p.node r z (lent a.needs.items)) lists (subst (λ (z : Row). AreFirmNeeds R p.node z aims (lent a.needs.items)) rows firm)))
-    (pushed_at list a v b (subst (λ (z : List Aims). slice_get z v ≡ Some b) grown f))
+    subst (λ (z : List Need). AreFirmNeeds R p.node r xs z) (sym h.1)
+    (subst (λ (z : List (List Need)). AreFirmNeeds R p.node r z a) lists (subst (λ (z : Row). AreFirmNeeds R p.node z aims a) rows firm)))
+    (pushed_at list a v b (subst (λ (z : List (List Need)). slice_get z v ≡ Some b) grown f))
 
 -- where a test that decides something fails, it does not hold
 pub none_so : (P : Type 0) (b : Bool) → Decides b P → b ≡ false → P → ⊥

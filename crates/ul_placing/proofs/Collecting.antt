@@ -1,6 +1,6 @@
 -- What is known of reached nodes, as a loop collects it.
 use Rattle.std.specs.Prelude.{slice_get}
-use Rattle.std.proofs.Common.{◌≡◌, ◌<◌, ◌≤◌, ◌+◌, ℕ, List, [], ◌∷◌, ◌++◌, length, drop, Option, Some, None, refl, sym, ap, subst, ◌∙◌}
+use Rattle.std.proofs.Common.{◌≡◌, ◌<◌, ◌≤◌, ◌+◌, ℕ, zero, suc, List, [], ◌∷◌, ◌++◌, length, get_or, drop, set, Option, Some, None, le_refl, refl, sym, ap, subst, ◌∙◌, arith}
 use Rattle.std.proofs.lemmas.List.{append_assoc, append-nil, drop_all}
 use Rattle.std.proofs.lemmas.Option.{slice_get_within, get_or_from_slice_get}
 use Rattle.ul_index.specs.Regions.{Region}
@@ -9,10 +9,29 @@ use Rattle.ul_prepared.specs.declared.prepared.Planned.{Planned}
 use Rattle.ul_prepared.specs.declared.prepared.Prepared.{Prepared}
 use Rattle.ul_placing.specs.Facts.{AreFacts, IsFacts}
 use Rattle.ul_placing.specs.declared.reach.NodeAims.{NodeAims}
-use Rattle.ul_placing.proofs.Lists.{there, rest_more}
+use Rattle.ul_placing.proofs.Lists.{there, read_there, rest_more}
 
 rest_at : {A : Type 0} (xs : List A) (k : ℕ) (x : A) → slice_get xs k ≡ Some x → drop k xs ≡ x ∷ drop (k + 1) xs
 rest_at xs k x e = rest_more xs k x (slice_get_within xs k x e) (sym (get_or_from_slice_get xs k x x e))
+
+-- ---- the list from which a loop takes
+
+set_before : {A : Type 0} (xs : List A) (i k : ℕ) (y : A) → i < k → slice_get (set xs i y) k ≡ slice_get xs k
+set_before [] i k y l = refl
+set_before (z ∷ zs) zero zero y l = absurd (omega (arith, l))
+set_before (z ∷ zs) zero (suc k) y l = refl
+set_before (z ∷ zs) (suc i) zero y l = absurd (omega (arith, l))
+set_before (z ∷ zs) (suc i) (suc k) y l = set_before zs i k y (omega (arith, l))
+
+-- what stands behind a place stands there when something else is put at the place
+pub same_behind : {A : Type 0} (all now : List A) (i : ℕ) (y : A) → ((k : ℕ) → i ≤ k → slice_get now k ≡ slice_get all k) → (k : ℕ) → i + 1 ≤ k → slice_get (set now i y) k ≡ slice_get all k
+same_behind all now i y same k l = set_before now i k y (omega (arith, l)) ∙ same k (omega (arith, l))
+
+-- what is taken at a place stood there
+pub taken_at : {A : Type 0} (now all : List A) (i : ℕ) (x y : A) → i < length now → x ≡ get_or now i x → ((k : ℕ) → i ≤ k → slice_get now k ≡ slice_get all k) → y ≡ x → slice_get all i ≡ Some y
+taken_at now all i x y l e same d = sym (same i (le_refl i)) ∙ (read_there now i x l e ∙ ap Some (sym d))
+
+-- ---- what a loop collects
 
 module _ (R : Region) (all : Prepared) (ranks : List ℕ) (ps : List Planned) (aims : List (Option NodeAims)) where
   -- what was collected, and then what is left

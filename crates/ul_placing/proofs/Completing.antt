@@ -1,6 +1,5 @@
 -- Each node that is reached was looked at, and so was its base.
 use Rattle.std.specs.Prelude.{Contains, slice_get, flat_map}
-use Rattle.std.specs.Borrow.{Bor}
 use Rattle.std.proofs.Common.{◌≡◌, ◌<◌, ℕ, List, [], ◌∷◌, length, map, Option, Some, None, sym, ap, subst, ◌∙◌, inl, inr, ⊎_elim}
 use Rattle.std.proofs.lemmas.List.Elements.{Contains-append_left, Contains-append_right}
 use Rattle.std.proofs.lemmas.Option.{none-some, same_Some, slice_get_within}
@@ -25,9 +24,8 @@ use Rattle.ul_prepared.specs.Project.{IsProjectOf}
 use Rattle.ul_prepared.specs.declared.prepared.NameFacts.{NameFacts}
 use Rattle.ul_prepared.specs.declared.prepared.Planned.{Planned}
 use Rattle.ul_prepared.specs.declared.prepared.Prepared.{Prepared}
-use Rattle.ul_placing.specs.Aims.{AreThoseOf, IsFirmIn, lent}
+use Rattle.ul_placing.specs.Aims.{AreThoseOf, IsFirmIn}
 use Rattle.ul_placing.specs.Reach.{IsLookedAt, IsReached, node_of, targets_of}
-use Rattle.ul_placing.specs.declared.aims.Aims.{Aims}
 use Rattle.ul_placing.specs.declared.reach.NodeAims.{NodeAims}
 use Rattle.ul_placing.proofs.Lists.{there, listed_at, place_of}
 use Rattle.ul_placing.proofs.Shared.{IsPlannedIn, planned_at, name_of}
@@ -80,10 +78,8 @@ those_have P names nodes (a ∷ asked) (x ∷ xs) ks one t (inr h) r c q d = ⊎
     (λ e. absurd (h.fails (subst P e q))) (λ m. those_have P names nodes asked xs ks one t h.more r.1 m q d) (contains_cases a asked one c)
 
 -- a need of a version is among what the node aims at
-pub target_of : (list : List Aims) (a : Aims) (k : PlaceNeed) → Contains list a → Contains (lent a.needs.items) k → Contains (flat_map targets_of list) k.node
-target_of list a k c d =
-    let b = contains_from_map (λ (x : Bor PlaceNeed). x.now) a.needs.items k d in
-    contains_flat targets_of list a k.node c (subst (λ (z : PlaceNeed). Contains (targets_of a) z.node) (sym b.2) (contains_map node_of a.needs.items b.0 b.1))
+pub target_of : (list : List (List PlaceNeed)) (a : List PlaceNeed) (k : PlaceNeed) → Contains list a → Contains a k → Contains (flat_map targets_of list) k.node
+target_of list a k c d = contains_flat targets_of list a k.node c (contains_map node_of a k d)
 
 need_for : (q : RequirementFields) (n : Node) → Contains (targets q) n → Contains (needs_of q) (record { node = n; specifiers = q.specifiers })
 need_for q n c = contains_map (λ (m : Node). record { node = m; specifiers = q.specifiers }) (targets q) n c
@@ -112,7 +108,7 @@ module _ (h : PassView) (R : Region) (p : Prepared) (aims : List (Option NodeAim
       let one = contains_from_map requirement_of row.0.asked.items l.requirement firm.applied.listed in
       let of = reach.right k own looked planned at in
       let a = there own.versions.items v.0 (subst (λ (n : ℕ). v.0 < n) (sym (of.count ∙ is.count)) within) in
-      let f = those_have (IsFirmIn R planned.node row.0) p.names.items p.nodes.items row.0.asked.items xs.0 (lent a.0.needs.items) one.0 (record { node = b; specifiers = one.0.requirement.now.specifiers })
+      let f = those_have (IsFirmIn R planned.node row.0) p.names.items p.nodes.items row.0.asked.items xs.0 a.0 one.0 (record { node = b; specifiers = one.0.requirement.now.specifiers })
       (of.each v.0 row.0 xs.0 a.0 row.1 xs.1 a.1) version.aimed one.1 (subst (λ (q : RequirementFields). IsFirm (map requirement_of row.0.asked.items) R planned.node q) one.2 firm)
       (need_for one.0.requirement.now b (subst (λ (q : RequirementFields). Contains (targets q) b) one.2 l.aimed)) in
       let next = reach.closed k f.need.node own looked (target_of own.versions.items a.0 f.need (listed_at own.versions.items v.0 a.0 a.1) f.listed) in

@@ -28,11 +28,10 @@ use Rattle.ul_prepared.specs.Project.{IsProjectOf}
 use Rattle.ul_prepared.specs.declared.prepared.NameFacts.{NameFacts}
 use Rattle.ul_prepared.specs.declared.prepared.Planned.{Planned}
 use Rattle.ul_prepared.specs.declared.prepared.Prepared.{Prepared}
-use Rattle.ul_placing.specs.Aims.{AreFirmNeeds, lent}
+use Rattle.ul_placing.specs.Aims.{AreFirmNeeds}
 use Rattle.ul_placing.specs.Facts.{AreFacts, IsFacts, needs_ranked}
 use Rattle.ul_placing.specs.Ranks.{rank_in, ranks_from}
 use Rattle.ul_placing.specs.Reach.{IsLookedAt, IsReached}
-use Rattle.ul_placing.specs.declared.aims.Aims.{Aims}
 use Rattle.ul_placing.specs.declared.reach.NodeAims.{NodeAims}
 use Rattle.ul_placing.proofs.Lists.{there, listed_at}
 use Rattle.ul_placing.proofs.Shared.{IsPlannedIn, planned_at, name_of}
@@ -83,16 +82,16 @@ module _ (h : PassView) (R : Region) (p : Prepared) (aims : List (Option NodeAim
   row_count = plan.count ∙ ap length (sym own_versions)
 
   -- what is known of a version
-  record IsVersion (v : ℕ) (a : Aims) : Type 0 where
+  record IsVersion (v : ℕ) (a : List PlaceNeed) : Type 0 where
     version : Fields
     row : Row
     aimed : List (List PlaceNeed)
     at_version : slice_get plan.facts.versions v ≡ Some version
     at_row : slice_get planned.rows.items v ≡ Some row
     right : IsVersionRow p.catalog.now h p.names.items p.nodes.items p.truths.marks.items planned.node version row aimed
-    firm : AreFirmNeeds R planned.node row aimed (lent a.needs.items)
+    firm : AreFirmNeeds R planned.node row aimed a
 
-  version_at : (v : ℕ) (a : Aims) → slice_get own.versions.items v ≡ Some a → IsVersion v a
+  version_at : (v : ℕ) (a : List PlaceNeed) → slice_get own.versions.items v ≡ Some a → IsVersion v a
   version_at v a e =
       let of = reach.right k own looked planned at in
       let within : v < length planned.rows.items = subst (λ (n : ℕ). v < n) of.count (slice_get_within own.versions.items v a e) in
@@ -101,12 +100,12 @@ module _ (h : PassView) (R : Region) (p : Prepared) (aims : List (Option NodeAim
       let x = there plan.facts.versions v (subst (λ (n : ℕ). v < n) plan.count within) in
       record { version = x.0; row = row.0; aimed = xs.0; at_version = x.1; at_row = row.1; right = plan.rows v x.0 row.0 xs.0 x.1 row.1 xs.1; firm = of.each v row.0 xs.0 a row.1 xs.1 e }
 
-  targets_looked : (v : ℕ) (a : Aims) → slice_get own.versions.items v ≡ Some a → (j : PlaceNeed) → Contains (lent a.needs.items) j → (b : NodeAims) × IsLookedAt aims j.node b
+  targets_looked : (v : ℕ) (a : List PlaceNeed) → slice_get own.versions.items v ≡ Some a → (j : PlaceNeed) → Contains a j → (b : NodeAims) × IsLookedAt aims j.node b
   targets_looked v a e j c = reach.closed k j.node own looked (target_of own.versions.items a j (listed_at own.versions.items v a e) c)
 
-  needs_right : (v : ℕ) (a : Aims) → slice_get own.versions.items v ≡ Some a → AreNeeds fs (needs_ranked ranks a)
+  needs_right : (v : ℕ) (a : List PlaceNeed) → slice_get own.versions.items v ≡ Some a → AreNeeds fs (needs_ranked ranks a)
   needs_right v a e = let s = version_at v a e in
-      needs_after h R p aims ranks fs all rank facts _ s.row.asked.items s.aimed (lent a.needs.items) s.firm s.right.aimed (targets_looked v a e)
+      needs_after h R p aims ranks fs all rank facts _ s.row.asked.items s.aimed a s.firm s.right.aimed (targets_looked v a e)
 
   base_of_base : (o : Option ℕ) → planned.base ≡ o → HasBaseAt p.names.items p.nodes.items planned.node o plan.facts → HasBase fs f f.node.extra (option_map (rank_in ranks) o)
   base_of_base None e t = subst (λ (x : Option (List ℕ)). HasBase fs f x None) (sym (ap (λ (z : Node). z.extra) is.node ∙ t)) tt
@@ -137,8 +136,8 @@ module _ (h : PassView) (R : Region) (p : Prepared) (aims : List (Option NodeAim
       let s = version_at v a.0 a.1 in
       let same : s.version ≡ x = same_Some s.version x (sym s.at_version ∙ (ap (λ (z : List Fields). slice_get z v) (sym own_versions) ∙ e)) in
       let qs = own_requirements p.catalog.now planned.node s.version s.row.release.now (map requirement_of s.row.asked.items) s.right.found s.right.holds.same in
-      let own_needs = those_needs (λ (q : RequirementFields). IsFirm (map requirement_of s.row.asked.items) R planned.node q) p.names.items p.nodes.items s.row.asked.items s.aimed (lent a.0.needs.items) s.firm s.right.aimed in
-      let placed = needs_at h R p aims ranks fs all rank facts roots (lent a.0.needs.items) (flat_map needs_of own_needs.firm) own_needs.aims (targets_looked v a.0 a.1) in
+      let own_needs = those_needs (λ (q : RequirementFields). IsFirm (map requirement_of s.row.asked.items) R planned.node q) p.names.items p.nodes.items s.row.asked.items s.aimed a.0 s.firm s.right.aimed in
+      let placed = needs_at h R p aims ranks fs all rank facts roots a.0 (flat_map needs_of own_needs.firm) own_needs.aims (targets_looked v a.0 a.1) in
       let list : get_or f.needs v [] ≡ needs_ranked ranks a.0 = ap (λ (z : List (List PlaceNeed)). get_or z v []) is.needs ∙ map_at (needs_ranked ranks) own.versions.items v a.0 a.1 in
       subst (λ (z : List PlaceNeed). HasNeedsAt p.catalog.now R (record { roots = roots; nodes = fs }) f.node x z) (sym list)
       (subst (λ (n : Node). HasNeedsAt p.catalog.now R (record { roots = roots; nodes = fs }) n x (needs_ranked ranks a.0)) (sym is.node)

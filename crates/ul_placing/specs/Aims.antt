@@ -1,6 +1,5 @@
 -- What the firm requirements of a node's versions aim at, as needs by the places of all nodes.
 use Rattle.std.specs.Prelude.{◌≡◌, ◌⊎◌, ℕ, List, [], ◌∷◌, ◌++◌, Some, map, length, slice_get}
-use Rattle.std.specs.Borrow.{Bor}
 use Rattle.ul_base.specs.declared.node.Node.{Node}
 use Rattle.ul_problem.specs.declared.problem.Need.{Need}
 use Rattle.ul_index.specs.Applied.{IsFirm}
@@ -10,11 +9,6 @@ use Rattle.ul_region.specs.Truths.{DiagramMark, PassView}
 use Rattle.ul_region.specs.declared.rows.Asked.{Asked}
 use Rattle.ul_region.specs.declared.rows.Row.{Row}
 use Rattle.ul_prepared.specs.declared.prepared.Planned.{Planned}
-use Rattle.ul_placing.specs.declared.aims.Aims.{Aims}
-
--- needs that are lent
-abbrev pub lent : List (Bor Need) → List Need
-lent needs = map (λ (b : Bor Need). b.now) needs
 
 -- the needs of those requirements at which P holds, in order; each requirement has its list of needs
 abbrev pub AreThoseOf : (Asked → Type 0) → List Asked → List (List Need) → List Need → Type 0
@@ -40,7 +34,7 @@ pub record AreRowsOf (h : PassView) (truths : List DiagramMark) (p : Planned) : 
       → slice_get p.aims.items v ≡ Some aims → IsRow h p.node truths row × (length aims ≡ length row.asked.items)
 
 -- of each version of a node the needs of its firm requirements
-pub record AreAimsOf (R : Region) (p : Planned) (list : List Aims) : Type 0 where
+pub record AreAimsOf (R : Region) (p : Planned) (list : List (List Need)) : Type 0 where
   pub count : length list ≡ length p.rows.items
-  pub each : (v : ℕ) (row : Row) (aims : List (List Need)) (a : Aims) → slice_get p.rows.items v ≡ Some row
-      → slice_get p.aims.items v ≡ Some aims → slice_get list v ≡ Some a → AreFirmNeeds R p.node row aims (lent a.needs.items)
+  pub each : (v : ℕ) (row : Row) (aims : List (List Need)) (needs : List Need) → slice_get p.rows.items v ≡ Some row
+      → slice_get p.aims.items v ≡ Some aims → slice_get list v ≡ Some needs → AreFirmNeeds R p.node row aims needs

@@ -11,9 +11,7 @@ use Rattle.ul_region.specs.declared.rows.Row.{Row}
 use Rattle.ul_prepared.specs.declared.prepared.NameFacts.{NameFacts}
 use Rattle.ul_prepared.specs.declared.prepared.Planned.{Planned}
 use Rattle.ul_prepared.specs.declared.prepared.Prepared.{Prepared}
-use Rattle.ul_placing.specs.Aims.{lent}
 use Rattle.ul_placing.specs.Ranks.{rank_in}
-use Rattle.ul_placing.specs.declared.aims.Aims.{Aims}
 use Rattle.ul_placing.specs.declared.reach.NodeAims.{NodeAims}
 
 -- a need by the rank of its target
@@ -21,8 +19,8 @@ abbrev pub need_ranked : List ℕ → Need → Need
 need_ranked ranks k = record { node = rank_in ranks k.node; permitted = k.permitted }
 
 -- the needs of a version by ranks
-abbrev pub needs_ranked : List ℕ → Aims → List Need
-needs_ranked ranks a = map (need_ranked ranks) (lent a.needs.items)
+abbrev pub needs_ranked : List ℕ → List Need → List Need
+needs_ranked ranks needs = map (need_ranked ranks) needs
 
 -- the versions whose release isn't fit where the strategy asks it to be
 pub record AreBarred (strategy : Strategy) (R : Region) (p : Planned) (barred : List Bool) : Type 0 where

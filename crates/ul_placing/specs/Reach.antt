@@ -1,6 +1,5 @@
 -- Which nodes of those that all regions share a region reaches, by their places.
 use Rattle.std.specs.Prelude.{◌≡◌, ◌⊎◌, ◌<◌, ℕ, List, Bool, true, Option, Some, map, flat_map, length, slice_get, Contains}
-use Rattle.std.specs.Borrow.{Bor}
 use Rattle.ul_base.specs.Reached.{Reached}
 use Rattle.ul_ranges.specs.Flags.{has}
 use Rattle.ul_problem.specs.declared.problem.Need.{Need}
@@ -9,17 +8,16 @@ use Rattle.ul_region.specs.Problem.{Leads}
 use Rattle.ul_prepared.specs.declared.prepared.Planned.{Planned}
 use Rattle.ul_prepared.specs.declared.prepared.Prepared.{Prepared}
 use Rattle.ul_placing.specs.Aims.{AreAimsOf}
-use Rattle.ul_placing.specs.declared.aims.Aims.{Aims}
 use Rattle.ul_placing.specs.declared.reach.NodeAims.{NodeAims}
 use Rattle.ul_placing.specs.declared.reach.Reach.{Reach}
 
 -- the place that a need aims at
-abbrev pub node_of : Bor Need → ℕ
-node_of need = need.now.node
+abbrev pub node_of : Need → ℕ
+node_of need = need.node
 
 -- the places that the needs of a version aim at
-abbrev pub targets_of : Aims → List ℕ
-targets_of a = map node_of a.needs.items
+abbrev pub targets_of : List Need → List ℕ
+targets_of needs = map node_of needs
 
 -- Places were marks: those of nodes are marked, and what wasn't marked before stands at the end of the queue.
 pub record MarksPlaces (places : List ℕ) (before : List Bool) (first : List ℕ) (after : List Bool) (queue : List ℕ) : Type 0 where

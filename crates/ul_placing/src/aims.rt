@@ -2,7 +2,7 @@
 ghost use Rattle.std.specs.Prelude.{◌≡◌, ◌++◌, IfOk, length};
 ghost use Rattle.ul_region.specs.Asked.{IsAtNode, IsInRegion, region_asked};
 ghost use Rattle.ul_region.specs.Truths.{region_at};
-ghost use Rattle.ul_placing.specs.Aims.{AreAimsOf, AreFirmNeeds, AreRowsOf, lent};
+ghost use Rattle.ul_placing.specs.Aims.{AreAimsOf, AreFirmNeeds, AreRowsOf};
 
 use std::alloc::{AllocError, Global};
 use ul_algebra::Algebra;
@@ -10,46 +10,62 @@ use ul_prepared::Planned;
 use ul_problem::{Need, NeedRow};
 use ul_region::{Asked, AtNode, InRegion};
 
-/// The needs of a version in a region, by the places of all nodes.
-#[derive(Drop)]
-pub(crate) struct Aims<'p> {
-    pub(crate) needs: Vec<&'p Need>,
+// A need like another. Its set is shared.
+fn copied_need(alloc: Global, need: &Need) -> Result<Need, AllocError>
+    ensures { IfOk result (λ n. n ≡ need.now) }
+{
+    let permitted = need.permitted.copy(alloc)?;
+    Ok(Need {
+        node: need.node,
+        permitted,
+    })
 }
 
 // Puts needs behind others.
-fn push_needs<'p>(needs: &mut Vec<&'p Need>, more: &'p [Need]) -> Result<(), AllocError>
-    ensures { IfOk result (λ _. lent needs.new.items ≡ lent needs.old.items ++ more.now) }
+fn push_needs(alloc: Global, needs: &mut Vec<Need>, more: &[Need]) -> Result<(), AllocError>
+    ensures { IfOk result (λ _. needs.new.items ≡ needs.old.items ++ more.now) }
 {
     for need in more {
-        needs.push(need)?;
+        let copied = copied_need(alloc, need)?;
+        needs.push(copied)?;
+    }
+    Ok(())
+}
+
+// Room for so many needs, where there are none: a version without a firm requirement takes no memory.
+fn make_room(needs: &mut Vec<Need>, size: usize) -> Result<(), AllocError>
+    ensures { IfOk result (λ _. needs.new.items ≡ needs.old.items) }
+{
+    if needs.is_empty() {
+        needs.reserve(size)?;
     }
     Ok(())
 }
 
 // The needs of the firm requirements of a version, in order.
-fn version_aims<'p>(
+fn version_aims(
     alloc: Global,
     algebra: &Algebra<'_>,
     at: &AtNode<'_>,
-    aims: &'p [NeedRow],
-) -> Result<Aims<'p>, AllocError>
+    aims: &[NeedRow],
+) -> Result<NeedRow, AllocError>
     requires at { IsAtNode algebra.now at.now }
     requires aims { length aims.now ≡ length at.now.row.now.asked.items }
-    ensures { IfOk result (λ v. AreFirmNeeds (region_asked at.now) at.now.node.now at.now.row.now aims.now
-        (lent v.needs.items)) }
+    ensures { IfOk result (AreFirmNeeds (region_asked at.now) at.now.node.now at.now.row.now aims.now) }
 {
     let asked: &[Asked<'_>] = at.row.asked.as_slice();
-    let mut needs = Vec::with_capacity(alloc, asked.len())?;
+    let mut needs = Vec::new(alloc);
     for k in 0..asked.len() {
         if !at.is_firm(algebra, &asked[k]) {
             continue;
         }
-        push_needs(&mut needs, aims[k].as_slice())?;
+        make_room(&mut needs, asked.len())?;
+        push_needs(alloc, &mut needs, aims[k].as_slice())?;
     }
-    Ok(Aims { needs })
+    Ok(NeedRow::of(needs))
 }
 
-/// Of each version of a node the needs of its firm requirements, in order.
+/// Of each version of a node the needs of its firm requirements, in order, by the places of all nodes.
 ///
 /// # Errors
 ///
@@ -59,7 +75,7 @@ pub(crate) fn node_aims<'p>(
     algebra: &Algebra<'_>,
     place: &'p InRegion<'p>,
     planned: &'p Planned<'p>,
-) -> Result<Vec<Aims<'p>>, AllocError>
+) -> Result<Vec<NeedRow>, AllocError>
     requires place { IsInRegion algebra.now place.now }
     requires rows { AreRowsOf algebra.now place.now.truths.now planned.now }
     ensures { IfOk result (λ v. AreAimsOf (region_at place.now.region.now) planned.now v.items) }

@@ -5,13 +5,13 @@ ghost use Rattle.ul_index.specs.Serves.{Suits};
 ghost use Rattle.ul_region.specs.Asked.{IsAtNode, IsInRegion, region_asked};
 ghost use Rattle.ul_region.specs.Truths.{region_at};
 ghost use Rattle.ul_prepared.specs.Prepared.{IsPrepared};
-ghost use Rattle.ul_placing.specs.Aims.{AreRowsOf, lent};
+ghost use Rattle.ul_placing.specs.Aims.{AreRowsOf};
 ghost use Rattle.ul_placing.specs.Facts.{AreBarred, AreFacts, IsFacts, need_ranked, needs_ranked};
 
-use crate::aims::Aims;
 use crate::ranks::{base_at, rank_at};
 use crate::reach::NodeAims;
 use std::alloc::{AllocError, Global};
+use std::mem;
 use ul_algebra::Algebra;
 use ul_prepared::{NameFacts, Planned, Prepared};
 use ul_problem::{Need, NeedRow, NeedRows, NodeFacts};
@@ -19,37 +19,47 @@ use ul_ranges::Ordinals;
 use ul_region::{AtNode, InRegion};
 use ul_requirement::{Strategy, Wish};
 
-// A need by ranks. Its set is shared.
-fn ranked_need(alloc: Global, ranks: &[u64], need: &Need) -> Result<Need, AllocError>
-    ensures { IfOk result (λ n. n ≡ need_ranked ranks.now need.now) }
+// Puts the rank of a need's target in place of its place.
+fn rank_need(ranks: &[u64], need: &mut Need)
+    ensures { need.new ≡ need_ranked ranks.now need.old }
 {
-    let node = rank_at(ranks, need.node);
-    let permitted = need.permitted.copy(alloc)?;
-    Ok(Need { node, permitted })
+    need.node = rank_at(ranks, need.node);
 }
 
-// The needs of a version by ranks.
-fn ranked_row(alloc: Global, ranks: &[u64], needs: &[&Need]) -> Result<NeedRow, AllocError>
-    ensures { IfOk result (λ r. r ≡ map (need_ranked ranks.now) (lent needs.now)) }
+// The same for the needs of a version.
+fn rank_needs(ranks: &[u64], needs: &mut [Need])
+    ensures { needs.new ≡ needs_ranked ranks.now needs.old }
 {
-    let mut list = Vec::with_capacity(alloc, needs.len())?;
-    for need in needs {
-        let ranked = ranked_need(alloc, ranks, need)?;
-        list.push(ranked)?;
+    for need in needs.iter_mut() {
+        rank_need(ranks, need);
     }
-    Ok(NeedRow::of(list))
+}
+
+// The same for a row. Its list stays where it is.
+fn rank_row(alloc: Global, ranks: &[u64], row: &mut NeedRow)
+    ensures { row.new ≡ needs_ranked ranks.now row.old }
+{
+    let mut needs = mem::replace(row, NeedRow::of(Vec::new(alloc))).into_vec();
+    rank_needs(ranks, needs.as_mut_slice());
+    *row = NeedRow::of(needs);
+}
+
+// The same for rows.
+fn rank_rows(alloc: Global, ranks: &[u64], rows: &mut [NeedRow])
+    ensures { rows.new ≡ map (needs_ranked ranks.now) rows.old }
+{
+    for row in rows.iter_mut() {
+        rank_row(alloc, ranks, row);
+    }
 }
 
 // The needs of each version by ranks.
-fn ranked_rows(alloc: Global, ranks: &[u64], versions: &[Aims<'_>]) -> Result<NeedRows, AllocError>
-    ensures { IfOk result (λ r. r ≡ map (needs_ranked ranks.now) versions.now) }
+fn ranked_rows(alloc: Global, ranks: &[u64], versions: Vec<NeedRow>) -> NeedRows
+    ensures { result ≡ map (needs_ranked ranks.now) versions.items }
 {
-    let mut list = Vec::with_capacity(alloc, versions.len())?;
-    for aims in versions {
-        let row = ranked_row(alloc, ranks, aims.needs.as_slice())?;
-        list.push(row)?;
-    }
-    Ok(NeedRows::of(list))
+    let mut rows = versions;
+    rank_rows(alloc, ranks, rows.as_mut_slice());
+    NeedRows::of(rows)
 }
 
 // Whether a release is fit where the strategy asks it to be.
@@ -101,13 +111,13 @@ fn facts_of<'p>(
     place: &'p InRegion<'p>,
     ranks: &[u64],
     planned: &'p Planned<'p>,
-    aims: &NodeAims<'_>,
+    aims: NodeAims,
 ) -> Result<NodeFacts, AllocError>
     requires place { IsInRegion algebra.now place.now }
     requires rows { AreRowsOf algebra.now place.now.truths.now planned.now }
     requires few { length planned.now.rows.items < 2 ^ 32 }
     requires name { planned.now.name < length prepared.now.names.items }
-    ensures { IfOk result (IsFacts (region_at place.now.region.now) prepared.now ranks.now planned.now aims.now) }
+    ensures { IfOk result (IsFacts (region_at place.now.region.now) prepared.now ranks.now planned.now aims) }
 {
     let name: &NameFacts = &prepared.names[planned.name];
     let wish: &Wish = prepared.wish;
@@ -115,7 +125,7 @@ fn facts_of<'p>(
     let versions = name.versions.copy()?;
     let order = name.order.copy()?;
     let barred = barred_of(alloc, algebra, place, wish.strategy, planned)?;
-    let needs = ranked_rows(alloc, ranks, aims.versions.as_slice())?;
+    let needs = ranked_rows(alloc, ranks, aims.versions);
     Ok(NodeFacts {
         node,
         base: base_at(ranks, planned.base),
@@ -137,18 +147,18 @@ pub(crate) fn reached_facts<'p>(
     prepared: &'p Prepared<'p>,
     place: &'p InRegion<'p>,
     ranks: &[u64],
-    aims: &[Option<NodeAims<'_>>],
+    mut aims: Vec<Option<NodeAims>>,
 ) -> Result<Vec<NodeFacts>, AllocError>
     requires prepared { IsPrepared algebra.now prepared.now }
     requires place { IsInRegion algebra.now place.now }
     requires truths { place.now.truths.now ≡ prepared.now.truths.marks.items }
-    requires size { length aims.now ≡ length prepared.now.nodes.items }
+    requires size { length aims.items ≡ length prepared.now.nodes.items }
     ensures { IfOk result (λ v. AreFacts (region_at place.now.region.now) prepared.now ranks.now
-        prepared.now.nodes.items aims.now v.items) }
+        prepared.now.nodes.items aims.items v.items) }
 {
     let mut nodes = Vec::with_capacity(alloc, aims.len())?;
     for place_at in 0..aims.len() {
-        let Some(own) = &aims[place_at] else {
+        let Some(own) = aims[place_at].take() else {
             continue;
         };
         let planned = &prepared.nodes[place_at];

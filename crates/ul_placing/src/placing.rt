@@ -57,7 +57,7 @@ pub fn problem_in<'p>(
         prepared,
         place,
         ranks.as_slice(),
-        reach.aims.as_slice(),
+        reach.aims,
     )?;
     let roots = ranks_at(alloc, ranks.as_slice(), prepared.roots.as_slice())?;
     let problem = Problem::of(roots, nodes);

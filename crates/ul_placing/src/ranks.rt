@@ -10,7 +10,7 @@ use std::alloc::{AllocError, Global};
 /// # Errors
 ///
 /// Only for want of memory.
-pub(crate) fn ranks_of(alloc: Global, aims: &[Option<NodeAims<'_>>]) -> Result<Vec<u64>, AllocError>
+pub(crate) fn ranks_of(alloc: Global, aims: &[Option<NodeAims>]) -> Result<Vec<u64>, AllocError>
     ensures { IfOk result (λ v. v.items ≡ ranks_from 0 aims.now) }
 {
     let mut ranks = Vec::with_capacity(alloc, aims.len())?;
@@ -29,10 +29,7 @@ pub(crate) fn ranks_of(alloc: Global, aims: &[Option<NodeAims<'_>>]) -> Result<V
 /// # Errors
 ///
 /// Only for want of memory.
-pub(crate) fn places_of(
-    alloc: Global,
-    aims: &[Option<NodeAims<'_>>],
-) -> Result<Vec<u64>, AllocError>
+pub(crate) fn places_of(alloc: Global, aims: &[Option<NodeAims>]) -> Result<Vec<u64>, AllocError>
     ensures { IfOk result (λ v. v.items ≡ places_from 0 aims.now) }
 {
     let mut places = Vec::with_capacity(alloc, aims.len())?;

@@ -5,28 +5,28 @@ ghost use Rattle.ul_region.specs.Truths.{region_at};
 ghost use Rattle.ul_prepared.specs.Prepared.{IsPrepared};
 ghost use Rattle.ul_placing.specs.Reach.{MarksPlaces, IsReached, IsReachTo, node_of, targets_of};
 
-use crate::aims::{Aims, node_aims};
+use crate::aims::node_aims;
 use std::alloc::{AllocError, Global};
 use ul_algebra::Algebra;
 use ul_prepared::Prepared;
-use ul_problem::Need;
+use ul_problem::{Need, NeedRow};
 use ul_region::InRegion;
 
-/// Of a node that was looked at: the needs of each of its versions.
+/// Of a node that was looked at: the needs of each of its versions, by the places of all nodes.
 #[derive(Drop)]
-pub(crate) struct NodeAims<'p> {
-    pub(crate) versions: Vec<Aims<'p>>,
+pub(crate) struct NodeAims {
+    pub(crate) versions: Vec<NeedRow>,
 }
 
 /// Which nodes are known to be reached, by their places.
 #[derive(Drop)]
-pub(crate) struct Reach<'p> {
+pub(crate) struct Reach {
     /// Of each node whether it is marked.
     pub(crate) marks: Vec<bool>,
     /// The places of the nodes that are marked, in the order in which they were.
     pub(crate) queue: Vec<u64>,
     /// Of each node that was looked at what it aims at.
-    pub(crate) aims: Vec<Option<NodeAims<'p>>>,
+    pub(crate) aims: Vec<Option<NodeAims>>,
 }
 
 // Marks a node, and puts it at the end of the queue, unless it was marked before.
@@ -62,11 +62,7 @@ fn mark_places(
 }
 
 // Marks what needs aim at.
-fn mark_needs(
-    needs: &[&Need],
-    marks: &mut Vec<bool>,
-    queue: &mut Vec<u64>,
-) -> Result<(), AllocError>
+fn mark_needs(needs: &[Need], marks: &mut Vec<bool>, queue: &mut Vec<u64>) -> Result<(), AllocError>
     ensures { IfOk result (λ _. MarksPlaces (map node_of needs.now) marks.old.items queue.old.items
         marks.new.items queue.new.items) }
 {
@@ -78,21 +74,21 @@ fn mark_needs(
 
 // Marks what the versions of a node aim at.
 fn mark_versions(
-    versions: &[Aims<'_>],
+    versions: &[NeedRow],
     marks: &mut Vec<bool>,
     queue: &mut Vec<u64>,
 ) -> Result<(), AllocError>
     ensures { IfOk result (λ _. MarksPlaces (flat_map targets_of versions.now) marks.old.items queue.old.items
         marks.new.items queue.new.items) }
 {
-    for aims in versions {
-        mark_needs(aims.needs.as_slice(), marks, queue)?;
+    for needs in versions {
+        mark_needs(needs.as_slice(), marks, queue)?;
     }
     Ok(())
 }
 
 // As many nodes as a size, none of which was looked at.
-fn no_aims<'p>(alloc: Global, size: usize) -> Result<Vec<Option<NodeAims<'p>>>, AllocError>
+fn no_aims(alloc: Global, size: usize) -> Result<Vec<Option<NodeAims>>, AllocError>
     ensures { IfOk result (λ v. v.items ≡ replicate size None) }
 {
     let mut aims = Vec::with_capacity(alloc, size)?;
@@ -108,13 +104,13 @@ fn reach_from<'p>(
     algebra: &Algebra<'_>,
     prepared: &'p Prepared<'p>,
     place: &'p InRegion<'p>,
-) -> Result<Reach<'p>, AllocError>
+) -> Result<Reach, AllocError>
     requires prepared { IsPrepared algebra.now prepared.now }
     ensures { IfOk result (λ r. IsReachTo (region_at place.now.region.now) prepared.now 0 r) }
 {
     let size = prepared.nodes.len();
     let mut marks = vec![in alloc; false; size]?;
-    let mut queue = Vec::new(alloc);
+    let mut queue = Vec::with_capacity(alloc, size)?;
     mark_places(prepared.roots.as_slice(), &mut marks, &mut queue)?;
     let aims = no_aims(alloc, size)?;
     Ok(Reach { marks, queue, aims })
@@ -127,7 +123,7 @@ fn look_at<'p>(
     prepared: &'p Prepared<'p>,
     place: &'p InRegion<'p>,
     step: usize,
-    reach: &mut Reach<'p>,
+    reach: &mut Reach,
 ) -> Result<(), AllocError>
     requires prepared { IsPrepared algebra.now prepared.now }
     requires place { IsInRegion algebra.now place.now }
@@ -153,7 +149,7 @@ pub(crate) fn reach_of<'p>(
     algebra: &Algebra<'_>,
     prepared: &'p Prepared<'p>,
     place: &'p InRegion<'p>,
-) -> Result<Reach<'p>, AllocError>
+) -> Result<Reach, AllocError>
     requires prepared { IsPrepared algebra.now prepared.now }
     requires place { IsInRegion algebra.now place.now }
     requires truths { place.now.truths.now ≡ prepared.now.truths.marks.items }

@@ -1,7 +1,7 @@
 use Rattle.std.proofs.Common.{◌<◌, List, length, ap, sym, subst, ◌∙◌, ℕ, arith}
 use Rattle.ul_problem.specs.declared.problem.Need.{Need}
 use Rattle.ul_region.specs.Truths.{region_at}
-use Rattle.ul_placing.specs.Aims.{AreFirmNeeds, lent}
+use Rattle.ul_placing.specs.Aims.{AreFirmNeeds}
 use Rattle.ul_placing.proofs.Lists.{read_there}
 use Rattle.ul_placing.proofs.Aiming.{row_is, row_long, length_more, aims_next}
 use Rattle.ul_placing.proofs.aims.node_aims.Goals as goal
@@ -24,5 +24,5 @@ loop-version-preserved c =
       each = aims_next (region_at c.args.place.now.region.now) c.args.planned.now c.loop-version.version c.loop-version.list.items c.push.new.self.items c.in_ok-aims.aims c.index.result.now c.index-in-loop-version.result.now c.in_ok-push.ensures.items
           c.loop-version.invariant.count c.loop-version.invariant.each (read_there c.args.planned.now.rows.items c.loop-version.version c.index.result.now l c.index.ensures)
           (read_there c.args.planned.now.aims.items c.loop-version.version c.index-in-loop-version.result.now (subst (λ (n : ℕ). c.loop-version.version < n) (sym c.requires.rows.count) l) c.index-in-loop-version.ensures)
-          (subst (λ (z : List (List Need)). AreFirmNeeds (region_at c.args.place.now.region.now) c.args.planned.now.node c.index.result.now z (lent c.in_ok-aims.aims.needs.items)) c.as_slice.ensures c.in_ok-aims.ensures);
+          (subst (λ (z : List (List Need)). AreFirmNeeds (region_at c.args.place.now.region.now) c.args.planned.now.node c.index.result.now z c.in_ok-aims.aims) c.as_slice.ensures c.in_ok-aims.ensures);
     }

@@ -4,7 +4,7 @@ use Rattle.std.proofs.Common.{◌≡◌, ◌<◌, List, length, Some, sym, subst
 use Rattle.ul_region.specs.Truths.{region_at, DiagramMark}
 use Rattle.ul_placing.specs.Aims.{AreRowsOf}
 use Rattle.ul_placing.specs.Reach.{MarksPlaces, targets_of}
-use Rattle.ul_placing.specs.declared.aims.Aims.{Aims}
+use Rattle.ul_problem.specs.declared.problem.Need.{Need}
 use Rattle.ul_placing.proofs.Lists.{read_there, read_by}
 use Rattle.ul_placing.proofs.Shared.{planned_read, rows_right}
 use Rattle.ul_placing.proofs.Reaching.{reach_next, queued_node, queued_aims}
@@ -37,5 +37,5 @@ returns c =
     (record { marks = c.mark_versions.new.marks; queue = c.mark_versions.new.queue; aims = with_item c.args.reach.now.aims c.index.result.now (Some (record { versions = c.in_ok-versions.versions })) })
     c.index-2.result.now (record { versions = c.in_ok-versions.versions }) c.requires.prepared c.requires.reach c.requires.step next (read_there c.args.prepared.now.nodes.items c.index.result.now c.index-2.result.now l c.index-2.ensures)
     c.in_ok-versions.ensures
-    (subst (λ (z : List Aims). MarksPlaces (flat_map targets_of z) c.args.reach.now.marks.items c.args.reach.now.queue.items c.mark_versions.new.marks.items c.mark_versions.new.queue.items) c.as_slice.ensures.value c.in_ok-mark_versions.ensures)
+    (subst (λ (z : List (List Need)). MarksPlaces (flat_map targets_of z) c.args.reach.now.marks.items c.args.reach.now.queue.items c.mark_versions.new.marks.items c.mark_versions.new.queue.items) c.as_slice.ensures.value c.in_ok-mark_versions.ensures)
     refl

@@ -3,5 +3,5 @@ use Rattle.std.proofs.Common.{take}
 use Rattle.ul_placing.specs.Reach.{MarksPlaces, targets_of}
 use Rattle.ul_placing.proofs.reach.mark_versions.Given as goal
 
-abbrev pub invariant-loop-aims : goal.invariant-loop-aims
-invariant-loop-aims l = MarksPlaces (flat_map targets_of (take l.aims-index l.versions)) l.initial.marks.items l.initial.queue.items l.marks.items l.queue.items
+abbrev pub invariant-loop-needs : goal.invariant-loop-needs
+invariant-loop-needs l = MarksPlaces (flat_map targets_of (take l.needs-index l.versions)) l.initial.marks.items l.initial.queue.items l.marks.items l.queue.items
