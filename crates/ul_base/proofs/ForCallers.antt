@@ -18,3 +18,5 @@ pub use Rattle.ul_base.proofs.KeptLists.{first_at, first_next, none_next, none_a
 pub use Rattle.ul_base.proofs.Increasing.{after, tail, one_place}
 -- a property of each beginning that each step keeps holds of all that is reached
 pub use Rattle.ul_base.proofs.Reaching.{reached_in}
+-- what a call told of its answer holds of what it made
+pub use Rattle.ul_base.proofs.HandedOn.{made_holds}

@@ -6,7 +6,7 @@ use Rattle.ul_nodes.specs.Keys.{then_branches}
 use Rattle.ul_nodes.specs.Closing.{python_of}
 use Rattle.ul_nodes.proofs.ForCallers.{then_none}
 use Rattle.ul_tree.specs.Views.{tree_view, points_view}
-use Rattle.ul_base.proofs.HandedOn.{made_holds}
+use Rattle.ul_base.proofs.ForCallers.{made_holds}
 use Rattle.ul_tree.proofs.Shapes.{view_extra, view_python, view_text, view_opaque}
 use Rattle.ul_tree.specs.declared.tree.Tree.{Tree}
 use Rattle.ul_tree.proofs.Rebuilt.{points_copied}

@@ -1,7 +1,7 @@
 use Rattle.std.proofs.Common.{Global, String, Vec, ap, ◌∙◌}
 use Rattle.ul_tree.specs.Views.{points_view}
 use Rattle.ul_tree.specs.declared.tree.Tree.{Tree}
-use Rattle.ul_base.proofs.HandedOn.{made_holds}
+use Rattle.ul_base.proofs.ForCallers.{made_holds}
 use Rattle.ul_tree.proofs.leaf.branches.Goals as goal
 
 pub returns-clause-point : goal.returns-clause-point

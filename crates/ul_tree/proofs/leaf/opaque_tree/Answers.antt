@@ -8,7 +8,7 @@ use Rattle.ul_tree.specs.Leaves.{point_tree}
 use Rattle.ul_tree.specs.Values.{tree_holds}
 use Rattle.ul_tree.specs.Views.{tree_view}
 use Rattle.ul_tree.specs.declared.tree.Tree.{Tree, Truth, Opaque}
-use Rattle.ul_base.proofs.HandedOn.{made_holds}
+use Rattle.ul_base.proofs.ForCallers.{made_holds}
 use Rattle.ul_tree.proofs.Leaves.{opaque_holds, opaque_reduced}
 use Rattle.ul_tree.proofs.Shapes.{view_opaque, view_truth}
 use Rattle.ul_tree.proofs.leaf.opaque_tree.Goals as goal

@@ -7,7 +7,7 @@ use Rattle.ul_tree.specs.Values.{tree_holds}
 use Rattle.ul_tree.specs.Views.{tree_view}
 use Rattle.ul_tree.specs.declared.tree.Tree.{Tree}
 use Rattle.ul_tree.specs.TreeFacts.{IsTree}
-use Rattle.ul_base.proofs.HandedOn.{made_holds}
+use Rattle.ul_base.proofs.ForCallers.{made_holds}
 use Rattle.ul_tree.proofs.Joint.{last_truths}
 use Rattle.ul_tree.proofs.markers.+joined_last.Goals as goal
 

@@ -9,7 +9,7 @@ use Rattle.ul_marker.specs.Views.{marker_view, markers_view}
 use Rattle.ul_marker.specs.declared.marker.Marker.{Marker}
 use Rattle.ul_tree.specs.TreeFacts.{IsTree, HoldsAtWorlds}
 use Rattle.ul_tree.specs.declared.tree.Tree.{Tree}
-use Rattle.ul_base.proofs.HandedOn.{made_holds}
+use Rattle.ul_base.proofs.ForCallers.{made_holds}
 use Rattle.ul_comparison.specs.Worlds.{text_at}
 use Rattle.ul_tree.specs.Joining.{joint, truths_of}
 use Rattle.ul_tree.proofs.Joint.{all_joint, any_joint, made_then, truths_all, truths_more}

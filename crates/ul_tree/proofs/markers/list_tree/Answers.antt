@@ -7,7 +7,7 @@ use Rattle.ul_comparison.specs.Truth.{as_asked, equal_to, python_release}
 use Rattle.ul_tree.specs.Joining.{joint, truths_of}
 use Rattle.ul_tree.specs.declared.tree.Tree.{Tree}
 use Rattle.ul_tree.specs.TreeFacts.{IsTree, HoldsByPython, meets_release}
-use Rattle.ul_base.proofs.HandedOn.{made_holds}
+use Rattle.ul_base.proofs.ForCallers.{made_holds}
 use Rattle.ul_tree.proofs.Joint.{listed_joint, truths_all, truths_more}
 use Rattle.ul_tree.proofs.markers.list_tree.Goals as goal
 

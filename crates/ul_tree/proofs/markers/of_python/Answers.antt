@@ -9,7 +9,7 @@ use Rattle.ul_tree.specs.Joining.{joint, truths_of}
 use Rattle.ul_tree.specs.Views.{tree_view}
 use Rattle.ul_tree.specs.declared.tree.Tree.{Tree}
 use Rattle.ul_tree.specs.TreeFacts.{IsTree, HoldsByPython, meets_release}
-use Rattle.ul_base.proofs.HandedOn.{made_holds}
+use Rattle.ul_base.proofs.ForCallers.{made_holds}
 use Rattle.ul_tree.proofs.Joint.{meets_joint, truths_all, truths_more}
 use Rattle.ul_tree.proofs.TreeTruths.{no_extra}
 use Rattle.ul_tree.proofs.markers.of_python.Goals as goal

@@ -2,7 +2,7 @@ use Rattle.std.proofs.Common.{ap, ◌∙◌}
 use Rattle.ul_version.specs.Fields.{plain}
 use Rattle.ul_specifier.specs.Meaning.{meets_clause}
 use Rattle.ul_comparison.specs.Truth.{equal_to, python_release}
-use Rattle.ul_base.proofs.HandedOn.{made_holds}
+use Rattle.ul_base.proofs.ForCallers.{made_holds}
 use Rattle.ul_tree.proofs.markers.version_tree.Goals as goal
 
 pub returns-clause-truth : goal.returns-clause-truth

@@ -2,7 +2,7 @@ use Rattle.std.proofs.Common.{ℕ, ◌∷◌, Global, Vec, map, length, sym, ap,
 use Rattle.ul_specifier.proofs.ForCallers.{not_empty}
 use Rattle.ul_nodes.specs.Closing.{python_of}
 use Rattle.ul_tree.specs.Views.{tree_view}
-use Rattle.ul_base.proofs.HandedOn.{made_holds}
+use Rattle.ul_base.proofs.ForCallers.{made_holds}
 use Rattle.ul_tree.proofs.Shapes.{view_python}
 use Rattle.ul_tree.proofs.Stepped.{python_stepped}
 use Rattle.ul_tree.proofs.python.stepped.Goals as goal

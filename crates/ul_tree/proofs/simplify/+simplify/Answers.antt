@@ -9,7 +9,7 @@ use Rattle.ul_nodes.specs.Rows.{results_view}
 use Rattle.ul_tree.specs.Simplify.{Simplifies, Pieces, Piece, settled_level}
 use Rattle.ul_tree.specs.SimplifyViews.{is_above}
 use Rattle.ul_tree.proofs.SimplifySteps.{not_false_is, tree_part, tree_rest, region_part, region_rest, part_smaller, rest_smaller, piece_outside, piece_inside, truth_done, all_done, lowered_done, level_done, result_reduced, results_reduced, simpler_reduced}
-use Rattle.ul_base.proofs.HandedOn.{made_holds}
+use Rattle.ul_base.proofs.ForCallers.{made_holds}
 use Rattle.ul_tree.proofs.PartRegions.{stands_as}
 use Rattle.ul_tree.proofs.PiecesInCode.{results_step, results_end, kind_step}
 use Rattle.ul_nodes.specs.declared.level.Key.{Key}

@@ -9,7 +9,7 @@ use Rattle.ul_tree.specs.Joins.{IsJoined}
 use Rattle.ul_tree.specs.TreeFacts.{IsTree}
 use Rattle.ul_tree.specs.declared.join.Join.TheVariants.{Either}
 use Rattle.ul_tree.specs.declared.tree.Tree.{Tree}
-use Rattle.ul_base.proofs.HandedOn.{made_holds}
+use Rattle.ul_base.proofs.ForCallers.{made_holds}
 use Rattle.ul_tree.proofs.Lowering.{one_part, halves_joined}
 use Rattle.ul_tree.proofs.simplify.+union_of.Goals as goal
 

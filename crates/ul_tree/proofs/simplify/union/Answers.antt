@@ -7,7 +7,7 @@ use Rattle.ul_nodes.specs.Keys.{branches_of, branch_count}
 use Rattle.ul_tree.specs.SimplifyViews.{HoldsParts}
 use Rattle.ul_tree.specs.Views.{tree_view}
 use Rattle.ul_nodes.proofs.ForCallers.{rest_reduced}
-use Rattle.ul_base.proofs.HandedOn.{made_holds}
+use Rattle.ul_base.proofs.ForCallers.{made_holds}
 use Rattle.ul_tree.proofs.Lowering.{no_branches, union_joined}
 use Rattle.ul_tree.proofs.simplify.union.Goals as goal
 
