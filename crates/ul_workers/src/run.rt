@@ -34,8 +34,9 @@ fn take_places<O: Drop>(mut places: Vec<Option<O>>, mut results: Vec<O>) -> Vec<
     results
 }
 
-/// Runs the job on each number below the count, by so many workers, from 1 to 64. The result at place k fits k, and the
-/// marks in it are known to the pass. After want of memory too the pass knows what it knew.
+/// Runs the job on each number below the count, by so many workers, from 1 to 64, of which no more begin than there are
+/// numbers. The result at place k fits k, and the marks in it are known to the pass. After want of memory too the pass knows
+/// what it knew.
 pub fn run_all<R: Threads + Wait + Sync, L: Label, J: Job<L>>(
     rt: &R,
     alloc: Global,
@@ -56,8 +57,9 @@ pub fn run_all<R: Threads + Wait + Sync, L: Label, J: Job<L>>(
     let (claims, mut first) = Claims::begin(alloc, count)?;
     let mut places = empty_places(alloc, count)?;
     let results = Vec::with_capacity(alloc, count as usize)?;
-    let mut seats = Vec::with_capacity(alloc, workers as usize + 1)?;
-    let mut all = prepare(alloc, workers, &claims, &mut first, interner, pass, count)?;
+    let hands = workers.min(count).max(1);
+    let mut seats = Vec::with_capacity(alloc, hands as usize + 1)?;
+    let mut all = prepare(alloc, hands, &claims, &mut first, interner, pass, count)?;
     seats.push_reserved(first);
     work_all(rt, alloc, &claims, interner, job, all.as_mut_slice());
     if !take_all(
