@@ -1,11 +1,12 @@
 -- Places in the order of their versions.
-use Rattle.std.proofs.Common.{◌≡◌, ◌+◌, ◌<◌, ℕ, zero, suc, List, [], ◌∷◌, map, filter, drop, length, get_or, Bool, true, false, cond, Option, Some, None, refl, sym, ap, subst, ◌∙◌, arith}
+use Rattle.std.proofs.Common.{◌≡◌, ◌+◌, ◌<◌, ℕ, zero, suc, List, [], ◌∷◌, map, filter, drop, length, get_or, Bool, true, false, cond, ◌||◌, Option, Some, None, refl, sym, ap, subst, ◌∙◌, arith}
 use Rattle.std.specs.Prelude.{All}
 use Rattle.std.proofs.lemmas.List.{drop_more}
 use Rattle.std.proofs.lemmas.List.Elements.{All-nil}
 use Rattle.std.proofs.lemmas.Map.Views.{All-insert_key}
 use Rattle.std.proofs.lemmas.Option.{slice_get_read}
 use Rattle.std.specs.BTreeSet.{insert_key}
+use Rattle.std.specs.List.{list_any}
 use Rattle.std.specs.Ordering.{is_lt, match_ordering}
 use Rattle.std.specs.declared.cmp.Ordering.{Ordering}
 use Rattle.std.specs.declared.cmp.Ordering.TheVariants.{Less, Equal, Greater}
@@ -14,6 +15,7 @@ use Rattle.ul_version.specs.Order.{version_cmp}
 use Rattle.ul_requirement.specs.Fields.{ReleaseFields, RequirementFields, VersionsDiffer}
 use Rattle.ul_index.specs.Catalogs.{Packages, directs, releases_of}
 use Rattle.ul_index.specs.Eligible.{eligible, in_order, on_name, passing, increasing_with, version_at}
+use Rattle.ul_index.specs.Preference.{is_direct}
 use Rattle.ul_index.specs.VersionOrders.{IsOrder, IsPlaceIn, by_version, place_list, places_in}
 use Rattle.ul_index.specs.declared.version_order.VersionOrder.{VersionOrder}
 use Rattle.ul_index.specs.declared.version_order.Versioned.{Versioned}
@@ -96,3 +98,21 @@ pub eligible_places : (c : Packages) (n : List ℕ) (rs : List ReleaseFields) (q
 unfolding eligible passing
 eligible_places c n rs qs order places of_name of_project right are =
     rw (← of_name, ← of_project, are, seconds order.keys.keys) (places_versions rs (places_in order) right.places ∙ ap (map Some) right.versions)
+
+-- ---- a name on which the project has no requirement
+
+none_next : (q : RequirementFields) (kept : List RequirementFields) (b others : Bool) → (b || others) ≡ false → (others ≡ false → kept ≡ []) → cond b (q ∷ kept) kept ≡ []
+none_next q kept true others e h = cc
+none_next q kept false others e h = h e
+
+none_on : (n : List ℕ) (qs : List RequirementFields) → list_any (on_name n) qs ≡ false → filter (on_name n) qs ≡ []
+none_on n [] e = refl
+none_on n (q ∷ qs) e = none_next q (filter (on_name n) qs) (on_name n q) (list_any (on_name n) qs) e (none_on n qs)
+
+-- its eligible releases are found among no requirements
+pub indirect_places : (c : Packages) (n : List ℕ) (rs : List ReleaseFields) (qs : List RequirementFields) (order : VersionOrder) (places : List ℕ) → rs ≡ releases_of c n
+    → is_direct c n ≡ false → qs ≡ [] → IsOrder (filter (on_name n) qs) rs order → places ≡ place_list order
+    → map (version_at (releases_of c n)) places ≡ map Some (eligible c n)
+indirect_places c n rs qs order places of_name none empty right are =
+    eligible_places c n rs (directs c) order places of_name refl
+    (subst (λ (xs : List RequirementFields). IsOrder xs rs order) (ap (filter (on_name n)) empty ∙ sym (none_on n (directs c) none)) right) are

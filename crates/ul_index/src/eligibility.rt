@@ -1,6 +1,6 @@
 //! Eligible releases.
 
-ghost use Rattle.std.specs.Prelude.{◌≡◌, ◌<◌, ◌^◌, Bool, filter, length, map, IfOk, Some};
+ghost use Rattle.std.specs.Prelude.{◌≡◌, ◌<◌, ◌^◌, Bool, false, filter, length, map, IfOk, Some};
 ghost use Rattle.std.specs.List.{list_all, list_any};
 ghost use Rattle.std.specs.Str.{bytes_eq};
 ghost use Rattle.ul_version.specs.Fields.{is_pre_of};
@@ -10,6 +10,7 @@ ghost use Rattle.ul_requirement.specs.Fields.{RequirementFields, VersionsDiffer}
 ghost use Rattle.ul_index.specs.Catalogs.{is_release_fit, releases_of};
 ghost use Rattle.ul_index.specs.Eligible as Eligible;
 ghost use Rattle.ul_index.specs.Eligible.{eligible, on_name, version_at};
+ghost use Rattle.ul_index.specs.Preference.{is_direct};
 ghost use Rattle.ul_index.specs.VersionOrders.{IsOrder};
 
 use crate::Catalog;
@@ -143,6 +144,24 @@ pub fn eligible(alloc: Global, catalog: &Catalog, name: &Name) -> Result<Vec<u32
 {
     let releases = catalog.releases_of(name);
     let order = order(alloc, catalog.directs(), name, releases)?;
+    let places = order.places(alloc)?;
+    Ok(places)
+}
+
+/// The places of the eligible releases of a name on which the project has no requirement: those of [`eligible`], found without a
+/// look at the project's requirements.
+pub fn eligible_indirect(
+    alloc: Global,
+    catalog: &Catalog,
+    name: &Name,
+) -> Result<Vec<u32>, AllocError>
+    requires { is_direct catalog.now name.now ≡ false }
+    ensures { IfOk result (λ places.
+        map (version_at (releases_of catalog.now name.now)) places.items ≡ map Some (eligible catalog.now name.now)) }
+{
+    let releases = catalog.releases_of(name);
+    let directs: Vec<Requirement> = Vec::new(alloc);
+    let order = order(alloc, directs.as_slice(), name, releases)?;
     let places = order.places(alloc)?;
     Ok(places)
 }

@@ -16,6 +16,6 @@ mod version_order;
 
 pub use catalog::Catalog;
 pub use documents::document;
-pub use eligibility::eligible;
+pub use eligibility::{eligible, eligible_indirect};
 pub use fault::IndexFault;
 pub use place::{EntryKey, Place};
