@@ -1,5 +1,5 @@
 -- Laws of sets as they are made and written to.
-use Rattle.std.proofs.Common.{◌≡◌, ℕ, List, [], ◌∷◌, Bool, false, ap, ◌∙◌, sym, subst, get_or, ◌*◌, ◌/◌, ◌%◌, ◌^◌, ◌<◌, ◌≤◌, length, arith, eqb, inl, inr, Some, None, lit<, replicate, ◌++◌, Result, Ok, Err}
+use Rattle.std.proofs.Common.{◌≡◌, ℕ, List, [], ◌∷◌, Bool, false, refl, ap, ◌∙◌, sym, subst, get_or, ◌*◌, ◌/◌, ◌%◌, ◌^◌, ◌<◌, ◌≤◌, length, arith, eqb, inl, inr, Option, Some, None, lit<, replicate, ◌++◌, Result, Ok, Err}
 use Rattle.std.specs.Prelude.{bit_or, map, zip, All, IfOk, ◌||◌}
 use Rattle.std.specs.List.{range_with_len, list_any}
 use Rattle.std.proofs.lemmas.Bool.{cases_lt, cases_eq, ne_eqb, eq-eqb, le-ltb}
@@ -10,7 +10,7 @@ use Rattle.std.proofs.lemmas.Nat.Bits.{bit_at-pow_same, bit_at-pow_other}
 use Rattle.std.proofs.Math.Nat.{mod-lt}
 use Rattle.ul_ranges.specs.Blocks.{flag, flag_at, block_count, IsExact}
 use Rattle.ul_ranges.specs.Marks.{HasMarked, IsMarkedWord, front_word}
-use Rattle.ul_ranges.specs.Forms.{bit_in, flag_in, IsWord, IsForm, IsSealed, HasBlocks, IsMade, IsZipped, IsOpen, IsResealed, HasMembers, HasFront}
+use Rattle.ul_ranges.specs.Forms.{bit_in, size_in, flag_in, IsWord, IsForm, AreForms, AreLevel, IsSealed, HasBlocks, IsMade, IsZipped, IsOpen, IsResealed, HasMembers, HasFront}
 use Rattle.ul_ranges.specs.declared.forms.Form.{Form}
 use Rattle.ul_ranges.specs.declared.forms.Form.TheVariants.{Word, Few, Many}
 use Rattle.ul_ranges.proofs.BlockLaws.{flag-zero, flag-true, IsFlagwise, zip_exact, zip_flag, word_marked, or_false, flag-first_word, front_word_fits, flag_at-front}
@@ -22,8 +22,33 @@ ok_then (Ok x) P Q h k = k x h
 ok_then (Err e) P Q h k = tt
 
 -- ---- blocks of two sets, zipped
-pub has_blocks : (size : ℕ) (f : Form) (bs : List ℕ) → f ≡ Many bs → IsForm size f → HasBlocks size f bs
-has_blocks size f bs e h = subst (λ (g : Form). HasBlocks size g bs) (sym e) (many_blocks size bs (subst (λ (g : Form). IsForm size g) e h))
+pub has_blocks : (size : ℕ) (f : Form) (bs : List ℕ) → f ≡ Many size bs → IsForm f → HasBlocks size f bs
+has_blocks size f bs e h = subst (λ (g : Form). HasBlocks size g bs) (sym e) (many_blocks size bs (subst (λ (g : Form). IsForm g) e h))
+
+-- the blocks of the second of two sets of one size, by the size of the first
+pub has_others : (m n : ℕ) (f g : Form) (xs ys : List ℕ) → f ≡ Many m xs → g ≡ Many n ys → AreForms f g → HasBlocks m g ys
+has_others m n f g xs ys e q h =
+    let level : m ≡ n = ap size_in (sym e) ∙ h.same_size ∙ ap size_in q in
+    subst (λ (k : ℕ). HasBlocks k g ys) (sym level) (has_blocks n g ys q h.right)
+
+-- the blocks of a second set that is kept by one member, by the size of the first
+pub few_others : (m n : ℕ) (f g : Form) (xs : List ℕ) (o : Option ℕ) (bs : List ℕ) → f ≡ Many m xs → g ≡ Few n o → AreForms f g
+    → HasBlocks m (Few m o) bs → HasBlocks m g bs
+few_others m n f g xs o bs e q h b =
+    let level : m ≡ n = ap size_in (sym e) ∙ h.same_size ∙ ap size_in q in
+    subst (λ (k : Form). HasBlocks m k bs) (ap (λ (k : ℕ). Few k o) level ∙ sym q) b
+
+-- the blocks of a set, by a number that is its size
+pub sized_blocks : (size : ℕ) (f : Form) (bs : List ℕ) → size ≡ size_in f → HasBlocks (size_in f) f bs → HasBlocks size f bs
+sized_blocks size f bs e h = subst (λ (k : ℕ). HasBlocks k f bs) (sym e) h
+
+-- two sets of one size that are kept by blocks have as many
+pub are_level : (f g : Form) → AreForms f g → AreLevel f g
+are_level (Word m x) g h = tt
+are_level (Few m o) g h = tt
+are_level (Many m xs) (Word n y) h = tt
+are_level (Many m xs) (Few n o) h = tt
+are_level (Many m xs) (Many n ys) h = h.left.exact.count ∙ ap block_count h.same_size ∙ sym h.right.exact.count
 
 pub same_count : (size : ℕ) (f g : Form) (xs ys x y : List ℕ) → HasBlocks size f xs → HasBlocks size g ys → x ≡ xs → y ≡ ys → length x ≡ length y
 same_count size f g xs ys x y a b e q = ap length e ∙ a.exact.count ∙ sym (ap length q ∙ b.exact.count)
@@ -50,44 +75,53 @@ pub zipped_whole : (size : ℕ) (op : ℕ → ℕ → ℕ) (fb : Bool → Bool �
 zipped_whole size op fb w f g r z = subst (λ (l : List ℕ). IsExact size l) (sym z.zipped) (zip_exact size z.left z.right op fb w z.left_blocks.exact z.right_blocks.exact)
 
 pub zipped_sealed : (size : ℕ) (op : ℕ → ℕ → ℕ) (fb : Bool → Bool → Bool) (w : IsFlagwise op fb) (f g made : Form) (r : List ℕ) → AreZipped size op f g r → IsSealed size r made
-    → IsMade size fb f g made
+    → IsMade fb f g made
 zipped_sealed size op fb w f g made r z s = zipped_made size op fb w f g made z.left z.right r z.left_blocks z.right_blocks z.zipped s
 
-pub word_made : (size : ℕ) (fb : Bool → Bool → Bool) (f g : Form) (x y v : ℕ) → f ≡ Word x → g ≡ Word y → IsForm size f → IsForm size g
-    → (IsWord size x → IsWord size y → IsMade size fb (Word x) (Word y) (Word v)) → IsMade size fb f g (Word v)
-word_made size fb f g x y v e q a b h =
-    let m = h (subst (λ (k : Form). IsForm size k) e a) (subst (λ (k : Form). IsForm size k) q b) in
-    subst (λ (k : Form). IsMade size fb k g (Word v)) (sym e) (subst (λ (k : Form). IsMade size fb (Word x) k (Word v)) (sym q) m)
+pub word_made : (m n : ℕ) (fb : Bool → Bool → Bool) (f g : Form) (x y v : ℕ) → f ≡ Word m x → g ≡ Word n y → AreForms f g
+    → (IsWord m x → IsWord m y → IsMade fb (Word m x) (Word n y) (Word m v)) → IsMade fb f g (Word m v)
+word_made m n fb f g x y v e q h make =
+    let level : n ≡ m = ap size_in (sym q) ∙ sym h.same_size ∙ ap size_in e in
+    let left : IsWord m x = subst (λ (k : Form). IsForm k) e h.left in
+    let right : IsWord n y = subst (λ (k : Form). IsForm k) q h.right in
+    let made = make left (subst (λ (k : ℕ). IsWord k y) level right) in
+    subst (λ (k : Form). IsMade fb k g (Word m v)) (sym e) (subst (λ (k : Form). IsMade fb (Word m x) k (Word m v)) (sym q) made)
 
 -- ---- written in place
-pub zipped_open : (size : ℕ) (op : ℕ → ℕ → ℕ) (fb : Bool → Bool → Bool) (w : IsFlagwise op fb) (f g h : Form) → IsForm size f → IsForm size g → IsZipped op f g h → IsOpen size h
-zipped_open size op fb w (Many xs) (Many ys) h a b z =
-    subst (λ (k : Form). IsOpen size k) (sym z) (a.large, zip_exact size xs ys op fb w a.exact b.exact)
-zipped_open size op fb w (Many xs) (Word y) h a b z = absurd z
-zipped_open size op fb w (Many xs) (Few o) h a b z = absurd z
-zipped_open size op fb w (Word x) g h a b z = absurd z
-zipped_open size op fb w (Few o) g h a b z = absurd z
+pub zipped_open : (op : ℕ → ℕ → ℕ) (fb : Bool → Bool → Bool) (w : IsFlagwise op fb) (f g h : Form) → AreForms f g → IsZipped op f g h → IsOpen h
+zipped_open op fb w (Many m xs) (Many n ys) h a z =
+    let ys_exact = subst (λ (k : ℕ). IsExact k ys) (sym a.same_size) a.right.exact in
+    subst (λ (k : Form). IsOpen k) (sym z) (a.left.large, zip_exact m xs ys op fb w a.left.exact ys_exact)
+zipped_open op fb w (Many m xs) (Word n y) h a z = absurd z
+zipped_open op fb w (Many m xs) (Few n o) h a z = absurd z
+zipped_open op fb w (Word m x) g h a z = absurd z
+zipped_open op fb w (Few m o) g h a z = absurd z
 
-pub zipped_resealed : (size : ℕ) (op : ℕ → ℕ → ℕ) (fb : Bool → Bool → Bool) (w : IsFlagwise op fb) (f g h made : Form) → IsForm size f → IsForm size g → IsZipped op f g h → IsResealed size h made
-    → IsMade size fb f g made
-zipped_resealed size op fb w (Many xs) (Many ys) h made a b z r = record {
-  is_form = r.is_form;
-  each = λ k. r.each k ∙ ap (λ (v : Form). flag_in v k) z ∙ zip_flag size xs ys op fb w a.exact b.exact k;
-}
-zipped_resealed size op fb w (Many xs) (Word y) h made a b z r = absurd z
-zipped_resealed size op fb w (Many xs) (Few o) h made a b z r = absurd z
-zipped_resealed size op fb w (Word x) g h made a b z r = absurd z
-zipped_resealed size op fb w (Few o) g h made a b z r = absurd z
+pub zipped_resealed : (op : ℕ → ℕ → ℕ) (fb : Bool → Bool → Bool) (w : IsFlagwise op fb) (f g h made : Form) → AreForms f g → IsZipped op f g h → IsResealed h made
+    → IsMade fb f g made
+zipped_resealed op fb w (Many m xs) (Many n ys) h made a z r =
+    let ys_exact = subst (λ (k : ℕ). IsExact k ys) (sym a.same_size) a.right.exact in
+    record {
+      is_form = r.is_form;
+      same_size = r.same_size ∙ ap size_in z;
+      each = λ k. r.each k ∙ ap (λ (v : Form). flag_in v k) z ∙ zip_flag m xs ys op fb w a.left.exact ys_exact k;
+    }
+zipped_resealed op fb w (Many m xs) (Word n y) h made a z r = absurd z
+zipped_resealed op fb w (Many m xs) (Few n o) h made a z r = absurd z
+zipped_resealed op fb w (Word m x) g h made a z r = absurd z
+zipped_resealed op fb w (Few m o) g h made a z r = absurd z
 
 -- ---- the blocks of a set
-pub some_blocks : (size m : ℕ) (bs : List ℕ) → m < size → HasMarked size bs (m ∷ []) → HasBlocks size (Few (Some m)) bs
+pub some_blocks : (size m : ℕ) (bs : List ℕ) → m < size → HasMarked size bs (m ∷ []) → HasBlocks size (Few size (Some m)) bs
 some_blocks size m bs l h = record {
+  same_size = refl;
   exact = record { count = h.count; words = h.words; clear = λ k p. h.flags k ∙ or_false (eqb m k) ∙ few_past size (Some m) k l p };
   each = λ k. h.flags k ∙ or_false (eqb m k);
 }
 
-pub no_blocks : (size : ℕ) (bs : List ℕ) → HasMarked size bs [] → HasBlocks size (Few None) bs
+pub no_blocks : (size : ℕ) (bs : List ℕ) → HasMarked size bs [] → HasBlocks size (Few size None) bs
 no_blocks size bs h = record {
+  same_size = refl;
   exact = record { count = h.count; words = h.words; clear = λ k p. h.flags k };
   each = λ k. h.flags k;
 }
@@ -103,7 +137,7 @@ word_past size w n bs k h count here past l = elim (cases_lt (k / 64) n) [
   | inr a ↦ ap (λ (v : ℕ). flag v (k % 64)) (past (k / 64) a) ∙ flag-zero (k % 64)
 ]
 
-pub word_blocks : (size w n : ℕ) (bs : List ℕ) → IsWord size w → n ≡ block_count size → bs ≡ replicate n w → HasBlocks size (Word w) bs
+pub word_blocks : (size w n : ℕ) (bs : List ℕ) → IsWord size w → n ≡ block_count size → bs ≡ replicate n w → HasBlocks size (Word size w) bs
 unfolding flag_at
 word_blocks size w n bs h count is =
     let long : length bs ≡ n = ap length is ∙ length-replicate n w in
@@ -118,6 +152,7 @@ word_blocks size w n bs h count is =
       | inr l ↦ word_past size w n bs k h count here past l ∙ sym (bit_past size w k h l)
     ] in
     record {
+      same_size = refl;
       exact = record {
         count = long ∙ count;
         words = λ j. elim (cases_lt j n) [
@@ -143,7 +178,7 @@ marked_word w m ms l h = record {
 none_listed : (size k : ℕ) (ms : List ℕ) → All (λ m. m < size) ms → size ≤ k → list_any (λ m. eqb m k) ms ≡ false
 none_listed size k ms all past = list_any_none (λ m. eqb m k) ms (λ j d l. ne_eqb (get_or ms j d) k (let e = all j d l in λ q. absurd (omega arith)))
 
-pub word_members : (size w : ℕ) (ms : List ℕ) → size ≤ 64 → All (λ m. m < size) ms → IsMarkedWord w ms → HasMembers size ms (Word w)
+pub word_members : (size w : ℕ) (ms : List ℕ) → size ≤ 64 → All (λ m. m < size) ms → IsMarkedWord w ms → HasMembers size ms (Word size w)
 word_members size w ms s all h = record {
   is_form = record {
     small = s;
@@ -153,6 +188,7 @@ word_members size w ms s all h = record {
       | inr l ↦ flag_high w k h.fits l
     ];
   };
+  same_size = refl;
   each = λ k. elim (cases_lt k 64) [
     | inl l ↦ bit_within w k l ∙ h.flags k l
     | inr l ↦ beyond w k l ∙ sym (none_listed size k ms all (omega arith))
@@ -180,9 +216,9 @@ marked_exact size bs ms all h = record { count = h.count; words = h.words; clear
 -- ---- the set of the numbers below a count
 pub front_sealed : (size count : ℕ) (bs : List ℕ) (f : Form) → count ≤ size → bs ≡ map (λ j. front_word count j) (range_with_len 0 (block_count size))
     → IsSealed size bs f → HasFront size count f
-front_sealed size count bs f c is s = record { is_form = s.is_form; each = λ k. s.each k ∙ flag_at-front size count k bs c is }
+front_sealed size count bs f c is s = record { is_form = s.is_form; same_size = s.same_size; each = λ k. s.each k ∙ flag_at-front size count k bs c is }
 
-pub front_small : (size count : ℕ) → size ≤ 64 → count ≤ size → HasFront size count (Word (front_word count 0))
+pub front_small : (size count : ℕ) → size ≤ 64 → count ≤ size → HasFront size count (Word size (front_word count 0))
 front_small size count s c = record {
   is_form = record {
     small = s;
@@ -192,6 +228,7 @@ front_small size count s c = record {
       | inr a ↦ flag_high (front_word count 0) k (front_word_fits count 0) a
     ];
   };
+  same_size = refl;
   each = λ k. elim (cases_lt k 64) [
     | inl a ↦ bit_within (front_word count 0) k a ∙ flag-first_word count k a
     | inr a ↦ beyond (front_word count 0) k a ∙ sym (le-ltb k count (omega (arith, a, s, c)))

@@ -1,5 +1,5 @@
 -- Laws of the tests on sets as they are kept, and of how they are kept.
-use Rattle.std.proofs.Common.{◌≡◌, ℕ, List, Bool, true, false, cond, refl, ap, ◌∙◌, sym, get_or, ◌+◌, ◌*◌, ◌<◌, ◌≤◌, arith, eqb, inl, inr, w64, Option, Some, None, nat_eq, lit<, ◌⊎◌}
+use Rattle.std.proofs.Common.{◌≡◌, ℕ, List, Bool, true, false, cond, refl, ap, ◌∙◌, sym, subst, get_or, ◌+◌, ◌*◌, ◌<◌, ◌≤◌, arith, eqb, inl, inr, w64, Option, Some, None, nat_eq, lit<, ◌⊎◌}
 use Rattle.std.specs.Prelude.{bit_and, map, zip, ◌↔◌, IsTrue, not}
 use Rattle.std.specs.Option.{is_some}
 use Rattle.std.specs.Int.{bit_not}
@@ -11,7 +11,7 @@ use Rattle.std.proofs.lemmas.Bool.{cases_lt, eqb-true, eq-eqb, true≢false, fal
 use Rattle.std.proofs.lemmas.List.{ext_get_or}
 use Rattle.ul_ranges.specs.Blocks.{flag, flag_at, IsExact}
 use Rattle.ul_ranges.specs.Operations.{in_both, in_first}
-use Rattle.ul_ranges.specs.Forms.{bit_in, is_one, flag_in, HasTwo, IsWord, IsMany, AreForms, AreSame, AreWithin, AreApart}
+use Rattle.ul_ranges.specs.Forms.{bit_in, is_one, flag_in, HasTwo, IsWord, AreForms, AreSame, AreWithin, AreApart}
 use Rattle.ul_ranges.specs.declared.forms.Form.{Form}
 use Rattle.ul_ranges.specs.declared.forms.Form.TheVariants.{Word, Few, Many}
 use Rattle.ul_ranges.proofs.BlockLaws.{flag-zero, same_word, flag_at-place, flag-and, flag-and_not, all_of_map, all_clear, clear_all, and_flagwise, less_flagwise, zip_exact, zip_flag}
@@ -51,8 +51,11 @@ pub many_filled : (bs : List ℕ) → HasTwo bs → IsTrue false ↔ ((k : ℕ) 
 many_filled bs t = (λ e. absurd (false≢true e), λ c. absurd (true≢false (sym t.first_set ∙ c t.first)))
 
 -- ---- the same members
-pub words_same : (size x y : ℕ) → IsWord size x → IsWord size y → IsTrue (eqb x y) ↔ AreSame (Word x) (Word y)
-words_same size x y a b = (
+level_exact : (m n : ℕ) (bs : List ℕ) → m ≡ n → IsExact n bs → IsExact m bs
+level_exact m n bs e h = subst (λ (k : ℕ). IsExact k bs) (sym e) h
+
+pub words_same : (m n x y : ℕ) → IsWord m x → IsWord n y → IsTrue (eqb x y) ↔ AreSame (Word m x) (Word n y)
+words_same m n x y a b = (
   λ e k. ap (λ (w : ℕ). bit_in w k) (eqb-true x y e),
   λ h. eq-eqb x y (same_word x y a.fits b.fits (λ i l. sym (bit_within x i l) ∙ h i ∙ bit_within y i l)),
 )
@@ -63,7 +66,7 @@ few_equal None (Some m) h = absurd (false≢true (h m ∙ eq-eqb m m refl))
 few_equal (Some m) None h = absurd (true≢false (sym (eq-eqb m m refl) ∙ h m))
 few_equal (Some m) (Some n) h = ap Some (sym (eqb-true n m (sym (h m) ∙ eq-eqb m m refl)))
 
-pub few_same : (a b : Option ℕ) (r : Bool) → IsTrue r ↔ (a ≡ b) → IsTrue r ↔ AreSame (Few a) (Few b)
+pub few_same : (a b : Option ℕ) (r : Bool) → IsTrue r ↔ (a ≡ b) → IsTrue r ↔ ((k : ℕ) → is_one a k ≡ is_one b k)
 few_same a b r h = (λ e k. ap (λ (o : Option ℕ). is_one o k) (h.0 e), λ s. h.1 (few_equal a b s))
 
 many_equal : (size : ℕ) (xs ys : List ℕ) → IsExact size xs → IsExact size ys → ((k : ℕ) → flag_at xs k ≡ flag_at ys k) → xs ≡ ys
@@ -71,36 +74,36 @@ many_equal size xs ys a b h =
     ext_get_or 0 xs ys (a.count ∙ sym b.count) (λ j _. same_word (get_or xs j 0) (get_or ys j 0) (a.words j) (b.words j)
     (λ i l. sym (flag_at-place xs j i l) ∙ h (64 * j + i) ∙ flag_at-place ys j i l))
 
-pub many_same : (size : ℕ) (xs ys : List ℕ) (r : Bool) → IsMany size xs → IsMany size ys → r ≡ pointwise eqb xs ys → IsTrue r ↔ AreSame (Many xs) (Many ys)
-many_same size xs ys r a b h =
+pub many_same : (m n : ℕ) (xs ys : List ℕ) (r : Bool) → AreForms (Many m xs) (Many n ys) → r ≡ pointwise eqb xs ys → IsTrue r ↔ AreSame (Many m xs) (Many n ys)
+many_same m n xs ys r f h =
     let d = slice_eq-Decides Decides-eqb xs ys r h in (
       λ e k. ap (λ (bs : List ℕ). flag_at bs k) (d.0 e),
-      λ s. d.1 (many_equal size xs ys a.exact b.exact s),
+      λ s. d.1 (many_equal m xs ys f.left.exact (level_exact m n ys f.same_size f.right.exact) s),
     )
 
 -- sets that are kept in two ways differ
-pub few_differ : (a : Option ℕ) (g : Form) → AreForms (Few a) g → AreSame (Few a) g → (o : Option ℕ) × (g ≡ Few o)
-few_differ a (Word y) h s = absurd (omega (arith, h.right.small, h.left.large))
-few_differ a (Few o) h s = (o, refl)
-few_differ a (Many ys) h s = absurd (not_two a ys h.right.two (λ k e. s k ∙ e))
+pub few_differ : (m : ℕ) (a : Option ℕ) (g : Form) → AreForms (Few m a) g → AreSame (Few m a) g → (n : ℕ) × (o : Option ℕ) × (g ≡ Few n o)
+few_differ m a (Word n y) h s = absurd (omega (arith, h.right.small, h.left.large, h.same_size))
+few_differ m a (Few n o) h s = (n, o, refl)
+few_differ m a (Many n ys) h s = absurd (not_two a ys h.right.two (λ k e. s k ∙ e))
 
-pub many_differ : (xs : List ℕ) (g : Form) → AreForms (Many xs) g → AreSame (Many xs) g → (ys : List ℕ) × (g ≡ Many ys)
-many_differ xs (Word y) h s = absurd (omega (arith, h.right.small, h.left.large))
-many_differ xs (Few o) h s = absurd (not_two o xs h.left.two (λ k e. sym (s k) ∙ e))
-many_differ xs (Many ys) h s = (ys, refl)
+pub many_differ : (m : ℕ) (xs : List ℕ) (g : Form) → AreForms (Many m xs) g → AreSame (Many m xs) g → (n : ℕ) × (ys : List ℕ) × (g ≡ Many n ys)
+many_differ m xs (Word n y) h s = absurd (omega (arith, h.right.small, h.left.large, h.same_size))
+many_differ m xs (Few n o) h s = absurd (not_two o xs h.left.two (λ k e. sym (s k) ∙ e))
+many_differ m xs (Many n ys) h s = (n, ys, refl)
 
 -- ---- inclusion
-pub none_within : (g : Form) → IsTrue true ↔ AreWithin (Few None) g
-none_within g = (λ e k a. absurd (false≢true a), λ h. refl)
+pub none_within : (size : ℕ) (g : Form) → IsTrue true ↔ AreWithin (Few size None) g
+none_within size g = (λ e k a. absurd (false≢true a), λ h. refl)
 
-pub one_within : (m : ℕ) (g : Form) (r : Bool) → r ≡ flag_in g m → IsTrue r ↔ AreWithin (Few (Some m)) g
-one_within m g r e = (
+pub one_within : (size m : ℕ) (g : Form) (r : Bool) → r ≡ flag_in g m → IsTrue r ↔ AreWithin (Few size (Some m)) g
+one_within size m g r e = (
   λ t k a. ap (λ (i : ℕ). flag_in g i) (sym (eqb-true m k a)) ∙ sym e ∙ t,
   λ h. e ∙ h m (eq-eqb m m refl),
 )
 
-pub words_within : (size x y : ℕ) → IsWord size x → IsWord size y → IsTrue (eqb (bit_and x (bit_not w64 y)) 0) ↔ AreWithin (Word x) (Word y)
-words_within size x y a b = (
+pub words_within : (m n x y : ℕ) → IsWord m x → IsWord n y → IsTrue (eqb (bit_and x (bit_not w64 y)) 0) ↔ AreWithin (Word m x) (Word n y)
+words_within m n x y a b = (
   λ e k h. inside k h (eqb-true (bit_and x (bit_not w64 y)) 0 e) (cases_lt k 64),
   λ h. eq-eqb (bit_and x (bit_not w64 y)) 0 (same_word (bit_and x (bit_not w64 y)) 0 (less_flagwise.fits x y a.fits b.fits) (lit< tt)
       (λ i l. flag-and_not x y i b.fits l ∙ out (flag x i) (flag y i) (λ p. sym (bit_within y i l) ∙ h i (bit_within x i l ∙ p)) ∙ sym (flag-zero i))),
@@ -122,18 +125,18 @@ words_within size x y a b = (
 many_zero : (size : ℕ) (bs : List ℕ) (r : Bool) → IsExact size bs → r ≡ list_all (λ x. eqb x 0) bs → (IsTrue r → (k : ℕ) → flag_at bs k ≡ false) × (((k : ℕ) → flag_at bs k ≡ false) → IsTrue r)
 many_zero size bs r h e = (λ t k. all_clear bs (sym e ∙ t) k, λ c. e ∙ clear_all size bs h c)
 
-pub many_within : (size : ℕ) (xs ys : List ℕ) (r : Bool) → IsMany size xs → IsMany size ys
-    → r ≡ list_all (λ p. eqb (bit_and p.0 (bit_not w64 p.1)) 0) (zip xs ys) → IsTrue r ↔ AreWithin (Many xs) (Many ys)
-many_within size xs ys r a b e =
-    let z = many_zero size (map (λ (p : ℕ × ℕ). bit_and p.0 (bit_not w64 p.1)) (zip xs ys)) r
-    (zip_exact size xs ys (λ x y. bit_and x (bit_not w64 y)) in_first less_flagwise a.exact b.exact)
+pub many_within : (m n : ℕ) (xs ys : List ℕ) (r : Bool) → AreForms (Many m xs) (Many n ys)
+    → r ≡ list_all (λ p. eqb (bit_and p.0 (bit_not w64 p.1)) 0) (zip xs ys) → IsTrue r ↔ AreWithin (Many m xs) (Many n ys)
+many_within m n xs ys r f e =
+    let z = many_zero m (map (λ (p : ℕ × ℕ). bit_and p.0 (bit_not w64 p.1)) (zip xs ys)) r
+    (zip_exact m xs ys (λ x y. bit_and x (bit_not w64 y)) in_first less_flagwise f.left.exact (level_exact m n ys f.same_size f.right.exact))
     (e ∙ all_of_map (λ (p : ℕ × ℕ). bit_and p.0 (bit_not w64 p.1)) (zip xs ys)) in (
       λ t k h. into (flag_at xs k) (flag_at ys k) (sym (each k) ∙ z.0 t k) h,
       λ h. z.1 (λ k. each k ∙ out (flag_at xs k) (flag_at ys k) (h k)),
     )
   where
     each : (k : ℕ) → flag_at (map (λ (p : ℕ × ℕ). bit_and p.0 (bit_not w64 p.1)) (zip xs ys)) k ≡ cond (flag_at ys k) false (flag_at xs k)
-    each k = zip_flag size xs ys (λ x y. bit_and x (bit_not w64 y)) in_first less_flagwise a.exact b.exact k
+    each k = zip_flag m xs ys (λ x y. bit_and x (bit_not w64 y)) in_first less_flagwise f.left.exact (level_exact m n ys f.same_size f.right.exact) k
 
     out : (p q : Bool) → (p ≡ true → q ≡ true) → cond q false p ≡ false
     out true q h = ap (λ (v : Bool). cond v false true) (h refl)
@@ -145,20 +148,20 @@ many_within size xs ys r a b e =
     into p false e f = absurd (true≢false (sym f ∙ e))
 
 -- two members aren't within one, and no set of one size is kept as another size is
-pub many_without : (xs : List ℕ) (g : Form) → AreForms (Many xs) g → AreWithin (Many xs) g → (ys : List ℕ) × (g ≡ Many ys)
-many_without xs (Word y) h s = absurd (omega (arith, h.right.small, h.left.large))
-many_without xs (Few o) h s = absurd (not_two o xs h.left.two s)
-many_without xs (Many ys) h s = (ys, refl)
+pub many_without : (m : ℕ) (xs : List ℕ) (g : Form) → AreForms (Many m xs) g → AreWithin (Many m xs) g → (n : ℕ) × (ys : List ℕ) × (g ≡ Many n ys)
+many_without m xs (Word n y) h s = absurd (omega (arith, h.right.small, h.left.large, h.same_size))
+many_without m xs (Few n o) h s = absurd (not_two o xs h.left.two s)
+many_without m xs (Many n ys) h s = (n, ys, refl)
 
 -- ---- no common member
-pub none_apart : (g : Form) → IsTrue true ↔ AreApart (Few None) g
-none_apart g = (λ e k a. absurd (false≢true a), λ h. refl)
+pub none_apart : (size : ℕ) (g : Form) → IsTrue true ↔ AreApart (Few size None) g
+none_apart size g = (λ e k a. absurd (false≢true a), λ h. refl)
 
-pub apart_none : (f : Form) → IsTrue true ↔ AreApart f (Few None)
-apart_none f = (λ e k a. refl, λ h. refl)
+pub apart_none : (size : ℕ) (f : Form) → IsTrue true ↔ AreApart f (Few size None)
+apart_none size f = (λ e k a. refl, λ h. refl)
 
-pub one_apart : (m : ℕ) (g : Form) (r : Bool) → r ≡ flag_in g m → (r ≡ false) ↔ AreApart (Few (Some m)) g
-one_apart m g r e = (
+pub one_apart : (size m : ℕ) (g : Form) (r : Bool) → r ≡ flag_in g m → (r ≡ false) ↔ AreApart (Few size (Some m)) g
+one_apart size m g r e = (
   λ t k a. ap (λ (i : ℕ). flag_in g i) (sym (eqb-true m k a)) ∙ sym e ∙ t,
   λ h. e ∙ h m (eq-eqb m m refl),
 )
@@ -167,14 +170,14 @@ not_set : (b : Bool) → (b ≡ true → ⊥) → b ≡ false
 not_set true h = absurd (h refl)
 not_set false h = refl
 
-pub apart_one : (m : ℕ) (f : Form) (r : Bool) → r ≡ flag_in f m → (r ≡ false) ↔ AreApart f (Few (Some m))
-apart_one m f r e = (
+pub apart_one : (size m : ℕ) (f : Form) (r : Bool) → r ≡ flag_in f m → (r ≡ false) ↔ AreApart f (Few size (Some m))
+apart_one size m f r e = (
   λ t k a. not_set (nat_eq m k) (λ q. true≢false (sym a ∙ ap (λ (i : ℕ). flag_in f i) (sym (eqb-true m k q)) ∙ sym e ∙ t)),
   λ h. e ∙ not_set (flag_in f m) (λ a. true≢false (sym (eq-eqb m m refl) ∙ h m a)),
 )
 
-pub words_apart : (size x y : ℕ) → IsWord size x → IsWord size y → IsTrue (eqb (bit_and x y) 0) ↔ AreApart (Word x) (Word y)
-words_apart size x y a b = (
+pub words_apart : (m n x y : ℕ) → IsWord m x → IsWord n y → IsTrue (eqb (bit_and x y) 0) ↔ AreApart (Word m x) (Word n y)
+words_apart m n x y a b = (
   λ e k h. inside k h (eqb-true (bit_and x y) 0 e) (cases_lt k 64),
   λ h. eq-eqb (bit_and x y) 0 (same_word (bit_and x y) 0 (and_flagwise.fits x y a.fits b.fits) (lit< tt)
       (λ i l. flag-and x y i ∙ out (flag x i) (flag y i) (λ p. sym (bit_within y i l) ∙ h i (bit_within x i l ∙ p)) ∙ sym (flag-zero i))),
@@ -192,18 +195,18 @@ words_apart size x y a b = (
     inside k h e (inl l) = bit_within y k l ∙ into (flag x k) (flag y k) (sym (flag-and x y k) ∙ ap (λ (w : ℕ). flag w k) e ∙ flag-zero k) (sym (bit_within x k l) ∙ h)
     inside k h e (inr l) = beyond y k l
 
-pub many_apart : (size : ℕ) (xs ys : List ℕ) (r : Bool) → IsMany size xs → IsMany size ys
-    → r ≡ list_all (λ p. eqb (bit_and p.0 p.1) 0) (zip xs ys) → IsTrue r ↔ AreApart (Many xs) (Many ys)
-many_apart size xs ys r a b e =
-    let z = many_zero size (map (λ (p : ℕ × ℕ). bit_and p.0 p.1) (zip xs ys)) r
-    (zip_exact size xs ys bit_and in_both and_flagwise a.exact b.exact)
+pub many_apart : (m n : ℕ) (xs ys : List ℕ) (r : Bool) → AreForms (Many m xs) (Many n ys)
+    → r ≡ list_all (λ p. eqb (bit_and p.0 p.1) 0) (zip xs ys) → IsTrue r ↔ AreApart (Many m xs) (Many n ys)
+many_apart m n xs ys r f e =
+    let z = many_zero m (map (λ (p : ℕ × ℕ). bit_and p.0 p.1) (zip xs ys)) r
+    (zip_exact m xs ys bit_and in_both and_flagwise f.left.exact (level_exact m n ys f.same_size f.right.exact))
     (e ∙ all_of_map (λ (p : ℕ × ℕ). bit_and p.0 p.1) (zip xs ys)) in (
       λ t k h. into (flag_at xs k) (flag_at ys k) (sym (each k) ∙ z.0 t k) h,
       λ h. z.1 (λ k. each k ∙ out (flag_at xs k) (flag_at ys k) (h k)),
     )
   where
     each : (k : ℕ) → flag_at (map (λ (p : ℕ × ℕ). bit_and p.0 p.1) (zip xs ys)) k ≡ cond (flag_at xs k) (flag_at ys k) false
-    each k = zip_flag size xs ys bit_and in_both and_flagwise a.exact b.exact k
+    each k = zip_flag m xs ys bit_and in_both and_flagwise f.left.exact (level_exact m n ys f.same_size f.right.exact) k
 
     out : (p q : Bool) → (p ≡ true → q ≡ false) → cond p q false ≡ false
     out true q h = h refl

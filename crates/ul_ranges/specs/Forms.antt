@@ -1,5 +1,5 @@
--- How a set is kept: up to 64 numbers by the bits of one word; more by the one member that there may be, or by blocks of bits where
--- there are two members at least.
+-- How a set is kept, beside its size: up to 64 numbers by the bits of one word; more by the one member that there may be, or by
+-- blocks of bits where there are two members at least.
 use Rattle.std.specs.Prelude.{◌≡◌, ℕ, ◌<◌, ◌≤◌, ◌^◌, List, length, Bool, true, false, cond, Option, Some, None, nat_eq, nat_lt, map, zip}
 use Rattle.std.specs.List.{range_with_len, list_any}
 use Rattle.ul_ranges.specs.Blocks.{flag, flag_at, IsExact}
@@ -15,15 +15,21 @@ abbrev pub is_one : Option ℕ → ℕ → Bool
 is_one None k = false
 is_one (Some member) k = nat_eq member k
 
+-- the size of a set as it is kept
+abbrev pub size_in : Form → ℕ
+size_in (Word size word) = size
+size_in (Few size one) = size
+size_in (Many size blocks) = size
+
 -- whether a number is a member of a set as it is kept
 abbrev pub flag_in : Form → ℕ → Bool
-flag_in (Word word) k = bit_in word k
-flag_in (Few one) k = is_one one k
-flag_in (Many blocks) k = flag_at blocks k
+flag_in (Word size word) k = bit_in word k
+flag_in (Few size one) k = is_one one k
+flag_in (Many size blocks) k = flag_at blocks k
 
--- the set of this size that is kept so
-unfoldable pub flags_in : ℕ → Form → List Bool
-flags_in size form = map (λ k. flag_in form k) (range_with_len 0 size)
+-- the set that is kept so
+unfoldable pub flags_in : Form → List Bool
+flags_in form = map (λ k. flag_in form k) (range_with_len 0 (size_in form))
 
 -- two flags of the blocks are set
 pub record HasTwo (blocks : List ℕ) : Type 0 where
@@ -55,30 +61,33 @@ pub record IsMany (size : ℕ) (blocks : List ℕ) : Type 0 where
   pub exact : IsExact size blocks
   pub two : HasTwo blocks
 
--- a set of this size may be kept so
-abbrev pub IsForm : ℕ → Form → Type 0
-IsForm size (Word word) = IsWord size word
-IsForm size (Few one) = IsFew size one
-IsForm size (Many blocks) = IsMany size blocks
+-- a set may be kept so
+abbrev pub IsForm : Form → Type 0
+IsForm (Word size word) = IsWord size word
+IsForm (Few size one) = IsFew size one
+IsForm (Many size blocks) = IsMany size blocks
 
 -- the one member of blocks, where they haven't two
 abbrev pub IsFewOf : ℕ → List ℕ → Option (Option ℕ) → Type 0
 IsFewOf size blocks None = HasTwo blocks
 IsFewOf size blocks (Some one) = IsBelow size one × ((k : ℕ) → flag_at blocks k ≡ is_one one k)
 
--- these blocks, as they are kept
+-- these blocks of a set of this size, as they are kept
 pub record IsSealed (size : ℕ) (blocks : List ℕ) (form : Form) : Type 0 where
-  pub is_form : IsForm size form
+  pub is_form : IsForm form
+  pub same_size : size_in form ≡ size
   pub each : (k : ℕ) → flag_in form k ≡ flag_at blocks k
 
--- the blocks of a set as it is kept
+-- the blocks of a set of this size as it is kept
 pub record HasBlocks (size : ℕ) (form : Form) (blocks : List ℕ) : Type 0 where
+  pub same_size : size_in form ≡ size
   pub exact : IsExact size blocks
   pub each : (k : ℕ) → flag_at blocks k ≡ flag_in form k
 
 -- an operation made the set of two others, flag by flag
-pub record IsMade (size : ℕ) (op : Bool → Bool → Bool) (mine theirs made : Form) : Type 0 where
-  pub is_form : IsForm size made
+pub record IsMade (op : Bool → Bool → Bool) (mine theirs made : Form) : Type 0 where
+  pub is_form : IsForm made
+  pub same_size : size_in made ≡ size_in mine
   pub each : (k : ℕ) → flag_in made k ≡ op (flag_in mine k) (flag_in theirs k)
 
 -- the one member where it is in the other set
@@ -91,15 +100,11 @@ abbrev pub only_out : Option ℕ → Form → Option ℕ
 only_out None other = None
 only_out (Some member) other = cond (flag_in other member) None (Some member)
 
--- a set may be kept so
-abbrev pub IsSomeForm : Form → Type 0
-IsSomeForm form = (size : ℕ) × IsForm size form
-
 -- two sets of one size may be kept so
 pub record AreForms (mine theirs : Form) : Type 0 where
-  pub size : ℕ
-  pub left : IsForm size mine
-  pub right : IsForm size theirs
+  pub left : IsForm mine
+  pub right : IsForm theirs
+  pub same_size : size_in mine ≡ size_in theirs
 
 -- the forms have the same members
 abbrev pub AreSame : Form → Form → Type 0
@@ -115,30 +120,33 @@ AreApart mine theirs = (k : ℕ) → flag_in mine k ≡ true → flag_in theirs 
 
 -- blocks of two sets are as many
 abbrev pub AreLevel : Form → Form → Type 0
-AreLevel (Many xs) (Many ys) = length xs ≡ length ys
+AreLevel (Many m xs) (Many n ys) = length xs ≡ length ys
 AreLevel mine theirs = Unit {0}
 
 -- an operation on words made the blocks of two others
 abbrev pub IsZipped : (ℕ → ℕ → ℕ) → Form → Form → Form → Type 0
-IsZipped op (Many xs) (Many ys) made = made ≡ Many (map (λ p. op p.0 p.1) (zip xs ys))
+IsZipped op (Many m xs) (Many n ys) made = made ≡ Many m (map (λ p. op p.0 p.1) (zip xs ys))
 IsZipped op mine theirs made = ⊥
 
 -- a set is kept so, where its blocks may have fewer than two members
-abbrev pub IsOpen : ℕ → Form → Type 0
-IsOpen size (Many blocks) = (64 < size) × IsExact size blocks
-IsOpen size form = IsForm size form
+abbrev pub IsOpen : Form → Type 0
+IsOpen (Many size blocks) = (64 < size) × IsExact size blocks
+IsOpen form = IsForm form
 
 -- the same members, as they are kept
-pub record IsResealed (size : ℕ) (before now : Form) : Type 0 where
-  pub is_form : IsForm size now
+pub record IsResealed (before now : Form) : Type 0 where
+  pub is_form : IsForm now
+  pub same_size : size_in now ≡ size_in before
   pub each : (k : ℕ) → flag_in now k ≡ flag_in before k
 
--- the members of a list are those of a set as it is kept
+-- the members of a list are those of a set of this size as it is kept
 pub record HasMembers (size : ℕ) (members : List ℕ) (form : Form) : Type 0 where
-  pub is_form : IsForm size form
+  pub is_form : IsForm form
+  pub same_size : size_in form ≡ size
   pub each : (k : ℕ) → flag_in form k ≡ list_any (λ m. nat_eq m k) members
 
--- every number below a count, and no other, is a member of a set as it is kept
+-- every number below a count, and no other, is a member of a set of this size as it is kept
 pub record HasFront (size count : ℕ) (form : Form) : Type 0 where
-  pub is_form : IsForm size form
+  pub is_form : IsForm form
+  pub same_size : size_in form ≡ size
   pub each : (k : ℕ) → flag_in form k ≡ nat_lt k count

@@ -5,20 +5,31 @@ ghost use Rattle.std.specs.List.{range_with_len};
 ghost use Rattle.ul_ranges.specs.Blocks.{IsExact, block_count, flag_at};
 ghost use Rattle.ul_ranges.specs.Flags.{IsNext};
 ghost use Rattle.ul_ranges.specs.Marks.{HasMarked, IsMarkedWord, front_word};
-ghost use Rattle.ul_ranges.specs.Forms.{AreApart, AreForms, AreLevel, AreSame, AreWithin, HasFront, HasMembers, IsOpen, IsResealed, IsSomeForm, IsZipped, flag_in, bit_in, IsBelow, IsFew, IsFewOf, IsForm, IsMade, IsSealed, HasBlocks, only_in, only_out};
+ghost use Rattle.ul_ranges.specs.Forms.{AreApart, AreForms, AreLevel, AreSame, AreWithin, HasFront, HasMembers, IsOpen, IsResealed, IsZipped, size_in, flag_in, bit_in, IsBelow, IsFew, IsFewOf, IsForm, IsMade, IsSealed, HasBlocks, only_in, only_out};
 ghost use Rattle.ul_ranges.specs.Operations.{flag_by, in_both, in_either, in_first, word_by};
 
 use crate::shared::{SharedList, put_shared};
 use crate::words::{Operation, are_apart, are_within, next_bit, next_flag, words_by};
 use std::alloc::{AllocError, Global};
 
-// How a set is kept: up to 64 numbers by the bits of one word; more by the one member that there may be, or by blocks of bits where
-// there are two members at least.
+// How a set is kept, behind its size: up to 64 numbers by the bits of one word; more by the one member that there may be, or by
+// blocks of bits where there are two members at least. The size shares a word with the tag, so that a set takes 16 bytes.
 #[derive(Debug, Drop)]
 pub enum Form {
-    Word(u64),
-    Few(Option<u32>),
-    Many(SharedList<u64>),
+    Word(u32, u64),
+    Few(u32, Option<u32>),
+    Many(u32, SharedList<u64>),
+}
+
+// The size: each member is below it.
+pub fn size_in(form: &Form) -> u32
+    ensures { result ≡ size_in form.now }
+{
+    match form {
+        Form::Word(size, _) => *size,
+        Form::Few(size, _) => *size,
+        Form::Many(size, _) => *size,
+    }
 }
 
 // Whether the number is a member.
@@ -26,10 +37,10 @@ pub fn has_in(form: &Form, number: u32) -> bool
     ensures { result ≡ flag_in form.now number }
 {
     match form {
-        Form::Word(word) => has_bit(*word, number),
-        Form::Few(Some(member)) => *member == number,
-        Form::Few(None) => false,
-        Form::Many(blocks) => has_flag(blocks.as_slice(), number),
+        Form::Word(_, word) => has_bit(*word, number),
+        Form::Few(_, Some(member)) => *member == number,
+        Form::Few(_, None) => false,
+        Form::Many(_, blocks) => has_flag(blocks.as_slice(), number),
     }
 }
 
@@ -53,9 +64,9 @@ pub fn copy(alloc: Global, form: &Form) -> Result<Form, AllocError>
     ensures { IfOk result (λ f. f ≡ form.now) }
 {
     match form {
-        Form::Word(word) => Ok(Form::Word(*word)),
-        Form::Few(one) => Ok(Form::Few(*one)),
-        Form::Many(blocks) => Ok(Form::Many(copy_blocks(alloc, blocks)?)),
+        Form::Word(size, word) => Ok(Form::Word(*size, *word)),
+        Form::Few(size, one) => Ok(Form::Few(*size, *one)),
+        Form::Many(size, blocks) => Ok(Form::Many(*size, copy_blocks(alloc, blocks)?)),
     }
 }
 
@@ -93,29 +104,29 @@ pub fn sealed(alloc: Global, size: u32, blocks: Vec<u64>) -> Result<Form, AllocE
     ensures { IfOk result (λ f. IsSealed size blocks.items f) }
 {
     match few_of(blocks.as_slice(), size) {
-        Some(few) => Ok(Form::Few(few)),
+        Some(few) => Ok(Form::Few(size, few)),
         None => {
             let blocks = SharedList::of(alloc, blocks)?;
-            Ok(Form::Many(blocks))
+            Ok(Form::Many(size, blocks))
         }
     }
 }
 
 // The blocks of a set.
-pub fn block_list(alloc: Global, size: u32, form: &Form) -> Result<Vec<u64>, AllocError>
-    requires { IsForm size form.now }
-    ensures { IfOk result (λ v. HasBlocks size form.now v.items) }
+pub fn block_list(alloc: Global, form: &Form) -> Result<Vec<u64>, AllocError>
+    requires { IsForm form.now }
+    ensures { IfOk result (λ v. HasBlocks (size_in form.now) form.now v.items) }
 {
     match form {
-        Form::Many(blocks) => Vec::from_slice(alloc, blocks.as_slice()),
-        Form::Few(one) => few_blocks(alloc, size, *one),
-        Form::Word(word) => vec![in alloc; *word; size.div_ceil(64) as usize],
+        Form::Many(_, blocks) => Vec::from_slice(alloc, blocks.as_slice()),
+        Form::Few(size, one) => few_blocks(alloc, *size, *one),
+        Form::Word(size, word) => vec![in alloc; *word; size.div_ceil(64) as usize],
     }
 }
 
 fn few_blocks(alloc: Global, size: u32, one: Option<u32>) -> Result<Vec<u64>, AllocError>
     requires { IsFew size one }
-    ensures { IfOk result (λ v. HasBlocks size (Form.Few one) v.items) }
+    ensures { IfOk result (λ v. HasBlocks size (Form.Few size one) v.items) }
 {
     let mut blocks = vec![in alloc; 0u64; size.div_ceil(64) as usize]?;
     if let Some(member) = one {
@@ -153,79 +164,77 @@ fn only_out(one: Option<u32>, other: &Form) -> Option<u32>
 }
 
 // The members of both.
-pub fn meet(alloc: Global, size: u32, mine: &Form, theirs: &Form) -> Result<Form, AllocError>
-    requires mine { IsForm size mine.now }
-    requires theirs { IsForm size theirs.now }
-    ensures { IfOk result (λ f. IsMade size in_both mine.now theirs.now f) }
+pub fn meet(alloc: Global, mine: &Form, theirs: &Form) -> Result<Form, AllocError>
+    requires { AreForms mine.now theirs.now }
+    ensures { IfOk result (λ f. IsMade in_both mine.now theirs.now f) }
 {
     match (mine, theirs) {
-        (Form::Few(one), _) => Ok(Form::Few(only_in(*one, theirs))),
-        (_, Form::Few(one)) => Ok(Form::Few(only_in(*one, mine))),
-        (Form::Word(x), Form::Word(y)) => Ok(Form::Word(*x & *y)),
-        (Form::Many(xs), Form::Many(ys)) => {
+        (Form::Word(size, x), Form::Word(_, y)) => Ok(Form::Word(*size, *x & *y)),
+        (Form::Few(size, one), _) => Ok(Form::Few(*size, only_in(*one, theirs))),
+        (_, Form::Few(size, one)) => Ok(Form::Few(*size, only_in(*one, mine))),
+        (Form::Many(size, xs), Form::Many(_, ys)) => {
             let blocks = words_by(alloc, Operation::Meet, xs.as_slice(), ys.as_slice())?;
-            sealed(alloc, size, blocks)
+            sealed(alloc, *size, blocks)
         }
         _ => unreachable!(),
     }
 }
 
 // The members that the second lacks.
-pub fn less(alloc: Global, size: u32, mine: &Form, theirs: &Form) -> Result<Form, AllocError>
-    requires mine { IsForm size mine.now }
-    requires theirs { IsForm size theirs.now }
-    ensures { IfOk result (λ f. IsMade size in_first mine.now theirs.now f) }
+pub fn less(alloc: Global, mine: &Form, theirs: &Form) -> Result<Form, AllocError>
+    requires { AreForms mine.now theirs.now }
+    ensures { IfOk result (λ f. IsMade in_first mine.now theirs.now f) }
 {
     match (mine, theirs) {
-        (Form::Few(one), _) => Ok(Form::Few(only_out(*one, theirs))),
-        (Form::Word(x), Form::Word(y)) => Ok(Form::Word(*x & !*y)),
-        (Form::Many(xs), Form::Many(ys)) => {
+        (Form::Word(size, x), Form::Word(_, y)) => Ok(Form::Word(*size, *x & !*y)),
+        (Form::Few(size, one), _) => Ok(Form::Few(*size, only_out(*one, theirs))),
+        (Form::Many(size, xs), Form::Many(_, ys)) => {
             let blocks = words_by(alloc, Operation::Less, xs.as_slice(), ys.as_slice())?;
-            sealed(alloc, size, blocks)
+            sealed(alloc, *size, blocks)
         }
-        (Form::Many(xs), Form::Few(one)) => {
-            let ys = few_blocks(alloc, size, *one)?;
+        (Form::Many(size, xs), Form::Few(_, one)) => {
+            let ys = few_blocks(alloc, *size, *one)?;
             let blocks = words_by(alloc, Operation::Less, xs.as_slice(), ys.as_slice())?;
-            sealed(alloc, size, blocks)
+            sealed(alloc, *size, blocks)
         }
         _ => unreachable!(),
     }
 }
 
 // The members of either.
-pub fn join(alloc: Global, size: u32, mine: &Form, theirs: &Form) -> Result<Form, AllocError>
-    requires mine { IsForm size mine.now }
-    requires theirs { IsForm size theirs.now }
-    ensures { IfOk result (λ f. IsMade size in_either mine.now theirs.now f) }
+pub fn join(alloc: Global, mine: &Form, theirs: &Form) -> Result<Form, AllocError>
+    requires { AreForms mine.now theirs.now }
+    ensures { IfOk result (λ f. IsMade in_either mine.now theirs.now f) }
 {
     match (mine, theirs) {
-        (Form::Few(None), _) => copy(alloc, theirs),
-        (_, Form::Few(None)) => copy(alloc, mine),
-        (Form::Word(x), Form::Word(y)) => Ok(Form::Word(*x | *y)),
-        (Form::Many(xs), Form::Many(ys)) => {
+        (Form::Word(size, x), Form::Word(_, y)) => Ok(Form::Word(*size, *x | *y)),
+        (Form::Few(_, None), _) => copy(alloc, theirs),
+        (_, Form::Few(_, None)) => copy(alloc, mine),
+        (Form::Many(size, xs), Form::Many(_, ys)) => {
             let blocks = words_by(alloc, Operation::Join, xs.as_slice(), ys.as_slice())?;
-            sealed(alloc, size, blocks)
+            sealed(alloc, *size, blocks)
         }
         _ => {
-            let xs = block_list(alloc, size, mine)?;
-            let ys = block_list(alloc, size, theirs)?;
+            let xs = block_list(alloc, mine)?;
+            let ys = block_list(alloc, theirs)?;
             let blocks = words_by(alloc, Operation::Join, xs.as_slice(), ys.as_slice())?;
-            sealed(alloc, size, blocks)
+            sealed(alloc, size_in(mine), blocks)
         }
     }
 }
 
 // Blocks that were written to, as a set is kept.
-fn reseal(size: u32, form: &mut Form)
-    requires { IsOpen size form.old }
-    ensures { IsResealed size form.old form.new }
+fn reseal(form: &mut Form)
+    requires { IsOpen form.old }
+    ensures { IsResealed form.old form.new }
 {
+    let size = size_in(form);
     let few = match form {
-        Form::Many(blocks) => few_of(blocks.as_slice(), size),
+        Form::Many(_, blocks) => few_of(blocks.as_slice(), size),
         _ => None,
     };
     if let Some(few) = few {
-        *form = Form::Few(few);
+        *form = Form::Few(size, few);
     }
 }
 
@@ -236,8 +245,8 @@ fn put_in_place(operation: Operation, mine: &mut Form, theirs: &Form) -> bool
     ensures not_done { IsFalse result → mine.new ≡ mine.old }
 {
     match mine {
-        Form::Many(xs) => match theirs {
-            Form::Many(ys) => put_shared(operation, xs, ys.as_slice()),
+        Form::Many(_, xs) => match theirs {
+            Form::Many(_, ys) => put_shared(operation, xs, ys.as_slice()),
             _ => false,
         },
         _ => false,
@@ -247,53 +256,49 @@ fn put_in_place(operation: Operation, mine: &mut Form, theirs: &Form) -> bool
 // What the operation makes of two sets.
 fn made_by(
     alloc: Global,
-    size: u32,
     operation: Operation,
     mine: &Form,
     theirs: &Form,
 ) -> Result<Form, AllocError>
-    requires mine { IsForm size mine.now }
-    requires theirs { IsForm size theirs.now }
-    ensures { IfOk result (λ f. IsMade size (flag_by operation) mine.now theirs.now f) }
+    requires { AreForms mine.now theirs.now }
+    ensures { IfOk result (λ f. IsMade (flag_by operation) mine.now theirs.now f) }
 {
     match operation {
-        Operation::Meet => meet(alloc, size, mine, theirs),
-        Operation::Join => join(alloc, size, mine, theirs),
-        Operation::Less => less(alloc, size, mine, theirs),
+        Operation::Meet => meet(alloc, mine, theirs),
+        Operation::Join => join(alloc, mine, theirs),
+        Operation::Less => less(alloc, mine, theirs),
     }
 }
 
 // Leaves what the operation makes of the set and another, in place where the blocks have one owner.
 pub fn put(
     alloc: Global,
-    size: u32,
     operation: Operation,
     mine: &mut Form,
     theirs: &Form,
 ) -> Result<(), AllocError>
-    requires mine { IsForm size mine.old }
-    requires theirs { IsForm size theirs.now }
-    ensures ok { IfOk result (λ _. IsMade size (flag_by operation) mine.old theirs.now mine.new) }
+    requires { AreForms mine.old theirs.now }
+    ensures ok { IfOk result (λ _. IsMade (flag_by operation) mine.old theirs.now mine.new) }
     ensures err { IfErr result (λ _. mine.new ≡ mine.old) }
 {
     if put_in_place(operation, mine, theirs) {
-        reseal(size, mine);
+        reseal(mine);
         return Ok(());
     }
-    let made = made_by(alloc, size, operation, mine, theirs)?;
+    let made = made_by(alloc, operation, mine, theirs)?;
     *mine = made;
     Ok(())
 }
 
 // Whether there is no member.
 pub fn is_empty(form: &Form) -> bool
-    requires { IsSomeForm form.now }
+    requires { IsForm form.now }
     ensures { IsTrue result ↔ ((k : ℕ) → flag_in form.now k ≡ false) }
 {
     match form {
-        Form::Word(word) => *word == 0,
-        Form::Few(one) => one.is_none(),
-        Form::Many(_) => false,
+        Form::Word(_, word) => *word == 0,
+        Form::Few(_, one) => one.is_none(),
+        Form::Many(_, _) => false,
     }
 }
 
@@ -303,9 +308,9 @@ pub fn same(mine: &Form, theirs: &Form) -> bool
     ensures { IsTrue result ↔ AreSame mine.now theirs.now }
 {
     match (mine, theirs) {
-        (Form::Word(x), Form::Word(y)) => *x == *y,
-        (Form::Few(a), Form::Few(b)) => same_one(*a, *b),
-        (Form::Many(xs), Form::Many(ys)) => xs.as_slice() == ys.as_slice(),
+        (Form::Word(_, x), Form::Word(_, y)) => *x == *y,
+        (Form::Few(_, a), Form::Few(_, b)) => same_one(*a, *b),
+        (Form::Many(_, xs), Form::Many(_, ys)) => xs.as_slice() == ys.as_slice(),
         _ => false,
     }
 }
@@ -326,10 +331,10 @@ pub fn is_within(mine: &Form, theirs: &Form) -> bool
     ensures { IsTrue result ↔ AreWithin mine.now theirs.now }
 {
     match (mine, theirs) {
-        (Form::Few(None), _) => true,
-        (Form::Few(Some(member)), _) => has_in(theirs, *member),
-        (Form::Word(x), Form::Word(y)) => *x & !*y == 0,
-        (Form::Many(xs), Form::Many(ys)) => are_within(xs.as_slice(), ys.as_slice()),
+        (Form::Word(_, x), Form::Word(_, y)) => *x & !*y == 0,
+        (Form::Few(_, None), _) => true,
+        (Form::Few(_, Some(member)), _) => has_in(theirs, *member),
+        (Form::Many(_, xs), Form::Many(_, ys)) => are_within(xs.as_slice(), ys.as_slice()),
         _ => false,
     }
 }
@@ -340,33 +345,41 @@ pub fn is_apart(mine: &Form, theirs: &Form) -> bool
     ensures { IsTrue result ↔ AreApart mine.now theirs.now }
 {
     match (mine, theirs) {
-        (Form::Few(None), _) => true,
-        (Form::Few(Some(member)), _) => !has_in(theirs, *member),
-        (_, Form::Few(None)) => true,
-        (_, Form::Few(Some(member))) => !has_in(mine, *member),
-        (Form::Word(x), Form::Word(y)) => *x & *y == 0,
-        (Form::Many(xs), Form::Many(ys)) => are_apart(xs.as_slice(), ys.as_slice()),
+        (Form::Word(_, x), Form::Word(_, y)) => *x & *y == 0,
+        (Form::Few(_, None), _) => true,
+        (Form::Few(_, Some(member)), _) => !has_in(theirs, *member),
+        (_, Form::Few(_, None)) => true,
+        (_, Form::Few(_, Some(member))) => !has_in(mine, *member),
+        (Form::Many(_, xs), Form::Many(_, ys)) => are_apart(xs.as_slice(), ys.as_slice()),
         _ => false,
     }
 }
 
 // The first member from a number on.
-pub fn next_in(form: &Form, size: u32, from: u32) -> Option<u32>
-    requires { IsForm size form.now }
+pub fn next_in(form: &Form, from: u32) -> Option<u32>
+    requires { IsForm form.now }
     ensures { IsNext (λ k. flag_in form.now k) from result }
 {
     match form {
-        Form::Word(word) => if from < 64 {
+        Form::Word(_, word) => if from < 64 {
             next_bit(*word, from)
         } else {
             None
         },
-        Form::Few(Some(member)) if *member >= from => Some(*member),
-        Form::Few(_) => None,
-        Form::Many(blocks) => match next_flag(blocks.as_slice(), from as usize) {
-            Some(member) => Some(member as u32),
-            None => None,
-        },
+        Form::Few(_, Some(member)) if *member >= from => Some(*member),
+        Form::Few(_, _) => None,
+        Form::Many(size, blocks) => next_member(blocks.as_slice(), *size, from),
+    }
+}
+
+// The first member of blocks from a number on. They are those of a size, so that it fits.
+fn next_member(blocks: &[u64], size: u32, from: u32) -> Option<u32>
+    requires { IsExact size blocks.now }
+    ensures { IsNext (λ k. flag_at blocks.now k) from result }
+{
+    match next_flag(blocks, from as usize) {
+        Some(member) => Some(member as u32),
+        None => None,
     }
 }
 
@@ -376,9 +389,9 @@ pub fn one(size: u32, member: u32) -> Form
     ensures { HasMembers size (member ∷ []) result }
 {
     if size <= 64 {
-        Form::Word(1u64 << member)
+        Form::Word(size, 1u64 << member)
     } else {
-        Form::Few(Some(member))
+        Form::Few(size, Some(member))
     }
 }
 
@@ -387,9 +400,9 @@ pub fn none(size: u32) -> Form
     ensures { HasMembers size [] result }
 {
     if size <= 64 {
-        Form::Word(0)
+        Form::Word(size, 0)
     } else {
-        Form::Few(None)
+        Form::Few(size, None)
     }
 }
 
@@ -399,7 +412,7 @@ pub fn of_list(alloc: Global, size: u32, members: &Vec<u32>) -> Result<Form, All
     ensures { IfOk result (λ f. HasMembers size members.now.items f) }
 {
     if size <= 64 {
-        Ok(Form::Word(word_of(size, members)))
+        Ok(Form::Word(size, word_of(size, members)))
     } else {
         let blocks = blocks_of(alloc, size, members)?;
         sealed(alloc, size, blocks)
@@ -435,7 +448,7 @@ pub fn front(alloc: Global, size: u32, count: u32) -> Result<Form, AllocError>
     ensures { IfOk result (λ f. HasFront size count f) }
 {
     if size <= 64 {
-        return Ok(Form::Word(front_word(count, 0)));
+        return Ok(Form::Word(size, front_word(count, 0)));
     }
     let blocks = front_blocks(alloc, size, count)?;
     sealed(alloc, size, blocks)

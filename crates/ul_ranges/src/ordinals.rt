@@ -13,7 +13,6 @@ use std::marker::Model;
 /// their blocks, so that a copy is a count.
 #[derive(Debug, Drop)]
 pub struct Ordinals {
-    size: u32,
     form: Form,
 }
 
@@ -23,9 +22,9 @@ impl Model for Ordinals {
 
     ghost Value = { List Bool };
 
-    ghost view = { λ s. flags_in s.size s.form };
+    ghost view = { λ s. flags_in s.form };
 
-    ghost invariant = { λ s. IsForm s.size s.form };
+    ghost invariant = { λ s. IsForm s.form };
 }
 
 impl Ordinals {
@@ -33,14 +32,14 @@ impl Ordinals {
     pub fn size(&self) -> u32
         ensures { result ≡ length self.now }
     {
-        self.size
+        forms::size_in(&self.form)
     }
 
     /// The blocks: block k has bit i exactly where 64k + i is a member, and no bit past the size is set.
     pub fn blocks(&self, alloc: Global) -> Result<Vec<u64>, AllocError>
         ensures { IfOk result (λ v. AreBlocksOf self.now v.items) }
     {
-        forms::block_list(alloc, self.size, &self.form)
+        forms::block_list(alloc, &self.form)
     }
 
     /// Whether the set has a number; past the size it has none.
@@ -54,7 +53,7 @@ impl Ordinals {
     pub fn next_from(&self, from: u32) -> Option<u32>
         ensures { IsNextMember self.now from result }
     {
-        forms::next_in(&self.form, self.size, from)
+        forms::next_in(&self.form, from)
     }
 
     /// Whether the set has no member.
@@ -75,7 +74,7 @@ impl Ordinals {
     pub fn same(&self, other: &Ordinals) -> bool
         ensures { IsTrue result ↔ (self.now ≡ other.now) }
     {
-        self.size == other.size && forms::same(&self.form, &other.form)
+        self.size() == other.size() && forms::same(&self.form, &other.form)
     }
 
     /// Whether each member is a member of `other`.
@@ -99,11 +98,8 @@ impl Ordinals {
         requires { length self.now ≡ length other.now }
         ensures { IfOk result (λ s. s ≡ both self.now other.now) }
     {
-        let form = forms::meet(alloc, self.size, &self.form, &other.form)?;
-        Ok(Ordinals {
-            size: self.size,
-            form,
-        })
+        let form = forms::meet(alloc, &self.form, &other.form)?;
+        Ok(Ordinals { form })
     }
 
     /// The members of either.
@@ -111,11 +107,8 @@ impl Ordinals {
         requires { length self.now ≡ length other.now }
         ensures { IfOk result (λ s. s ≡ either self.now other.now) }
     {
-        let form = forms::join(alloc, self.size, &self.form, &other.form)?;
-        Ok(Ordinals {
-            size: self.size,
-            form,
-        })
+        let form = forms::join(alloc, &self.form, &other.form)?;
+        Ok(Ordinals { form })
     }
 
     /// The members that `other` lacks.
@@ -123,11 +116,8 @@ impl Ordinals {
         requires { length self.now ≡ length other.now }
         ensures { IfOk result (λ s. s ≡ less self.now other.now) }
     {
-        let form = forms::less(alloc, self.size, &self.form, &other.form)?;
-        Ok(Ordinals {
-            size: self.size,
-            form,
-        })
+        let form = forms::less(alloc, &self.form, &other.form)?;
+        Ok(Ordinals { form })
     }
 
     /// An equal set, which shares the blocks.
@@ -135,10 +125,7 @@ impl Ordinals {
         ensures { IfOk result (λ s. s ≡ self.now) }
     {
         let form = forms::copy(alloc, &self.form)?;
-        Ok(Ordinals {
-            size: self.size,
-            form,
-        })
+        Ok(Ordinals { form })
     }
 
     /// Leaves the members of both. It takes no memory where no other set shares the blocks, and after an `Err` the set is as it was.
@@ -147,13 +134,7 @@ impl Ordinals {
         ensures ok { IfOk result (λ _. self.new ≡ both self.old other.now) }
         ensures err { IfErr result (λ _. self.new ≡ self.old) }
     {
-        forms::put(
-            alloc,
-            self.size,
-            Operation::Meet,
-            &mut self.form,
-            &other.form,
-        )?;
+        forms::put(alloc, Operation::Meet, &mut self.form, &other.form)?;
         Ok(())
     }
 
@@ -163,13 +144,7 @@ impl Ordinals {
         ensures ok { IfOk result (λ _. self.new ≡ either self.old other.now) }
         ensures err { IfErr result (λ _. self.new ≡ self.old) }
     {
-        forms::put(
-            alloc,
-            self.size,
-            Operation::Join,
-            &mut self.form,
-            &other.form,
-        )?;
+        forms::put(alloc, Operation::Join, &mut self.form, &other.form)?;
         Ok(())
     }
 
@@ -180,13 +155,7 @@ impl Ordinals {
         ensures ok { IfOk result (λ _. self.new ≡ less self.old other.now) }
         ensures err { IfErr result (λ _. self.new ≡ self.old) }
     {
-        forms::put(
-            alloc,
-            self.size,
-            Operation::Less,
-            &mut self.form,
-            &other.form,
-        )?;
+        forms::put(alloc, Operation::Less, &mut self.form, &other.form)?;
         Ok(())
     }
 
@@ -196,7 +165,6 @@ impl Ordinals {
         ensures { result ≡ set_of size (member ∷ []) }
     {
         Ordinals {
-            size,
             form: forms::one(size, member),
         }
     }
@@ -207,7 +175,7 @@ impl Ordinals {
         ensures { IfOk result (λ s. s ≡ set_of size members.now.items) }
     {
         let form = forms::of_list(alloc, size, members)?;
-        Ok(Ordinals { size, form })
+        Ok(Ordinals { form })
     }
 
     /// The set of this size with no member.
@@ -215,7 +183,6 @@ impl Ordinals {
         ensures { IfOk result (λ s. s ≡ replicate size false) }
     {
         Ok(Ordinals {
-            size,
             form: forms::none(size),
         })
     }
@@ -225,7 +192,7 @@ impl Ordinals {
         ensures { IfOk result (λ s. s ≡ replicate size true) }
     {
         let form = forms::front(alloc, size, size)?;
-        Ok(Ordinals { size, form })
+        Ok(Ordinals { form })
     }
 
     /// The set, of this size, of the numbers below `count`.
@@ -234,6 +201,6 @@ impl Ordinals {
         ensures { IfOk result (λ s. s ≡ front size count) }
     {
         let form = forms::front(alloc, size, count)?;
-        Ok(Ordinals { size, form })
+        Ok(Ordinals { form })
     }
 }

@@ -2,34 +2,34 @@ use Rattle.std.specs.Prelude.{bit_and}
 use Rattle.ul_ranges.specs.Operations.{in_both}
 use Rattle.ul_ranges.proofs.BlockLaws.{and_flagwise}
 use Rattle.ul_ranges.proofs.FormLaws.{word_meets}
-use Rattle.ul_ranges.proofs.FormMaking.{ok_then, has_blocks, same_count, zipped_of, zipped_whole, zipped_sealed, word_made}
+use Rattle.ul_ranges.proofs.FormMaking.{ok_then, has_blocks, has_others, same_count, zipped_of, zipped_whole, zipped_sealed, word_made}
 use Rattle.ul_ranges.proofs.forms.meet.Goals as goal
 
 pub words_by-requires : goal.words_by-requires
 words_by-requires c =
-    same_count c.args.size c.args.mine.now c.args.theirs.now c.in-Many-Many.xs c.in-Many-Many.ys _ _
-    (has_blocks c.args.size c.args.mine.now c.in-Many-Many.xs c.in-Many-Many.is-0 c.requires.mine)
-    (has_blocks c.args.size c.args.theirs.now c.in-Many-Many.ys c.in-Many-Many.is-1 c.requires.theirs)
+    same_count c.in-Many-Many.size c.args.mine.now c.args.theirs.now c.in-Many-Many.xs c.in-Many-Many.ys _ _
+    (has_blocks c.in-Many-Many.size c.args.mine.now c.in-Many-Many.xs c.in-Many-Many.is-0 c.requires.left)
+    (has_others _ _ c.args.mine.now c.args.theirs.now _ _ c.in-Many-Many.is-0 c.in-Many-Many.is-1 c.requires)
     c.as_slice.ensures c.as_slice-in-Many-Many.ensures
 
 pub sealed-requires-clause-exact : goal.sealed-requires-clause-exact
 sealed-requires-clause-exact c =
-    zipped_whole c.args.size bit_and in_both and_flagwise c.args.mine.now c.args.theirs.now c.in_ok-blocks-in-Many-Many.blocks.items
-    (zipped_of c.args.size bit_and c.args.mine.now c.args.theirs.now c.in-Many-Many.xs c.in-Many-Many.ys _ _ c.in_ok-blocks-in-Many-Many.blocks.items
-    (has_blocks c.args.size c.args.mine.now c.in-Many-Many.xs c.in-Many-Many.is-0 c.requires.mine)
-    (has_blocks c.args.size c.args.theirs.now c.in-Many-Many.ys c.in-Many-Many.is-1 c.requires.theirs)
+    zipped_whole c.in-Many-Many.size bit_and in_both and_flagwise c.args.mine.now c.args.theirs.now c.in_ok-blocks-in-Many-Many.blocks.items
+    (zipped_of c.in-Many-Many.size bit_and c.args.mine.now c.args.theirs.now c.in-Many-Many.xs c.in-Many-Many.ys _ _ c.in_ok-blocks-in-Many-Many.blocks.items
+    (has_blocks c.in-Many-Many.size c.args.mine.now c.in-Many-Many.xs c.in-Many-Many.is-0 c.requires.left)
+    (has_others _ _ c.args.mine.now c.args.theirs.now _ _ c.in-Many-Many.is-0 c.in-Many-Many.is-1 c.requires)
     c.as_slice.ensures c.as_slice-in-Many-Many.ensures c.in_ok-blocks-in-Many-Many.ensures)
 
 pub returns-in_ok-blocks-in-Many-Many : goal.returns-in_ok-blocks-in-Many-Many
 returns-in_ok-blocks-in-Many-Many c =
     ok_then c.sealed.result _ _ c.sealed.ensures
-    (λ f s. zipped_sealed c.args.size bit_and in_both and_flagwise c.args.mine.now c.args.theirs.now f c.in_ok-blocks-in-Many-Many.blocks.items
-    (zipped_of c.args.size bit_and c.args.mine.now c.args.theirs.now c.in-Many-Many.xs c.in-Many-Many.ys _ _ c.in_ok-blocks-in-Many-Many.blocks.items
-    (has_blocks c.args.size c.args.mine.now c.in-Many-Many.xs c.in-Many-Many.is-0 c.requires.mine)
-    (has_blocks c.args.size c.args.theirs.now c.in-Many-Many.ys c.in-Many-Many.is-1 c.requires.theirs)
+    (λ f s. zipped_sealed c.in-Many-Many.size bit_and in_both and_flagwise c.args.mine.now c.args.theirs.now f c.in_ok-blocks-in-Many-Many.blocks.items
+    (zipped_of c.in-Many-Many.size bit_and c.args.mine.now c.args.theirs.now c.in-Many-Many.xs c.in-Many-Many.ys _ _ c.in_ok-blocks-in-Many-Many.blocks.items
+    (has_blocks c.in-Many-Many.size c.args.mine.now c.in-Many-Many.xs c.in-Many-Many.is-0 c.requires.left)
+    (has_others _ _ c.args.mine.now c.args.theirs.now _ _ c.in-Many-Many.is-0 c.in-Many-Many.is-1 c.requires)
     c.as_slice.ensures c.as_slice-in-Many-Many.ensures c.in_ok-blocks-in-Many-Many.ensures) s)
 
 pub returns-in-Word-Word : goal.returns-in-Word-Word
 returns-in-Word-Word c =
-    word_made c.args.size in_both c.args.mine.now c.args.theirs.now c.in-Word-Word.x c.in-Word-Word.y _ c.in-Word-Word.is-0 c.in-Word-Word.is-1 c.requires.mine c.requires.theirs
-    (word_meets c.args.size c.in-Word-Word.x c.in-Word-Word.y)
+    word_made c.in-Word-Word.size _ in_both c.args.mine.now c.args.theirs.now c.in-Word-Word.x c.in-Word-Word.y _ c.in-Word-Word.is-0 c.in-Word-Word.is-1 c.requires
+    (word_meets c.in-Word-Word.size _ c.in-Word-Word.x c.in-Word-Word.y)

@@ -3,4 +3,4 @@ use Rattle.ul_ranges.proofs.FormLaws.{length-flags_in}
 use Rattle.ul_ranges.proofs.ordinals.Ordinals.size.Goals as goal
 
 pub returns : goal.returns
-returns c = sym (length-flags_in _ _) ∙ ap length c.self.view_is
+returns c = c.size_in.ensures ∙ sym (length-flags_in _) ∙ ap length c.self.view_is
