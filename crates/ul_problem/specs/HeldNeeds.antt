@@ -12,5 +12,5 @@ needs_held (Two ks) = ks
 needs_held (Listed list) = list.items
 
 -- a need with the number at its target's place in place of that, or 0 where there is none
-abbrev pub renumbered : List ℕ → Need → Need
-renumbered numbers k = record { node = get_or numbers k.node 0; permitted = k.permitted }
+abbrev pub need_renumbered : List ℕ → Need → Need
+need_renumbered numbers k = record { node = get_or numbers k.node 0; permitted = k.permitted }

@@ -1,6 +1,6 @@
 //! A problem: nodes with their versions, and what each version needs.
 ghost use Rattle.std.specs.Prelude.{◌≡◌, ◌<◌, ◌++◌, ◌∷◌, [], length, map, option_to_list, IfOk};
-ghost use Rattle.ul_problem.specs.HeldNeeds.{needs_held, renumbered};
+ghost use Rattle.ul_problem.specs.HeldNeeds.{needs_held, need_renumbered};
 ghost use Rattle.ul_problem.specs.Plain.{base_of, needs_of, order_of, size_of};
 ghost use Rattle.ul_problem.specs.Problems.{IsWellFormed};
 
@@ -95,7 +95,7 @@ fn with_room(alloc: Global, held: HeldNeeds, count: usize) -> Result<HeldNeeds, 
 
 // Puts the number at the target's place in its place, or 0 where there is none.
 fn renumber_need(numbers: &[u64], need: &mut Need)
-    ensures { need.new ≡ renumbered numbers.now need.old }
+    ensures { need.new ≡ need_renumbered numbers.now need.old }
 {
     need.node = match numbers.get(need.node as usize) {
         Some(number) => *number,
@@ -105,7 +105,7 @@ fn renumber_need(numbers: &[u64], need: &mut Need)
 
 // The same for each of some needs.
 fn renumber_needs(numbers: &[u64], needs: &mut [Need])
-    ensures { needs.new ≡ map (renumbered numbers.now) needs.old }
+    ensures { needs.new ≡ map (need_renumbered numbers.now) needs.old }
 {
     for need in needs.iter_mut() {
         renumber_need(numbers, need);
@@ -207,7 +207,7 @@ impl NeedRow {
 
     /// Puts the number at each target's place in its place, or 0 where there is none.
     pub fn renumber(&mut self, numbers: &[u64])
-        ensures { self.new ≡ map (renumbered numbers.now) self.old }
+        ensures { self.new ≡ map (need_renumbered numbers.now) self.old }
     {
         match &mut self.held {
             HeldNeeds::Empty => {}
