@@ -5,6 +5,7 @@ pub mod Terms
 pub mod Serving
 pub mod Steps
 pub mod Held
+pub mod HeldNeeds
 pub mod Decisions
 pub mod Best
 pub mod Laws

@@ -1,10 +1,13 @@
 //! A problem: nodes with their versions, and what each version needs.
-ghost use Rattle.std.specs.Prelude.{◌≡◌, ◌<◌, length};
+ghost use Rattle.std.specs.Prelude.{◌≡◌, ◌<◌, ◌++◌, ◌∷◌, [], length, map, option_to_list, IfOk};
+ghost use Rattle.ul_problem.specs.HeldNeeds.{needs_held, need_renumbered};
 ghost use Rattle.ul_problem.specs.Plain.{base_of, needs_of, order_of, size_of};
 ghost use Rattle.ul_problem.specs.Problems.{IsWellFormed};
 
 use crate::lists::{Places, Versions};
+use std::alloc::{AllocError, Global};
 use std::marker::Model;
+use std::mem;
 use ul_base::Node;
 use ul_ranges::Ordinals;
 
@@ -17,38 +20,201 @@ pub struct Need {
     pub permitted: Ordinals,
 }
 
+// Needs of a version as they are held: up to two, as most versions have, in place, and more in a list.
+#[derive(Drop)]
+enum HeldNeeds {
+    Empty,
+    One([Need; 1]),
+    Two([Need; 2]),
+    Listed(Vec<Need>),
+}
+
+// The item of an array of one.
+fn only_of<T>(one: [T; 1]) -> T
+    ensures { one ≡ result ∷ [] }
+{
+    let [only] = one;
+    only
+}
+
+// The items of an array of two.
+fn both_of<T>(two: [T; 2]) -> (T, T)
+    ensures { two ≡ result.0 ∷ result.1 ∷ [] }
+{
+    let [first, second] = two;
+    (first, second)
+}
+
+// Needs with one more.
+fn with_need(alloc: Global, held: HeldNeeds, need: Need) -> Result<HeldNeeds, AllocError>
+    ensures { IfOk result (λ h. needs_held h ≡ needs_held held ++ need ∷ []) }
+{
+    match held {
+        HeldNeeds::Empty => Ok(HeldNeeds::One([need])),
+        HeldNeeds::One(one) => {
+            let first = only_of(one);
+            Ok(HeldNeeds::Two([first, need]))
+        }
+        HeldNeeds::Two(two) => {
+            let (first, second) = both_of(two);
+            let mut list = Vec::with_capacity(alloc, 4)?;
+            list.push(first)?;
+            list.push(second)?;
+            list.push(need)?;
+            Ok(HeldNeeds::Listed(list))
+        }
+        HeldNeeds::Listed(mut list) => {
+            list.push(need)?;
+            Ok(HeldNeeds::Listed(list))
+        }
+    }
+}
+
+// The same needs in a list with room for so many, unless they are in a list.
+fn with_room(alloc: Global, held: HeldNeeds, count: usize) -> Result<HeldNeeds, AllocError>
+    ensures { IfOk result (λ h. needs_held h ≡ needs_held held) }
+{
+    match held {
+        HeldNeeds::Empty => Ok(HeldNeeds::Listed(Vec::with_capacity(alloc, count)?)),
+        HeldNeeds::One(one) => {
+            let first = only_of(one);
+            let mut list = Vec::with_capacity(alloc, count)?;
+            list.push(first)?;
+            Ok(HeldNeeds::Listed(list))
+        }
+        HeldNeeds::Two(two) => {
+            let (first, second) = both_of(two);
+            let mut list = Vec::with_capacity(alloc, count)?;
+            list.push(first)?;
+            list.push(second)?;
+            Ok(HeldNeeds::Listed(list))
+        }
+        HeldNeeds::Listed(list) => Ok(HeldNeeds::Listed(list)),
+    }
+}
+
+// Puts the number at the target's place in its place, or 0 where there is none.
+fn renumber_need(numbers: &[u64], need: &mut Need)
+    ensures { need.new ≡ need_renumbered numbers.now need.old }
+{
+    need.node = match numbers.get(need.node as usize) {
+        Some(number) => *number,
+        None => 0,
+    };
+}
+
+// The same for each of some needs.
+fn renumber_needs(numbers: &[u64], needs: &mut [Need])
+    ensures { needs.new ≡ map (need_renumbered numbers.now) needs.old }
+{
+    for need in needs.iter_mut() {
+        renumber_need(numbers, need);
+    }
+}
+
+// Needs that were taken off a list's end, of which the one before the last is there only beside it.
+fn few(first: Option<Need>, last: Option<Need>) -> HeldNeeds
+    ensures { needs_held result ≡ option_to_list first ++ option_to_list last }
+{
+    match (first, last) {
+        (Some(first), Some(last)) => HeldNeeds::Two([first, last]),
+        (Some(only), None) | (None, Some(only)) => HeldNeeds::One([only]),
+        (None, None) => HeldNeeds::Empty,
+    }
+}
+
 /// The needs of one version.
 #[derive(Drop)]
 pub struct NeedRow {
-    needs: Vec<Need>,
+    held: HeldNeeds,
 }
 
 impl Model for NeedRow {
     ghost use Rattle.std.specs.Prelude.{List};
     ghost use Rattle.ul_problem.specs.declared.problem.Need.{Need};
+    ghost use Rattle.ul_problem.specs.HeldNeeds.{needs_held};
 
     ghost Value = { List Need };
 
-    ghost view = { λ s. s.needs.items };
+    ghost view = { λ s. needs_held s.held };
 }
 
 impl NeedRow {
-    pub fn of(needs: Vec<Need>) -> NeedRow
-        ensures { result ≡ needs.items }
+    /// No need.
+    pub fn none() -> NeedRow
+        ensures { result ≡ [] }
     {
-        NeedRow { needs }
+        NeedRow {
+            held: HeldNeeds::Empty,
+        }
     }
 
+    /// The needs of a list, in its order.
+    pub fn of(mut needs: Vec<Need>) -> NeedRow
+        ensures { result ≡ needs.items }
+    {
+        if needs.len() > 2 {
+            return NeedRow {
+                held: HeldNeeds::Listed(needs),
+            };
+        }
+        let last = needs.pop();
+        let first = needs.pop();
+        NeedRow {
+            held: few(first, last),
+        }
+    }
+
+    /// The needs, in their order.
     pub fn as_slice(&self) -> &[Need]
         ensures { result.now ≡ self.now }
     {
-        self.needs.as_slice()
+        match &self.held {
+            HeldNeeds::Empty => &[],
+            HeldNeeds::One(needs) => &needs[..],
+            HeldNeeds::Two(needs) => &needs[..],
+            HeldNeeds::Listed(needs) => needs.as_slice(),
+        }
     }
 
-    pub fn into_vec(self) -> Vec<Need>
-        ensures { result.items ≡ self }
+    /// Puts a need at the end.
+    ///
+    /// # Errors
+    ///
+    /// Only for want of memory; the row then has no need.
+    pub fn push(&mut self, alloc: Global, need: Need) -> Result<(), AllocError>
+        ensures { IfOk result (λ _. self.new ≡ self.old ++ need ∷ []) }
     {
-        self.needs
+        let held = mem::replace(&mut self.held, HeldNeeds::Empty);
+        self.held = with_need(alloc, held, need)?;
+        Ok(())
+    }
+
+    /// Room for so many needs in a list, where they are more than stand in place.
+    ///
+    /// # Errors
+    ///
+    /// Only for want of memory; the row then has no need.
+    pub fn make_room(&mut self, alloc: Global, count: usize) -> Result<(), AllocError>
+        ensures { IfOk result (λ _. self.new ≡ self.old) }
+    {
+        if count > 2 && self.as_slice().len() <= 2 {
+            let held = mem::replace(&mut self.held, HeldNeeds::Empty);
+            self.held = with_room(alloc, held, count)?;
+        }
+        Ok(())
+    }
+
+    /// Puts the number at each target's place in its place, or 0 where there is none.
+    pub fn renumber(&mut self, numbers: &[u64])
+        ensures { self.new ≡ map (need_renumbered numbers.now) self.old }
+    {
+        match &mut self.held {
+            HeldNeeds::Empty => {}
+            HeldNeeds::One(needs) => renumber_needs(numbers, &mut needs[..]),
+            HeldNeeds::Two(needs) => renumber_needs(numbers, &mut needs[..]),
+            HeldNeeds::Listed(needs) => renumber_needs(numbers, needs.as_mut_slice()),
+        }
     }
 }
 
