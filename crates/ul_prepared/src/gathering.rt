@@ -41,7 +41,8 @@ fn known_of<'a>(
 ) -> Result<(NameFacts, Releases<'a>), AllocError>
     ensures { IfOk result (λ k. IsKnown sources.now.0 sources.now.1 k.0 k.1) }
 {
-    let list = releases_of(alloc, sources.catalog(), name)?;
+    let direct = sources.is_direct(name);
+    let list = releases_of(alloc, sources.catalog(), name, direct)?;
     let facts = name_facts(alloc, sources, name, list.as_slice())?;
     Ok((facts, Releases { list }))
 }

@@ -3,9 +3,10 @@ ghost use Rattle.std.specs.Prelude.{◌≡◌, ◌<◌, ◌^◌, IfOk, ◌++◌,
 ghost use Rattle.std.specs.List.{list_any};
 ghost use Rattle.std.specs.Ordering.{is_eq};
 ghost use Rattle.ul_version.specs.Order.{version_cmp};
+ghost use Rattle.ul_index.specs.Catalogs.{releases_of as spec_releases_of};
 ghost use Rattle.ul_index.specs.Eligible.{eligible, version_at};
 ghost use Rattle.ul_index.specs.Preference as spec;
-ghost use Rattle.ul_index.specs.Preference.{is_kept};
+ghost use Rattle.ul_index.specs.Preference.{is_direct, is_kept};
 ghost use Rattle.ul_problem.specs.Problems.{Increases, VersionBefore};
 ghost use Rattle.ul_prepared.specs.Orders.{flag_at, places_below, tried_places};
 ghost use Rattle.ul_prepared.specs.Prepared.{IsName};
@@ -16,7 +17,7 @@ use crate::sources::Sources;
 use std::alloc::{AllocError, Global};
 use ul_base::Name;
 use ul_index::laws::eligible_rises;
-use ul_index::{Catalog, eligible};
+use ul_index::{Catalog, eligible, eligible_indirect};
 use ul_problem::{Places, Versions};
 use ul_requirement::{Mode, Release};
 use ul_version::Version;
@@ -175,7 +176,26 @@ fn tried(alloc: Global, flags: &[bool], oldest: bool) -> Result<Vec<u32>, AllocE
     Ok(order)
 }
 
-/// The releases of a name's eligible versions, in the order of the versions.
+// The places of a name's eligible releases, in the order of their versions. The project's requirements are looked at only where one of
+// them is on the name, which `direct` says.
+fn eligible_places(
+    alloc: Global,
+    catalog: &Catalog,
+    name: &Name,
+    direct: bool,
+) -> Result<Vec<u32>, AllocError>
+    requires { direct ≡ is_direct catalog.now name.now }
+    ensures { IfOk result (λ places. map (version_at (spec_releases_of catalog.now name.now)) places.items
+        ≡ map Some (eligible catalog.now name.now)) }
+{
+    if direct {
+        eligible(alloc, catalog, name)
+    } else {
+        eligible_indirect(alloc, catalog, name)
+    }
+}
+
+/// The releases of a name's eligible versions, in the order of the versions. `direct` says whether the project requires the name.
 ///
 /// # Errors
 ///
@@ -184,7 +204,9 @@ pub(crate) fn releases_of<'a>(
     alloc: Global,
     catalog: &'a Catalog,
     name: &Name,
+    direct: bool,
 ) -> Result<Vec<&'a Release>, AllocError>
+    requires { direct ≡ is_direct catalog.now name.now }
     ensures versions { IfOk result (λ v. map (λ r. r.now.version) v.items ≡ eligible catalog.now name.now) }
     ensures releases { IfOk result (λ v. AreReleasesOf catalog.now name.now
         (eligible catalog.now name.now) (map (λ r. r.now) v.items)) }
@@ -192,7 +214,7 @@ pub(crate) fn releases_of<'a>(
     ensures few { IfOk result (λ v. length v.items < 2 ^ 32) }
 {
     eligible_rises();
-    let places = eligible(alloc, catalog, name)?;
+    let places = eligible_places(alloc, catalog, name, direct)?;
     let own = catalog.releases_of(name);
     let releases = releases_at(alloc, own, places.as_slice())?;
     Ok(releases)
