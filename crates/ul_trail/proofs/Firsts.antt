@@ -1,7 +1,7 @@
 -- The steps that a problem gives are right, and are all that a trail begins with.
 use Rattle.std.proofs.Common.{◌≡◌, ℕ, zero, suc, ◌+◌, List, [], ◌∷◌, ◌++◌, Bool, true, false, cond, Option, Some, None, refl, ap, ◌∙◌, sym, subst, ◌<◌, inl, inr, arith, slice_get, get_or, length, take, append_assoc}
 use Rattle.std.proofs.lemmas.Bool.{cases_eq, true≢false}
-use Rattle.std.proofs.lemmas.Option.{none-some, same_Some, slice_get_within}
+use Rattle.std.proofs.lemmas.Option.{none-some, same_Some, slice_get_within, slice_get_read}
 use Rattle.std.specs.List.{Contains}
 use Rattle.ul_ranges.specs.Flags.{has, is_blank}
 use Rattle.ul_ranges.proofs.ForCallers.{blank_none}
@@ -139,17 +139,22 @@ versions_right p n (suc k) f wf e =
     (subst (λ (z : ℕ). AreFirst p (base_steps n (one_of z k) f.base)) es (base_right p n k f.base l eb))
     (subst (λ (z : ℕ). AreFirst p (need_steps n (one_of z k) (get_or f.needs k []))) es (needs_right p n k (get_or f.needs k []) wf l (λ need i. subst (λ (l : List Need). Contains l need) (sym en) i))))
 
-nodes_right : (p : Plain) (k : ℕ) → IsWellFormed p → AreFirst p (first_steps p.nodes k)
-nodes_right p zero wf = tt
-nodes_right p (suc k) wf = first_join p (first_steps p.nodes k) (steps_at (slice_get p.nodes k) k) (nodes_right p k wf) (here (slice_get p.nodes k) refl)
-  where
-    here : (o : Option NodeFacts) → slice_get p.nodes k ≡ o → AreFirst p (steps_at o k)
-    here None e = tt
-    here (Some f) e = first_join p (python_steps k f.barred) (versions_steps f k (length f.versions))
-        (python_right p k f.barred wf (slice_get_within p.nodes k f e) (ap barred_in e)) (versions_right p k (length f.versions) f wf e)
+node_right : (p : Plain) (k : ℕ) (f : NodeFacts) → IsWellFormed p → slice_get p.nodes k ≡ Some f → AreFirst p (node_steps f k)
+node_right p k f wf e = first_join p (python_steps k f.barred) (versions_steps f k (length f.versions))
+    (python_right p k f.barred wf (slice_get_within p.nodes k f e) (ap barred_in e)) (versions_right p k (length f.versions) f wf e)
 
-pub first_are_right : (p : Plain) → IsWellFormed p → AreRightAfter p [] (first_steps p.nodes (length p.nodes))
-first_are_right p wf = first_right p [] (first_steps p.nodes (length p.nodes)) (nodes_right p (length p.nodes) wf)
+-- what is known of a node, as it is read
+pub node_read : (p : Plain) (nodes : List NodeFacts) (k : ℕ) (f : NodeFacts) → nodes ≡ p.nodes → k < length nodes → f ≡ get_or nodes k f → slice_get p.nodes k ≡ Some f
+node_read p nodes k f e l g = subst (λ (x : List NodeFacts). slice_get x k ≡ Some f) e (slice_get_read nodes (length nodes) k f refl l g)
 
-pub first_are_forbidden : (p : Plain) → IsWellFormed p → AreForbidden p (first_steps p.nodes (length p.nodes))
-first_are_forbidden p wf = first_forbidden p (first_steps p.nodes (length p.nodes)) (nodes_right p (length p.nodes) wf)
+-- the steps of a node are right after any others
+pub node_is_right : (p : Plain) (earlier steps : List Step) (k : ℕ) (f : NodeFacts) → IsWellFormed p → slice_get p.nodes k ≡ Some f → steps ≡ node_steps f k → AreRightAfter p earlier steps
+node_is_right p earlier steps k f wf e q = subst (AreRightAfter p earlier) (sym q) (first_right p earlier (node_steps f k) (node_right p k f wf e))
+
+pub node_is_forbidden : (p : Plain) (steps : List Step) (k : ℕ) (f : NodeFacts) → IsWellFormed p → slice_get p.nodes k ≡ Some f → steps ≡ node_steps f k → AreForbidden p steps
+node_is_forbidden p steps k f wf e q = subst (AreForbidden p) (sym q) (first_forbidden p (node_steps f k) (node_right p k f wf e))
+
+-- with the steps of one node more
+pub first_next : (nodes : List NodeFacts) (k : ℕ) (f : NodeFacts) (held more now : List Step) → slice_get nodes k ≡ Some f → held ≡ first_steps nodes k → more ≡ node_steps f k → now ≡ held ++ more → now ≡ first_steps nodes (k + 1)
+first_next nodes k f held more now e h m g = let next : suc k ≡ k + 1 = omega arith in
+    g ∙ (ap (λ (l : List Step). l ++ more) h ∙ (ap (λ (l : List Step). first_steps nodes k ++ l) m ∙ (ap (λ (o : Option NodeFacts). first_steps nodes k ++ steps_at o k) (sym e) ∙ ap (λ (n : ℕ). first_steps nodes n) next)))

@@ -1,12 +1,11 @@
 //! The steps that a problem gives.
 ghost use Rattle.std.specs.Prelude.{◌≡◌, ◌<◌, ◌++◌, [], length, get_or, IfOk};
 ghost use Rattle.ul_trail.specs.Facts.{one_of};
-ghost use Rattle.ul_trail.specs.First.{base_steps, first_steps, need_steps, node_steps, python_steps, version_steps};
+ghost use Rattle.ul_trail.specs.First.{base_steps, need_steps, node_steps, python_steps, version_steps};
 
 use crate::deciding::single;
-use crate::rooms::steps_in;
 use std::alloc::{AllocError, Global};
-use ul_problem::{Need, NodeFacts, Problem, Step};
+use ul_problem::{Need, NodeFacts, Step};
 use ul_ranges::Ordinals;
 
 fn push_needs(
@@ -72,15 +71,19 @@ fn push_node(
     Ok(())
 }
 
-/// The steps that a problem gives.
-pub fn steps_of(alloc: Global, problem: &Problem) -> Result<Vec<Step>, AllocError>
-    ensures { IfOk result (λ v. v.items ≡ first_steps problem.now.nodes (length problem.now.nodes)) }
+/// The steps that a node gives, with room for so many.
+pub fn steps_of(
+    alloc: Global,
+    facts: &NodeFacts,
+    node: u64,
+    count: usize,
+) -> Result<Vec<Step>, AllocError>
+    requires barred { length facts.now.barred ≡ length facts.now.versions }
+    requires rows { length facts.now.needs ≡ length facts.now.versions }
+    ensures { IfOk result (λ v. v.items ≡ node_steps facts.now node) }
 {
-    let nodes = problem.nodes();
-    let mut steps = Vec::with_capacity(alloc, steps_in(nodes))?;
-    for node in 0..nodes.len() {
-        push_node(alloc, &mut steps, &nodes[node], node as u64)?;
-    }
+    let mut steps = Vec::with_capacity(alloc, count)?;
+    push_node(alloc, &mut steps, facts, node)?;
     Ok(steps)
 }
 

@@ -34,10 +34,6 @@ pub fn hold(
 pub fn append(steps: &mut Vec<Step>, more: Vec<Step>) -> Result<(), AllocError>
     ensures { IfOk result (λ _. steps.new.items ≡ steps.old.items ++ more.items) }
 {
-    if steps.is_empty() {
-        *steps = more;
-        return Ok(());
-    }
     for step in more {
         steps.push(step)?;
     }

@@ -4,35 +4,15 @@ ghost use Rattle.std.specs.Prelude.{◌≡◌, length, IfOk};
 use std::alloc::{AllocError, Global};
 use ul_problem::{Need, NeedRow, NodeFacts};
 
-// How many needs there are in rows.
-fn needs_in(rows: &[NeedRow]) -> usize {
-    let mut count = 0usize;
-    for row in rows {
-        count = count.saturating_add(row.as_slice().len());
-    }
-    count
-}
-
-// How many steps a node gives.
-fn steps_at(facts: &NodeFacts) -> usize {
-    let rows = facts.needs.as_slice();
-    let mut count = needs_in(rows);
-    if facts.base.is_some() {
-        count = count.saturating_add(rows.len());
-    }
-    if !facts.barred.is_empty() {
-        count = count.saturating_add(1);
-    }
-    count
-}
-
-// How many steps nodes give.
-pub(crate) fn steps_in(nodes: &[NodeFacts]) -> usize {
-    let mut count = 0usize;
-    for facts in nodes {
-        count = count.saturating_add(steps_at(facts));
-    }
-    count
+/// Room for the steps of a problem.
+#[derive(Drop)]
+pub(crate) struct Rooms {
+    /// Of each node room for the steps with a term on it.
+    pub(crate) rows: Vec<usize>,
+    /// Of each node how many steps it gives.
+    pub(crate) counts: Vec<usize>,
+    /// How many steps the nodes give.
+    pub(crate) steps: usize,
 }
 
 // More room for a node.
@@ -54,34 +34,52 @@ fn widen_targets(rooms: &mut Vec<usize>, needs: &[Need])
     }
 }
 
-// Room for what rows say of the targets of their needs.
-fn widen_rows(rooms: &mut Vec<usize>, rows: &[NeedRow])
+// Room for what rows say of the targets of their needs. The answer is how many needs there are.
+fn widen_rows(rooms: &mut Vec<usize>, rows: &[NeedRow]) -> usize
     ensures { length rooms.new.items ≡ length rooms.old.items }
 {
+    let mut count = 0usize;
     for row in rows {
-        widen_targets(rooms, row.as_slice());
+        let needs = row.as_slice();
+        widen_targets(rooms, needs);
+        count = count.saturating_add(needs.len());
     }
+    count
 }
 
-// Room for what the steps of a node say.
-fn widen_by(rooms: &mut Vec<usize>, node: u64, facts: &NodeFacts)
+// Room for what the steps of a node say. The answer is how many steps there are.
+fn widen_by(rooms: &mut Vec<usize>, node: u64, facts: &NodeFacts) -> usize
     ensures { length rooms.new.items ≡ length rooms.old.items }
 {
     let rows = facts.needs.as_slice();
-    widen(rooms, node, steps_at(facts));
+    let mut count = widen_rows(rooms, rows);
     if let Some(base) = facts.base {
         widen(rooms, base, rows.len());
+        count = count.saturating_add(rows.len());
     }
-    widen_rows(rooms, rows);
+    if !facts.barred.is_empty() {
+        count = count.saturating_add(1);
+    }
+    widen(rooms, node, count);
+    count
 }
 
-// Of each node room for the steps with a term on it.
-pub(crate) fn rooms_of(alloc: Global, nodes: &[NodeFacts]) -> Result<Vec<usize>, AllocError>
-    ensures { IfOk result (λ v. length v.items ≡ length nodes.now) }
+// The room that the steps of nodes take, in one walk.
+pub(crate) fn rooms_of(alloc: Global, nodes: &[NodeFacts]) -> Result<Rooms, AllocError>
+    ensures rows { IfOk result (λ r. length r.rows.items ≡ length nodes.now) }
+    ensures counts { IfOk result (λ r. length r.counts.items ≡ length nodes.now) }
 {
-    let mut rooms = vec![in alloc; 0usize; nodes.len()]?;
+    let mut rows = vec![in alloc; 0usize; nodes.len()]?;
+    let mut counts = Vec::with_capacity(alloc, nodes.len())?;
+    let mut steps = 0usize;
     for node in 0..nodes.len() {
-        widen_by(&mut rooms, node as u64, &nodes[node]);
+        let count = widen_by(&mut rows, node as u64, &nodes[node]);
+        counts.push(count)?;
+        steps = steps.saturating_add(count);
     }
-    Ok(rooms)
+    Ok(Rooms {
+        rows,
+        counts,
+        steps,
+    })
 }

@@ -13,11 +13,10 @@ ghost use Rattle.ul_trail.specs.Roots.{root_picks};
 use crate::asking::ask;
 use crate::deciding::decision;
 use crate::fact::Fact;
-use crate::rooms::rooms_of;
 use crate::standing::Standing;
 use crate::watching::Row;
 use std::alloc::{AllocError, Global};
-use ul_problem::{NodeFacts, Problem, Term};
+use ul_problem::{Problem, Term};
 use ul_ranges::Ordinals;
 
 /// What is picked and asked for.
@@ -52,18 +51,8 @@ pub fn opens(alloc: Global, sizes: &[u32]) -> Result<Vec<Term>, AllocError>
     Ok(known)
 }
 
-/// An empty row for each node, with room for the problem's steps.
-pub fn rows(alloc: Global, nodes: &[NodeFacts]) -> Result<Vec<Row>, AllocError>
-    ensures watched { IfOk result (λ v. IsWatched [] v.items) }
-    ensures width { IfOk result (λ v. length v.items ≡ length nodes.now) }
-{
-    let rooms = rooms_of(alloc, nodes)?;
-    let rows = empty_rows(alloc, rooms.as_slice())?;
-    Ok(rows)
-}
-
-// An empty row for each room.
-fn empty_rows(alloc: Global, rooms: &[usize]) -> Result<Vec<Row>, AllocError>
+/// An empty row for each room.
+pub fn empty_rows(alloc: Global, rooms: &[usize]) -> Result<Vec<Row>, AllocError>
     ensures watched { IfOk result (λ v. IsWatched [] v.items) }
     ensures width { IfOk result (λ v. length v.items ≡ length rooms.now) }
 {

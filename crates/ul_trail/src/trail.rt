@@ -19,8 +19,8 @@ use crate::fact::{Fact, Progress};
 use crate::holding::{append, hold, unwind};
 use crate::mark::Mark;
 use crate::propagation::{Cursor, spread};
-use crate::rooms::steps_in;
-use crate::rooting::{Asked, opens, plant, rows, sizes};
+use crate::rooms::{Rooms, rooms_of};
+use crate::rooting::{Asked, empty_rows, opens, plant, sizes};
 use crate::standing::Standing;
 use crate::watching::Watching;
 use std::alloc::{AllocError, Global};
@@ -64,10 +64,13 @@ impl Trail {
         ensures steps { IfOk result (λ t. HasSteps problem.now t.steps) }
         ensures exact { IfOk result (λ t. t.steps ≡ first_steps problem.now.nodes (length problem.now.nodes)) }
     {
-        let _ = problem.roots();
-        let mut trail = rooted(alloc, problem)?;
-        let steps = steps_of(alloc, problem)?;
-        trail.learn(alloc, problem, steps)?;
+        let nodes = problem.nodes();
+        let rooms = rooms_of(alloc, nodes)?;
+        let mut trail = rooted(alloc, problem, &rooms)?;
+        for node in 0..nodes.len() {
+            let steps = steps_of(alloc, &nodes[node], node as u64, rooms.counts[node])?;
+            trail.learn(alloc, problem, steps)?;
+        }
         Ok(trail)
     }
 
@@ -302,8 +305,9 @@ fn allowed_by(alloc: Global, known: &Term) -> Result<Ordinals, AllocError>
     }
 }
 
-// A fact for each root, and no step.
-fn rooted(alloc: Global, problem: &Problem) -> Result<Trail, AllocError>
+// A fact for each root, and no step, with room for those of the problem.
+fn rooted(alloc: Global, problem: &Problem, rooms: &Rooms) -> Result<Trail, AllocError>
+    requires { length rooms.now.rows.items ≡ length problem.now.nodes }
     ensures right { IfOk result (λ t. IsTrailOf problem.now t) }
     ensures roots { IfOk result (λ t. t.facts ≡ root_facts problem.now problem.now.roots) }
     ensures steps { IfOk result (λ t. t.steps ≡ []) }
@@ -312,8 +316,9 @@ fn rooted(alloc: Global, problem: &Problem) -> Result<Trail, AllocError>
     let sizes = sizes(alloc, problem)?;
     let count = sizes.len();
     let known = opens(alloc, sizes.as_slice())?;
-    let rows = rows(alloc, problem.nodes())?;
-    let terms = Vec::with_capacity(alloc, steps_in(problem.nodes()))?;
+    let rows = empty_rows(alloc, rooms.rows.as_slice())?;
+    let terms = Vec::with_capacity(alloc, rooms.steps)?;
+    let steps = Vec::with_capacity(alloc, rooms.steps)?;
     let mut standing = Standing {
         sizes,
         known,
@@ -327,7 +332,7 @@ fn rooted(alloc: Global, problem: &Problem) -> Result<Trail, AllocError>
     };
     plant(alloc, problem, &mut standing, &mut asked)?;
     Ok(Trail {
-        steps: Vec::new(alloc),
+        steps,
         watching: Watching { terms, rows },
         standing,
         cursor: Cursor {

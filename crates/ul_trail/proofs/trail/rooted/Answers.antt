@@ -1,7 +1,6 @@
 use Rattle.std.proofs.Common.{◌≡◌, ℕ, List, [], ◌++◌, true, length, arith, ap, subst, sym, ◌∙◌}
 use Rattle.std.proofs.lemmas.Option.{none-some}
 use Rattle.ul_problem.specs.declared.term.Term.{Term}
-use Rattle.ul_problem.specs.declared.problem.NodeFacts.{NodeFacts}
 use Rattle.ul_problem.specs.declared.step.Step.{Step}
 use Rattle.ul_problem.specs.Best.{joined_needs}
 use Rattle.ul_problem.proofs.ForCallers.{root_single}
@@ -25,11 +24,11 @@ plant-requires-clause-positions c =
     let l = c.len-count.ensures in let v = c.in_ok-vec.ensures.len in
     omega arith
 
-sizes-is : (c : goal.After-new-5) → length c.plant.new.standing.sizes.items ≡ length c.args.problem.now.nodes
+sizes-is : (c : goal.After-new-4) → length c.plant.new.standing.sizes.items ≡ length c.args.problem.now.nodes
 sizes-is c = ap (λ (x : List ℕ). length x) c.in_ok-plant.ensures.sizes ∙ sizes_length c.args.problem.now.nodes
 
-rows-are : (c : goal.After-new-5) → length c.in_ok-rows.rows.items ≡ length c.args.problem.now.nodes
-rows-are c = c.in_ok-rows.ensures.width ∙ ap (λ (x : List NodeFacts). length x) c.nodes.ensures.value
+rows-are : (c : goal.After-new-4) → length c.in_ok-rows.rows.items ≡ length c.args.problem.now.nodes
+rows-are c = c.in_ok-rows.ensures.width ∙ (ap (λ (x : List ℕ). length x) c.as_slice-2.ensures.value ∙ c.requires)
 
 pub invariant_of-result : goal.invariant_of-result
 invariant_of-result c = λ h.
@@ -43,12 +42,12 @@ invariant_of-result c = λ h.
       seen = omega arith;
       checked = omega arith;
       settled = record { at = λ k ts l e. absurd (omega arith) };
-      level = ap level_of c.in_ok-plant.ensures.facts ∙ (rooted_level c.args.problem.now ∙ sym (ap (λ (x : List Mark). length x) c.new-5.ensures.items));
+      level = ap level_of c.in_ok-plant.ensures.facts ∙ (rooted_level c.args.problem.now ∙ sym (ap (λ (x : List Mark). length x) c.new-4.ensures.items));
       picks = c.in_ok-plant.ensures.picks ∙ (sym (roots_picks c.args.problem.now c.args.problem.now.roots (λ n i. root_single c.args.problem.now n wf i)) ∙ ap picks_of (sym c.in_ok-plant.ensures.facts));
       indexed = c.in_ok-plant.ensures.indexed;
       positions = c.in_ok-plant.ensures.positions ∙ sym (sizes-is c);
       passed = record { at = λ i n l e. absurd (omega arith) };
-      marks = subst (λ (ms : List Mark). AreMarks c.in_ok-terms.terms.items c.plant.new.standing.facts.items c.plant.new.asked.picks.items c.plant.new.asked.queue.items ms) (sym c.new-5.ensures.items) (no_marks c.in_ok-terms.terms.items c.plant.new.standing.facts.items c.plant.new.asked.picks.items c.plant.new.asked.queue.items);
+      marks = subst (λ (ms : List Mark). AreMarks c.in_ok-terms.terms.items c.plant.new.standing.facts.items c.plant.new.asked.picks.items c.plant.new.asked.queue.items ms) (sym c.new-4.ensures.items) (no_marks c.in_ok-terms.terms.items c.plant.new.standing.facts.items c.plant.new.asked.picks.items c.plant.new.asked.queue.items);
     }
 
 abbrev track-of : List Step → List (List Term) → List Fact → List ℕ → ℕ → List ℕ → List ℕ → Track
@@ -57,10 +56,10 @@ track-of steps terms facts sizes width queue turns = record { steps = steps; ter
 pub returns-clause-right : goal.returns-clause-right
 returns-clause-right c =
     let r = rooted_trail c.args.problem.now c.roots-roots.ensures.whole in
-    let r1 = subst (λ (x : List Step). IsTrailOf c.args.problem.now (track-of x [] (root_facts c.args.problem.now c.args.problem.now.roots) (sizes_of c.args.problem.now) (length c.args.problem.now.nodes) (c.args.problem.now.roots ++ joined_needs c.args.problem.now (root_picks c.args.problem.now.roots)) [])) (sym c.new-4.ensures.items) r in
-    let r2 = subst (λ (x : List (List Term)). IsTrailOf c.args.problem.now (track-of c.new-4.result.items x (root_facts c.args.problem.now c.args.problem.now.roots) (sizes_of c.args.problem.now) (length c.args.problem.now.nodes) (c.args.problem.now.roots ++ joined_needs c.args.problem.now (root_picks c.args.problem.now.roots)) [])) (sym c.in_ok-terms.ensures.items) r1 in
-    let r3 = subst (λ (x : List Fact). IsTrailOf c.args.problem.now (track-of c.new-4.result.items c.in_ok-terms.terms.items x (sizes_of c.args.problem.now) (length c.args.problem.now.nodes) (c.args.problem.now.roots ++ joined_needs c.args.problem.now (root_picks c.args.problem.now.roots)) [])) (sym c.in_ok-plant.ensures.facts) r2 in
-    let r4 = subst (λ (x : List ℕ). IsTrailOf c.args.problem.now (track-of c.new-4.result.items c.in_ok-terms.terms.items c.plant.new.standing.facts.items x (length c.args.problem.now.nodes) (c.args.problem.now.roots ++ joined_needs c.args.problem.now (root_picks c.args.problem.now.roots)) [])) (sym c.in_ok-plant.ensures.sizes) r3 in
-    let r5 = subst (λ (x : ℕ). IsTrailOf c.args.problem.now (track-of c.new-4.result.items c.in_ok-terms.terms.items c.plant.new.standing.facts.items c.plant.new.standing.sizes.items x (c.args.problem.now.roots ++ joined_needs c.args.problem.now (root_picks c.args.problem.now.roots)) [])) (sym (rows-are c)) r4 in
-    let r6 = subst (λ (x : List ℕ). IsTrailOf c.args.problem.now (track-of c.new-4.result.items c.in_ok-terms.terms.items c.plant.new.standing.facts.items c.plant.new.standing.sizes.items (length c.in_ok-rows.rows.items) x [])) (sym c.in_ok-plant.ensures.queue) r5 in
-    subst (λ (x : List ℕ). IsTrailOf c.args.problem.now (track-of c.new-4.result.items c.in_ok-terms.terms.items c.plant.new.standing.facts.items c.plant.new.standing.sizes.items (length c.in_ok-rows.rows.items) c.plant.new.asked.queue.items x)) (sym (ap turns_of c.new-5.ensures.items)) r6
+    let r1 = subst (λ (x : List Step). IsTrailOf c.args.problem.now (track-of x [] (root_facts c.args.problem.now c.args.problem.now.roots) (sizes_of c.args.problem.now) (length c.args.problem.now.nodes) (c.args.problem.now.roots ++ joined_needs c.args.problem.now (root_picks c.args.problem.now.roots)) [])) (sym c.in_ok-steps.ensures.items) r in
+    let r2 = subst (λ (x : List (List Term)). IsTrailOf c.args.problem.now (track-of c.in_ok-steps.steps.items x (root_facts c.args.problem.now c.args.problem.now.roots) (sizes_of c.args.problem.now) (length c.args.problem.now.nodes) (c.args.problem.now.roots ++ joined_needs c.args.problem.now (root_picks c.args.problem.now.roots)) [])) (sym c.in_ok-terms.ensures.items) r1 in
+    let r3 = subst (λ (x : List Fact). IsTrailOf c.args.problem.now (track-of c.in_ok-steps.steps.items c.in_ok-terms.terms.items x (sizes_of c.args.problem.now) (length c.args.problem.now.nodes) (c.args.problem.now.roots ++ joined_needs c.args.problem.now (root_picks c.args.problem.now.roots)) [])) (sym c.in_ok-plant.ensures.facts) r2 in
+    let r4 = subst (λ (x : List ℕ). IsTrailOf c.args.problem.now (track-of c.in_ok-steps.steps.items c.in_ok-terms.terms.items c.plant.new.standing.facts.items x (length c.args.problem.now.nodes) (c.args.problem.now.roots ++ joined_needs c.args.problem.now (root_picks c.args.problem.now.roots)) [])) (sym c.in_ok-plant.ensures.sizes) r3 in
+    let r5 = subst (λ (x : ℕ). IsTrailOf c.args.problem.now (track-of c.in_ok-steps.steps.items c.in_ok-terms.terms.items c.plant.new.standing.facts.items c.plant.new.standing.sizes.items x (c.args.problem.now.roots ++ joined_needs c.args.problem.now (root_picks c.args.problem.now.roots)) [])) (sym (rows-are c)) r4 in
+    let r6 = subst (λ (x : List ℕ). IsTrailOf c.args.problem.now (track-of c.in_ok-steps.steps.items c.in_ok-terms.terms.items c.plant.new.standing.facts.items c.plant.new.standing.sizes.items (length c.in_ok-rows.rows.items) x [])) (sym c.in_ok-plant.ensures.queue) r5 in
+    subst (λ (x : List ℕ). IsTrailOf c.args.problem.now (track-of c.in_ok-steps.steps.items c.in_ok-terms.terms.items c.plant.new.standing.facts.items c.plant.new.standing.sizes.items (length c.in_ok-rows.rows.items) c.plant.new.asked.queue.items x)) (sym (ap turns_of c.new-4.ensures.items)) r6

@@ -1,20 +1,30 @@
-use Rattle.std.proofs.Common.{List, [], ◌++◌, subst, sym, ◌∙◌, ap}
-use Rattle.ul_problem.specs.Steps.{AreRightAfter}
-use Rattle.ul_problem.specs.declared.step.Step.{Step}
-use Rattle.ul_trail.specs.Propagation.{AreForbidden}
+use Rattle.std.proofs.Common.{◌≡◌, ℕ, List, length, subst, sym, ◌∙◌, ap, arith}
+use Rattle.ul_problem.specs.declared.problem.NodeFacts.{NodeFacts}
+use Rattle.ul_trail.specs.First.{first_steps}
 use Rattle.ul_trail.specs.Moves.{HasSteps}
-use Rattle.ul_trail.proofs.Firsts.{first_has, first_are_right, first_are_forbidden}
+use Rattle.ul_trail.proofs.Firsts.{first_has, first_next, node_read, node_is_right, node_is_forbidden}
 use Rattle.ul_trail.proofs.trail.Trail.begin.Goals as goal
 
 pub learn-requires-clause-learned : goal.learn-requires-clause-learned
-learn-requires-clause-learned c = subst (λ (x : List Step). AreRightAfter c.args.problem.now x c.in_ok-steps.steps.items) (sym c.in_ok-trail.ensures.steps)
-    (subst (λ (x : List Step). AreRightAfter c.args.problem.now [] x) (sym c.in_ok-steps.ensures) (first_are_right c.args.problem.now c.roots.ensures.whole))
+learn-requires-clause-learned c = node_is_right c.args.problem.now c.loop-node.trail.steps c.in_ok-steps.steps.items c.loop-node.node c.index-nodes-node.result c.nodes-nodes.ensures.whole
+    (node_read c.args.problem.now c.nodes-nodes.result.now c.loop-node.node c.index-nodes-node.result c.nodes-nodes.ensures.value c.loop-node-test.true c.index-nodes-node.is)
+    c.in_ok-steps.ensures
 
 pub learn-requires-clause-forbidden : goal.learn-requires-clause-forbidden
-learn-requires-clause-forbidden c = subst (AreForbidden c.args.problem.now) (sym c.in_ok-steps.ensures) (first_are_forbidden c.args.problem.now c.roots.ensures.whole)
+learn-requires-clause-forbidden c = node_is_forbidden c.args.problem.now c.in_ok-steps.steps.items c.loop-node.node c.index-nodes-node.result c.nodes-nodes.ensures.whole
+    (node_read c.args.problem.now c.nodes-nodes.result.now c.loop-node.node c.index-nodes-node.result c.nodes-nodes.ensures.value c.loop-node-test.true c.index-nodes-node.is)
+    c.in_ok-steps.ensures
+
+pub loop-node-preserved : goal.loop-node-preserved
+loop-node-preserved c = record {
+  right = c.in_ok-learn.ensures.kept;
+  roots = c.in_ok-learn.ensures.facts ∙ c.loop-node.invariant.roots;
+  steps = first_next c.args.problem.now.nodes c.loop-node.node c.index-nodes-node.result c.loop-node.trail.steps c.in_ok-steps.steps.items c.learn.new.self.steps
+      (node_read c.args.problem.now c.nodes-nodes.result.now c.loop-node.node c.index-nodes-node.result c.nodes-nodes.ensures.value c.loop-node-test.true c.index-nodes-node.is)
+      c.loop-node.invariant.steps c.in_ok-steps.ensures c.in_ok-learn.ensures.steps;
+}
 
 pub returns-clause-steps : goal.returns-clause-steps
-returns-clause-steps c = subst (HasSteps c.args.problem.now) (sym (c.in_ok-learn.ensures.steps ∙ (ap (λ (x : List Step). x ++ c.in_ok-steps.steps.items) c.in_ok-trail.ensures.steps ∙ c.in_ok-steps.ensures))) (first_has c.args.problem.now c.roots.ensures.whole)
-
-pub returns-clause-exact : goal.returns-clause-exact
-returns-clause-exact c = c.in_ok-learn.ensures.steps ∙ (ap (λ (x : List Step). x ++ c.in_ok-steps.steps.items) c.in_ok-trail.ensures.steps ∙ c.in_ok-steps.ensures)
+returns-clause-steps c =
+    let size : c.loop-node.node ≡ length c.nodes-nodes.result.now = omega (arith, c.loop-node-test.false, c.loop-node.auto.node-end) in
+    subst (HasSteps c.args.problem.now) (sym (c.loop-node.invariant.steps ∙ ap (λ (n : ℕ). first_steps c.args.problem.now.nodes n) (size ∙ ap (λ (x : List NodeFacts). length x) c.nodes-nodes.ensures.value))) (first_has c.args.problem.now c.nodes-nodes.ensures.whole)
