@@ -1,2 +1,3 @@
+mod Firsts
 pub mod Places
 pub mod Works

@@ -1,6 +1,7 @@
 //! Workers: threads that run one job on the numbers below a count, each number once.
 #![tactic(auto)]
 
+mod begun;
 mod gather;
 mod jobs;
 mod rounds;

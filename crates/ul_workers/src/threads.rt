@@ -2,10 +2,10 @@
 ghost use Rattle.std.specs.Prelude.{◌≡◌, ◌<◌, ◌≤◌, ℕ, length, All};
 ghost use Rattle.ul_workers.specs.Work.{Fresh, MayBegin, Worked, HaveWorked, Within};
 
+use crate::begun::each_from;
 use crate::jobs::Job;
 use std::alloc::Global;
 use std::sync::Wait;
-use std::thread;
 use std::thread::Threads;
 use ul_claims::{ClaimSeat, Claims};
 use ul_core::Label;
@@ -51,7 +51,7 @@ pub(crate) fn work<R: Wait, L: Label, J: Job<L>>(
     unreachable!()
 }
 
-/// Each worker works in a thread of its own, where one can be made.
+/// Each worker works in a thread of its own, where one can be made, and this thread waits for them.
 pub(crate) fn work_all<R: Threads + Wait + Sync, L: Label, J: Job<L>>(
     rt: &R,
     alloc: Global,
@@ -67,15 +67,14 @@ pub(crate) fn work_all<R: Threads + Wait + Sync, L: Label, J: Job<L>>(
     requires ready { All (λ w. (n : ℕ) → n < claims.now.limit → J.ready job.now w.pass n) workers.old }
     ensures { HaveWorked (Within claims.now.limit (J.fits job.now)) J.known claims.now workers.old workers.new }
 {
-    let threads = workers.len();
-    thread::for_each_mut(
+    each_from(
         rt,
-        workers,
-        threads,
         &|_: usize, worker: &mut Worker<L, J::Out>|
             requires { MayBegin (J.ready job.now) claims.now interner.now worker.now }
             ensures { Worked (Within claims.entry.now.limit (J.fits job.entry.now))
                 J.known claims.entry.now worker.entry.now.pass worker.exit.now }
         { work(rt, alloc, claims, interner, job, worker) },
+        0,
+        workers,
     );
 }
