@@ -22,22 +22,23 @@ fn copied_need(alloc: Global, need: &Need) -> Result<Need, AllocError>
 }
 
 // Puts needs behind others.
-fn push_needs(alloc: Global, needs: &mut Vec<Need>, more: &[Need]) -> Result<(), AllocError>
-    ensures { IfOk result (λ _. needs.new.items ≡ needs.old.items ++ more.now) }
+fn push_needs(alloc: Global, needs: &mut NeedRow, more: &[Need]) -> Result<(), AllocError>
+    ensures { IfOk result (λ _. needs.new ≡ needs.old ++ more.now) }
 {
     for need in more {
         let copied = copied_need(alloc, need)?;
-        needs.push(copied)?;
+        needs.push(alloc, copied)?;
     }
     Ok(())
 }
 
-// Room for so many needs, where there are none: a version without a firm requirement takes no memory.
-fn make_room(needs: &mut Vec<Need>, size: usize) -> Result<(), AllocError>
-    ensures { IfOk result (λ _. needs.new.items ≡ needs.old.items) }
+// Room for so many needs, where so many more would make a list: a version with few firm requirements takes no memory.
+fn make_room(alloc: Global, needs: &mut NeedRow, more: usize, size: usize) -> Result<(), AllocError>
+    ensures { IfOk result (λ _. needs.new ≡ needs.old) }
 {
-    if needs.is_empty() {
-        needs.reserve(size)?;
+    let count = needs.as_slice().len().saturating_add(more);
+    if count > 2 {
+        needs.make_room(alloc, size.max(count))?;
     }
     Ok(())
 }
@@ -54,15 +55,16 @@ fn version_aims(
     ensures { IfOk result (AreFirmNeeds (region_asked at.now) at.now.node.now at.now.row.now aims.now) }
 {
     let asked: &[Asked<'_>] = at.row.asked.as_slice();
-    let mut needs = Vec::new(alloc);
+    let mut needs = NeedRow::none();
     for k in 0..asked.len() {
         if !at.is_firm(algebra, &asked[k]) {
             continue;
         }
-        make_room(&mut needs, asked.len())?;
-        push_needs(alloc, &mut needs, aims[k].as_slice())?;
+        let more = aims[k].as_slice();
+        make_room(alloc, &mut needs, more.len(), asked.len())?;
+        push_needs(alloc, &mut needs, more)?;
     }
-    Ok(NeedRow::of(needs))
+    Ok(needs)
 }
 
 /// Of each version of a node the needs of its firm requirements, in order, by the places of all nodes.

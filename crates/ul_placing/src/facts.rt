@@ -6,59 +6,40 @@ ghost use Rattle.ul_region.specs.Asked.{IsAtNode, IsInRegion, region_asked};
 ghost use Rattle.ul_region.specs.Truths.{region_at};
 ghost use Rattle.ul_prepared.specs.Prepared.{IsPrepared};
 ghost use Rattle.ul_placing.specs.Aims.{AreRowsOf};
-ghost use Rattle.ul_placing.specs.Facts.{AreBarred, AreFacts, IsFacts, need_ranked, needs_ranked};
+ghost use Rattle.ul_placing.specs.Facts.{AreBarred, AreFacts, IsFacts, needs_ranked};
 
-use crate::ranks::{base_at, rank_at};
+use crate::ranks::base_at;
 use crate::reach::NodeAims;
 use std::alloc::{AllocError, Global};
-use std::mem;
 use ul_algebra::Algebra;
 use ul_prepared::{NameFacts, Planned, Prepared};
-use ul_problem::{Need, NeedRow, NeedRows, NodeFacts};
+use ul_problem::{NeedRow, NeedRows, NodeFacts};
 use ul_ranges::Ordinals;
 use ul_region::{AtNode, InRegion};
 use ul_requirement::{Strategy, Wish};
 
-// Puts the rank of a need's target in place of its place.
-fn rank_need(ranks: &[u64], need: &mut Need)
-    ensures { need.new ≡ need_ranked ranks.now need.old }
-{
-    need.node = rank_at(ranks, need.node);
-}
-
-// The same for the needs of a version.
-fn rank_needs(ranks: &[u64], needs: &mut [Need])
-    ensures { needs.new ≡ needs_ranked ranks.now needs.old }
-{
-    for need in needs.iter_mut() {
-        rank_need(ranks, need);
-    }
-}
-
-// The same for a row. Its list stays where it is.
-fn rank_row(alloc: Global, ranks: &[u64], row: &mut NeedRow)
+// Puts the rank of each target in place of its place, where the needs of a version stand.
+fn rank_row(ranks: &[u64], row: &mut NeedRow)
     ensures { row.new ≡ needs_ranked ranks.now row.old }
 {
-    let mut needs = mem::replace(row, NeedRow::of(Vec::new(alloc))).into_vec();
-    rank_needs(ranks, needs.as_mut_slice());
-    *row = NeedRow::of(needs);
+    row.renumber(ranks);
 }
 
 // The same for rows.
-fn rank_rows(alloc: Global, ranks: &[u64], rows: &mut [NeedRow])
+fn rank_rows(ranks: &[u64], rows: &mut [NeedRow])
     ensures { rows.new ≡ map (needs_ranked ranks.now) rows.old }
 {
     for row in rows.iter_mut() {
-        rank_row(alloc, ranks, row);
+        rank_row(ranks, row);
     }
 }
 
 // The needs of each version by ranks.
-fn ranked_rows(alloc: Global, ranks: &[u64], versions: Vec<NeedRow>) -> NeedRows
+fn ranked_rows(ranks: &[u64], versions: Vec<NeedRow>) -> NeedRows
     ensures { result ≡ map (needs_ranked ranks.now) versions.items }
 {
     let mut rows = versions;
-    rank_rows(alloc, ranks, rows.as_mut_slice());
+    rank_rows(ranks, rows.as_mut_slice());
     NeedRows::of(rows)
 }
 
@@ -125,7 +106,7 @@ fn facts_of<'p>(
     let versions = name.versions.copy()?;
     let order = name.order.copy()?;
     let barred = barred_of(alloc, algebra, place, wish.strategy, planned)?;
-    let needs = ranked_rows(alloc, ranks, aims.versions);
+    let needs = ranked_rows(ranks, aims.versions);
     Ok(NodeFacts {
         node,
         base: base_at(ranks, planned.base),
