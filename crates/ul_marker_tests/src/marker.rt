@@ -1,147 +1,195 @@
 //! Truths of markers at worlds, the order of atoms, and the texts of a world, as tables.
 
-use crate::texts::{atoms, digit, front, read_atom, read_world, variable, world};
-use crate::worlds::{Described, holds, others, truths, worlds};
-use std::alloc::{AllocError, Global};
-use std::fmt::Write;
-use std::test::Fail;
+use crate::texts::{atom, cells, digit, front, number, numbered, variable, world};
+use crate::worlds::{holds_at, worlds};
+use std::alloc::Global;
 use ul_marker::{Atom, Marker, World, meets_python};
 use ul_specifier::{Clause, Op};
 
-// Three machines: the interpreter, the eight texts, and the comparisons that hold.
-const MACHINES: [Described; 3] = [
-    (
-        (3, 8, 5),
-        "posix|linux|x86_64|CPython|6.1.0|Linux|#1 SMP|cpython",
-        "os_name contains n\nimplementation_version same 3.8.5",
-    ),
-    (
-        (3, 10, 0),
-        "nt|win32|AMD64|CPython|10|Windows|10.0.19045|cpython",
-        "os_name contains n",
-    ),
-    (
-        (2, 7, 18),
-        "posix|darwin|arm64|PyPy|22.6.0|Darwin|Darwin Kernel|pypy",
-        "",
-    ),
-];
+// The files of three machines, and behind each the opaque comparisons that hold at its world; at the last none does.
+const MACHINES: &str = "\
+    {\"os_name\": \"posix\", \"sys_platform\": \"linux\", \"platform_machine\": \"x86_64\", \
+    \"platform_python_implementation\": \"CPython\", \"platform_release\": \"6.1.0\", \"platform_system\": \"Linux\", \
+    \"platform_version\": \"#1 SMP\", \"implementation_name\": \"cpython\", \
+    \"implementation_version\": \"3.8.5\", \"python_full_version\": \"3.8.5\"}|\
+    'n' in os_name and implementation_version == '3.8.5';\
+    {\"os_name\": \"nt\", \"sys_platform\": \"win32\", \"platform_machine\": \"AMD64\", \
+    \"platform_python_implementation\": \"CPython\", \"platform_release\": \"10\", \"platform_system\": \"Windows\", \
+    \"platform_version\": \"10.0.19045\", \"implementation_name\": \"cpython\", \
+    \"implementation_version\": \"3.10.0\", \"python_full_version\": \"3.10.0\"}|\
+    'n' in os_name;\
+    {\"os_name\": \"posix\", \"sys_platform\": \"darwin\", \"platform_machine\": \"arm64\", \
+    \"platform_python_implementation\": \"PyPy\", \"platform_release\": \"22.6.0\", \"platform_system\": \"Darwin\", \
+    \"platform_version\": \"Darwin Kernel\", \"implementation_name\": \"pypy\", \
+    \"implementation_version\": \"7.3.9\", \"python_full_version\": \"2.7.18\"}|\
+    os_name == 'posix'";
 
-// No extra, and an extra.
-const EXTRAS: &str = ",test";
+// Where a marker holds at the worlds of these machines: without an extra, and with the extra `test`; how many opaque
+// comparisons stand in it, and whether it asks for an extra; and the marker.
+const MARKERS: &str = "000 111 0 1|extra == 'test'\n\
+    111 000 0 1|extra != 'test'\n\
+    111 000 0 1|extra == ''\n\
+    000 000 0 1|extra == 'te st'\n\
+    100 100 0 0|python_version == '3.8'\n\
+    000 000 0 0|python_full_version == '3.8'\n\
+    100 100 0 0|python_full_version == '3.8.*'\n\
+    010 010 0 0|python_version >= '3.9'\n\
+    001 001 0 0|python_full_version < '3.8.5'\n\
+    011 011 0 0|python_version in '2.7 3.10'\n\
+    010 010 0 0|python_full_version in '2.7 3.10'\n\
+    100 100 0 0|python_version not in '2.7 3.10'\n\
+    000 000 0 0|python_version in ''\n\
+    111 111 0 0|python_full_version not in ''\n\
+    101 101 0 0|os_name == 'posix'\n\
+    110 110 0 0|implementation_name != 'pypy'\n\
+    110 110 1 0|'n' in os_name\n\
+    001 001 1 0|'n' not in os_name\n\
+    000 000 1 0|os_name in 'n'\n\
+    100 000 0 1|extra == '' and sys_platform == 'linux'\n\
+    111 100 0 1|extra == '' or sys_platform == 'linux'\n\
+    000 100 0 1|extra == 'test' and sys_platform == 'linux'\n\
+    100 111 0 1|extra == 'test' or sys_platform == 'linux'\n\
+    000 000 0 1|extra == 'test' and sys_platform == 'plan9'\n\
+    000 111 0 1|extra == 'test' or sys_platform == 'plan9'\n\
+    000 000 0 0|python_version >= '3.8' and os_name == 'a'\n\
+    000 000 0 1|extra == 'a'\n\
+    111 111 1 1|'a' in os_name or extra != 'b'\n\
+    000 000 3 0|('a' in os_name or os_name < 'b') and ('a' in os_name or python_full_version in '3.8.1, 3.9')\n\
+    000 000 1 1|implementation_version == '3' and (python_version in '3.8 2' or (extra == '' and sys_platform == 'b'))\n\
+    111 111 0 0|all of nothing\n\
+    000 000 0 0|any of nothing\n\
+    110 110 300 1|a long marker";
 
-// Markers, and where each holds: at each of the three worlds, without an extra and with the extra `test`.
-const MARKERS: &str = "010101 extra == 'test'\n\
-    101010 extra != 'test'\n\
-    101010 extra == ''\n\
-    000000 extra == 'te st'\n\
-    110000 python_version == '3.8'\n\
-    000000 python_full_version == '3.8'\n\
-    110000 python_full_version == '3.8.*'\n\
-    001100 python_version >= '3.9'\n\
-    000011 python_full_version < '3.8.5'\n\
-    001111 python_version in '2.7 3.10'\n\
-    001100 python_full_version in '2.7 3.10'\n\
-    110000 python_version not in '2.7 3.10'\n\
-    000000 python_version in ''\n\
-    111111 python_full_version not in ''\n\
-    110011 os_name == 'posix'\n\
-    111100 implementation_name != 'pypy'\n\
-    111100 'n' in os_name\n\
-    000011 'n' not in os_name\n\
-    000000 os_name in 'n'\n\
-    100000 extra == '' and sys_platform == 'linux'\n\
-    111010 extra == '' or sys_platform == 'linux'\n\
-    010000 extra == 'test' and sys_platform == 'linux'\n\
-    110101 extra == 'test' or sys_platform == 'linux'\n\
-    000000 extra == 'test' and sys_platform == 'plan9'\n\
-    010101 extra == 'test' or sys_platform == 'plan9'";
-
-// Whether no marker holds nowhere as a choice, and everywhere as a list.
-fn is_empty_joined(alloc: Global, worlds: &[World]) -> Result<bool, AllocError> {
-    let all = Marker::All(Vec::new(alloc));
-    let any = Marker::Any(Vec::new(alloc));
-    are_empty(alloc, worlds, &all, &any)
+// A list of versions, and a choice of comparisons, with 300 numbers each.
+fn long_marker(alloc: Global) -> Option<Marker> {
+    let versions = numbered(alloc, 300, ",3.", "").ok()?;
+    let choices = numbered(alloc, 300, " or ('a", "' in os_name and extra == 'x')").ok()?;
+    let text = format!(in alloc; "python_version in '2{versions}'{choices}").ok()?;
+    Marker::read(alloc, text.as_str()).ok()
 }
 
-fn are_empty(
-    alloc: Global,
-    worlds: &[World],
-    all: &Marker,
-    any: &Marker,
-) -> Result<bool, AllocError> {
-    Ok(holds(alloc, worlds, EXTRAS, all, "111111")? && holds(alloc, worlds, EXTRAS, any, "000000")?)
+fn marker_of(alloc: Global, text: &str) -> Option<Marker> {
+    match text {
+        "all of nothing" => Some(Marker::All(Vec::new(alloc))),
+        "any of nothing" => Some(Marker::Any(Vec::new(alloc))),
+        "a long marker" => long_marker(alloc),
+        _ => Marker::read(alloc, text).ok(),
+    }
 }
 
-#[test]
-fn markers_hold_as_defined(rt: HostRuntime) -> Result<(), Fail> {
-    let worlds = worlds(rt.alloc(), MACHINES)?;
-    assert!(rt; is_empty_joined(rt.alloc(), &worlds)?);
-    assert_eq!(rt; others(rt.alloc(), &worlds, EXTRAS, MARKERS)?.as_str(), "");
-    Ok(())
+fn holds(alloc: Global, marker: &Marker, alone: &str, with_test: &str) -> bool {
+    match worlds(alloc, MACHINES) {
+        Some(worlds) => {
+            holds_at(&worlds, "", marker, alone) && holds_at(&worlds, "test", marker, with_test)
+        }
+        None => false,
+    }
 }
 
-// Comparisons in their order.
-const ORDERED: &str = "os_name contains \n\
-    os_name contains a\n\
-    os_name contains a a\n\
-    os_name contains b\n\
-    os_name within a\n\
-    os_name below a\n\
-    os_name at_most a\n\
-    sys_platform below B\n\
-    sys_platform below a\n\
-    platform_version contains a\n\
-    python_version contains a\n\
-    python_full_version contains 3.\n\
-    implementation_name contains a\n\
-    implementation_version at_most a\n\
-    implementation_version same a";
+fn has_count(alloc: Global, marker: &Marker, count: &str) -> bool {
+    match marker.atoms(alloc) {
+        Ok(atoms) => number(count) == atoms.len(),
+        Err(_) => false,
+    }
+}
+
+// Whether a marker is what the front of a row says.
+fn is_told(alloc: Global, marker: &Marker, facts: &str) -> bool {
+    let (alone, facts) = front(facts);
+    let (with_test, facts) = front(facts);
+    let (count, asks) = front(facts);
+    digit(marker.asks_extra()) == asks
+        && has_count(alloc, marker, count)
+        && holds(alloc, marker, alone, with_test)
+}
+
+// Whether a marker and its copy are so.
+fn is_copied(alloc: Global, marker: &Marker, facts: &str) -> bool {
+    match marker.copy(alloc) {
+        Ok(copy) => is_told(alloc, marker, facts) && is_told(alloc, &copy, facts),
+        Err(_) => false,
+    }
+}
+
+// Comparisons, and their places in the order.
+const ORDERED: &str = "0 os_name contains \n\
+    1 os_name contains a\n\
+    2 os_name contains a a\n\
+    3 os_name contains b\n\
+    4 os_name within a\n\
+    5 os_name below a\n\
+    6 os_name at_most a\n\
+    7 sys_platform below B\n\
+    8 sys_platform below a\n\
+    9 platform_version contains a\n\
+    10 python_version contains a\n\
+    11 python_full_version contains 3.\n\
+    12 implementation_name contains a\n\
+    13 implementation_version at_most a\n\
+    14 implementation_version same a";
 
 // Whether a comparison stands at a place among all.
-fn is_placed(alloc: Global, atoms: &[Atom], place: usize, atom: &Atom) -> Result<bool, AllocError> {
-    for (other, second) in atoms.iter().enumerate() {
-        if atom.copy(alloc)?.cmp(second) != place.cmp(&other) {
-            return Ok(false);
+fn stands_at(alloc: Global, place: usize, atom_here: &Atom) -> bool {
+    for line in ORDERED.lines() {
+        let (other, text) = front(line);
+        match atom(alloc, text) {
+            Some(second) => {
+                if atom_here.cmp(&second) != place.cmp(&number(other)) {
+                    return false;
+                }
+            }
+            None => return false,
         }
     }
-    Ok(true)
+    true
 }
 
-#[test]
-fn atoms_are_ordered(rt: HostRuntime) -> Result<(), Fail> {
-    let atoms = atoms(rt.alloc(), ORDERED)?;
-    assert!(rt; atoms.len() == 15);
-    for (place, atom) in atoms.iter().enumerate() {
-        assert!(rt; is_placed(rt.alloc(), &atoms, place, atom)?, "{place}");
+// Whether the copy of a comparison stands there.
+fn is_placed(alloc: Global, place: &str, text: &str) -> Option<bool> {
+    let copy = atom(alloc, text)?.copy(alloc).ok()?;
+    Some(stands_at(alloc, number(place), &copy))
+}
+
+// What is checked:
+// - `atom`: whether a comparison is one;
+// - `world`: whether the first machine has a world where the opaque comparisons of a marker hold, in its order;
+// - `bare`: whether there is a world without texts;
+// - `compatible`: whether 3.10.0 meets the clause `~=` of a version by its minor version, and 4.0.0 doesn't;
+// - `text`: the text of a variable at the first machine's world.
+const CHECKED: &str = "atom 1 python_version contains ~ '\n\
+    atom 0 python_version within a\n\
+    atom 0 os_name same a\n\
+    atom 1 implementation_version below \"\n\
+    atom 0 os_name below '\"\n\
+    atom 0 os_name below a\\b\n\
+    atom 0 os_name below \u{7f}\n\
+    atom 0 os_name below a\tb\n\
+    world 1 os_name < 'a' or os_name < 'b'\n\
+    world 0 os_name < 'b' or os_name < 'a'\n\
+    world 0 os_name < 'a' or os_name < 'a'\n\
+    bare 0 \n\
+    compatible 1 3.7\n\
+    text os_name posix\n\
+    text sys_platform linux\n\
+    text platform_machine x86_64\n\
+    text platform_python_implementation CPython\n\
+    text platform_release 6.1.0\n\
+    text platform_system Linux\n\
+    text platform_version #1 SMP\n\
+    text implementation_name cpython\n\
+    text python_version \n\
+    text implementation_version ";
+
+// The world of the first machine where the opaque comparisons of a marker hold.
+fn first_world(alloc: Global, marker: &str) -> Option<World> {
+    world(alloc, cells(MACHINES).0, marker)
+}
+
+fn is_named(alloc: Global, name: &str, want: &str) -> bool {
+    match first_world(alloc, "os_name == 'posix'") {
+        Some(world) => world.text(variable(name)) == want,
+        None => false,
     }
-    Ok(())
-}
-
-// Whether a comparison is one, and the comparison; whether a world is one, and the comparisons that hold at it, as
-// lines.
-const CHECKED: &str = "atom 1 python_version contains ~ '|\
-    atom 0 python_version within a|\
-    atom 0 os_name same a|\
-    atom 1 implementation_version below \"|\
-    atom 0 os_name below '\"|\
-    atom 0 os_name below a\\b|\
-    atom 0 os_name below \u{7f}|\
-    atom 0 os_name below a\tb|\
-    world 1 os_name below a\nos_name below b|\
-    world 0 os_name below b\nos_name below a|\
-    world 0 os_name below a\nos_name below a|\
-    none 0 ";
-
-fn is_atom(alloc: Global, text: &str) -> Result<bool, AllocError> {
-    let atom = read_atom(alloc, text)?;
-    Ok(atom.is_some())
-}
-
-fn is_world(alloc: Global, lines: &str) -> Result<bool, Fail> {
-    let truths = atoms(alloc, lines)?;
-    let world = read_world(alloc, MACHINES[0].0, MACHINES[0].1, truths)?;
-    Ok(world.is_some())
 }
 
 // Whether there is a world without texts.
@@ -149,149 +197,44 @@ fn is_bare_world(alloc: Global) -> bool {
     World::of((3, 8, 5), Vec::new(alloc), Vec::new(alloc)).is_some()
 }
 
-fn is_one(alloc: Global, kind: &str, text: &str) -> Result<bool, Fail> {
-    match kind {
-        "atom" => Ok(is_atom(alloc, text)?),
-        "world" => is_world(alloc, text),
-        _ => Ok(is_bare_world(alloc)),
+fn is_compatible(alloc: Global, version: &str) -> bool {
+    match Clause::read(alloc, Op::Compatible, version) {
+        Ok(clause) => {
+            meets_python(&clause, false, (3, 10, 0)) && !meets_python(&clause, true, (4, 0, 0))
+        }
+        Err(_) => false,
     }
 }
 
-fn is_checked(alloc: Global, case: &str) -> Result<bool, Fail> {
-    let (kind, rest) = front(case);
+fn is_checked(alloc: Global, line: &str) -> bool {
+    let (kind, rest) = front(line);
     let (want, text) = front(rest);
-    Ok(digit(is_one(alloc, kind, text)?) == want)
+    match kind {
+        "atom" => digit(atom(alloc, text).is_some()) == want,
+        "world" => digit(first_world(alloc, text).is_some()) == want,
+        "bare" => digit(is_bare_world(alloc)) == want,
+        "compatible" => digit(is_compatible(alloc, text)) == want,
+        "text" => is_named(alloc, want, text),
+        _ => matches!(is_placed(alloc, kind, rest), Some(true)),
+    }
+}
+
+fn is_row(alloc: Global, line: &str) -> bool {
+    let (facts, text) = cells(line);
+    if text.is_empty() {
+        return is_checked(alloc, line);
+    }
+    match marker_of(alloc, text) {
+        Some(marker) => is_copied(alloc, &marker, facts),
+        None => false,
+    }
 }
 
 #[test]
-fn atoms_and_worlds_are_checked(rt: HostRuntime) -> Result<(), Fail> {
-    for case in CHECKED.split('|') {
-        assert!(rt; is_checked(rt.alloc(), case)?, "{case}");
+fn markers_atoms_and_worlds_are_as_defined(rt: HostRuntime) {
+    for table in [MARKERS, ORDERED, CHECKED] {
+        for line in table.lines() {
+            assert!(rt; is_row(rt.alloc(), line), "{line}");
+        }
     }
-    Ok(())
-}
-
-// Variables, and their texts at the first world.
-const NAMED: &str = "os_name posix\n\
-    sys_platform linux\n\
-    platform_machine x86_64\n\
-    platform_python_implementation CPython\n\
-    platform_release 6.1.0\n\
-    platform_system Linux\n\
-    platform_version #1 SMP\n\
-    implementation_name cpython\n\
-    python_version \n\
-    implementation_version ";
-
-fn is_named(world: &World, line: &str) -> bool {
-    let (name, want) = front(line);
-    world.text(variable(name)) == want
-}
-
-#[test]
-fn texts_stand_in_the_order_of_their_variables(rt: HostRuntime) -> Result<(), Fail> {
-    let world = world(rt.alloc(), MACHINES[0].0, MACHINES[0].1, "")?;
-    for line in NAMED.split('\n') {
-        assert!(rt; is_named(&world, line), "{line}");
-    }
-    Ok(())
-}
-
-#[test]
-fn interpreters_meet_clauses(rt: HostRuntime) -> Result<(), Fail> {
-    let clause = Clause::read(rt.alloc(), Op::Compatible, "3.7")?;
-    let met = meets_python(&clause, false, (3, 10, 0));
-    assert!(rt; met && !meets_python(&clause, true, (4, 0, 0)));
-    Ok(())
-}
-
-// Markers, how many opaque comparisons stand in each, and whether it asks for an extra.
-const PARTS: &str =
-    "0 0 python_version >= '3.8' and os_name == 'a'|0 1 extra == 'a'|1 1 'a' in os_name or extra != 'b'|\
-    3 0 ('a' in os_name or os_name < 'b') and ('a' in os_name or python_full_version in '3.8.1, 3.9')|\
-    1 1 implementation_version == '3' and (python_version in '3.8 2' or (extra == '' and sys_platform == 'b'))";
-
-fn has_parts(alloc: Global, marker: &Marker, count: &str, asks: &str) -> Result<bool, AllocError> {
-    let atoms = marker.atoms(alloc)?;
-    let found = format!(in alloc; "{}", atoms.len() as u64)?;
-    Ok(found.as_str() == count && digit(marker.asks_extra()) == asks)
-}
-
-// Whether a copy holds where the marker does.
-fn is_alike(
-    alloc: Global,
-    worlds: &[World],
-    copy: &Marker,
-    marker: &Marker,
-) -> Result<bool, AllocError> {
-    let truths = truths(alloc, worlds, EXTRAS, marker)?;
-    holds(alloc, worlds, EXTRAS, copy, truths.as_str())
-}
-
-// Whether a marker is what a line says, and a copy is the same.
-fn is_told(
-    alloc: Global,
-    worlds: &[World],
-    copy: &Marker,
-    marker: &Marker,
-    line: &str,
-) -> Result<bool, AllocError> {
-    let (count, rest) = front(line);
-    let (asks, _) = front(rest);
-    Ok(
-        has_parts(alloc, marker, count, asks)?
-            && has_parts(alloc, copy, count, asks)?
-            && is_alike(alloc, worlds, copy, marker)?,
-    )
-}
-
-fn is_copied(alloc: Global, worlds: &[World], line: &str) -> Result<bool, Fail> {
-    let (_, text) = front(front(line).1);
-    let marker = Marker::read(alloc, text)?;
-    let copy = marker.copy(alloc)?;
-    Ok(is_told(alloc, worlds, &copy, &marker, line)?)
-}
-
-#[test]
-fn parts_are_told_and_copied(rt: HostRuntime) -> Result<(), Fail> {
-    let worlds = worlds(rt.alloc(), MACHINES)?;
-    for line in PARTS.split('|') {
-        assert!(rt; is_copied(rt.alloc(), &worlds, line)?, "{line}");
-    }
-    Ok(())
-}
-
-fn long_text(alloc: Global) -> Result<String, Fail> {
-    let mut text = String::from_str(alloc, "python_version in '2")?;
-    for number in 0..300u32 {
-        write!(text, ",3.{number}")?;
-    }
-    text.push_str("'")?;
-    for number in 0..300u32 {
-        write!(text, " or ('a{number}' in os_name and extra == 'x')")?;
-    }
-    Ok(text)
-}
-
-fn long_copy(alloc: Global) -> Result<Marker, Fail> {
-    let text = long_text(alloc)?;
-    let marker = Marker::read(alloc, text.as_str())?;
-    Ok(marker.copy(alloc)?)
-}
-
-fn is_long(alloc: Global, worlds: &[World], marker: &Marker) -> Result<bool, AllocError> {
-    let count = marker.atoms(alloc)?.len();
-    Ok(count == 300 && holds(alloc, worlds, EXTRAS, marker, "111100")?)
-}
-
-fn is_long_copied(alloc: Global) -> Result<bool, Fail> {
-    let marker = long_copy(alloc)?;
-    let worlds = worlds(alloc, MACHINES)?;
-    Ok(is_long(alloc, &worlds, &marker)?)
-}
-
-#[test]
-fn long_markers_are_copied(rt: HostRuntime) -> Result<(), Fail> {
-    assert!(rt; is_long_copied(rt.alloc())?);
-    Ok(())
 }

@@ -2,7 +2,6 @@
 
 use crate::texts::{atom, cells, parts};
 use std::alloc::{AllocError, Global};
-use std::test::Fail;
 use ul_marker::printed::{push_atom, push_bound, push_extra, push_text};
 use ul_marker::{Atom, Marker, Variable, is_literal};
 
@@ -10,52 +9,45 @@ use ul_marker::{Atom, Marker, Variable, is_literal};
 const LIST: &str = "python_full_version >= '3.0.4294967295' and python_full_version < '4.10.0' or \
     os_name == \"a'b\" and implementation_name != 'a\"b' or extra == ''";
 
-fn push_bounds(out: &mut String) -> Result<(), AllocError> {
-    push_bound(out, true, (3, 0, 4294967295))?;
-    out.push_str(" and ")?;
-    push_bound(out, false, (4, 10, 0))?;
-    Ok(())
-}
-
-fn push_texts(out: &mut String) -> Result<(), AllocError> {
-    push_text(out, Variable::OsName, "a'b", true)?;
-    out.push_str(" and ")?;
-    push_text(out, Variable::ImplementationName, "a\"b", false)?;
-    Ok(())
-}
-
-fn printed(alloc: Global) -> Result<String, AllocError> {
-    let mut out = String::new(alloc);
-    push_bounds(&mut out)?;
-    out.push_str(" or ")?;
-    push_texts(&mut out)?;
-    out.push_str(" or ")?;
-    push_extra(&mut out, "", true)?;
-    Ok(out)
-}
-
-fn is_list(alloc: Global) -> Result<bool, Fail> {
-    let out = printed(alloc)?;
-    Ok(out.as_str() == LIST && parts(alloc, LIST)? == 3)
-}
-
-#[test]
-fn comparisons_are_printed(rt: HostRuntime) -> Result<(), Fail> {
-    assert!(rt; is_list(rt.alloc())?);
-    Ok(())
-}
-
-// Opaque comparisons, how they are printed, and how where they don't hold.
-const OPAQUE: &str = "python_version contains x|'x' in python_version|'x' not in python_version\n\
+// Opaque comparisons, how they are printed, and how where they don't hold; then the list above, and a long literal.
+const PRINTED: &str = "python_version contains x|'x' in python_version|'x' not in python_version\n\
     sys_platform within x|sys_platform in 'x'|sys_platform not in 'x'\n\
     platform_release below x|platform_release < 'x'|platform_release >= 'x'\n\
     implementation_version at_most x|implementation_version <= 'x'|implementation_version > 'x'\n\
-    implementation_version same x|implementation_version == 'x'|implementation_version != 'x'";
+    implementation_version same x|implementation_version == 'x'|implementation_version != 'x'\n\
+    the list\n\
+    a literal of ten thousand quotes";
 
-fn is_printed(alloc: Global, atom: &Atom, positive: bool, want: &str) -> Result<bool, AllocError> {
+// A comparison of the list, which has five.
+fn push_comparison(out: &mut String, place: usize) -> Result<(), AllocError> {
+    match place {
+        0 => push_bound(out, true, (3, 0, 4294967295)),
+        1 => push_bound(out, false, (4, 10, 0)),
+        2 => push_text(out, Variable::OsName, "a'b", true),
+        3 => push_text(out, Variable::ImplementationName, "a\"b", false),
+        _ => push_extra(out, "", true),
+    }
+}
+
+fn list(alloc: Global) -> Result<String, AllocError> {
     let mut out = String::new(alloc);
-    push_atom(&mut out, atom, positive)?;
-    Ok(out.as_str() == want)
+    for (place, before) in "| and | or | and | or ".split('|').enumerate() {
+        out.push_str(before)?;
+        push_comparison(&mut out, place)?;
+    }
+    Ok(out)
+}
+
+fn is_list_printed(alloc: Global) -> bool {
+    match list(alloc) {
+        Ok(out) => out.as_str() == LIST && parts(alloc, LIST) == 3,
+        Err(_) => false,
+    }
+}
+
+fn is_printed(alloc: Global, atom: &Atom, positive: bool, want: &str) -> bool {
+    let mut out = String::new(alloc);
+    push_atom(&mut out, atom, positive).is_ok() && out.as_str() == want
 }
 
 fn is_opaque(marker: &Marker, atom: &Atom, positive: bool) -> bool {
@@ -68,36 +60,24 @@ fn is_opaque(marker: &Marker, atom: &Atom, positive: bool) -> bool {
     }
 }
 
-fn is_read(alloc: Global, atom: &Atom, positive: bool, text: &str) -> Result<bool, Fail> {
-    let marker = Marker::read(alloc, text)?;
-    Ok(is_opaque(&marker, atom, positive))
-}
-
-fn comes_back(alloc: Global, atom: &Atom, positive: bool, text: &str) -> Result<bool, Fail> {
-    Ok(is_printed(alloc, atom, positive, text)? && is_read(alloc, atom, positive, text)?)
-}
-
-fn is_row(alloc: Global, line: &str) -> Result<bool, Fail> {
-    let (text, rest) = cells(line);
-    let (holds, fails) = cells(rest);
-    let atom = atom(alloc, text)?;
-    Ok(comes_back(alloc, &atom, true, holds)? && comes_back(alloc, &atom, false, fails)?)
-}
-
-#[test]
-fn opaque_comparisons_are_printed(rt: HostRuntime) -> Result<(), Fail> {
-    for line in OPAQUE.split('\n') {
-        assert!(rt; is_row(rt.alloc(), line)?, "{line}");
+fn is_read(alloc: Global, atom: &Atom, positive: bool, text: &str) -> bool {
+    match Marker::read(alloc, text) {
+        Ok(marker) => is_opaque(&marker, atom, positive),
+        Err(_) => false,
     }
-    Ok(())
 }
 
-fn quotes(alloc: Global) -> Result<String, AllocError> {
-    let mut literal = String::new(alloc);
-    for _ in 0..10_000 {
-        literal.push_str("'")?;
+fn comes_back(alloc: Global, atom: &Atom, positive: bool, text: &str) -> bool {
+    is_printed(alloc, atom, positive, text) && is_read(alloc, atom, positive, text)
+}
+
+fn is_opaque_printed(alloc: Global, text: &str, texts: &str) -> bool {
+    let (holds, fails) = cells(texts);
+    match atom(alloc, text) {
+        Some(atom) => comes_back(alloc, &atom, true, holds)
+            && comes_back(alloc, &atom, false, fails),
+        None => false,
     }
-    Ok(literal)
 }
 
 fn is_text(marker: &Marker, literal: &str) -> bool {
@@ -107,32 +87,49 @@ fn is_text(marker: &Marker, literal: &str) -> bool {
     }
 }
 
-fn is_text_of(alloc: Global, text: &str, literal: &str) -> Result<bool, Fail> {
-    let marker = Marker::read(alloc, text)?;
-    Ok(is_text(&marker, literal))
+fn is_text_read(alloc: Global, text: &str, literal: &str) -> bool {
+    match Marker::read(alloc, text) {
+        Ok(marker) => is_text(&marker, literal),
+        Err(_) => false,
+    }
 }
 
-// Whether a literal is printed in so many bytes, and read back.
-fn is_printed_long(alloc: Global, literal: &str, bytes: usize) -> Result<bool, Fail> {
+// Whether a literal is printed in 10,022 bytes, and read back.
+fn is_long_printed(alloc: Global, literal: &str) -> bool {
     let mut out = String::new(alloc);
-    push_text(&mut out, Variable::PlatformVersion, literal, true)?;
-    Ok(out.len() == bytes && is_text_of(alloc, out.as_str(), literal)?)
+    let printed = push_text(&mut out, Variable::PlatformVersion, literal, true).is_ok();
+    printed && out.len() == 10_022 && is_text_read(alloc, out.as_str(), literal)
 }
 
-fn is_quotes_printed(alloc: Global) -> Result<bool, Fail> {
-    let literal = quotes(alloc)?;
-    Ok(is_literal(literal.as_bytes()) && is_printed_long(alloc, literal.as_str(), 10_022)?)
+// Whether a text is a literal, and none with the other quote behind it.
+fn is_literal_alone(alloc: Global, text: &str) -> bool {
+    match format!(in alloc; "{text}\"") {
+        Ok(both) => is_literal(text.as_bytes()) && !is_literal(both.as_bytes()),
+        Err(_) => false,
+    }
 }
 
-// Whether a literal has both quotes.
-fn has_both_quotes(alloc: Global) -> Result<bool, AllocError> {
-    let mut literal = quotes(alloc)?;
-    literal.push_str("\"")?;
-    Ok(is_literal(literal.as_bytes()))
+fn are_quotes_printed(alloc: Global) -> bool {
+    match "'".repeat(alloc, 10_000) {
+        Ok(quotes) => {
+            is_literal_alone(alloc, quotes.as_str()) && is_long_printed(alloc, quotes.as_str())
+        }
+        Err(_) => false,
+    }
+}
+
+fn is_row(alloc: Global, line: &str) -> bool {
+    let (text, texts) = cells(line);
+    match text {
+        "the list" => is_list_printed(alloc),
+        "a literal of ten thousand quotes" => are_quotes_printed(alloc),
+        _ => is_opaque_printed(alloc, text, texts),
+    }
 }
 
 #[test]
-fn long_literals_are_printed(rt: HostRuntime) -> Result<(), Fail> {
-    assert!(rt; is_quotes_printed(rt.alloc())? && !has_both_quotes(rt.alloc())?);
-    Ok(())
+fn comparisons_are_printed(rt: HostRuntime) {
+    for line in PRINTED.lines() {
+        assert!(rt; is_row(rt.alloc(), line), "{line}");
+    }
 }

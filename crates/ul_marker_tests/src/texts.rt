@@ -1,8 +1,8 @@
-//! What the lines of the tests' tables say.
+//! What the lines of the tests' tables say. Functions answer `None`, or what no line wants, for want of memory.
 
 use std::alloc::{AllocError, Global};
-use std::test::Fail;
-use ul_marker::{Atom, AtomKind, Marker, MarkerFault, Variable, World};
+use std::fmt::Write;
+use ul_marker::{Atom, AtomKind, Machine, Marker, Variable, World};
 
 const VARIABLES: [Variable; 11] = [
     Variable::OsName,
@@ -32,6 +32,25 @@ pub(crate) fn digit(holds: bool) -> &'static str {
     if holds { "1" } else { "0" }
 }
 
+/// Two pieces of text with a number between them, for so many numbers from 0 on.
+pub(crate) fn numbered(
+    alloc: Global,
+    count: u32,
+    before: &str,
+    after: &str,
+) -> Result<String, AllocError> {
+    let mut text = String::new(alloc);
+    for number in 0..count {
+        write!(text, "{before}{number}{after}")?;
+    }
+    Ok(text)
+}
+
+/// The number that digits are.
+pub(crate) fn number(digits: &str) -> usize {
+    digits.parse::<usize>().unwrap_or(usize::MAX)
+}
+
 /// The variable of a name.
 pub(crate) fn variable(name: &str) -> Variable {
     for variable in VARIABLES {
@@ -53,55 +72,30 @@ fn kind(word: &str) -> AtomKind {
 }
 
 /// The comparison `VARIABLE KIND LITERAL`, where it is one.
-pub(crate) fn read_atom(alloc: Global, text: &str) -> Result<Option<Atom>, AllocError> {
+pub(crate) fn atom(alloc: Global, text: &str) -> Option<Atom> {
     let (name, rest) = front(text);
     let (word, literal) = front(rest);
-    let literal = String::from_str(alloc, literal)?;
-    Ok(Atom::of(variable(name), kind(word), literal))
-}
-
-/// The comparison `VARIABLE KIND LITERAL`.
-pub(crate) fn atom(alloc: Global, text: &str) -> Result<Atom, Fail> {
-    Ok(read_atom(alloc, text)?.ok_or("no atom")?)
-}
-
-/// The comparisons of lines.
-pub(crate) fn atoms(alloc: Global, lines: &str) -> Result<Vec<Atom>, Fail> {
-    let mut atoms = Vec::new(alloc);
-    for line in lines.lines() {
-        atoms.push(atom(alloc, line)?)?;
+    match String::from_str(alloc, literal) {
+        Ok(literal) => Atom::of(variable(name), kind(word), literal),
+        Err(_) => None,
     }
-    Ok(atoms)
 }
 
-fn machine_texts(alloc: Global, machine: &str) -> Result<Vec<String>, AllocError> {
-    let mut texts = Vec::new(alloc);
-    for text in machine.split('|') {
-        texts.push(String::from_str(alloc, text)?)?;
+/// The opaque comparisons of a marker's text, in its order.
+pub(crate) fn atoms_of(alloc: Global, text: &str) -> Option<Vec<Atom>> {
+    match Marker::read(alloc, text) {
+        Ok(marker) => marker.atoms(alloc).ok(),
+        Err(_) => None,
     }
-    Ok(texts)
 }
 
-/// The world of an interpreter, of a machine's texts between bars, and of the comparisons that hold, where it is one.
-pub(crate) fn read_world(
-    alloc: Global,
-    python: (u32, u32, u32),
-    machine: &str,
-    truths: Vec<Atom>,
-) -> Result<Option<World>, AllocError> {
-    let texts = machine_texts(alloc, machine)?;
-    Ok(World::of(python, texts, truths))
-}
-
-/// The same, which is a world; the comparisons are lines.
-pub(crate) fn world(
-    alloc: Global,
-    python: (u32, u32, u32),
-    machine: &str,
-    truths: &str,
-) -> Result<World, Fail> {
-    let truths = atoms(alloc, truths)?;
-    Ok(read_world(alloc, python, machine, truths)?.ok_or("no world")?)
+/// The world of a machine's file, where the opaque comparisons of a marker hold, where it is one.
+pub(crate) fn world(alloc: Global, file: &str, marker: &str) -> Option<World> {
+    let truths = atoms_of(alloc, marker)?;
+    match Machine::read(alloc, file.as_bytes()) {
+        Ok(machine) => World::of(machine.python, machine.texts, truths),
+        Err(_) => None,
+    }
 }
 
 // How many parts a marker has that is a choice.
@@ -113,7 +107,9 @@ fn part_count(marker: &Marker) -> usize {
 }
 
 /// How many parts the marker of a text has that is a choice.
-pub(crate) fn parts(alloc: Global, text: &str) -> Result<usize, MarkerFault> {
-    let marker = Marker::read(alloc, text)?;
-    Ok(part_count(&marker))
+pub(crate) fn parts(alloc: Global, text: &str) -> usize {
+    match Marker::read(alloc, text) {
+        Ok(marker) => part_count(&marker),
+        Err(_) => 0,
+    }
 }
