@@ -15,10 +15,10 @@ use ul_base::{
 // long PIECE=FORM: the same of A with 9,999 such pieces behind it; the form is a with as many.
 // nodes NODE|NODE..: nodes in their order, each a name, and after a blank an extra.
 // keys COUNT TEXTS: how many names texts are in a hashed set, where a_B is among them.
-// failing_files READS, sure_files READS: reads `PATH LIMIT ANSWER` of three files, answered by `got TEXT`, `absent`, `too
-// long` or `failed`. The third read of the failing ones fails.
-// files many, sure_files many: 50,000 files, each path twice, of which the first is read. Where each read walks the list,
-// this takes 25 billion steps.
+// failing_files READS, sure_files READS: reads `PATH LIMIT ANSWER` of three files, answered by `got TEXT`, `absent`,
+// `too long` or `failed`. The third read of the failing ones fails.
+// files many, sure_files many: 50,000 files, each path twice, of which the first is read. Where each read walks the
+// list, this takes 25 billion steps.
 // sink KEPT=PIECE|PIECE..: what a sink in memory keeps of pieces, of which those behind a ! fail.
 // open_gate: the gate that lets through.
 const ROWS: &str = "name Web_App=web-app;\

@@ -32,7 +32,8 @@ const ROWS: &str = "spelled v1.0|1.0;\
     spelled 1.0preview2|1.0rc2;\
     spelled 1.0pre1|1.0rc1;\
     spelled 1.2.3.4.5.6.7.8.9.10|1.2.3.4.5.6.7.8.9.10;\
-    spelled 1!0.1.2.3.4.5.6.7.8.9.10-B_1-2.dev-3+a.b.c.d.e.f.1.2.3.4|1!0.1.2.3.4.5.6.7.8.9.10b1.post2.dev3+a.b.c.d.e.f.1.2.3.4;\
+    spelled 1!0.1.2.3.4.5.6.7.8.9.10-B_1-2.dev-3+a.b.c.d.e.f.1.2.3.4|\
+    1!0.1.2.3.4.5.6.7.8.9.10b1.post2.dev3+a.b.c.d.e.f.1.2.3.4;\
     spelled 18446744073709551615|18446744073709551615;\
     spelled 1.0.rev3|1.0.post3;\
     spelled 01.002|1.2;\
@@ -242,7 +243,7 @@ fn is_compared(alloc: Global, kind: &str, text: &str, other: &str, want: &str) -
     }
 }
 
-// How a version comes to another of the increasing ones, where it has passed its own row or not.
+// How a version comes to another of the increasing ones, where its row is passed or not.
 fn wanted(text: &str, other: &str, passed: bool) -> &'static str {
     if other == text {
         "="
@@ -273,7 +274,7 @@ fn is_placed(alloc: Global, text: &str) -> bool {
     passed
 }
 
-// Whether a version is the same as its own row's alone.
+// Whether a version is the same as itself alone.
 fn is_alone(alloc: Global, text: &str) -> bool {
     for line in ROWS.split(';') {
         if let Some(other) = line.strip_prefix("different ") {
