@@ -2,8 +2,41 @@
 ghost use Rattle.std.specs.Prelude.{◌<◌, IfOk, All};
 
 use std::alloc::{AllocError, Global};
-use std::test::Fail;
 use ul_ranges::{Cuts, Ordinals, plain};
+
+// What is tried, a case a row. The first word says what the others are:
+//
+// blocks SIZE: sets below a size, against plain ones.
+// singles: each number below 50,000 as a set of its own, which takes no memory.
+// starts NUMBERS, no_starts NUMBERS: whether numbers are starts of pieces.
+// piece NUMBER|STARTS|PLACE: the place of a number's piece.
+// refined STARTS|STARTS|STARTS: two cuts, and the one that refines both.
+const ROWS: &str = "blocks 0;\
+    blocks 1;\
+    blocks 63;\
+    blocks 64;\
+    blocks 65;\
+    blocks 66;\
+    blocks 255;\
+    blocks 256;\
+    blocks 257;\
+    blocks 1000;\
+    singles;\
+    starts 0;\
+    starts 0 5 2^96-1;\
+    no_starts ;\
+    no_starts 1;\
+    no_starts 0 0;\
+    no_starts 0 5 5;\
+    no_starts 0 5 4;\
+    no_starts 0 2^96;\
+    piece 0|0 5 9|0;\
+    piece 4|0 5 9|0;\
+    piece 5|0 5 9|1;\
+    piece 8|0 5 9|1;\
+    piece 9|0 5 9|2;\
+    piece 2^96-1|0 5 9|2;\
+    refined 0 5 9|0 5 7 2^95|0 5 7 9 2^95";
 
 // The multiples of `step` below `size`, each twice.
 fn multiples(alloc: Global, size: u32, step: u32) -> Result<Vec<u32>, AllocError>
@@ -30,100 +63,77 @@ fn agrees(set: &Ordinals, flags: &[bool]) -> bool {
     !set.has(set.size()) && set.next_from(set.size()).is_none()
 }
 
-fn multiples_set(alloc: Global, size: u32, step: u32) -> Result<Ordinals, AllocError>
-    requires { 0 < step }
-{
-    Ordinals::of_list(alloc, size, &multiples(alloc, size, step)?)
-}
-
-fn multiples_flags(alloc: Global, size: u32, step: u32) -> Result<Vec<bool>, AllocError>
-    requires { 0 < step }
-{
-    plain::of_list(alloc, size, &multiples(alloc, size, step)?)
-}
-
-// The multiples of two and of three below a size, as sets and plain.
+// A set, as blocks and plain.
 #[derive(Drop)]
 struct Sets {
-    twos: Ordinals,
-    threes: Ordinals,
-    plain_twos: Vec<bool>,
-    plain_threes: Vec<bool>,
+    set: Ordinals,
+    flags: Vec<bool>,
 }
 
-fn sets_of(alloc: Global, size: u32) -> Result<Sets, AllocError> {
-    let twos = multiples_set(alloc, size, 2)?;
-    let threes = multiples_set(alloc, size, 3)?;
-    let plain_twos = multiples_flags(alloc, size, 2)?;
-    let plain_threes = multiples_flags(alloc, size, 3)?;
-    Ok(Sets {
-        twos,
-        threes,
-        plain_twos,
-        plain_threes,
-    })
+// The multiples of `step` below `size`.
+fn multiple_sets(alloc: Global, size: u32, step: u32) -> Result<Sets, AllocError>
+    requires { 0 < step }
+{
+    let list = multiples(alloc, size, step)?;
+    let set = Ordinals::of_list(alloc, size, &list)?;
+    let flags = plain::of_list(alloc, size, &list)?;
+    Ok(Sets { set, flags })
 }
 
-// Whether an operation on those sets is the plain one.
-fn meets_agree(alloc: Global, of: &Sets) -> Result<bool, AllocError> {
-    if of.twos.size() != of.threes.size() || of.plain_twos.len() != of.plain_threes.len() {
-        return Ok(false);
+fn made(
+    alloc: Global,
+    word: &str,
+    set: &Ordinals,
+    other: &Ordinals,
+) -> Result<Ordinals, AllocError> {
+    if set.size() != other.size() {
+        return set.copy(alloc);
     }
-    let set = of.twos.meet(alloc, &of.threes)?;
-    let flags = plain::meet(alloc, &of.plain_twos, &of.plain_threes)?;
-    Ok(agrees(&set, &flags) && is_met(alloc, of, &set)?)
+    match word {
+        "meet" => set.meet(alloc, other),
+        "join" => set.join(alloc, other),
+        _ => set.less(alloc, other),
+    }
 }
 
-fn joins_agree(alloc: Global, of: &Sets) -> Result<bool, AllocError> {
-    if of.twos.size() != of.threes.size() || of.plain_twos.len() != of.plain_threes.len() {
-        return Ok(false);
+fn plain_made(
+    alloc: Global,
+    word: &str,
+    flags: &[bool],
+    others: &[bool],
+) -> Result<Vec<bool>, AllocError> {
+    if flags.len() != others.len() {
+        return Ok(Vec::new(alloc));
     }
-    let set = of.twos.join(alloc, &of.threes)?;
-    let flags = plain::join(alloc, &of.plain_twos, &of.plain_threes)?;
-    Ok(agrees(&set, &flags) && is_joined(alloc, of, &set)?)
+    match word {
+        "meet" => plain::meet(alloc, flags, others),
+        "join" => plain::join(alloc, flags, others),
+        _ => plain::less(alloc, flags, others),
+    }
 }
 
-fn lesses_agree(alloc: Global, of: &Sets) -> Result<bool, AllocError> {
-    if of.twos.size() != of.threes.size() || of.plain_twos.len() != of.plain_threes.len() {
-        return Ok(false);
+fn put(alloc: Global, word: &str, set: &mut Ordinals, other: &Ordinals) -> Result<(), AllocError> {
+    if set.size() != other.size() {
+        return Ok(());
     }
-    let set = of.twos.less(alloc, &of.threes)?;
-    let flags = plain::less(alloc, &of.plain_twos, &of.plain_threes)?;
-    Ok(agrees(&set, &flags) && is_lessened(alloc, of, &set)?)
+    match word {
+        "meet" => set.put_meet(alloc, other),
+        "join" => set.put_join(alloc, other),
+        _ => set.put_less(alloc, other),
+    }
 }
 
-// Whether the operation in place makes an equal set, over blocks of its own and over shared ones.
-fn is_met(alloc: Global, of: &Sets, want: &Ordinals) -> Result<bool, AllocError> {
-    let mut own = own(alloc, &of.twos)?;
-    let mut shared = of.twos.copy(alloc)?;
-    if own.size() != of.threes.size() || shared.size() != of.threes.size() {
-        return Ok(false);
-    }
-    own.put_meet(alloc, &of.threes)?;
-    shared.put_meet(alloc, &of.threes)?;
-    Ok(own.same(want) && shared.same(want))
-}
-
-fn is_joined(alloc: Global, of: &Sets, want: &Ordinals) -> Result<bool, AllocError> {
-    let mut own = own(alloc, &of.twos)?;
-    let mut shared = of.twos.copy(alloc)?;
-    if own.size() != of.threes.size() || shared.size() != of.threes.size() {
-        return Ok(false);
-    }
-    own.put_join(alloc, &of.threes)?;
-    shared.put_join(alloc, &of.threes)?;
-    Ok(own.same(want) && shared.same(want))
-}
-
-fn is_lessened(alloc: Global, of: &Sets, want: &Ordinals) -> Result<bool, AllocError> {
-    let mut own = own(alloc, &of.twos)?;
-    let mut shared = of.twos.copy(alloc)?;
-    if own.size() != of.threes.size() || shared.size() != of.threes.size() {
-        return Ok(false);
-    }
-    own.put_less(alloc, &of.threes)?;
-    shared.put_less(alloc, &of.threes)?;
-    Ok(own.same(want) && shared.same(want))
+// Whether the operation in place makes this set.
+fn is_put(
+    alloc: Global,
+    word: &str,
+    set: Result<Ordinals, AllocError>,
+    other: &Ordinals,
+    want: &Ordinals,
+) -> Result<bool, AllocError> {
+    let mut set = set?;
+    put(alloc, word, &mut set, other)?;
+    Ok(set.same(want))
 }
 
 // An equal set with blocks of its own.
@@ -135,23 +145,43 @@ fn own(alloc: Global, set: &Ordinals) -> Result<Ordinals, AllocError> {
     none.join(alloc, set)
 }
 
+// Whether an operation is the plain one, and makes an equal set in place, over blocks of its own and over shared ones.
+fn operates(alloc: Global, word: &str, twos: &Sets, threes: &Sets) -> Result<bool, AllocError> {
+    let set = made(alloc, word, &twos.set, &threes.set)?;
+    let flags = plain_made(alloc, word, &twos.flags, &threes.flags)?;
+    Ok(
+        agrees(&set, &flags)
+            && is_put(alloc, word, own(alloc, &twos.set), &threes.set, &set)?
+            && is_put(alloc, word, twos.set.copy(alloc), &threes.set, &set)?,
+    )
+}
+
+fn operate(alloc: Global, twos: &Sets, threes: &Sets) -> Result<bool, AllocError> {
+    for word in "meet join less".split(' ') {
+        if !operates(alloc, word, twos, threes)? {
+            return Ok(false);
+        }
+    }
+    Ok(agrees(&twos.set, &twos.flags) && agrees(&threes.set, &threes.flags))
+}
+
 // Whether the tests on those sets answer as they should, for a size.
-fn tests_agree(of: &Sets, size: u32) -> bool {
-    if of.twos.size() != of.threes.size() {
+fn tests_agree(twos: &Ordinals, threes: &Ordinals, size: u32) -> bool {
+    if twos.size() != threes.size() {
         return false;
     }
-    let within = of.twos.is_within(&of.threes) == (size < 3) && of.twos.is_within(&of.twos);
-    let apart = of.twos.is_apart(&of.threes) == (size == 0);
-    within && apart && of.twos.same(&of.threes) == (size < 3)
+    let within = twos.is_within(threes) == (size < 3) && twos.is_within(twos);
+    let apart = twos.is_apart(threes) == (size == 0);
+    within && apart && twos.same(threes) == (size < 3)
 }
 
 // Whether the answers on those sets are those on the plain ones.
-fn answers_agree(alloc: Global, of: &Sets, size: u32) -> Result<bool, AllocError> {
-    let (threes, flags) = (&of.threes, &of.plain_threes);
-    let empty = threes.is_empty() == plain::is_empty(flags) && threes.is_empty() == (size == 0);
+fn answers_agree(alloc: Global, twos: &Sets, threes: &Sets, size: u32) -> Result<bool, AllocError> {
+    let (set, flags) = (&threes.set, &threes.flags);
+    let empty = set.is_empty() == plain::is_empty(flags) && set.is_empty() == (size == 0);
     let list = multiples(alloc, size, 2)?;
-    let first = threes.first_in(&list) == plain::first_in(flags, &list);
-    Ok(empty && first && of.twos.copy(alloc)?.same(&of.twos))
+    let first = set.first_in(&list) == plain::first_in(flags, &list);
+    Ok(empty && first && twos.set.copy(alloc)?.same(&twos.set))
 }
 
 // Whether the empty set and the whole one are right.
@@ -175,37 +205,31 @@ fn last_agrees(alloc: Global, size: u32) -> Result<bool, AllocError> {
     Ok(first && blocks && one.same(&last) && !last.is_empty())
 }
 
-fn operations_agree(alloc: Global, of: &Sets) -> Result<bool, AllocError> {
-    let given = agrees(&of.twos, &of.plain_twos) && agrees(&of.threes, &of.plain_threes);
-    Ok(given && meets_agree(alloc, of)? && joins_agree(alloc, of)? && lesses_agree(alloc, of)?)
+fn are_blocks(alloc: Global, size: u32) -> Result<bool, AllocError> {
+    let twos = multiple_sets(alloc, size, 2)?;
+    let threes = multiple_sets(alloc, size, 3)?;
+    let answers = tests_agree(&twos.set, &threes.set, size)
+        && answers_agree(alloc, &twos, &threes, size)?;
+    Ok(answers && operate(alloc, &twos, &threes)?)
 }
 
-fn all_agree(alloc: Global, size: u32) -> Result<bool, AllocError> {
-    let of = sets_of(alloc, size)?;
-    let answers = tests_agree(&of, size) && answers_agree(alloc, &of, size)?;
-    let operations = operations_agree(alloc, &of)?;
-    Ok(answers && operations && ends_agree(alloc, size)? && last_agrees(alloc, size)?)
+fn is_size(alloc: Global, size: u32) -> Result<bool, AllocError> {
+    Ok(are_blocks(alloc, size)? && ends_agree(alloc, size)? && last_agrees(alloc, size)?)
 }
 
-#[test]
-fn blocks_are_the_plain_sets(rt: HostRuntime) -> Result<(), Fail> {
-    for size in [0, 1, 63, 64, 65, 66, 255, 256, 257, 1000] {
-        assert!(rt; all_agree(rt.alloc(), size)?, "{size}");
-    }
-    Ok(())
-}
-
-// Each number below a size as a set of its own: how many of them are in a set.
-fn singles_in(alloc: Global, size: u32, step: u32) -> Result<u32, AllocError>
-    requires { 0 < step }
-{
-    let wide = Ordinals::of_list(alloc, size, &multiples(alloc, size, step)?)?;
+fn singles(alloc: Global, size: u32) -> Result<Vec<Ordinals>, AllocError> {
     let mut singles = Vec::new(alloc);
     for k in 0..size {
         singles.push(Ordinals::one(size, k))?;
     }
+    Ok(singles)
+}
+
+// How many of the sets of one number are in the multiples of seven.
+fn singles_in(alloc: Global, size: u32) -> Result<u32, AllocError> {
+    let wide = Ordinals::of_list(alloc, size, &multiples(alloc, size, 7)?)?;
     let mut count = 0u32;
-    for single in &singles {
+    for single in &singles(alloc, size)? {
         if single.size() == wide.size() && single.is_within(&wide) && !single.is_apart(&wide) {
             count = count.saturating_add(1);
         }
@@ -213,53 +237,86 @@ fn singles_in(alloc: Global, size: u32, step: u32) -> Result<u32, AllocError>
     Ok(count)
 }
 
-#[test]
-fn single_members_take_no_memory(rt: HostRuntime) -> Result<(), Fail> {
-    assert_eq!(rt; singles_in(rt.alloc(), 50000, 7)?, 7143);
-    Ok(())
-}
-
-fn cuts(alloc: Global, starts: &[u128]) -> Result<Option<Cuts>, AllocError> {
-    if !Cuts::fits(starts) {
-        return Ok(None);
+fn number(word: &str) -> u128 {
+    match word {
+        "2^95" => 1 << 95,
+        "2^96-1" => (1 << 96) - 1,
+        "2^96" => 1 << 96,
+        _ => word.parse::<u128>().unwrap_or(0),
     }
-    let cuts = Cuts::of(Vec::from_slice(alloc, starts)?);
-    Ok(Some(cuts))
 }
 
-#[test]
-fn starts_fit(rt: HostRuntime) {
-    assert!(rt; Cuts::fits(&[0]) && Cuts::fits(&[0, 5, (1 << 96) - 1]));
-    assert!(rt; !Cuts::fits(&[]) && !Cuts::fits(&[1]) && !Cuts::fits(&[0, 0]));
-    assert!(rt; !Cuts::fits(&[0, 5, 5]) && !Cuts::fits(&[0, 5, 4]) && !Cuts::fits(&[0, 1 << 96]));
-}
-
-// Whether the pieces of numbers are those, also by the plain search.
-fn finds(cuts: &Cuts, wanted: &[(u128, usize)]) -> bool {
-    for (number, want) in wanted {
-        if *number >= 1 << 96 || cuts.piece_of(*number) != *want {
-            return false;
-        }
-        if plain::piece_of(cuts.starts(), *number) != *want {
-            return false;
+fn starts(alloc: Global, text: &str) -> Result<Vec<u128>, AllocError> {
+    let mut starts = Vec::new(alloc);
+    for word in text.split(' ') {
+        if !word.is_empty() {
+            starts.push(number(word))?;
         }
     }
-    true
+    Ok(starts)
+}
+
+fn cuts(alloc: Global, text: &str) -> Option<Cuts> {
+    let starts = starts(alloc, text).ok()?;
+    if Cuts::fits(&starts) {
+        Some(Cuts::of(starts))
+    } else {
+        None
+    }
+}
+
+fn fits(alloc: Global, text: &str) -> Result<bool, AllocError> {
+    let starts = starts(alloc, text)?;
+    Ok(Cuts::fits(&starts))
+}
+
+// Whether the piece of a number is this one, also by the plain search.
+fn is_piece(cuts: &Cuts, number: u128, want: Option<usize>) -> bool {
+    if number >= 1 << 96 || Some(cuts.piece_of(number)) != want {
+        return false;
+    }
+    Some(plain::piece_of(cuts.starts(), number)) == want
 }
 
 // Whether two cuts refine each other to these starts, also by the plain search.
-fn refines(alloc: Global, first: &Cuts, second: &Cuts, want: &[u128]) -> Result<bool, AllocError> {
+fn refine(alloc: Global, first: &Cuts, second: &Cuts, want: &[u128]) -> Result<bool, AllocError> {
     let both = first.refine(alloc, second)?;
     let plain = plain::refine(alloc, second.starts(), first.starts())?;
     Ok(both.starts() == want && plain.as_slice() == want)
 }
 
+fn is_refined(alloc: Global, first: &str, second: &str, want: &str) -> Option<bool> {
+    let first = cuts(alloc, first)?;
+    let second = cuts(alloc, second)?;
+    let want = starts(alloc, want).ok()?;
+    refine(alloc, &first, &second, &want).ok()
+}
+
+// Whether a row of pieces, of three parts, says what is so.
+fn is_cut(alloc: Global, kind: &str, row: &str) -> Option<bool> {
+    let (first, rest) = row.split_once('|')?;
+    let (second, want) = rest.split_once('|')?;
+    if kind == "refined" {
+        return is_refined(alloc, first, second, want);
+    }
+    let cuts = cuts(alloc, second)?;
+    Some(is_piece(&cuts, number(first), want.parse::<usize>().ok()))
+}
+
+fn is_row(alloc: Global, line: &str) -> Option<bool> {
+    let (kind, rest) = line.split_once(' ').unwrap_or((line, ""));
+    match kind {
+        "blocks" => is_size(alloc, rest.parse::<u32>().ok()?).ok(),
+        "singles" => Some(singles_in(alloc, 50000) == Ok(7143)),
+        "starts" => fits(alloc, rest).ok(),
+        "no_starts" => Some(fits(alloc, rest) == Ok(false)),
+        _ => is_cut(alloc, kind, rest),
+    }
+}
+
 #[test]
-fn pieces_are_found_and_cut(rt: HostRuntime) -> Result<(), Fail> {
-    let first = cuts(rt.alloc(), &[0, 5, 9])?.ok_or("starts")?;
-    let second = cuts(rt.alloc(), &[0, 5, 7, 1 << 95])?.ok_or("starts")?;
-    let wanted = [(0, 0), (4, 0), (5, 1), (8, 1), (9, 2), ((1 << 96) - 1, 2)];
-    assert!(rt; finds(&first, &wanted));
-    assert!(rt; refines(rt.alloc(), &first, &second, &[0, 5, 7, 9, 1 << 95])?);
-    Ok(())
+fn sets_and_pieces_are_as_told(rt: HostRuntime) {
+    for line in ROWS.split(';') {
+        assert!(rt; is_row(rt.alloc(), line) == Some(true), "{line}");
+    }
 }

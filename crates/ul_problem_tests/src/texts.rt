@@ -5,8 +5,8 @@
 ghost use Rattle.std.specs.Prelude.{◌<◌, All};
 
 use std::alloc::{AllocError, Global};
-use std::test::Fail;
-use ul_base::{Name, Node};
+use ul_base::owned::{with_made, with_one};
+use ul_base::{Name, NameFault, Node};
 use ul_problem::{Need, NeedRow, NeedRows, NodeFacts, Places, Problem, Versions};
 use ul_ranges::Ordinals;
 use ul_version::Version;
@@ -48,18 +48,11 @@ pub(crate) fn set_of(alloc: Global, row: &[u32]) -> Result<Ordinals, AllocError>
 }
 
 /// A node, `NAME` or `NAME/EXTRA`.
-pub(crate) fn node(alloc: Global, text: &str) -> Result<Node, Fail> {
-    let Some((name, extra)) = text.split_once('/') else {
-        return base_node(alloc, text);
-    };
+pub(crate) fn node(alloc: Global, text: &str) -> Result<Node, NameFault> {
+    let (name, extra) = text.split_once('/').unwrap_or((text, ""));
     let name = Name::read(alloc, name)?;
-    let extra = Some(Name::read(alloc, extra)?);
+    let extra = Name::read(alloc, extra).ok();
     Ok(Node { name, extra })
-}
-
-fn base_node(alloc: Global, text: &str) -> Result<Node, Fail> {
-    let name = Name::read(alloc, text)?;
-    Ok(Node { name, extra: None })
 }
 
 // The version whose release is one number, the next one.
@@ -72,7 +65,7 @@ fn version(alloc: Global, number: u32) -> Result<Version, AllocError> {
 fn versions(alloc: Global, size: u32) -> Result<Versions, AllocError> {
     let mut versions = Vec::new(alloc);
     for k in 0..size {
-        versions.push(version(alloc, k)?)?;
+        versions = with_made(versions, version(alloc, k))?;
     }
     Versions::of(alloc, versions)
 }
@@ -97,7 +90,7 @@ fn need_row(alloc: Global, text: &str) -> Result<NeedRow, AllocError> {
     let mut needs = Vec::new(alloc);
     for part in text.split(',') {
         if !part.is_empty() {
-            needs.push(need(alloc, part)?)?;
+            needs = with_made(needs, need(alloc, part))?;
         }
     }
     Ok(NeedRow::of(needs))
@@ -106,7 +99,7 @@ fn need_row(alloc: Global, text: &str) -> Result<NeedRow, AllocError> {
 fn need_rows(alloc: Global, text: &str, size: u32) -> Result<NeedRows, AllocError> {
     let mut rows = Vec::new(alloc);
     for _ in 0..size {
-        rows.push(need_row(alloc, text)?)?;
+        rows = with_made(rows, need_row(alloc, text))?;
     }
     Ok(NeedRows::of(rows))
 }
@@ -127,26 +120,33 @@ fn facts(alloc: Global, node: Node, size: u32, needs: NeedRows) -> Result<NodeFa
     })
 }
 
-fn read_facts(alloc: Global, text: &str) -> Result<NodeFacts, Fail> {
+fn read_facts(alloc: Global, text: &str) -> Option<NodeFacts> {
     let (head, needs) = text.split_once(',').unwrap_or((text, ""));
     let (name, size) = head.split_once(' ').unwrap_or((head, ""));
     let size = number(size);
-    let node = node(alloc, name)?;
-    let needs = need_rows(alloc, needs, size)?;
-    Ok(facts(alloc, node, size, needs)?)
+    let node = node(alloc, name).ok()?;
+    let needs = need_rows(alloc, needs, size).ok()?;
+    facts(alloc, node, size, needs).ok()
 }
 
-fn read_nodes(alloc: Global, text: &str) -> Result<Vec<NodeFacts>, Fail> {
+fn read_nodes(alloc: Global, text: &str) -> Option<Vec<NodeFacts>> {
     let mut nodes = Vec::new(alloc);
     for part in text.split(';') {
-        nodes.push(read_facts(alloc, part)?)?;
+        let facts = read_facts(alloc, part)?;
+        nodes = with_one(nodes, facts).ok()?;
     }
-    Ok(nodes)
+    Some(nodes)
 }
 
-/// The problem of a root and of nodes, where they are one.
-pub(crate) fn read_problem(alloc: Global, root: u32, text: &str) -> Result<Option<Problem>, Fail> {
-    let nodes = read_nodes(alloc, text)?;
+/// The problem of a root and of nodes; nothing where they are none.
+pub(crate) fn read_problem(
+    alloc: Global,
+    root: u32,
+    text: &str,
+) -> Result<Option<Problem>, AllocError> {
+    let Some(nodes) = read_nodes(alloc, text) else {
+        return Err(AllocError);
+    };
     let roots = vec![in alloc; root as u64]?;
     if Problem::fits(alloc, roots.as_slice(), nodes.as_slice())? {
         Ok(Some(Problem::of(roots, nodes)))
@@ -156,6 +156,6 @@ pub(crate) fn read_problem(alloc: Global, root: u32, text: &str) -> Result<Optio
 }
 
 /// The problem of nodes whose root is the first.
-pub(crate) fn problem_of(alloc: Global, text: &str) -> Result<Problem, Fail> {
-    Ok(read_problem(alloc, 0, text)?.ok_or("no problem")?)
+pub(crate) fn problem_of(alloc: Global, text: &str) -> Option<Problem> {
+    read_problem(alloc, 0, text).ok()?
 }

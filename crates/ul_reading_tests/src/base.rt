@@ -1,143 +1,129 @@
 //! Names, nodes, files and sinks: that the calls succeed, at size too, and that the definitions mean what PEP 503 and
 //! PEP 508 do.
+use crate::texts::repeated;
 use std::alloc::{AllocError, Global};
 use std::collections::{BTreeSet, HashSet};
-use std::test::Fail;
+use ul_base::owned::with_made;
 use ul_base::{
     Files, Gate, MemFiles, MemSink, Name, NameFault, Node, Open, ReadRefused, Sink, SinkRefused,
     SureFiles, is_name,
 };
 
-// Texts, and the normal forms of the names that they are.
-const NAMES: &str =
-    "Web_App web-app|A.B a-b|a-b a-b|a__b a-b|a-._b a-b|Zope.Interface zope-interface|7z 7z|X x";
+// What is tried, a case a row. The first word says what the others are:
+//
+// name TEXT=FORM: a text, and the normal form of the name that it is, or nothing where it is no name.
+// long PIECE=FORM: the same of A with 9,999 such pieces behind it; the form is a with as many.
+// nodes NODE|NODE..: nodes in their order, each a name, and after a blank an extra.
+// keys COUNT TEXTS: how many names texts are in a hashed set, where a_B is among them.
+// failing_files READS, sure_files READS: reads `PATH LIMIT ANSWER` of three files, answered by `got TEXT`, `absent`,
+// `too long` or `failed`. The third read of the failing ones fails.
+// files many, sure_files many: 50,000 files, each path twice, of which the first is read. Where each read walks the
+// list, this takes 25 billion steps.
+// sink KEPT=PIECE|PIECE..: what a sink in memory keeps of pieces, of which those behind a ! fail.
+// open_gate: the gate that lets through.
+const ROWS: &str = "name Web_App=web-app;\
+    name A.B=a-b;\
+    name a-b=a-b;\
+    name a__b=a-b;\
+    name a-._b=a-b;\
+    name Zope.Interface=zope-interface;\
+    name 7z=7z;\
+    name X=x;\
+    name =;\
+    name -a=;\
+    name a-=;\
+    name a b=;\
+    name _=;\
+    name .=;\
+    name a.=;\
+    name é=;\
+    name aéb=;\
+    name a\nb=;\
+    name a]=;\
+    long b=b;\
+    long .b=-b;\
+    long _.-b=-b;\
+    long  b=;\
+    nodes a|a x|a y|a-b|b|b a;\
+    keys 2 A.B a-b a__b c;\
+    failing_files p 5 got 12345|p 4 too long|q 9 failed|q 0 got |r 9 absent;\
+    sure_files p 5 got 12345|p 4 too long|q 9 got |r 9 absent;\
+    files many;\
+    sure_files many;\
+    sink first secon third end=first |!second|! third| end;\
+    open_gate";
 
-// Whether a text is a name of a form, and the name its own copy.
-fn is_form(alloc: Global, text: &str, form: &str) -> Result<bool, NameFault> {
-    let name = Name::read(alloc, text)?;
-    let copied = name.copy(alloc)? == name;
-    Ok(copied && name.text() == form && is_name(text))
-}
-
-fn is_row(alloc: Global, line: &str) -> Result<bool, NameFault> {
-    let (text, form) = line.split_once(' ').unwrap_or((line, ""));
-    is_form(alloc, text, form)
-}
-
-#[test]
-fn texts_read_as_names_in_normal_form(rt: HostRuntime) -> Result<(), Fail> {
-    for line in NAMES.split('|') {
-        assert!(rt; is_row(rt.alloc(), line)?, "{line}");
+fn is_copied(alloc: Global, name: &Name) -> bool {
+    match name.copy(alloc) {
+        Ok(copy) => copy == *name,
+        Err(_) => false,
     }
-    Ok(())
 }
 
-// Texts that are no names.
-const OTHERS: &str = "|-a|a-|a b|_|.|a.|é|aéb|a\nb|a]";
-
-fn is_refused(alloc: Global, text: &str) -> bool {
-    !is_name(text) && Name::read(alloc, text).err() == Some(NameFault::NoReading)
-}
-
-#[test]
-fn other_texts_are_no_names(rt: HostRuntime) {
-    for text in OTHERS.split('|') {
-        assert!(rt; is_refused(rt.alloc(), text), "at {text}");
+// Whether a text is a name of this form, and the name its own copy; or no name, where there is no form.
+fn is_form(alloc: Global, text: &str, form: &str) -> bool {
+    match Name::read(alloc, text) {
+        Ok(name) => is_name(text) && name.text() == form && is_copied(alloc, &name),
+        Err(fault) => fault == NameFault::NoReading && form.is_empty() && !is_name(text),
     }
 }
 
-// A text of 10,000 letters, with separators between them.
-fn long_text(alloc: Global, separator: &str) -> Result<String, AllocError> {
-    let mut text = String::from_str(alloc, "A")?;
-    for _ in 0..9_999 {
-        text.push_str(separator)?;
-        text.push('b')?;
-    }
-    Ok(text)
+fn is_long(alloc: Global, piece: &str, form: &str) -> Result<bool, AllocError> {
+    let text = repeated(alloc, "A", piece, 9_999)?;
+    let start = if form.is_empty() { "" } else { "a" };
+    let form = repeated(alloc, start, form, 9_999)?;
+    Ok(is_form(alloc, text.as_str(), form.as_str()))
 }
-
-// Whether such a text is a name of so many bytes.
-fn is_long_name(alloc: Global, separator: &str, length: usize) -> Result<bool, Fail> {
-    let text = long_text(alloc, separator)?;
-    let name = Name::read(alloc, text.as_str())?;
-    let copied = name.copy(alloc)? == name;
-    Ok(copied && name.text().len() == length && is_name(text.as_str()))
-}
-
-#[test]
-fn long_names_are_read(rt: HostRuntime) -> Result<(), Fail> {
-    for (separator, length) in [("", 10_000), (".", 19_999), ("_.-", 19_999)] {
-        assert!(rt; is_long_name(rt.alloc(), separator, length)?, "{separator}");
-    }
-    let spaced = long_text(rt.alloc(), " ")?;
-    assert!(rt; is_refused(rt.alloc(), spaced.as_str()));
-    Ok(())
-}
-
-// Nodes in their order: a name, and after a blank an extra.
-const NODES: &str = "a|a x|a y|a-b|b|b a";
 
 fn node(alloc: Global, text: &str) -> Result<Node, NameFault> {
-    let Some((name, extra)) = text.split_once(' ') else {
-        let name = Name::read(alloc, text)?;
-        return Ok(Node { name, extra: None });
-    };
+    let (name, extra) = text.split_once(' ').unwrap_or((text, ""));
     let name = Name::read(alloc, name)?;
-    let extra = Some(Name::read(alloc, extra)?);
+    let extra = Name::read(alloc, extra).ok();
     Ok(Node { name, extra })
 }
 
-// Those nodes, each given twice, from the last on.
-fn nodes(alloc: Global) -> Result<BTreeSet<Node>, Fail> {
-    let mut nodes = BTreeSet::new(alloc);
-    for text in NODES.rsplit('|') {
-        let node = node(alloc, text)?;
-        nodes.insert(node.copy(alloc)?)?;
-        nodes.insert(node)?;
-    }
-    Ok(nodes)
+// Puts a node and its copy into a set.
+fn put_twice(alloc: Global, nodes: &mut BTreeSet<Node>, text: &str) -> Option<bool> {
+    let node = node(alloc, text).ok()?;
+    let copy = node.copy(alloc).ok()?;
+    nodes.insert(copy).ok()?;
+    nodes.insert(node).ok()
 }
 
-fn push_node(told: &mut String, node: &Node) -> Result<(), AllocError> {
-    told.push_str(node.name.text())?;
-    if let Some(extra) = &node.extra {
-        told.push(' ')?;
-        told.push_str(extra.text())?;
-    }
-    Ok(())
-}
-
-fn told(alloc: Global, nodes: &BTreeSet<Node>) -> Result<String, AllocError> {
-    let mut told = String::new(alloc);
-    for node in nodes {
-        if !told.is_empty() {
-            told.push('|')?;
+// Whether the nodes of a text are these, in this order.
+fn are_listed(alloc: Global, nodes: &BTreeSet<Node>, texts: &str) -> Result<bool, NameFault> {
+    let mut texts = texts.split('|');
+    for listed in nodes {
+        let node = node(alloc, texts.next().unwrap_or(""))?;
+        if node != *listed {
+            return Ok(false);
         }
-        push_node(&mut told, node)?;
     }
-    Ok(told)
+    Ok(texts.next().is_none())
 }
 
-#[test]
-fn nodes_come_base_first_and_in_bytes(rt: HostRuntime) -> Result<(), Fail> {
-    let nodes = nodes(rt.alloc())?;
-    assert!(rt; told(rt.alloc(), &nodes)?.as_str() == NODES);
-    Ok(())
+// Whether nodes that are put into a set from the last on come out in their order.
+fn are_ordered(alloc: Global, texts: &str) -> Option<bool> {
+    let mut nodes = BTreeSet::new(alloc);
+    for text in texts.rsplit('|') {
+        put_twice(alloc, &mut nodes, text)?;
+    }
+    are_listed(alloc, &nodes, texts).ok()
 }
 
-fn hashed(alloc: Global) -> Result<HashSet<Name>, Fail> {
+fn put_name(alloc: Global, names: &mut HashSet<Name>, text: &str) -> Option<bool> {
+    let name = Name::read(alloc, text).ok()?;
+    names.insert(name).ok()
+}
+
+fn are_keys(alloc: Global, row: &str) -> Option<bool> {
+    let (count, texts) = row.split_once(' ')?;
     let mut names = HashSet::new(alloc);
-    for text in "A.B a-b a__b c".split(' ') {
-        names.insert(Name::read(alloc, text)?)?;
+    for text in texts.split(' ') {
+        put_name(alloc, &mut names, text)?;
     }
-    Ok(names)
-}
-
-#[test]
-fn names_are_keys_of_hashed_sets(rt: HostRuntime) -> Result<(), Fail> {
-    let (names, name) = (hashed(rt.alloc())?, Name::read(rt.alloc(), "a_B")?);
-    assert!(rt; names.len() == 2 && names.contains(&name));
-    Ok(())
+    let name = Name::read(alloc, "a_B").ok()?;
+    Some(Some(names.len()) == count.parse::<usize>().ok() && names.contains(&name))
 }
 
 fn entry(alloc: Global, path: &str, text: &str) -> Result<(String, Vec<u8>), AllocError> {
@@ -148,13 +134,20 @@ fn entry(alloc: Global, path: &str, text: &str) -> Result<(String, Vec<u8>), All
 
 fn listed(alloc: Global) -> Result<Vec<(String, Vec<u8>)>, AllocError> {
     let mut list = Vec::new(alloc);
-    list.push(entry(alloc, "p", "12345")?)?;
-    list.push(entry(alloc, "p", "other")?)?;
-    list.push(entry(alloc, "q", "")?)?;
+    for file in "p=12345|p=other|q=".split('|') {
+        let (path, text) = file.split_once('=').unwrap_or((file, ""));
+        list = with_made(list, entry(alloc, path, text))?;
+    }
     Ok(list)
 }
 
-// Whether a read is answered by `got TEXT`, `absent`, `too long` or `failed`.
+fn is_text(bytes: &[u8], want: &str) -> bool {
+    match want.strip_prefix("got ") {
+        Some(text) => bytes == text.as_bytes(),
+        None => false,
+    }
+}
+
 fn is_answered<F: Files>(files: &mut F, path: &str, limit: u64, want: &str) -> bool {
     match files.read(path, limit) {
         Ok(Some(bytes)) => is_text(&bytes, want),
@@ -165,17 +158,9 @@ fn is_answered<F: Files>(files: &mut F, path: &str, limit: u64, want: &str) -> b
     }
 }
 
-fn is_text(bytes: &[u8], want: &str) -> bool {
-    match want.strip_prefix("got ") {
-        Some(text) => bytes == text.as_bytes(),
-        None => false,
-    }
-}
-
-// Whether all reads `PATH LIMIT ANSWER` of a table are answered so.
-fn answers<F: Files>(files: &mut F, table: &str) -> bool {
-    for line in table.split('|') {
-        let (path, rest) = line.split_once(' ').unwrap_or((line, ""));
+fn answers<F: Files>(files: &mut F, reads: &str) -> bool {
+    for read in reads.split('|') {
+        let (path, rest) = read.split_once(' ').unwrap_or((read, ""));
         let (limit, want) = rest.split_once(' ').unwrap_or((rest, ""));
         if !is_answered(files, path, limit.parse::<u64>().unwrap_or(0), want) {
             return false;
@@ -184,60 +169,35 @@ fn answers<F: Files>(files: &mut F, table: &str) -> bool {
     true
 }
 
-#[test]
-fn files_in_memory_answer_and_fail(rt: HostRuntime) -> Result<(), Fail> {
-    let failing = vec![in rt.alloc(); 2]?;
-    let mut files = MemFiles::of(rt.alloc(), listed(rt.alloc())?, failing);
-    let table = "p 5 got 12345|p 4 too long|q 9 failed|q 0 got |r 9 absent";
-    assert!(rt; answers(&mut files, table));
-    Ok(())
+const COUNT: u32 = 50_000;
+
+// A file of many: of the first ones each has a text of its own, and of those behind them all have the same.
+fn numbered(alloc: Global, number: u32) -> Result<(String, Vec<u8>), AllocError> {
+    let path = format!(in alloc; "index/{}", number % COUNT)?;
+    let text = if number < COUNT {
+        format!(in alloc; "first {number}")?
+    } else {
+        String::from_str(alloc, "second")?
+    };
+    Ok((path, text.into_bytes()))
 }
 
-#[test]
-fn sure_files_never_fail(rt: HostRuntime) -> Result<(), Fail> {
-    let mut files = SureFiles::of(rt.alloc(), listed(rt.alloc())?);
-    let table = "p 5 got 12345|p 4 too long|q 9 got |r 9 absent";
-    assert!(rt; answers(&mut files, table));
-    Ok(())
-}
-
-fn numbered(alloc: Global, front: &str, number: u32) -> Result<String, AllocError> {
-    let text = format!(in alloc; "{front}{number}")?;
-    Ok(text)
-}
-
-fn push_file(
-    alloc: Global,
-    list: &mut Vec<(String, Vec<u8>)>,
-    number: u32,
-    text: &str,
-) -> Result<(), AllocError> {
-    let path = numbered(alloc, "index/", number)?;
-    list.push((path, Vec::from_slice(alloc, text.as_bytes())?))?;
-    Ok(())
-}
-
-// So many files, each path twice: first with a text of its own, then with another.
-fn many_files(alloc: Global, count: u32) -> Result<Vec<(String, Vec<u8>)>, AllocError> {
+fn many_files(alloc: Global) -> Result<Vec<(String, Vec<u8>)>, AllocError> {
     let mut list = Vec::new(alloc);
-    for number in 0..count {
-        let text = numbered(alloc, "first ", number)?;
-        push_file(alloc, &mut list, number, text.as_str())?;
-    }
-    for number in 0..count {
-        push_file(alloc, &mut list, number, "second")?;
+    for number in 0..2 * COUNT {
+        list = with_made(list, numbered(alloc, number))?;
     }
     Ok(list)
 }
 
 fn reads_first<F: Files>(alloc: Global, files: &mut F, number: u32) -> Result<bool, AllocError> {
-    let path = numbered(alloc, "index/", number)?;
-    let want = numbered(alloc, "got first ", number)?;
+    let path = format!(in alloc; "index/{number}")?;
+    let want = format!(in alloc; "got first {number}")?;
     Ok(is_answered(files, path.as_str(), 99, want.as_str()))
 }
 
-fn reads_all<F: Files>(alloc: Global, files: &mut F, count: u32) -> Result<bool, AllocError> {
-    for number in 0..count {
+fn reads_all<F: Files>(alloc: Global, files: &mut F) -> Result<bool, AllocError> {
+    for number in 0..COUNT {
         if !reads_first(alloc, files, number)? {
             return Ok(false);
         }
@@ -245,60 +205,83 @@ fn reads_all<F: Files>(alloc: Global, files: &mut F, count: u32) -> Result<bool,
     Ok(is_answered(files, "index", 99, "absent"))
 }
 
-// Where each read walks the list, this takes 25 billion steps.
-#[test]
-fn all_of_many_files_are_read(rt: HostRuntime) -> Result<(), Fail> {
-    let list = many_files(rt.alloc(), 50_000)?;
-    let mut files = MemFiles::of(rt.alloc(), list, Vec::new(rt.alloc()));
-    assert!(rt; reads_all(rt.alloc(), &mut files, 50_000)?);
-    Ok(())
+fn files_of(alloc: Global, reads: &str) -> Result<Vec<(String, Vec<u8>)>, AllocError> {
+    if reads == "many" {
+        many_files(alloc)
+    } else {
+        listed(alloc)
+    }
 }
 
-#[test]
-fn all_of_many_sure_files_are_read(rt: HostRuntime) -> Result<(), Fail> {
-    let list = many_files(rt.alloc(), 50_000)?;
-    let mut files = SureFiles::of(rt.alloc(), list);
-    assert!(rt; reads_all(rt.alloc(), &mut files, 50_000)?);
-    Ok(())
+fn are_read<F: Files>(alloc: Global, files: &mut F, reads: &str) -> Result<bool, AllocError> {
+    if reads == "many" {
+        reads_all(alloc, files)
+    } else {
+        Ok(answers(files, reads))
+    }
+}
+
+fn files_answer(alloc: Global, reads: &str, failing: Vec<u64>) -> Result<bool, AllocError> {
+    let list = files_of(alloc, reads)?;
+    let mut files = MemFiles::of(alloc, list, failing);
+    are_read(alloc, &mut files, reads)
+}
+
+fn sure_files_answer(alloc: Global, reads: &str) -> Result<bool, AllocError> {
+    let list = files_of(alloc, reads)?;
+    let mut files = SureFiles::of(alloc, list);
+    are_read(alloc, &mut files, reads)
 }
 
 // Whether a piece is written, or else refused by a fault.
-fn is_written<K: Sink>(sink: &mut K, piece: &str, want: bool) -> bool {
+fn is_written<K: Sink>(sink: &mut K, row: &str) -> bool {
+    let (piece, fails) = match row.strip_prefix("!") {
+        Some(piece) => (piece, true),
+        None => (row, false),
+    };
     match sink.write_all(piece.as_bytes()) {
-        Ok(()) => want,
-        Err(SinkRefused::Failed) => !want,
+        Ok(()) => !fails,
+        Err(SinkRefused::Failed) => fails,
         Err(SinkRefused::NoMemory) => false,
     }
 }
 
-fn writes<K: Sink>(sink: &mut K) -> bool {
-    for (piece, want) in [
-        ("first ", true),
-        ("second", false),
-        (" third", false),
-        (" end", true),
-    ] {
-        if !is_written(sink, piece, want) {
-            return false;
+fn is_kept(alloc: Global, kept: &str, pieces: &str) -> Result<bool, AllocError> {
+    let failing = vec![in alloc; (1, 5), (2, 9), (2, 0)]?;
+    let mut sink = MemSink::of(alloc, failing);
+    for piece in pieces.split('|') {
+        if !is_written(&mut sink, piece) {
+            return Ok(false);
         }
     }
+    Ok(sink.bytes().as_slice() == kept.as_bytes())
+}
+
+fn enters<G: Gate>(gate: &G) -> bool {
+    gate.enter(7);
     true
 }
 
-#[test]
-fn a_sink_in_memory_keeps_what_it_took(rt: HostRuntime) -> Result<(), Fail> {
-    let failing = vec![in rt.alloc(); (1, 5), (2, 9), (2, 0)]?;
-    let mut sink = MemSink::of(rt.alloc(), failing);
-    assert!(rt; writes(&mut sink));
-    assert!(rt; sink.bytes().as_slice() == "first secon third end".as_bytes());
-    Ok(())
+fn is_row(alloc: Global, line: &str) -> Option<bool> {
+    let (kind, rest) = line.split_once(' ').unwrap_or((line, ""));
+    let (first, second) = rest.split_once('=').unwrap_or((rest, ""));
+    match kind {
+        "name" => Some(is_form(alloc, first, second)),
+        "long" => is_long(alloc, first, second).ok(),
+        "nodes" => are_ordered(alloc, rest),
+        "keys" => are_keys(alloc, rest),
+        "sink" => is_kept(alloc, first, second).ok(),
+        "open_gate" => Some(enters(&Open)),
+        "files" => files_answer(alloc, rest, Vec::new(alloc)).ok(),
+        "failing_files" => files_answer(alloc, rest, vec![in alloc; 2].ok()?).ok(),
+        "sure_files" => sure_files_answer(alloc, rest).ok(),
+        _ => None,
+    }
 }
 
-fn enters<G: Gate>(gate: &G) {
-    gate.enter(7);
-}
-
 #[test]
-fn the_open_gate_lets_through() {
-    enters(&Open);
+fn names_nodes_files_and_sinks_are_as_told(rt: HostRuntime) {
+    for line in ROWS.split(';') {
+        assert!(rt; is_row(rt.alloc(), line) == Some(true), "{line}");
+    }
 }

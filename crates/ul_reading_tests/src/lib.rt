@@ -7,4 +7,6 @@
 #[cfg(test)]
 mod base;
 #[cfg(test)]
+mod texts;
+#[cfg(test)]
 mod version;
