@@ -55,7 +55,8 @@ const MARKERS: &str = "000 111 0 1|extra == 'test'\n\
     000 000 0 1|extra == 'a'\n\
     111 111 1 1|'a' in os_name or extra != 'b'\n\
     000 000 3 0|('a' in os_name or os_name < 'b') and ('a' in os_name or python_full_version in '3.8.1, 3.9')\n\
-    000 000 1 1|implementation_version == '3' and (python_version in '3.8 2' or (extra == '' and sys_platform == 'b'))\n\
+    000 000 1 1|implementation_version == '3' and (python_version in '3.8 2' or \
+    (extra == '' and sys_platform == 'b'))\n\
     111 111 0 0|all of nothing\n\
     000 000 0 0|any of nothing\n\
     110 110 300 1|a long marker";
