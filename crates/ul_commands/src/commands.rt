@@ -19,6 +19,7 @@ use crate::generating::{INDEX, PROJECT, counted, files};
 use crate::locking::lock;
 use crate::reasons::why;
 use std::alloc::Global;
+use std::mem;
 use std::sync::Wait;
 use std::thread::Threads;
 use ul_answers::Answer;
@@ -48,7 +49,10 @@ fn lock_files<R: Threads + Wait + Sync, F: Files, G: Gate + Sync>(
     ensures answering { GivesAnswer result }
 {
     let resolution = resolution_in(alloc, files, project, folder, old)?;
-    lock(rt, alloc, workers, &resolution, gate)
+    let answer = lock(rt, alloc, workers, &resolution, gate);
+    // The process ends soon: the system takes back at once what would be given back piece by piece.
+    mem::forget(resolution);
+    answer
 }
 
 // Why a project has no lock.
@@ -71,7 +75,10 @@ fn why_files<R: Threads + Wait + Sync, F: Files, G: Gate + Sync>(
     ensures answering { GivesAnswer result }
 {
     let resolution = resolution_in(alloc, files, project, folder, old)?;
-    why(rt, alloc, workers, &resolution, gate)
+    let answer = why(rt, alloc, workers, &resolution, gate);
+    // as in `lock_files`
+    mem::forget(resolution);
+    answer
 }
 
 // The counts of a generated project's lock.
