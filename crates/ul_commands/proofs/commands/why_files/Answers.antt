@@ -8,6 +8,6 @@ use Rattle.ul_commands.proofs.commands.why_files.Goals as goal
 
 pub returns-clause-told : goal.returns-clause-told
 returns-clause-told g c m e =
-    goes_on answer_view c.why.result (view c.in_ok-resolution.resolution)
+    goes_on answer_view c.why-answer.result (view c.in_ok-resolution.resolution)
     (resolution_in c.args.project.now c.args.folder.now (option_map (λ p. p.now) c.args.old) m) (λ x. answer (IsWhyAnswer x) m)
-    (c.in_ok-resolution.ensures.told m e) c.why.ensures
+    (c.in_ok-resolution.ensures.told m e) c.why-answer.ensures
