@@ -10,6 +10,7 @@ pub use Rattle.ul_trail.proofs.Singles.{one_other}
 pub use Rattle.ul_trail.proofs.Following.{derived_left, excluded_passed, facts_follow, one_has, one_first}
 pub use Rattle.ul_trail.proofs.Settling.{negation_node, places_within}
 pub use Rattle.ul_trail.proofs.Cuts.{cut_held, but_on}
+pub use Rattle.ul_trail.proofs.Growing.{grown_level, grown_none, grown_join, rooted_back}
 -- the sizes of nodes
 pub use Rattle.ul_trail.proofs.Propagating.{sizes_length, sizes_at}
 -- decided nodes, and the facts of roots

@@ -53,7 +53,7 @@ levels_from : (low high : ℕ) (fs : List Fact) → low ≤ high → AreLevels h
 levels_from low high [] h i = tt
 levels_from low high (f ∷ fs) h i = (omega (arith, i.0), i.1)
 
-levels_left : (low : ℕ) (xs ys : List Fact) → AreLevels low (xs ++ ys) → AreLevels low xs
+pub levels_left : (low : ℕ) (xs ys : List Fact) → AreLevels low (xs ++ ys) → AreLevels low xs
 levels_left low [] ys h = tt
 levels_left low (x ∷ xs) ys h = (h.0, levels_left x.level xs ys h.1)
 

@@ -13,7 +13,9 @@ pub mod Decided
 pub mod Singles
 pub mod Decisions
 pub mod Rewinding
+pub mod Reading
 pub mod Firsts
 pub mod Rooted
+pub mod Growing
 pub mod Finished
 pub mod ForCallers

@@ -1,5 +1,5 @@
 -- A trail whose facts have grown by forced ones.
-use Rattle.std.proofs.Common.{◌≡◌, ℕ, zero, suc, ◌+◌, List, [], ◌∷◌, ◌++◌, true, Option, Some, None, refl, ap, ◌∙◌, sym, subst, ◌<◌, ◌≤◌, inl, inr, arith, slice_get, get_or, length, take, append_assoc, length-append}
+use Rattle.std.proofs.Common.{◌≡◌, ℕ, zero, suc, ◌+◌, List, [], ◌∷◌, ◌++◌, Bool, true, Option, Some, None, refl, ap, ◌∙◌, sym, subst, ◌<◌, ◌≤◌, inl, inr, arith, slice_get, get_or, length, take, append_assoc, length-append}
 use Rattle.std.proofs.lemmas.List.{append-nil}
 use Rattle.std.proofs.lemmas.Option.{none-some, slice_get_within}
 use Rattle.ul_problem.proofs.ForCallers.{said_place, said_of}
@@ -18,9 +18,12 @@ use Rattle.ul_trail.specs.declared.mark.Mark.{Mark}
 use Rattle.ul_trail.specs.Facts.{is_open, AreHeld, AreHeldBut, picks_of, pick_with, level_of, up_to, AreAt}
 use Rattle.ul_trail.specs.Counts.{sizes_of, size_list}
 use Rattle.ul_trail.specs.Propagation.{IsDerived, Follow, IsTrailOf, IsOption, AreNewAfter, HasGrown, IsProgress, AreRaised, IsAlive, AreLater, root_facts}
-use Rattle.ul_trail.specs.Standing.{IsForced, AreForced, HasForced, IsSettled}
+use Rattle.ul_trail.specs.Standing.{IsStanding, IsForced, AreForced, HasForced, IsSettled, AllSized}
 use Rattle.ul_trail.specs.Findings.{IsSpread}
-use Rattle.ul_trail.specs.Kept.{IsMark, AreMarks}
+use Rattle.ul_trail.specs.Kept.{IsKept, IsMark, AreMarks}
+use Rattle.ul_trail.specs.declared.standing.Standing.{Standing}
+use Rattle.ul_trail.specs.declared.propagation.Cursor.{Cursor}
+use Rattle.ul_trail.specs.declared.trail.Trail.TheInside.{Inside}
 use Rattle.std.proofs.lemmas.Bool.{cases_eq}
 use Rattle.ul_trail.proofs.Places.{take_front, last_cases}
 use Rattle.ul_trail.proofs.Cuts.{open_push, negation_allows}
@@ -170,6 +173,47 @@ trail_grown p t now w g =
       raised = subst AreRaised (sym g.is) (forced_raised t.sizes t.terms level t.facts g.more g.forced w.raised);
       alive = subst IsAlive (sym g.is) (forced_alive t.sizes t.terms level t.facts g.more g.forced w.alive);
       begun = record { rest = w.begun.rest ++ g.more; is = g.is ∙ (ap (λ (x : List Fact). x ++ g.more) w.begun.is ∙ append_assoc (root_facts p p.roots) w.begun.rest g.more); later = later_join w.begun.rest g.more w.begun.later (forced_later t.sizes t.terms level t.facts g.more g.forced) };
+    }
+
+-- what a trail keeps where its facts have grown by forced ones
+pub kept_grown : (s : Inside) (standing : Standing) (cursor : Cursor) (whole : Bool) (level : ℕ) → IsKept s
+    → IsStanding standing.sizes.items standing.known.items standing.before.items standing.facts.items → standing.sizes.items ≡ s.standing.sizes.items
+    → HasForced s.standing.sizes.items s.watching.terms.items level s.standing.facts.items standing.facts.items → level_of s.standing.facts.items ≡ level
+    → cursor.seen ≤ length standing.facts.items → cursor.checked ≤ length s.watching.terms.items → IsSettled standing.facts.items s.watching.terms.items cursor.seen cursor.checked
+    → IsKept (record { held = s.held; watching = s.watching; standing = standing; cursor = cursor; marks = s.marks; picks = s.picks; positions = s.positions; queue = s.queue; first = s.first; whole = whole })
+kept_grown s standing cursor whole level k stands sizes g l seen checked settled = record {
+  placed = k.placed;
+  standing = stands;
+  watched = k.watched;
+  width = k.width ∙ ap (λ (z : List ℕ). length z) (sym sizes);
+  sized = subst (λ (z : List ℕ). AllSized z s.watching.terms.items) (sym sizes) k.sized;
+  seen = seen;
+  checked = checked;
+  settled = settled;
+  level = forced_level _ _ _ _ _ g l ∙ (sym l ∙ k.level);
+  picks = k.picks ∙ sym (forced_picks _ _ _ _ _ g);
+  indexed = k.indexed;
+  positions = k.positions ∙ ap (λ (z : List ℕ). length z) (sym sizes);
+  passed = k.passed;
+  marks = forced_marks _ _ _ _ _ _ _ _ g (sym l ∙ k.level) k.marks;
+}
+
+-- what propagation leaves, whatever it finds
+pub record IsGrownFrom (p : Plain) (before now : Track) : Type 0 where
+  pub kept : IsTrailOf p now
+  pub steps : now.steps ≡ before.steps
+  pub grown : HasGrown p before.facts now.facts
+
+pub grown_from : (p : Plain) (t before : Track) (level : ℕ) (facts : List Fact) (sizes : List ℕ) → t ≡ before → IsTrailOf p before → level_of t.facts ≡ level → sizes ≡ t.sizes → HasForced t.sizes t.terms level t.facts facts
+    → IsGrownFrom p before (record { steps = t.steps; terms = t.terms; facts = facts; sizes = sizes; width = t.width; queue = t.queue; turns = t.turns; whole = true })
+grown_from p t before level facts sizes e w l z g =
+    let here : IsTrailOf p t = subst (IsTrailOf p) (sym e) w in
+    record {
+      kept = subst (λ (x : List ℕ). IsTrailOf p (record { steps = t.steps; terms = t.terms; facts = facts; sizes = x; width = t.width; queue = t.queue; turns = t.turns; whole = true })) (sym z)
+          (trail_grown p t facts here (subst (λ (k : ℕ). HasForced t.sizes t.terms k t.facts facts) (sym l) g));
+      steps = ap (λ (x : Track). x.steps) e;
+      grown = subst (λ (x : List Fact). HasGrown p x facts) (ap (λ (x : Track). x.facts) e)
+          (grown_new p t.terms level t.facts facts (subst (λ (x : List ℕ). HasForced x t.terms level t.facts facts) here.sizes g) l);
     }
 
 pub spread_progress : (p : Plain) (t : Track) (r : Progress) → t.terms ≡ said_by p t.steps → IsSpread t.terms t.facts r → IsProgress p t r

@@ -178,7 +178,7 @@ roots_level : (p : Plain) (ns : List ℕ) → level_of (root_facts p ns) ≡ 0
 roots_level p [] = refl
 roots_level p (n ∷ ns) = let e = roots_level p ns in omega arith
 
-root_level : (p : Plain) (ns : List ℕ) (i : ℕ) (f : Fact) → slice_get (root_facts p ns) i ≡ Some f → f.level ≡ 0
+pub root_level : (p : Plain) (ns : List ℕ) (i : ℕ) (f : Fact) → slice_get (root_facts p ns) i ≡ Some f → f.level ≡ 0
 root_level p [] i f e = absurd (none-some f e)
 root_level p (n ∷ ns) zero f e = sym (ap (λ (y : Fact). y.level) (same_Some (root_fact p n) f e))
 root_level p (n ∷ ns) (suc i) f e = root_level p ns i f e

@@ -8,6 +8,7 @@ use Rattle.ul_trail.specs.declared.trail.Trail.TheInside.{Inside}
 use Rattle.ul_trail.specs.Facts.{picks_of, level_of, up_to}
 use Rattle.ul_trail.specs.Standing.{IsStanding, IsSettled, AllSized}
 use Rattle.ul_trail.specs.Watched.{IsWatched}
+use Rattle.ul_trail.specs.HeldSteps.{ArePlaced}
 
 -- how many nodes were asked for before each decision
 abbrev pub turns_of : List Mark → List ℕ
@@ -42,6 +43,7 @@ pub record AreMarks (terms : List (List Term)) (facts : List Fact) (picks : Pick
 
 -- what a trail keeps, where nothing was lost for want of memory
 pub record IsKept (s : Inside) : Type 0 where
+  pub placed : ArePlaced s.held.places.items s.held.others.items s.watching.terms.items
   pub standing : IsStanding s.standing.sizes.items s.standing.known.items s.standing.before.items s.standing.facts.items
   pub watched : IsWatched s.watching.terms.items s.watching.rows.items
   pub width : length s.watching.rows.items ≡ length s.standing.sizes.items

@@ -9,6 +9,7 @@ pub mod Watched
 pub mod First
 pub mod Counts
 -- What the code keeps, and what its loops find:
+pub mod HeldSteps
 pub mod Standing
 pub mod Findings
 pub mod Kept

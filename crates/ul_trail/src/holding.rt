@@ -1,5 +1,5 @@
 //! Held steps.
-ghost use Rattle.std.specs.Prelude.{◌≡◌, ◌≤◌, ◌<◌, ◌++◌, ℕ, Some, length, slice_get, take, IfOk};
+ghost use Rattle.std.specs.Prelude.{◌≡◌, ◌≤◌, ◌<◌, ℕ, Some, length, slice_get, take, IfOk};
 ghost use Rattle.ul_problem.specs.Steps.{IsStepWithin};
 ghost use Rattle.ul_problem.specs.declared.step.Step.{Step};
 ghost use Rattle.ul_trail.specs.Parts.{HoldsMore, Stands, Watches};
@@ -26,16 +26,6 @@ pub fn hold(
     for step in steps {
         let incompat = step.says(alloc, problem)?;
         watching.push(incompat)?;
-    }
-    Ok(())
-}
-
-/// Steps at the end of others.
-pub fn append(steps: &mut Vec<Step>, more: Vec<Step>) -> Result<(), AllocError>
-    ensures { IfOk result (λ _. steps.new.items ≡ steps.old.items ++ more.items) }
-{
-    for step in more {
-        steps.push(step)?;
     }
     Ok(())
 }

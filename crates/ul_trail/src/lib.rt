@@ -10,6 +10,7 @@ mod asking;
 mod beginning;
 mod deciding;
 mod fact;
+mod held_steps;
 mod holding;
 pub mod laws;
 mod mark;

@@ -7,18 +7,19 @@ ghost use Rattle.ul_problem.specs.Plain.{size_of};
 ghost use Rattle.ul_problem.specs.Best.{next_of};
 ghost use Rattle.ul_problem.specs.Steps.{AreRightAfter};
 ghost use Rattle.ul_trail.specs.Headline.{IsPropagated};
-ghost use Rattle.ul_trail.specs.Propagation.{IsTrailOf, AreForbidden, root_facts};
+ghost use Rattle.ul_trail.specs.Propagation.{IsTrailOf, AreForbidden, HasGrown, root_facts};
 ghost use Rattle.ul_trail.specs.First.{first_steps};
 ghost use Rattle.ul_trail.specs.Parts.{IsOpenBefore};
-ghost use Rattle.ul_trail.specs.Moves.{AppendsDecision, HasSteps};
+ghost use Rattle.ul_trail.specs.Moves.{AppendsDecision, HasSteps, at_roots};
 
 use crate::asking::{ask, first_undecided};
 use crate::beginning::steps_of;
 use crate::deciding::decision;
 use crate::fact::{Fact, Progress};
-use crate::holding::{append, hold, unwind};
+use crate::held_steps::HeldSteps;
+use crate::holding::{hold, unwind};
 use crate::mark::Mark;
-use crate::propagation::{Cursor, spread};
+use crate::propagation::{Cursor, look, spread};
 use crate::rooms::{Rooms, rooms_of};
 use crate::rooting::{Asked, empty_rows, opens, plant, sizes};
 use crate::standing::Standing;
@@ -31,7 +32,7 @@ use ul_ranges::Ordinals;
 /// The held steps, what is decided and derived, and what it leaves open.
 #[derive(Drop)]
 pub struct Trail {
-    steps: Vec<Step>,
+    held: HeldSteps,
     watching: Watching,
     standing: Standing,
     cursor: Cursor,
@@ -49,18 +50,20 @@ impl Model for Trail {
 
     ghost Value = { Track };
 
+    ghost use Rattle.ul_trail.specs.HeldSteps.{steps_in};
     ghost use Rattle.ul_trail.specs.Kept.{IsKept, turns_of};
 
-    ghost view = { λ s. record { steps = s.steps.items; terms = s.watching.terms.items; facts = s.standing.facts.items; sizes = s.standing.sizes.items; width = length s.watching.rows.items; queue = s.queue.items; turns = turns_of s.marks.items; whole = s.whole } };
+    ghost view = { λ s. record { steps = steps_in s.held s.watching.terms.items; terms = s.watching.terms.items; facts = s.standing.facts.items; sizes = s.standing.sizes.items; width = length s.watching.rows.items; queue = s.queue.items; turns = turns_of s.marks.items; whole = s.whole } };
 
     ghost invariant = { λ s. s.whole ≡ true → IsKept s };
 }
 
 impl Trail {
-    /// No decision: a fact for each root, and the steps that the problem gives.
+    /// No decision: a fact for each root, the steps that the problem gives, and what they force as they are held one by one.
     pub fn begin(alloc: Global, problem: &Problem) -> Result<Trail, AllocError>
         ensures right { IfOk result (λ t. IsTrailOf problem.now t) }
-        ensures roots { IfOk result (λ t. t.facts ≡ root_facts problem.now problem.now.roots) }
+        ensures grown { IfOk result (λ t. HasGrown problem.now (root_facts problem.now problem.now.roots) t.facts) }
+        ensures rooted { IfOk result (λ t. IsTrailOf problem.now (at_roots problem.now t)) }
         ensures steps { IfOk result (λ t. HasSteps problem.now t.steps) }
         ensures exact { IfOk result (λ t. t.steps ≡ first_steps problem.now.nodes (length problem.now.nodes)) }
     {
@@ -70,15 +73,38 @@ impl Trail {
         for node in 0..nodes.len() {
             let steps = steps_of(alloc, &nodes[node], node as u64, rooms.counts[node])?;
             trail.learn(alloc, problem, steps)?;
+            trail.look(alloc, problem)?;
         }
         Ok(trail)
     }
 
-    /// The held steps.
-    pub fn steps(&self) -> &Vec<Step>
-        ensures { result.now.items ≡ self.now.steps }
+    /// How many steps are held.
+    pub fn count(&self) -> usize
+        ensures { result ≡ length self.now.steps }
     {
-        &self.steps
+        self.held.places.len()
+    }
+
+    /// The held step at a place. An error is want of memory.
+    pub fn step(&self, alloc: Global, place: usize) -> Result<Step, AllocError>
+        requires { place < length self.now.steps }
+        ensures { IfOk result (λ s. slice_get self.now.steps place ≡ Some s) }
+    {
+        let step = self.held.step(alloc, place, self.watching.terms_at(place))?;
+        Ok(step)
+    }
+
+    /// The held steps. An error is want of memory.
+    pub fn steps(&self, alloc: Global) -> Result<Vec<Step>, AllocError>
+        ensures { IfOk result (λ v. v.items ≡ self.now.steps) }
+    {
+        let count = self.count();
+        let mut steps = Vec::with_capacity(alloc, count)?;
+        for place in 0..count {
+            let step = self.step(alloc, place)?;
+            steps.push(step)?;
+        }
+        Ok(steps)
     }
 
     /// The facts.
@@ -154,6 +180,27 @@ impl Trail {
         )?;
         self.whole = true;
         Ok(progress)
+    }
+
+    // Looks at the steps that are new while they are near: most derive nothing, and aren't looked at before a fact is on one of their nodes.
+    fn look(&mut self, alloc: Global, problem: &Problem) -> Result<(), AllocError>
+        requires right { IsTrailOf problem.now self.old }
+        ensures kept { IfOk result (λ _. IsTrailOf problem.now self.new) }
+        ensures steps { IfOk result (λ _. self.new.steps ≡ self.old.steps) }
+        ensures grown { IfOk result (λ _. HasGrown problem.now self.old.facts self.new.facts) }
+    {
+        let _ = problem.roots();
+        let level = self.marks.len() as u64;
+        self.whole = false;
+        look(
+            alloc,
+            &self.watching,
+            &mut self.standing,
+            &mut self.cursor,
+            level,
+        )?;
+        self.whole = true;
+        Ok(())
     }
 
     /// The next undecided node: of the roots and then the needs of the decided versions, in the order of decision.
@@ -286,7 +333,7 @@ impl Trail {
         let _ = problem.roots();
         self.whole = false;
         hold(alloc, problem, &mut self.watching, learned.as_slice())?;
-        append(&mut self.steps, learned)?;
+        self.held.append(learned)?;
         self.whole = true;
         Ok(())
     }
@@ -318,7 +365,7 @@ fn rooted(alloc: Global, problem: &Problem, rooms: &Rooms) -> Result<Trail, Allo
     let known = opens(alloc, sizes.as_slice())?;
     let rows = empty_rows(alloc, rooms.rows.as_slice())?;
     let terms = Vec::with_capacity(alloc, rooms.steps)?;
-    let steps = Vec::with_capacity(alloc, rooms.steps)?;
+    let held = HeldSteps::with_room(alloc, rooms.steps)?;
     let mut standing = Standing {
         sizes,
         known,
@@ -332,7 +379,7 @@ fn rooted(alloc: Global, problem: &Problem, rooms: &Rooms) -> Result<Trail, Allo
     };
     plant(alloc, problem, &mut standing, &mut asked)?;
     Ok(Trail {
-        steps,
+        held,
         watching: Watching { terms, rows },
         standing,
         cursor: Cursor {

@@ -1,5 +1,5 @@
 //! The held incompatibilities, and of each node the places of those with a term on it.
-ghost use Rattle.std.specs.Prelude.{◌≡◌, ◌++◌, ◌∷◌, [], length, IfOk};
+ghost use Rattle.std.specs.Prelude.{◌≡◌, ◌++◌, ◌∷◌, [], length, get_or, IfOk};
 ghost use Rattle.ul_problem.specs.Terms.{IsOrdered};
 ghost use Rattle.ul_trail.specs.Parts.{Watches, AreBelow, AreListed};
 
@@ -53,6 +53,16 @@ pub struct Watching {
 }
 
 impl Watching {
+    /// What is held at a place, or nothing past the end.
+    pub fn terms_at(&self, place: usize) -> &[Term]
+        ensures { result.now ≡ get_or self.now.terms.items place [] }
+    {
+        match self.terms.get(place) {
+            Some(incompat) => incompat.terms(),
+            None => &[],
+        }
+    }
+
     /// One more incompatibility, on the row of each of its nodes.
     pub fn push(&mut self, incompat: Incompat) -> Result<(), AllocError>
         requires watched { Watches self.old }

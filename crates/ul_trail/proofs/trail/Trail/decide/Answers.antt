@@ -12,6 +12,7 @@ use Rattle.ul_trail.specs.Facts.{is_open, level_of, picks_of, one_of}
 use Rattle.ul_trail.specs.Propagation.{IsTrailOf}
 use Rattle.ul_trail.specs.Moves.{decision_at}
 use Rattle.ul_trail.specs.Standing.{AllSized, IsSettled}
+use Rattle.ul_trail.specs.HeldSteps.{steps_in}
 use Rattle.ul_trail.specs.Kept.{IsKept, AreMarks, HasPassed, IsIndexed, turns_of}
 use Rattle.ul_trail.specs.declared.fact.Fact.{Fact}
 use Rattle.ul_trail.specs.declared.mark.Mark.{Mark}
@@ -21,11 +22,11 @@ use Rattle.ul_trail.proofs.trail.Trail.decide.Goals as goal
 
 pub push-requires-3-clause-sized : goal.push-requires-3-clause-sized
 push-requires-3-clause-sized c =
-    let w : IsTrailOf c.args.problem.now (record { steps = c.self.inside.steps.items; terms = c.self.inside.watching.terms.items; facts = c.self.inside.standing.facts.items; sizes = c.self.inside.standing.sizes.items; width = length c.self.inside.watching.rows.items; queue = c.self.inside.queue.items; turns = turns_of c.self.inside.marks.items; whole = c.self.inside.whole })
+    let w : IsTrailOf c.args.problem.now (record { steps = steps_in c.self.inside.held c.self.inside.watching.terms.items; terms = c.self.inside.watching.terms.items; facts = c.self.inside.standing.facts.items; sizes = c.self.inside.standing.sizes.items; width = length c.self.inside.watching.rows.items; queue = c.self.inside.queue.items; turns = turns_of c.self.inside.marks.items; whole = c.self.inside.whole })
     = subst (IsTrailOf c.args.problem.now) (sym c.self.view_is) c.requires.right in
     decision_sized c.args.problem.now c.self.inside.standing.sizes.items c.args.node c.args.version c.size_at.result c.decision-term.result w.sizes c.requires.there c.size_at.ensures c.decision-term.ensures
 
-right-of : (c : goal.After-self-4-1) → IsTrailOf c.args.problem.now (record { steps = c.self.inside.steps.items; terms = c.self.inside.watching.terms.items; facts = c.self.inside.standing.facts.items; sizes = c.self.inside.standing.sizes.items; width = length c.self.inside.watching.rows.items; queue = c.self.inside.queue.items; turns = turns_of c.self.inside.marks.items; whole = c.self.inside.whole })
+right-of : (c : goal.After-self-4-1) → IsTrailOf c.args.problem.now (record { steps = steps_in c.self.inside.held c.self.inside.watching.terms.items; terms = c.self.inside.watching.terms.items; facts = c.self.inside.standing.facts.items; sizes = c.self.inside.standing.sizes.items; width = length c.self.inside.watching.rows.items; queue = c.self.inside.queue.items; turns = turns_of c.self.inside.marks.items; whole = c.self.inside.whole })
 right-of c = subst (IsTrailOf c.args.problem.now) (sym c.self.view_is) c.requires.right
 
 kept-of : (c : goal.After-self-4-1) → IsKept c.self.inside
@@ -84,6 +85,7 @@ invariant_of-self-2 c = λ h.
     let seen = k.seen in let lev = k.level in
     let lvl = level_push c.self.inside.standing.facts.items (fact-of c) lf in
     record {
+      placed = k.placed;
       standing = c.in_ok-push-3.ensures.standing;
       watched = k.watched;
       width = k.width ∙ ap (λ (z : List ℕ). length z) (sym c.in_ok-push-3.ensures.sizes);
@@ -118,7 +120,7 @@ fact-is c = made c.decision-term.result (In c.args.node (one_of (size_of c.args.
     (c.decision-term.ensures ∙ ap (λ (z : ℕ). In c.args.node (one_of z c.args.version)) c.size_at.ensures) (let l = level-is c in omega arith)
 
 abbrev track-of : goal.After-self-4-1 → List Fact → List ℕ → List ℕ → List ℕ → Track
-track-of c facts sizes queue turns = record { steps = c.self.inside.steps.items; terms = c.self.inside.watching.terms.items; facts = facts; sizes = sizes; width = length c.self.inside.watching.rows.items; queue = queue; turns = turns; whole = true }
+track-of c facts sizes queue turns = record { steps = steps_in c.self.inside.held c.self.inside.watching.terms.items; terms = c.self.inside.watching.terms.items; facts = facts; sizes = sizes; width = length c.self.inside.watching.rows.items; queue = queue; turns = turns; whole = true }
 
 pub returns-clause-kept : goal.returns-clause-kept
 returns-clause-kept c =

@@ -5,6 +5,7 @@ use Rattle.ul_trail.specs.Track.{Track}
 use Rattle.ul_trail.specs.Facts.{level_of, picks_of, up_to}
 use Rattle.ul_trail.specs.Propagation.{IsTrailOf}
 use Rattle.ul_trail.specs.Standing.{AllSized, IsSettled}
+use Rattle.ul_trail.specs.HeldSteps.{steps_in}
 use Rattle.ul_trail.specs.Kept.{IsKept, AreMarks, HasPassed, IsIndexed, IsMark, turns_of}
 use Rattle.ul_trail.specs.declared.fact.Fact.{Fact}
 use Rattle.ul_trail.specs.declared.mark.Mark.{Mark}
@@ -18,7 +19,7 @@ unwind-requires-clause-count c =
     let e : slice_get c.self.inside.marks.items c.args.level ≡ Some c.index-mark.result.now = slice_get_read c.self.inside.marks.items (length c.self.inside.marks.items) c.args.level c.index-mark.result.now refl (omega arith) c.index-mark.ensures in
     (k.marks.at c.args.level c.index-mark.result.now e).facts_within
 
-right-of : (c : goal.After-self-then-level-len-1) → IsTrailOf c.args.problem.now (record { steps = c.self.inside.steps.items; terms = c.self.inside.watching.terms.items; facts = c.self.inside.standing.facts.items; sizes = c.self.inside.standing.sizes.items; width = length c.self.inside.watching.rows.items; queue = c.self.inside.queue.items; turns = turns_of c.self.inside.marks.items; whole = c.self.inside.whole })
+right-of : (c : goal.After-self-then-level-len-1) → IsTrailOf c.args.problem.now (record { steps = steps_in c.self.inside.held c.self.inside.watching.terms.items; terms = c.self.inside.watching.terms.items; facts = c.self.inside.standing.facts.items; sizes = c.self.inside.standing.sizes.items; width = length c.self.inside.watching.rows.items; queue = c.self.inside.queue.items; turns = turns_of c.self.inside.marks.items; whole = c.self.inside.whole })
 right-of c = subst (IsTrailOf c.args.problem.now) (sym c.self.view_is) c.requires.right
 
 kept-of : (c : goal.After-self-then-level-len-1) → IsKept c.self.inside
@@ -41,6 +42,7 @@ invariant_of-self c = λ h.
     let len : length c.unwind.new.standing.facts.items ≡ c.index-mark.result.now.facts = ap (λ (x : List Fact). length x) ef ∙ take_length c.self.inside.standing.facts.items c.index-mark.result.now.facts m.facts_within in
     let mlen : length (take c.args.level c.self.inside.marks.items) ≡ c.args.level = take_length c.self.inside.marks.items c.args.level (omega arith) in
     record {
+      placed = k.placed;
       standing = c.unwind.ensures.standing;
       watched = k.watched;
       width = k.width ∙ ap (λ (z : List ℕ). length z) (sym c.unwind.ensures.sizes);
@@ -61,7 +63,7 @@ invariant_of-self c = λ h.
     }
 
 abbrev track-of : goal.After-self-then-level-len-1 → List Fact → List ℕ → List ℕ → List ℕ → Track
-track-of c facts sizes queue turns = record { steps = c.self.inside.steps.items; terms = c.self.inside.watching.terms.items; facts = facts; sizes = sizes; width = length c.self.inside.watching.rows.items; queue = queue; turns = turns; whole = true }
+track-of c facts sizes queue turns = record { steps = steps_in c.self.inside.held c.self.inside.watching.terms.items; terms = c.self.inside.watching.terms.items; facts = facts; sizes = sizes; width = length c.self.inside.watching.rows.items; queue = queue; turns = turns; whole = true }
 
 pub returns-then-level-len-clause-kept : goal.returns-then-level-len-clause-kept
 returns-then-level-len-clause-kept c =
@@ -78,7 +80,7 @@ returns-then-level-len-clause-kept c =
     let r2 = subst (λ (z : List ℕ). IsTrailOf c.args.problem.now (track-of c c.unwind.new.standing.facts.items z (take c.index-mark.result.now.queue c.self.inside.queue.items) (take c.args.level (turns_of c.self.inside.marks.items)))) (sym c.unwind.ensures.sizes) r1 in
     let r3 = subst (λ (q : List ℕ). IsTrailOf c.args.problem.now (track-of c c.unwind.new.standing.facts.items c.unwind.new.standing.sizes.items q (take c.args.level (turns_of c.self.inside.marks.items)))) (sym eq) r2 in
     let r4 = subst (λ (q : List ℕ). IsTrailOf c.args.problem.now (track-of c c.unwind.new.standing.facts.items c.unwind.new.standing.sizes.items c.truncate-then-level-len.new.self.items q)) (sym et) r3 in
-    subst (λ (b : Bool). IsTrailOf c.args.problem.now (record { steps = c.self.inside.steps.items; terms = c.self.inside.watching.terms.items; facts = c.unwind.new.standing.facts.items; sizes = c.unwind.new.standing.sizes.items; width = length c.self.inside.watching.rows.items; queue = c.truncate-then-level-len.new.self.items; turns = turns_of c.truncate-then-level-len-2.new.self.items; whole = b })) (sym w.whole) r4
+    subst (λ (b : Bool). IsTrailOf c.args.problem.now (record { steps = steps_in c.self.inside.held c.self.inside.watching.terms.items; terms = c.self.inside.watching.terms.items; facts = c.unwind.new.standing.facts.items; sizes = c.unwind.new.standing.sizes.items; width = length c.self.inside.watching.rows.items; queue = c.truncate-then-level-len.new.self.items; turns = turns_of c.truncate-then-level-len-2.new.self.items; whole = b })) (sym w.whole) r4
 
 pub returns-then-level-len-clause-facts : goal.returns-then-level-len-clause-facts
 returns-then-level-len-clause-facts c = let m = mark-of c in c.unwind.ensures.facts ∙ (m.front ∙ ap (λ (t : Track). up_to c.args.level t.facts) c.self.view_is)
