@@ -7,7 +7,8 @@ use std::alloc::{AllocError, Global};
 use ul_problem::{Step, Term};
 use ul_ranges::Ordinals;
 
-/// Held steps beside what they say. Nearly all are needs, which are read off their two terms; the others are kept as they are.
+/// Held steps beside what they say. Nearly all are needs, which are read off their two terms; the others are kept
+/// as they are.
 #[derive(Drop)]
 pub struct HeldSteps {
     /// Of each held step 0 where it is read off its terms, and else one more than its place among the others.

@@ -59,7 +59,8 @@ impl Model for Trail {
 }
 
 impl Trail {
-    /// No decision: a fact for each root, the steps that the problem gives, and what they force as they are held one by one.
+    /// No decision: a fact for each root, the steps that the problem gives, and what they force as they are held one
+    /// by one.
     pub fn begin(alloc: Global, problem: &Problem) -> Result<Trail, AllocError>
         ensures right { IfOk result (λ t. IsTrailOf problem.now t) }
         ensures grown { IfOk result (λ t. HasGrown problem.now (root_facts problem.now problem.now.roots) t.facts) }
@@ -182,7 +183,8 @@ impl Trail {
         Ok(progress)
     }
 
-    // Looks at the steps that are new while they are near: most derive nothing, and aren't looked at before a fact is on one of their nodes.
+    // Looks at the steps that are new while they are near. Most derive nothing, and are looked at again where a fact is
+    // on one of their nodes.
     fn look(&mut self, alloc: Global, problem: &Problem) -> Result<(), AllocError>
         requires right { IsTrailOf problem.now self.old }
         ensures kept { IfOk result (λ _. IsTrailOf problem.now self.new) }
