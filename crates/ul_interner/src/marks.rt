@@ -115,12 +115,42 @@ impl<L: Label> Mark<L> {
         Ok(Mark { node })
     }
 
+    /// A mark on a node of its own that is equal in all, or want of memory.
+    ///
+    /// The marks on a node are counted in one place, by all threads. A thread that makes very many on one node takes a mark apart
+    /// first, and counts those that it makes of it alone.
+    pub fn apart(&self, alloc: Global) -> Result<Mark<L>, AllocError>
+        ensures { IfOk result (λ m. m ≡ self.now) }
+    {
+        let label = self.node.label.copy(alloc)?;
+        let parts = shared_marks(alloc, self.node.parts.as_slice())?;
+        Mark::new(
+            alloc,
+            label,
+            parts,
+            self.node.shard,
+            self.node.place,
+            self.node.hash,
+        )
+    }
+
     // Whether the node has this label and these parts.
     pub(crate) fn is_node(&self, label: &L, parts: &[Mark<L>]) -> bool
         ensures { IsTrue result ↔ IsNode label.now parts.now self.now }
     {
         self.node.label.same(label) && have_same_ids(self.node.parts.as_slice(), parts)
     }
+}
+
+// Another mark on the node of each mark, in order.
+fn shared_marks<L: Label>(alloc: Global, marks: &[Mark<L>]) -> Result<Vec<Mark<L>>, AllocError>
+    ensures { IfOk result (λ v. v.items ≡ marks.now) }
+{
+    let mut shared = Vec::with_capacity(alloc, marks.len())?;
+    for mark in marks {
+        shared.push(mark.share()?)?;
+    }
+    Ok(shared)
 }
 
 // Whether the marks of the two lists have the same identities, in order.

@@ -109,6 +109,19 @@ fn node_keeps_identities_of_parts(rt: HostRuntime) -> Result<(), Fail> {
     Ok(())
 }
 
+#[test]
+fn mark_apart_is_the_same(rt: HostRuntime) -> Result<(), Fail> {
+    let alloc = rt.alloc();
+    let (interner, mut pass) = Interner::<Number>::begin(alloc)?;
+    let three = leaf(&rt, alloc, &interner, &mut pass, 3)?;
+    let five = leaf(&rt, alloc, &interner, &mut pass, 5)?;
+    let node = pair(&rt, alloc, &interner, &mut pass, 1, &three, &five)?;
+    let apart = node.apart(alloc)?;
+    assert!(rt; same(&pass, &node, &apart) && apart.label().number == 1);
+    assert!(rt; apart.part(0).id() == three.id() && apart.part(1).id() == five.id());
+    Ok(())
+}
+
 // A chain of nodes.
 fn chain<R: Wait>(
     rt: &R,
