@@ -1,5 +1,5 @@
 //! The trail.
-ghost use Rattle.std.specs.Prelude.{◌≡◌, ◌+◌, ◌++◌, ◌∷◌, ◌<◌, ◌≤◌, ◌⊎◌, [], List, ℕ, length, IfOk, IfSome, slice_get, get_or, take, Some, None, suc, true};
+ghost use Rattle.std.specs.Prelude.{◌≡◌, ◌+◌, ◌++◌, ◌∷◌, ◌<◌, ◌≤◌, ◌^◌, ◌⊎◌, [], List, ℕ, length, IfOk, IfSome, slice_get, get_or, take, Some, None, suc, true};
 ghost use Rattle.ul_trail.specs.Facts.{IsAllowed, is_open, picks_of, level_of, up_to};
 ghost use Rattle.ul_trail.specs.Watched.{places_on};
 ghost use Rattle.ul_trail.specs.Standing.{versions_in};
@@ -81,7 +81,8 @@ impl Trail {
 
     /// How many steps are held.
     pub fn count(&self) -> usize
-        ensures { result ≡ length self.now.steps }
+        ensures value { result ≡ length self.now.steps }
+        ensures few { result < 2 ^ 63 }
     {
         self.held.places.len()
     }
