@@ -6,6 +6,7 @@ ghost use Rattle.ul_answers.specs.Printed as spec;
 ghost use Rattle.ul_answers.specs.Views.{output_view, view};
 
 use crate::answer::Answer;
+use crate::leaving::leave;
 use crate::refusals::limit_output;
 use std::alloc::{AllocError, Global};
 use ul_inputs::TEXT_BYTES;
@@ -114,7 +115,7 @@ fn step_output(alloc: Global, step: u64) -> Result<Output, AllocError>
 }
 
 /// What is printed for an answer, and the status that goes with it. A lock or a refused fork that passes a limit of
-/// printing is answered by that limit.
+/// printing is answered by that limit. A lock that was printed is left to the end of the process.
 ///
 /// # Errors
 ///
@@ -128,8 +129,16 @@ pub fn answer_output(alloc: Global, answer: Answer) -> Result<Output, AllocError
             2,
             "usage: unilock lock|why|env|check|gen|export|verify WORDS\n",
         ),
-        Answer::Locked { lock, forks: _ } => lock_output(alloc, &lock),
-        Answer::Counted { lock, forks } => counts_output(alloc, &lock, forks),
+        Answer::Locked { lock, forks: _ } => {
+            let output = lock_output(alloc, &lock);
+            leave(lock);
+            output
+        }
+        Answer::Counted { lock, forks } => {
+            let output = counts_output(alloc, &lock, forks);
+            leave(lock);
+            output
+        }
         Answer::NoSelection { path, region } => fork_output(alloc, path.as_slice(), &region, &[]),
         Answer::Derived {
             path,
