@@ -2,7 +2,7 @@
 use Rattle.std.proofs.Common.{◌≡◌, ℕ, zero, suc, ◌+◌, ◌-◌, List, [], ◌∷◌, ◌++◌, true, Option, Some, None, refl, ap, ◌∙◌, sym, subst, ◌<◌, ◌≤◌, ◌⊎◌, inl, inr, arith, slice_get, get_or, length, take, append_assoc, add-one, length-append}
 use Rattle.std.proofs.lemmas.Bool.{true≢false}
 use Rattle.std.proofs.lemmas.List.{append-nil}
-use Rattle.std.proofs.lemmas.Option.{none-some, same_Some, slice_get_within, slice_get_read}
+use Rattle.std.proofs.lemmas.Option.{none-some, same_Some, slice_get_within}
 use Rattle.ul_problem.specs.Plain.{Plain}
 use Rattle.ul_problem.specs.Serving.{Forbids}
 use Rattle.ul_problem.specs.Problems.{IsWellFormed}
@@ -373,16 +373,14 @@ held_place p t level number learned h l =
     ]
 
 -- the backjump whose resolvent a held step says: that step is learned once more
-pub jump_again : (p : Plain) (t : Track) (level number : ℕ) (learned learned' items : List Step) (again read : Step) → IsTrailOf p t → LeadsBack p t level number learned → number ≤ length t.steps
-    → items ≡ t.steps → read ≡ get_or items (number - 1) read → again ≡ read → learned' ≡ learned ++ again ∷ [] → IsBackjump p t level learned'
-jump_again p t level number learned learned' items again read w h l ei er ea el =
+pub jump_again : (p : Plain) (t : Track) (level number : ℕ) (learned learned' : List Step) (again : Step) → IsTrailOf p t → LeadsBack p t level number learned → number ≤ length t.steps
+    → slice_get t.steps (number - 1) ≡ Some again → learned' ≡ learned ++ again ∷ [] → IsBackjump p t level learned'
+jump_again p t level number learned learned' again w h l ea el =
     let k = held_place p t level number learned h l in
     let en = k.1 in
     let at : slice_get t.steps k.0 ≡ Some h.step = k.2 in
-    let kl : k.0 < length t.steps = slice_get_within t.steps k.0 h.step at in
     let nk : number - 1 ≡ k.0 = omega arith in
-    let eread : read ≡ get_or t.steps k.0 read = subst (λ (j : ℕ). read ≡ get_or t.steps j read) nk (subst (λ (x : List Step). read ≡ get_or x (number - 1) read) ei er) in
-    let same : again ≡ h.step = ea ∙ same_Some read h.step (sym (slice_get_read t.steps (length t.steps) k.0 read refl kl eread) ∙ at) in
+    let same : again ≡ h.step = same_Some again h.step (sym (subst (λ (j : ℕ). slice_get t.steps j ≡ Some again) nk ea) ∙ at) in
     let is : learned' ≡ learned ++ h.step ∷ [] = el ∙ ap (λ (y : Step). learned ++ y ∷ []) same in
     let r : IsRight p (t.steps ++ learned) h.step = right_more p t.steps learned h.step (right_at p [] t.steps k.0 h.step w.follow.right at) in
     let f : Forbids p (says p h.step) = w.follow.forbidden k.0 h.step at in

@@ -58,7 +58,7 @@ fn cut(
     requires fits { (ts : List Term) → slice_get trail.now.terms cause ≡ Some ts → AreTermsOf problem.now ts }
     ensures { IfOk result (λ _. IsCut problem.now trail.now node cause resolved.old resolved.new) }
 {
-    let count = trail.steps().len();
+    let count = trail.count();
     let terms = resolvent(alloc, node, &resolved.terms, trail.terms(cause))?;
     let found = place_of(problem, trail, &terms);
     match found {
@@ -141,7 +141,7 @@ fn start(
     ensures { IfOk result (λ r. IsResolvedBy problem.now trail.now r (length trail.now.facts)) }
 {
     let _ = problem.roots();
-    let count = trail.steps().len() as u64;
+    let count = trail.count() as u64;
     let terms = trail.terms(conflict).copy(alloc)?;
     Ok(Resolvent {
         terms,
@@ -163,13 +163,12 @@ fn jump(
     ensures { IfOk result (λ o. IsOutcome problem.now trail.now o) }
 {
     let _ = problem.roots();
-    let steps = trail.steps().as_slice();
     let number = resolved.number as usize;
     let mut learned = resolved.learned;
-    if number > steps.len() {
+    if number > trail.count() {
         return Ok(Outcome::Backjump { level, learned });
     }
-    let again = steps[number - 1].copy(alloc)?;
+    let again = trail.step(alloc, number - 1)?;
     learned.push(again)?;
     Ok(Outcome::Backjump { level, learned })
 }
@@ -188,9 +187,9 @@ fn closed(
     ensures { IfOk result (λ d. Accepts problem.now d) }
 {
     let _ = place;
-    let held = trail.steps().as_slice();
+    let held = trail.steps(alloc)?;
     let learned = resolved.learned.as_slice();
-    let derivation = derivation_of(alloc, problem, held, learned, resolved.number)?;
+    let derivation = derivation_of(alloc, problem, held.as_slice(), learned, resolved.number)?;
     Ok(derivation)
 }
 

@@ -2,21 +2,21 @@
 ghost use Rattle.ul_trail.specs.Propagation.{IsTrailOf, IsConflict};
 ghost use Rattle.ul_conflict.specs.Headline.{IsOutcome};
 
-use crate::problems::Order;
 use crate::runs::{decided, run};
-use crate::shapes::{crossed, distant, hopeless, opposed};
-use std::alloc::Global;
-use std::test::Fail;
+use crate::shapes::problem_of;
+use std::alloc::{AllocError, Global};
 use ul_conflict::{Outcome, resolve};
 use ul_derivation::accepts;
 use ul_problem::{Derivation, Problem, Step};
 use ul_trail::Trail;
 
-// What the first conflict comes to: the decisions before it, the level that it goes back to, the steps learned or derived, how many of them
-// are cuts, and the decisions after it. A closed derivation that isn't accepted counts no steps.
-type Told = (u64, Option<u64>, usize, usize, u64);
-
-const NO_CONFLICT: Told = (0, None, 0, 0, 0);
+// A problem, and what its first conflict comes to. In `crossed` the first decision, before any propagation, is a at 2,
+// against a need that b at 1 has, which is learned once more. In `distant_40` the conflict goes back to a: x is 3 or 4, which b clashes with at once. The other two
+// are closed by two needs and their cut.
+const ROWS: &str = "crossed: 0 decisions, back to 0 by 1 steps with 0 cuts, 3 decisions;\
+    distant_40: 42 decisions, back to 1 by 1 steps with 1 cuts, 0 decisions;\
+    opposed: 0 decisions, closed by 3 steps with 1 cuts;\
+    hopeless: 0 decisions, closed by 3 steps with 1 cuts";
 
 fn cuts(steps: &[Step]) -> usize {
     steps
@@ -25,12 +25,21 @@ fn cuts(steps: &[Step]) -> usize {
         .count()
 }
 
-fn closed(alloc: Global, problem: &Problem, derivation: Derivation, count: u64) -> Told {
-    if accepts(alloc, problem, &derivation).is_err() {
-        return NO_CONFLICT;
-    }
+fn closed(
+    alloc: Global,
+    problem: &Problem,
+    derivation: &Derivation,
+    count: u64,
+) -> Result<String, AllocError> {
     let steps = derivation.as_slice();
-    (count, None, steps.len(), cuts(steps), 0)
+    if accepts(alloc, problem, derivation).is_err() {
+        return String::from_str(alloc, "not accepted");
+    }
+    format!(in alloc;
+        "{count} decisions, closed by {} steps with {} cuts",
+        steps.len(),
+        cuts(steps)
+    )
 }
 
 fn told(
@@ -39,18 +48,19 @@ fn told(
     trail: &mut Trail,
     outcome: Outcome,
     count: u64,
-) -> Result<Told, Fail>
+) -> Result<String, AllocError>
     requires right { IsTrailOf problem.now trail.old }
     requires outcome { IsOutcome problem.now trail.old outcome }
 {
     match outcome {
-        Outcome::Closed(derivation) => Ok(closed(alloc, problem, derivation, count)),
+        Outcome::Closed(derivation) => closed(alloc, problem, &derivation, count),
         Outcome::Backjump { level, learned } => {
-            let steps = learned.len();
-            let cuts = cuts(learned.as_slice());
+            let (steps, cuts) = (learned.len(), cuts(learned.as_slice()));
             trail.back(alloc, problem, level, learned)?;
-            let after = run(alloc, problem, trail, 100)?;
-            Ok((count, Some(level), steps, cuts, after.count))
+            let after = run(alloc, problem, trail, 100)?.count;
+            format!(in alloc;
+                "{count} decisions, back to {level} by {steps} steps with {cuts} cuts, {after} decisions"
+            )
         }
     }
 }
@@ -61,7 +71,7 @@ fn first_conflict(
     problem: &Problem,
     trail: &mut Trail,
     wish: Option<u32>,
-) -> Result<Told, Fail>
+) -> Result<String, AllocError>
     requires { IsTrailOf problem.now trail.old }
 {
     if wish.is_some() {
@@ -69,7 +79,7 @@ fn first_conflict(
     }
     let before = run(alloc, problem, trail, 100)?;
     match before.conflict {
-        None => Ok(NO_CONFLICT),
+        None => String::from_str(alloc, "no conflict"),
         Some(place) => {
             let outcome = resolve(alloc, problem, trail, place)?;
             told(alloc, problem, trail, outcome, before.count)
@@ -77,34 +87,22 @@ fn first_conflict(
     }
 }
 
-fn clash(
-    alloc: Global,
-    problem: Result<Option<Problem>, Fail>,
-    wish: Option<u32>,
-) -> Result<Told, Fail> {
-    match problem? {
-        None => Ok(NO_CONFLICT),
-        Some(problem) => {
-            let mut trail = Trail::begin(alloc, &problem)?;
-            first_conflict(alloc, &problem, &mut trail, wish)
-        }
-    }
+fn clash(alloc: Global, problem: &Problem, wish: Option<u32>) -> Result<String, AllocError> {
+    let mut trail = Trail::begin(alloc, problem)?;
+    first_conflict(alloc, problem, &mut trail, wish)
+}
+
+fn is_row(alloc: Global, line: &str) -> Option<bool> {
+    let (shape, want) = line.split_once(": ")?;
+    let problem = problem_of(alloc, shape, "newest")?;
+    let wish = if shape == "crossed" { Some(1) } else { None };
+    let told = clash(alloc, &problem, wish).ok()?;
+    Some(told.as_str() == want)
 }
 
 #[test]
-fn a_conflict_is_learned_from_or_closes(rt: HostRuntime) -> Result<(), Fail> {
-    let alloc = rt.alloc();
-    let crossed = clash(alloc, crossed(alloc, Order::Newest), Some(1))?;
-    assert_eq!(rt; crossed, (0, Some(0), 2, 2, 3), "a at 2 against b at 1");
-    let distant = clash(alloc, distant(alloc, 40), None)?;
-    assert_eq!(rt;
-        distant,
-        (42, Some(1), 1, 1, 0),
-        "back to a: x is 3 or 4, which b clashes with at once"
-    );
-    let opposed = clash(alloc, opposed(alloc), None)?;
-    assert_eq!(rt; opposed, (0, None, 3, 1, 0), "two needs and their cut");
-    let hopeless = clash(alloc, hopeless(alloc), None)?;
-    assert_eq!(rt; hopeless, (0, None, 3, 1, 0), "two needs and their cut");
-    Ok(())
+fn a_conflict_is_learned_from_or_closes(rt: HostRuntime) {
+    for line in ROWS.split(';') {
+        assert!(rt; is_row(rt.alloc(), line) == Some(true), "{line}");
+    }
 }

@@ -1,27 +1,23 @@
-//! Problems built by hand. A need is written as its target, the target's number of versions, and the permitted versions as a range.
+//! Problems of texts, which the tests share.
+//!
+//! A problem is its root, and after a blank its nodes between semicolons. A node is `NAME`, or `NAME/EXTRA` of the base
+//! at place 1, after a blank the first version that isn't fit, if there is one, and behind bars what each of its
+//! versions needs: after commas `TARGET SIZE LOW HIGH`, the versions of the target from `LOW` to before `HIGH`.
 ghost use Rattle.std.specs.Prelude.{◌<◌, All};
 
 use std::alloc::{AllocError, Global};
-use std::test::Fail;
-use ul_base::{Name, Node};
+use ul_base::owned::{with_made, with_one};
+use ul_base::{Name, NameFault, Node};
 use ul_problem::{Need, NeedRow, NeedRows, NodeFacts, Places, Problem, Versions};
 use ul_ranges::Ordinals;
 use ul_version::Version;
 
-/// A need: the target, its number of versions, and the first permitted version and the one after the last.
-pub type Wish = (u64, u32, u32, u32);
-
-/// In which order a node's versions are preferred.
-#[derive(Clone, Copy)]
-pub enum Order {
-    Newest,
-    Oldest,
-    /// This one first, and then the newest.
-    Locked(u32),
+fn number(word: &str) -> Option<u32> {
+    word.parse::<u32>().ok()
 }
 
-/// The numbers from `low` to before `high`, below a size.
-pub fn set(alloc: Global, size: u32, low: u32, high: u32) -> Result<Ordinals, AllocError> {
+// The numbers from `low` to before `high`, below a size.
+fn set(alloc: Global, size: u32, low: u32, high: u32) -> Result<Ordinals, AllocError> {
     let mut members = Vec::new(alloc);
     for k in low..high.min(size) {
         members.push(k)?;
@@ -29,54 +25,60 @@ pub fn set(alloc: Global, size: u32, low: u32, high: u32) -> Result<Ordinals, Al
     Ordinals::of_list(alloc, size, &members)
 }
 
-/// The needs of a version.
-pub fn row(alloc: Global, wishes: &[Wish]) -> Result<NeedRow, AllocError> {
+// The numbers of a text between blanks.
+fn numbers(alloc: Global, text: &str) -> Result<Vec<u32>, AllocError> {
+    let mut numbers = Vec::new(alloc);
+    for word in text.split(' ') {
+        numbers.push(number(word).unwrap_or(0))?;
+    }
+    Ok(numbers)
+}
+
+fn need(alloc: Global, text: &str) -> Result<Need, AllocError> {
+    let row = numbers(alloc, text)?;
+    let (node, permitted) = match row.as_slice() {
+        [node, size, low, high] => (*node as u64, set(alloc, *size, *low, *high)?),
+        _ => (0, Ordinals::none(alloc, 0)?),
+    };
+    Ok(Need { node, permitted })
+}
+
+fn need_row(alloc: Global, text: &str) -> Result<NeedRow, AllocError> {
     let mut needs = Vec::new(alloc);
-    for (node, size, low, high) in wishes {
-        let permitted = set(alloc, *size, *low, *high)?;
-        needs.push(Need {
-            node: *node,
-            permitted,
-        })?;
+    for part in text.split(',') {
+        if !part.is_empty() {
+            needs = with_made(needs, need(alloc, part))?;
+        }
     }
     Ok(NeedRow::of(needs))
 }
 
-/// As many versions without needs.
-pub fn blank(alloc: Global, size: u32) -> Result<Vec<NeedRow>, AllocError> {
+// The rows of a text between bars.
+fn need_rows(alloc: Global, text: Option<&str>) -> Result<Vec<NeedRow>, AllocError> {
     let mut rows = Vec::new(alloc);
-    for _ in 0..size {
-        rows.push(NeedRow::of(Vec::new(alloc)))?;
+    let Some(text) = text else {
+        return Ok(rows);
+    };
+    for part in text.split('|') {
+        rows = with_made(rows, need_row(alloc, part))?;
     }
     Ok(rows)
 }
 
-/// One version with these needs.
-pub fn one(alloc: Global, wishes: &[Wish]) -> Result<Vec<NeedRow>, AllocError> {
-    let mut rows = Vec::new(alloc);
-    rows.push(row(alloc, wishes)?)?;
-    Ok(rows)
-}
-
-/// Two versions with these needs.
-pub fn two(alloc: Global, first: &[Wish], second: &[Wish]) -> Result<Vec<NeedRow>, AllocError> {
-    let mut rows = one(alloc, first)?;
-    rows.push(row(alloc, second)?)?;
-    Ok(rows)
-}
-
-// The version that comes in an order after `k` others.
-fn version_after(order: Order, size: u32, k: u32) -> u32 {
+// The version that comes in an order after `k` others: the newest first, the oldest, or the one of this number and then
+// the newest.
+fn version_after(order: &str, size: u32, k: u32) -> u32 {
     let newest = size.saturating_sub(k).saturating_sub(1);
-    match order {
-        Order::Newest => newest,
-        Order::Oldest => k,
-        Order::Locked(version) if k == 0 => version,
-        Order::Locked(version) => newest + (size.saturating_sub(k) > version) as u32,
+    let Some(first) = number(order) else {
+        return if order == "oldest" { k } else { newest };
+    };
+    if k == 0 {
+        return first.min(newest);
     }
+    newest + (size.saturating_sub(k) > first) as u32
 }
 
-fn places(alloc: Global, size: u32, order: Order) -> Result<Places, AllocError> {
+fn places(alloc: Global, size: u32, order: &str) -> Result<Places, AllocError> {
     let mut places = Vec::new(alloc);
     for k in 0..size {
         places.push(version_after(order, size, k))?;
@@ -84,38 +86,39 @@ fn places(alloc: Global, size: u32, order: Order) -> Result<Places, AllocError> 
     Places::of(alloc, places)
 }
 
+fn version(alloc: Global, number: u32) -> Result<Version, AllocError> {
+    let release = vec![in alloc; number as u64 + 1]?;
+    Ok(Version::plain_of(alloc, release))
+}
+
 // The versions 1, 2 and so on.
 fn versions(alloc: Global, size: u32) -> Result<Versions, AllocError> {
     let mut versions = Vec::new(alloc);
     for k in 0..size {
-        let release = vec![in alloc; k as u64 + 1]?;
-        versions.push(Version::plain_of(alloc, release))?;
+        versions = with_made(versions, version(alloc, k))?;
     }
     Versions::of(alloc, versions)
 }
 
-fn named(alloc: Global, name: &str, extra: Option<&str>) -> Result<Node, Fail> {
+fn node(alloc: Global, text: &str) -> Result<Node, NameFault> {
+    let (name, extra) = text.split_once('/').unwrap_or((text, ""));
     let name = Name::read(alloc, name)?;
-    let extra = match extra {
-        Some(extra) => Some(Name::read(alloc, extra)?),
-        None => None,
-    };
+    let extra = Name::read(alloc, extra).ok();
     Ok(Node { name, extra })
 }
 
-/// What is known of a node with the versions 1, 2 and so on, where those from the place `barred` on aren't fit.
-pub fn facts(
+fn facts(
     alloc: Global,
     node: Node,
-    base: Option<u64>,
-    barred: u32,
-    order: Order,
+    barred: Option<u32>,
+    order: &str,
     rows: Vec<NeedRow>,
 ) -> Result<NodeFacts, AllocError> {
     let size = rows.len().min(100000) as u32;
+    let base = if node.extra.is_some() { Some(1) } else { None };
     let versions = versions(alloc, size)?;
     let order = places(alloc, size, order)?;
-    let barred = set(alloc, size, barred, size)?;
+    let barred = set(alloc, size, barred.unwrap_or(size), size)?;
     Ok(NodeFacts {
         node,
         base,
@@ -126,45 +129,39 @@ pub fn facts(
     })
 }
 
-/// A node with an extra, of the base at a place.
-pub fn extra(
-    alloc: Global,
-    name: &str,
-    extra: &str,
-    base: u64,
-    barred: u32,
-    rows: Vec<NeedRow>,
-) -> Result<NodeFacts, Fail> {
-    let node = named(alloc, name, Some(extra))?;
-    let facts = facts(alloc, node, Some(base), barred, Order::Newest, rows)?;
-    Ok(facts)
+fn read_facts(alloc: Global, text: &str, order: &str) -> Option<NodeFacts> {
+    let (head, rows) = match text.split_once('|') {
+        Some((head, rows)) => (head, Some(rows)),
+        None => (text, None),
+    };
+    let (name, barred) = head.split_once(' ').unwrap_or((head, ""));
+    let node = node(alloc, name).ok()?;
+    let rows = need_rows(alloc, rows).ok()?;
+    facts(alloc, node, number(barred), order, rows).ok()
 }
 
-/// A node without an extra, of which the versions from `barred` on aren't fit.
-pub fn limited(
-    alloc: Global,
-    name: &str,
-    barred: u32,
-    order: Order,
-    rows: Vec<NeedRow>,
-) -> Result<NodeFacts, Fail> {
-    let node = named(alloc, name, None)?;
-    let facts = facts(alloc, node, None, barred, order, rows)?;
-    Ok(facts)
+fn read_nodes(alloc: Global, text: &str, order: &str) -> Option<Vec<NodeFacts>> {
+    let mut nodes = Vec::new(alloc);
+    for part in text.split(';') {
+        let facts = read_facts(alloc, part, order)?;
+        nodes = with_one(nodes, facts).ok()?;
+    }
+    Some(nodes)
 }
 
-/// A node without an extra, all of whose versions are fit, the newest preferred.
-pub fn plain(alloc: Global, name: &str, rows: Vec<NeedRow>) -> Result<NodeFacts, Fail> {
-    limited(alloc, name, u32::MAX, Order::Newest, rows)
-}
-
-/// The problem of these nodes with one root, where it fits.
-pub fn problem(alloc: Global, root: u64, nodes: Vec<NodeFacts>) -> Result<Option<Problem>, Fail> {
-    let roots = vec![in alloc; root]?;
+fn problem(alloc: Global, root: u32, nodes: Vec<NodeFacts>) -> Result<Option<Problem>, AllocError> {
+    let roots = vec![in alloc; root as u64]?;
     let fits = Problem::fits(alloc, roots.as_slice(), nodes.as_slice())?;
     Ok(if fits {
         Some(Problem::of(roots, nodes))
     } else {
         None
     })
+}
+
+/// The problem of a text, where it fits; its versions are preferred in an order.
+pub(crate) fn read_problem(alloc: Global, text: &str, order: &str) -> Option<Problem> {
+    let (root, nodes) = text.split_once(' ')?;
+    let nodes = read_nodes(alloc, nodes, order)?;
+    problem(alloc, number(root)?, nodes).ok()?
 }

@@ -1,157 +1,91 @@
 //! The solver on problems.
-use crate::problems::Order;
-use crate::shapes::{
-    alone, chained, crossed, distant, hopeless, opposed, pigeons, pins, with_extra,
-};
+use crate::shapes::problem_of;
 use std::alloc::{AllocError, Global};
-use std::test::Fail;
+use std::fmt::Write;
 use ul_derivation::accepts;
 use ul_problem::Problem;
 use ul_solver::{Answer, solve};
 
-// Whether the answer has just these decisions, in this order.
-fn has_picks(answer: Answer, wanted: &[(u64, u32)]) -> bool {
+// The order of versions, a problem, and the answer on it: the decisions in their order, each a node's place and its
+// version's; `far`, those on the problem with a clash behind many packages, a at 1 and then each u at 2; or nothing, by
+// an accepted derivation. An order that is a number puts that version first.
+const ROWS: &str = "newest crossed 3:0 0:0 1:0 2:0;\
+    newest chained 4:0 0:0 5:1 3:0;\
+    newest alone 1:0 0:0;\
+    newest extra 0:0 1:1 2:1 3:0;\
+    newest extra_below_2 0:0 1:0 2:0 3:0;\
+    newest pins 1:0 4:1 2:0 0:1 3:1;\
+    newest three 1:0 0:2;\
+    oldest three 1:0 0:0;\
+    1 three 1:0 0:1;\
+    0 later 1:0 0:2;\
+    oldest crossed 3:0 0:0 1:0 2:0;\
+    oldest chained 4:0 0:0 5:0 3:0;\
+    newest missed nothing;\
+    newest opposed nothing;\
+    newest hopeless nothing;\
+    newest no_extra nothing;\
+    newest pigeons nothing;\
+    newest distant_40 far;\
+    newest distant_2000 far";
+
+fn push_pick(text: &mut String, node: u64, version: u32) -> Result<(), AllocError> {
+    let blank = if text.is_empty() { "" } else { " " };
+    write!(text, "{blank}{node}:{version}")
+}
+
+fn picks_text(alloc: Global, picks: &[(u64, u32)]) -> Result<String, AllocError> {
+    let mut text = String::new(alloc);
+    for (node, version) in picks {
+        push_pick(&mut text, *node, *version)?;
+    }
+    Ok(text)
+}
+
+// The far decisions on as many nodes: not on b, e and x.
+fn far_text(alloc: Global, count: usize) -> Result<String, AllocError> {
+    let mut text = String::from_str(alloc, "2:0 0:0")?;
+    for node in 4..count.saturating_sub(1) {
+        push_pick(&mut text, node as u64, 1)?;
+    }
+    Ok(text)
+}
+
+fn answer_text(alloc: Global, problem: &Problem, answer: Answer) -> Result<String, AllocError> {
     match answer {
-        Answer::Best { picks, .. } => picks.as_slice() == wanted,
-        Answer::Nothing(_) => false,
-    }
-}
-
-// Whether a problem's best selection has just these decisions, in this order.
-fn is_best(
-    alloc: Global,
-    problem: Result<Option<Problem>, Fail>,
-    wanted: &[(u64, u32)],
-) -> Result<bool, Fail> {
-    match problem? {
-        Some(problem) => {
-            let answer = solve(alloc, &problem)?;
-            Ok(has_picks(answer, wanted))
+        Answer::Best { picks, .. } => picks_text(alloc, picks.as_slice()),
+        Answer::Nothing(derivation) => {
+            let accepted = accepts(alloc, problem, &derivation).is_ok();
+            String::from_str(alloc, if accepted { "nothing" } else { "" })
         }
-        None => Ok(false),
     }
 }
 
-// Whether the answer is an accepted derivation.
-fn is_nothing(alloc: Global, problem: &Problem, answer: Answer) -> bool {
-    match answer {
-        Answer::Best { .. } => false,
-        Answer::Nothing(derivation) => accepts(alloc, problem, &derivation).is_ok(),
+fn wanted_text(alloc: Global, problem: &Problem, want: &str) -> Result<String, AllocError> {
+    if want == "far" {
+        far_text(alloc, problem.nodes().len())
+    } else {
+        String::from_str(alloc, want)
     }
 }
 
-// Whether nothing serves a problem, by an accepted derivation.
-fn has_none(alloc: Global, problem: Result<Option<Problem>, Fail>) -> Result<bool, Fail> {
-    match problem? {
-        Some(problem) => {
-            let answer = solve(alloc, &problem)?;
-            Ok(is_nothing(alloc, &problem, answer))
-        }
-        None => Ok(false),
+fn is_answer(alloc: Global, problem: &Problem, want: &str) -> Result<bool, AllocError> {
+    let answer = solve(alloc, problem)?;
+    let told = answer_text(alloc, problem, answer)?;
+    let wanted = wanted_text(alloc, problem, want)?;
+    Ok(told.as_str() == wanted.as_str())
+}
+
+fn is_row(alloc: Global, line: &str) -> Option<bool> {
+    let (order, rest) = line.split_once(' ')?;
+    let (shape, want) = rest.split_once(' ')?;
+    let problem = problem_of(alloc, shape, order)?;
+    is_answer(alloc, &problem, want).ok()
+}
+
+#[test]
+fn the_best_selection_or_a_derivation_is_answered(rt: HostRuntime) {
+    for line in ROWS.split(';') {
+        assert!(rt; is_row(rt.alloc(), line) == Some(true), "{line}");
     }
-}
-
-#[test]
-fn the_best_selection_gives_way_only_where_it_must(rt: HostRuntime) -> Result<(), Fail> {
-    let alloc = rt.alloc();
-    let newest = Order::Newest;
-    let rows = [
-        is_best(
-            alloc,
-            crossed(alloc, newest),
-            &[(3, 0), (0, 0), (1, 0), (2, 0)],
-        )?,
-        is_best(
-            alloc,
-            chained(alloc, newest),
-            &[(4, 0), (0, 0), (5, 1), (3, 0)],
-        )?,
-        is_best(alloc, alone(alloc, newest, 1, 0), &[(1, 0), (0, 0)])?,
-        is_best(
-            alloc,
-            with_extra(alloc, 3),
-            &[(0, 0), (1, 1), (2, 1), (3, 0)],
-        )?,
-        is_best(
-            alloc,
-            with_extra(alloc, 1),
-            &[(0, 0), (1, 0), (2, 0), (3, 0)],
-        )?,
-        is_best(
-            alloc,
-            pins(alloc, 300),
-            &[(1, 0), (4, 1), (2, 0), (0, 1), (3, 1)],
-        )?,
-    ];
-    assert!(rt; rows == [true; 6]);
-    Ok(())
-}
-
-#[test]
-fn the_order_of_a_node_decides(rt: HostRuntime) -> Result<(), Fail> {
-    let alloc = rt.alloc();
-    let rows = [
-        is_best(alloc, alone(alloc, Order::Newest, 3, 0), &[(1, 0), (0, 2)])?,
-        is_best(alloc, alone(alloc, Order::Oldest, 3, 0), &[(1, 0), (0, 0)])?,
-        is_best(
-            alloc,
-            alone(alloc, Order::Locked(1), 3, 0),
-            &[(1, 0), (0, 1)],
-        )?,
-        is_best(
-            alloc,
-            alone(alloc, Order::Locked(0), 3, 1),
-            &[(1, 0), (0, 2)],
-        )?,
-        is_best(
-            alloc,
-            crossed(alloc, Order::Oldest),
-            &[(3, 0), (0, 0), (1, 0), (2, 0)],
-        )?,
-        is_best(
-            alloc,
-            chained(alloc, Order::Oldest),
-            &[(4, 0), (0, 0), (5, 0), (3, 0)],
-        )?,
-    ];
-    assert!(rt; rows == [true; 6]);
-    Ok(())
-}
-
-#[test]
-fn nothing_comes_with_an_accepted_derivation(rt: HostRuntime) -> Result<(), Fail> {
-    let alloc = rt.alloc();
-    let rows = [
-        has_none(alloc, alone(alloc, Order::Newest, 1, 1))?,
-        has_none(alloc, opposed(alloc))?,
-        has_none(alloc, hopeless(alloc))?,
-        has_none(alloc, with_extra(alloc, 0))?,
-        has_none(alloc, pigeons(alloc, 5, 4))?,
-    ];
-    assert!(rt; rows == [true; 5]);
-    Ok(())
-}
-
-// The decisions on the problem with a clash behind many packages: a at 1, then each u at 2.
-fn distant_picks(alloc: Global, count: u64) -> Result<Vec<(u64, u32)>, AllocError> {
-    let mut picks = Vec::new(alloc);
-    picks.push((2, 0))?;
-    picks.push((0, 0))?;
-    for k in 0..count {
-        picks.push((k.saturating_add(4), 1))?;
-    }
-    Ok(picks)
-}
-
-fn is_distant_best(alloc: Global, count: u64) -> Result<bool, Fail> {
-    let picks = distant_picks(alloc, count)?;
-    is_best(alloc, distant(alloc, count), picks.as_slice())
-}
-
-#[test]
-fn a_clash_behind_many_packages_is_found(rt: HostRuntime) -> Result<(), Fail> {
-    let alloc = rt.alloc();
-    let rows = [is_distant_best(alloc, 40)?, is_distant_best(alloc, 2000)?];
-    assert!(rt; rows == [true; 2]);
-    Ok(())
 }

@@ -2,13 +2,18 @@
 ghost use Rattle.std.specs.Prelude.{IfOk};
 ghost use Rattle.ul_trail.specs.Propagation.{IsTrailOf};
 
-use crate::problems::Order;
 use crate::runs::run;
-use crate::shapes::{crossed, distant};
-use std::alloc::Global;
-use std::test::Fail;
+use crate::shapes::problem_of;
+use std::alloc::{AllocError, Global};
 use ul_problem::{Problem, Step, Term};
 use ul_trail::{Fact, Progress, Trail};
+
+// What is told of a trail on a problem: at its beginning; after one propagation and after two, which find that a isn't
+// 2 and that c is 1; and of its decisions before going back to the first level, and after it.
+const ROWS: &str = "crossed begins: 5 steps, 5 needs, 3 facts, 3 on c, 2 on demo, next 0;\
+    crossed once: 1 excluded, 1 derived, 5 facts;\
+    crossed twice: 1 excluded, 1 derived, 5 facts;\
+    distant_300 goes back: 200 decisions, next 203, back at 0 with fewer facts, 302 decisions";
 
 // Whether a fact says that a node has, or hasn't, a version.
 fn says(fact: &Fact, node: u64, version: u32, positive: bool) -> bool {
@@ -46,107 +51,112 @@ fn watched_on(problem: &Problem, trail: &Trail, node: u64) -> usize
     trail.watched(node).len()
 }
 
-// The steps, those of needs, the facts, those with a term on the nodes 2 and 3, and the next node.
-fn beginning(problem: &Problem, trail: &Trail) -> (usize, usize, usize, usize, usize, Option<u64>)
+// The number of the next node, or the greatest number.
+fn next(problem: &Problem, trail: &Trail) -> u64
     requires { IsTrailOf problem.now trail.now }
 {
-    let needs = needs_of(trail.steps().as_slice());
-    let second = watched_on(problem, trail, 2);
-    let third = watched_on(problem, trail, 3);
-    let next = trail.next(problem);
-    (
-        trail.steps().len(),
-        needs,
-        trail.facts().len(),
-        second,
-        third,
-        next,
+    trail.next(problem).unwrap_or(u64::MAX)
+}
+
+fn beginning(alloc: Global, problem: &Problem, trail: &Trail) -> Result<String, AllocError>
+    requires { IsTrailOf problem.now trail.now }
+{
+    let steps = trail.steps(alloc)?;
+    let (count, needs) = (trail.count(), needs_of(steps.as_slice()));
+    let facts = trail.facts().len();
+    let (second, third) = (watched_on(problem, trail, 2), watched_on(problem, trail, 3));
+    let next = next(problem, trail);
+    format!(in alloc;
+        "{count} steps, {needs} needs, {facts} facts, {second} on c, {third} on demo, next {next}"
     )
 }
 
-// Of a quiet propagation: the facts that a isn't 2, those that c is 1, and all facts.
-fn propagated(
-    alloc: Global,
-    problem: &Problem,
-    trail: &mut Trail,
-) -> Result<(usize, usize, usize), Fail>
+// Whether a propagation is quiet.
+fn is_quiet(alloc: Global, problem: &Problem, trail: &mut Trail) -> Result<bool, AllocError>
     requires { IsTrailOf problem.now trail.old }
     ensures { IfOk result (λ _. IsTrailOf problem.now trail.new) }
 {
     let progress = trail.propagate(alloc, problem)?;
-    match progress {
-        Progress::Conflict(_) => Ok((0, 0, 0)),
-        Progress::Quiet => {
-            let facts = trail.facts().as_slice();
-            let excluded = facts_on(facts, 0, 1, false);
-            let derived = facts_on(facts, 2, 0, true);
-            Ok((excluded, derived, facts.len()))
-        }
-    }
+    Ok(matches!(progress, Progress::Quiet))
 }
 
-type Beginning = (usize, usize, usize, usize, usize, Option<u64>);
+// The facts that a isn't 2, those that c is 1, and all facts.
+fn facts_text(alloc: Global, facts: &[Fact]) -> Result<String, AllocError> {
+    let (excluded, derived) = (facts_on(facts, 0, 1, false), facts_on(facts, 2, 0, true));
+    format!(in alloc;
+        "{excluded} excluded, {derived} derived, {} facts",
+        facts.len()
+    )
+}
 
-type Found = (usize, usize, usize);
-
-// What a trail has at its beginning, after a propagation, and after one more.
-fn walk(alloc: Global, problem: &Problem) -> Result<(Beginning, Found, Found), Fail> {
+// What a trail has after so many propagations.
+fn propagated(alloc: Global, problem: &Problem, twice: bool) -> Result<String, AllocError> {
     let mut trail = Trail::begin(alloc, problem)?;
-    let begun = beginning(problem, &trail);
-    let once = propagated(alloc, problem, &mut trail)?;
-    let twice = propagated(alloc, problem, &mut trail)?;
-    Ok((begun, once, twice))
-}
-
-#[test]
-fn propagation_excludes_what_clashes(rt: HostRuntime) -> Result<(), Fail> {
-    let alloc = rt.alloc();
-    match crossed(alloc, Order::Newest)? {
-        None => assert!(rt; false, "the problem fits"),
-        Some(problem) => {
-            let (begun, once, twice) = walk(alloc, &problem)?;
-            assert_eq!(rt; begun, (5, 5, 1, 3, 2, Some(0)));
-            assert_eq!(rt; once, (1, 1, 5), "a isn't 2, and c is 1");
-            assert_eq!(rt; twice, once);
-        }
+    let once = is_quiet(alloc, problem, &mut trail)?;
+    if once && (!twice || is_quiet(alloc, problem, &mut trail)?) {
+        return facts_text(alloc, trail.facts().as_slice());
     }
-    Ok(())
+    String::from_str(alloc, "conflict")
 }
 
-// Goes to the first level, and answers the next node and whether facts were taken back.
-fn rewound(alloc: Global, problem: &Problem, trail: &mut Trail) -> Result<(Option<u64>, bool), Fail>
+// Goes to the first level, and answers the next node, and whether facts were taken back.
+fn rewound(
+    alloc: Global,
+    problem: &Problem,
+    trail: &mut Trail,
+) -> Result<(u64, &'static str), AllocError>
     requires { IsTrailOf problem.now trail.old }
     ensures { IfOk result (λ _. IsTrailOf problem.now trail.new) }
 {
     let before = trail.facts().len();
     trail.back(alloc, problem, 0, Vec::new(alloc))?;
-    let next = trail.next(problem);
-    let fewer = trail.facts().len() < before;
-    Ok((next, fewer))
+    let next = next(problem, trail);
+    Ok((
+        next,
+        if trail.facts().len() < before {
+            "fewer"
+        } else {
+            "no fewer"
+        },
+    ))
 }
 
-// The decisions and the next node before going back; the next node after it, and whether facts were taken back; and the decisions then.
-fn returned(
-    alloc: Global,
-    problem: &Problem,
-) -> Result<(u64, Option<u64>, Option<u64>, bool, u64), Fail> {
+fn returned(alloc: Global, problem: &Problem) -> Result<String, AllocError> {
     let mut trail = Trail::begin(alloc, problem)?;
-    let first = run(alloc, problem, &mut trail, 200)?;
-    let next = trail.next(problem);
+    let first = run(alloc, problem, &mut trail, 200)?.count;
+    let next = next(problem, &trail);
     let (again, fewer) = rewound(alloc, problem, &mut trail)?;
-    let second = run(alloc, problem, &mut trail, 400)?;
-    Ok((first.count, next, again, fewer, second.count))
+    let second = run(alloc, problem, &mut trail, 400)?.count;
+    format!(in alloc;
+        "{first} decisions, next {next}, back at {again} with {fewer} facts, {second} decisions"
+    )
+}
+
+fn begun(alloc: Global, problem: &Problem) -> Result<String, AllocError> {
+    let trail = Trail::begin(alloc, problem)?;
+    beginning(alloc, problem, &trail)
+}
+
+fn told(alloc: Global, problem: &Problem, word: &str) -> Result<String, AllocError> {
+    match word {
+        "begins" => begun(alloc, problem),
+        "once" => propagated(alloc, problem, false),
+        "twice" => propagated(alloc, problem, true),
+        _ => returned(alloc, problem),
+    }
+}
+
+fn is_row(alloc: Global, line: &str) -> Option<bool> {
+    let (case, want) = line.split_once(": ")?;
+    let (shape, word) = case.split_once(' ')?;
+    let problem = problem_of(alloc, shape, "newest")?;
+    let told = told(alloc, &problem, word).ok()?;
+    Some(told.as_str() == want)
 }
 
 #[test]
-fn going_back_puts_the_next_node_back(rt: HostRuntime) -> Result<(), Fail> {
-    let alloc = rt.alloc();
-    match distant(alloc, 300)? {
-        None => assert!(rt; false, "the problem fits"),
-        Some(problem) => {
-            let found = returned(alloc, &problem)?;
-            assert_eq!(rt; found, (200, Some(203), Some(0), true, 302));
-        }
+fn trails_propagate_and_go_back(rt: HostRuntime) {
+    for line in ROWS.split(';') {
+        assert!(rt; is_row(rt.alloc(), line) == Some(true), "{line}");
     }
-    Ok(())
 }

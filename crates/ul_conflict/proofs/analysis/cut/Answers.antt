@@ -26,7 +26,7 @@ returns c = record {
     | in-None+in_ok-copy-in-None+in_ok-push-in-None w ↦ inr (record {
       learned = ap (λ (r : Resolvent). r.learned.items) w.resolved-is
           ∙ (w.in_ok-push-in-None.ensures.items ∙ ap (λ (z : List Term). c.args.resolved.now.learned.items ++ Cut c.args.resolved.now.number (c.args.cause + 1) c.args.node z ∷ []) w.in_ok-copy-in-None.ensures);
-      number = (let l : length c.args.trail.now.steps ≡ length c.steps.result.now.items = sym (ap (λ (x : List Step). length x) c.steps.ensures) in
+      number = (let l = c.count-count.ensures.value in
           let e : length w.push.new.self.items ≡ length c.args.resolved.now.learned.items + 1 = ap (λ (x : List Step). length x) w.in_ok-push-in-None.ensures.items ∙ length-append c.args.resolved.now.learned.items _ in
           let n = ap (λ (r : Resolvent). r.number) w.resolved-is in omega arith);
     })
