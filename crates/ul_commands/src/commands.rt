@@ -19,10 +19,9 @@ use crate::generating::{INDEX, PROJECT, counted, files};
 use crate::locking::lock;
 use crate::reasons::why;
 use std::alloc::Global;
-use std::mem;
 use std::sync::Wait;
 use std::thread::Threads;
-use ul_answers::Answer;
+use ul_answers::{Answer, leave};
 use ul_base::{Files, Gate, SureFiles};
 use ul_inputs::{Refusal, lock_file, machine_file, project_file, resolution_in, resolution_with};
 use ul_lock_lines::Lock;
@@ -50,8 +49,7 @@ fn lock_files<R: Threads + Wait + Sync, F: Files, G: Gate + Sync>(
 {
     let resolution = resolution_in(alloc, files, project, folder, old)?;
     let answer = lock(rt, alloc, workers, &resolution, gate);
-    // The process ends soon: the system takes back at once what would be given back piece by piece.
-    mem::forget(resolution);
+    leave(resolution);
     answer
 }
 
@@ -76,8 +74,7 @@ fn why_files<R: Threads + Wait + Sync, F: Files, G: Gate + Sync>(
 {
     let resolution = resolution_in(alloc, files, project, folder, old)?;
     let answer = why(rt, alloc, workers, &resolution, gate);
-    // as in `lock_files`
-    mem::forget(resolution);
+    leave(resolution);
     answer
 }
 

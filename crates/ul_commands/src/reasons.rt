@@ -15,11 +15,10 @@ ghost use Rattle.ul_commands.specs.Reasons.{AreStepsOf, IsProblemIn, IsWhyAnswer
 use crate::forking::forks_of;
 use crate::locking::region_in;
 use std::alloc::{AllocError, Global};
-use std::mem;
 use std::sync::Wait;
 use std::thread::Threads;
 use ul_algebra::{Algebra, Diagram};
-use ul_answers::Answer;
+use ul_answers::{Answer, leave};
 use ul_base::Gate;
 use ul_forks::{ForkAnswer, Forked, start_nodes};
 use ul_inputs::{Refusal, Resolution};
@@ -126,7 +125,7 @@ pub(crate) fn why<R: Threads + Wait + Sync, G: Gate + Sync>(
     let (interner, pass) = Interner::begin(alloc)?;
     let (forked, algebra) = forks_of(rt, alloc, &interner, pass, workers, resolution, gate)?;
     let answer = answer_for(rt, alloc, algebra, resolution, &forked)?;
-    // The process ends soon: the system takes back at once what would be given back piece by piece.
-    mem::forget(forked);
+    leave(forked);
+    leave(interner);
     Ok(answer)
 }

@@ -16,6 +16,7 @@ ghost use Rattle.ul_forks.specs.Judge.{IsReady, question_with};
 use crate::laws::judged_laws;
 use crate::region_judge::RegionJudge;
 use std::alloc::{AllocError, Global};
+use std::mem;
 use std::sync::Wait;
 use std::thread::Threads;
 use ul_algebra::{Algebra, Diagram, DiagramLabel, DiagramPass};
@@ -151,6 +152,8 @@ fn forks_from<'i, 'p, R: Threads + Wait + Sync, G: Gate + Sync>(
     let (forked, rounds) = forks_by(
         rt, alloc, workers, interner, &mut pass, &prepared, extras, gate, region,
     )?;
+    // what no region asks for any more
+    mem::forget(prepared);
     let algebra = Algebra::begin(alloc, interner, pass);
     Ok((forked, rounds, algebra))
 }
@@ -159,7 +162,8 @@ fn forks_from<'i, 'p, R: Threads + Wait + Sync, G: Gate + Sync>(
 ///
 /// From 1 to 64 workers judge the regions, and the answer is the same for every number of them. There is one round for
 /// each generation, with as many results as it has regions. Each region's job enters the gate first, with its number in
-/// its generation. The algebra that is answered is on the given interner, and knows all regions of the answer.
+/// its generation. The algebra that is answered is on the given interner, and knows all regions of the answer. What all
+/// regions share is left to the end of the process, where the system takes it back at once.
 ///
 /// # Errors
 ///
