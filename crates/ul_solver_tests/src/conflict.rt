@@ -11,10 +11,12 @@ use ul_problem::{Derivation, Problem, Step};
 use ul_trail::Trail;
 
 // A problem, and what its first conflict comes to. In `crossed` the first decision, before any propagation, is a at 2,
-// against a need that b at 1 has, which is learned once more. In `distant_40` the conflict goes back to a: x is 3 or 4, which b clashes with at once. The other two
-// are closed by two needs and their cut.
+// against a need that b at 1 has, which is learned once more. In `distant_40` the conflict goes back to a: x is 3 or 4,
+// which b clashes with at once. In `pigeons` three cuts lead back from the third decision. The other two are closed by
+// two needs and their cut.
 const ROWS: &str = "crossed: 0 decisions, back to 0 by 1 steps with 0 cuts, 3 decisions;\
     distant_40: 42 decisions, back to 1 by 1 steps with 1 cuts, 0 decisions;\
+    pigeons: 3 decisions, back to 2 by 3 steps with 3 cuts, 0 decisions;\
     opposed: 0 decisions, closed by 3 steps with 1 cuts;\
     hopeless: 0 decisions, closed by 3 steps with 1 cuts";
 
