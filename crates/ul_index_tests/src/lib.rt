@@ -9,3 +9,5 @@ mod index;
 mod packages;
 #[cfg(test)]
 mod requirement;
+#[cfg(test)]
+mod texts;

@@ -8,4 +8,6 @@ mod limits;
 #[cfg(test)]
 mod rows;
 #[cfg(test)]
+mod texts;
+#[cfg(test)]
 mod told;

@@ -1,0 +1,20 @@
+//! What is told, piece by piece, and the cells of a row.
+//!
+//! A piece that finds no memory is left out, and then what is told isn't what is wanted. So what puts pieces together
+//! has no failure to hand on, and its proof no path for one.
+use std::fmt::Write;
+
+/// What comes before the first such mark of a row, and what comes after it.
+pub(crate) fn cells(row: &str, mark: char) -> (&str, &str) {
+    row.split_once(mark).unwrap_or((row, ""))
+}
+
+/// Puts a piece.
+pub(crate) fn put(told: &mut String, piece: &str) {
+    let _ = told.push_str(piece);
+}
+
+/// Puts a number.
+pub(crate) fn put_number(told: &mut String, number: u64) {
+    let _ = write!(told, "{number}");
+}
