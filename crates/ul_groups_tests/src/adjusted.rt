@@ -6,7 +6,7 @@
 ghost use Rattle.std.specs.Prelude.{◌≡◌, ◌∷◌, [], IsTrue, bytes_eq, length};
 ghost use Rattle.ul_index.specs.Catalogs.{IsCatalog};
 
-use crate::texts::{cells, expanded_project, put, put_requirements};
+use crate::texts::{expanded_project, put_requirements};
 use std::alloc::{AllocError, Global};
 use std::fmt::Write;
 use ul_base::Name;
@@ -14,6 +14,7 @@ use ul_groups::adjust;
 use ul_index::{Catalog, document};
 use ul_project::Project;
 use ul_requirement::{Package, Release};
+use ul_test_rows::{cells, put};
 
 const ROWS: &str =
     r#"dependencies = ["q[x]>=1; os_name=='a'", 'r', 's']~[tool.uv]~constraint-dependencies = ["r<3; os_name=='b'", 'q', 'u']~override-dependencies = ['q==2', 'q<9,>1', 't']|r [{"version": "7", "requires_dist": ["t[y]>4", "u"]}]~x []|p 0: q+x==2;aA q;aA q+x<9>1;aA q;aA r r<3;bB s ~r 7: t+y u u ~x ~
@@ -139,8 +140,8 @@ fn adjusted(alloc: Global, lines: &str, packages: &str) -> String {
 }
 
 fn is_row(alloc: Global, line: &str) -> bool {
-    let (lines, rest) = cells(line);
-    let (packages, want) = cells(rest);
+    let (lines, rest) = cells(line, '|');
+    let (packages, want) = cells(rest, '|');
     adjusted(alloc, lines, packages).as_str() == want
 }
 

@@ -4,11 +4,12 @@
 //! extras, each with how many requirements it has, and how many groups are left; or the path of an include that is
 //! refused.
 
-use crate::texts::{cells, expanded_project, project_of, put, put_number, put_requirements};
+use crate::texts::{expanded_project, project_of, put_requirements};
 use std::alloc::Global;
 use std::fmt::Write;
 use ul_groups::expand;
 use ul_project::{Project, ProjectFault};
+use ul_test_rows::{cells, put, put_number};
 
 const ROWS: &str = r#"dependencies = ['d>1']|d>1 0
 [dependency-groups]~test = ['t']~all = [{include-group = 'test'}, 'u']|t; u; t; group-all:2 group-test:1 0
@@ -76,7 +77,7 @@ fn expanded(alloc: Global, lines: &str) -> String {
 }
 
 fn is_row(alloc: Global, line: &str) -> bool {
-    let (lines, want) = cells(line);
+    let (lines, want) = cells(line, '|');
     expanded(alloc, lines).as_str() == want
 }
 

@@ -1,14 +1,11 @@
 //! Projects, and what is told of them piece by piece, which the tests share.
-//!
-//! A piece that finds no memory is left out, and then what is told isn't what is wanted. So what puts pieces together
-//! has no failure to hand on, and its proof no path for one.
 use std::alloc::Global;
-use std::fmt::Write;
 use ul_groups::expand;
 use ul_marker::{Marker, World};
 use ul_project::{Project, project};
 use ul_requirement::Requirement;
 use ul_specifier::{Clause, Op};
+use ul_test_rows::{cells, put};
 
 /// The project `p` of these lines, which `~` ends.
 pub(crate) fn project_of(alloc: Global, lines: &str) -> Option<Project> {
@@ -20,21 +17,6 @@ pub(crate) fn project_of(alloc: Global, lines: &str) -> Option<Project> {
 /// That project with its groups expanded.
 pub(crate) fn expanded_project(alloc: Global, lines: &str) -> Option<Project> {
     expand(alloc, project_of(alloc, lines)?).ok()
-}
-
-/// What comes before the first bar of a line, and what comes after it.
-pub(crate) fn cells(line: &str) -> (&str, &str) {
-    line.split_once('|').unwrap_or((line, ""))
-}
-
-/// Puts a piece.
-pub(crate) fn put(told: &mut String, piece: &str) {
-    let _ = told.push_str(piece);
-}
-
-/// Puts a number.
-pub(crate) fn put_number(told: &mut String, number: u64) {
-    let _ = write!(told, "{number}");
 }
 
 fn sign(op: Op) -> &'static str {
@@ -72,8 +54,8 @@ const WHERE: &str = "a||a b||b a|group-a|A b|group-a|B";
 
 // Puts the letter of a row where a marker holds as it says.
 fn put_where(alloc: Global, told: &mut String, marker: &Marker, row: &str) {
-    let (system, rest) = cells(row);
-    let (extra, letter) = cells(rest);
+    let (system, rest) = cells(row, '|');
+    let (extra, letter) = cells(rest, '|');
     if let Some(world) = world(alloc, system) {
         put(
             told,

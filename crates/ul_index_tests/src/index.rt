@@ -3,12 +3,12 @@
 ghost use Rattle.std.specs.Prelude.{◌≡◌, ◌≤◌, IsTrue, false, length};
 ghost use Rattle.std.specs.Str.{bytes_eq};
 
-use crate::texts::{cells, put, put_number};
 use std::alloc::{AllocError, Global};
 use std::fmt::Write;
 use ul_base::Name;
 use ul_index::{Catalog, IndexFault, Place, document, eligible};
 use ul_requirement::{FileEntry, Package, Release};
+use ul_test_rows::{cells, put, put_number};
 use ul_version::Version;
 
 // What documents of `a` are read as. A row has what is told of it; whether its text is a whole document, entries or
@@ -170,8 +170,8 @@ fn document_text(alloc: Global, kind: &str, text: &str) -> Result<String, AllocE
 }
 
 fn is_row(alloc: Global, line: &str) -> bool {
-    let (want, rest) = cells(line);
-    let (kind, text) = cells(rest);
+    let (want, rest) = cells(line, '|');
+    let (kind, text) = cells(rest, '|');
     match document_text(alloc, kind, text) {
         Ok(text) => is_told(alloc, text.as_bytes(), want),
         Err(_) => false,
@@ -317,9 +317,9 @@ fn is_told_of(alloc: Global, catalog: &Catalog, name: &str, want: &str) -> bool 
 }
 
 fn is_catalog_row(alloc: Global, line: &str) -> bool {
-    let (name, rest) = cells(line);
-    let (want, rest) = cells(rest);
-    let (versions, directs) = cells(rest);
+    let (name, rest) = cells(line, '|');
+    let (want, rest) = cells(rest, '|');
+    let (versions, directs) = cells(rest, '|');
     match catalog_of(alloc, directs, versions) {
         Some(catalog) => {
             let told = is_told_of(alloc, &catalog, name, want);

@@ -9,5 +9,3 @@ mod index;
 mod packages;
 #[cfg(test)]
 mod requirement;
-#[cfg(test)]
-mod texts;

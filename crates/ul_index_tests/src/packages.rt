@@ -1,11 +1,11 @@
 //! Requirements from the metadata of published packages.
 
-use crate::texts::put;
 use std::alloc::{AllocError, Global};
 use ul_base::Name;
 use ul_marker::{Atom, EnvFault, Machine, World, world_of};
 use ul_requirement::Requirement;
 use ul_specifier::{Clause, Op, Specifiers};
+use ul_test_rows::put;
 
 // The machine files of three interpreters, a line each.
 const MACHINES: &str =

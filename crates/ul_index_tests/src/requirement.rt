@@ -1,10 +1,10 @@
 //! Requirements and their texts.
 
-use crate::texts::{cells, put, put_number};
 use std::alloc::Global;
 use ul_base::{Name, Node};
 use ul_marker::World;
 use ul_requirement::{ReqFault, Requirement};
+use ul_test_rows::{cells, put, put_number};
 
 // What texts are read as, with `|` before the text and `#` between two rows.
 const TEXTS: &str = "flask 0 false|\x0b\x0cFlask\r\n#\
@@ -65,7 +65,7 @@ fn told(alloc: Global, text: &str) -> String {
 }
 
 fn is_row(alloc: Global, row: &str) -> bool {
-    let (want, text) = cells(row);
+    let (want, text) = cells(row, '|');
     told(alloc, text).as_str() == want
 }
 

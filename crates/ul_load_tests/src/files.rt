@@ -2,9 +2,9 @@
 
 ghost use Rattle.std.specs.Prelude.{None};
 
-use crate::texts::put;
 use std::alloc::Global;
 use ul_base::{Files, MemFiles, ReadRefused};
+use ul_test_rows::put;
 
 /// Files in memory whose contents aren't told.
 #[derive(Drop)]

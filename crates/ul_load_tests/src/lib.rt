@@ -8,6 +8,4 @@ mod limits;
 #[cfg(test)]
 mod rows;
 #[cfg(test)]
-mod texts;
-#[cfg(test)]
 mod told;

@@ -1,9 +1,9 @@
 //! The limits, each at its number and one past it.
 use crate::files::Padded;
-use crate::texts::{cells, put};
 use crate::told::told;
 use std::alloc::{AllocError, Global};
 use ul_base::MemFiles;
+use ul_test_rows::{cells, put};
 
 // A piece with a number in place of each `#`.
 fn numbered(alloc: Global, piece: &str, number: u64) -> Result<String, AllocError> {

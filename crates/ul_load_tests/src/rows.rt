@@ -1,9 +1,9 @@
 //! Small folders: what is read, in which order, what counts, and which fault comes first.
 use crate::files::Untold;
-use crate::texts::cells;
 use crate::told::told;
 use std::alloc::{AllocError, Global};
 use ul_base::MemFiles;
+use ul_test_rows::cells;
 
 // A row has what is told, the project's requirements, the number of the read that fails (or `-`), and the documents,
 // which `~` separates, each behind its name and a blank. `V` stands for `"versions": [`, and `R` for `"requires_dist": [`.

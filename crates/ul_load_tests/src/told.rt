@@ -1,10 +1,10 @@
 //! What a project loads, in one line.
-use crate::texts::{put, put_number};
 use std::alloc::Global;
 use ul_base::Files;
 use ul_index::{Catalog, IndexFault, Place};
 use ul_load::{LoadFault, load_project};
 use ul_project::{Project, project};
+use ul_test_rows::{put, put_number};
 
 // Puts the packages, each with its name, how many entries its document has, and how many releases there are.
 fn put_packages(told: &mut String, catalog: &Catalog) {

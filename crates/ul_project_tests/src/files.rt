@@ -1,7 +1,7 @@
 //! Small project files.
-use crate::texts::{cells, put};
 use crate::told::is_read;
 use std::alloc::Global;
+use ul_test_rows::{cells, put};
 
 // What is told of a file, its kind, and its lines, which `~` separates: a row for each place that can be refused, those
 // in which the first of two faults is told, and files that are read. Before the lines stands nothing (`w`), the head of

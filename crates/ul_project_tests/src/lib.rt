@@ -6,8 +6,6 @@ mod files;
 #[cfg(test)]
 mod sizes;
 #[cfg(test)]
-mod texts;
-#[cfg(test)]
 mod told;
 #[cfg(test)]
 mod well_known;

@@ -1,8 +1,8 @@
 //! Large project files.
-use crate::texts::{cells, put, put_number};
 use crate::told::put_fault;
 use std::alloc::{AllocError, Global};
 use ul_project::{Project, project};
+use ul_test_rows::{cells, put, put_number};
 
 // Each row: what is counted, what stands before the lines, how many lines, the line, in which `#` stands for its number,
 // and what stands behind the lines. `~` ends a line of the file.

@@ -1,10 +1,10 @@
 //! What a project file is read as, in one line.
-use crate::texts::{put, put_number};
 use std::alloc::Global;
 use std::fmt::Write;
 use ul_base::Name;
 use ul_project::{Group, GroupEntry, Project, ProjectFault, ProjectPath, project};
 use ul_requirement::{Mode, Release, Requirement, Strategy};
+use ul_test_rows::{put, put_number};
 use ul_tree::paths;
 
 fn put_name(told: &mut String, name: &Name) {

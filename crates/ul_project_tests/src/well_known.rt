@@ -1,9 +1,9 @@
 //! Files of the shape that well-known projects have.
 //!
 //! Before each file stands what it is read as, and `====` between two.
-use crate::texts::cells;
 use crate::told::is_read;
 use std::alloc::Global;
+use ul_test_rows::cells;
 
 const FILES: &str =
     r#"flask 3.1.0 werkzeug:1 jinja2:1 itsdangerous:1 click:1 blinker:1 importlib-metadata:1; asgiref:1! python-dotenv! | async dotenv | | | | 1 0 1 highest fewest
