@@ -11,7 +11,7 @@ use std::marker::Model;
 
 /// A set of numbers below its size. A set of at most 64 numbers takes no memory, nor does one of a single member; larger ones share
 /// their blocks, so that a copy is a count.
-#[derive(Debug, Drop)]
+#[derive(Drop)]
 pub struct Ordinals {
     form: Form,
 }
@@ -67,7 +67,12 @@ impl Ordinals {
     pub fn first_in(&self, order: &Vec<u32>) -> Option<u32>
         ensures { result ≡ first_in order.now.items self.now }
     {
-        order.iter().copied().find(|k| self.has(*k))
+        for k in order {
+            if self.has(*k) {
+                return Some(*k);
+            }
+        }
+        None
     }
 
     /// Whether the two are equal, in their sizes too.
