@@ -3,7 +3,7 @@ use Rattle.std.proofs.lemmas.Bool.{false≢true}
 use Rattle.ul_ranges.specs.Forms.{AreForms, AreWithin}
 use Rattle.ul_ranges.specs.declared.forms.Form.{Form}
 use Rattle.ul_ranges.proofs.FormTests.{words_within, many_within, many_without}
-use Rattle.ul_ranges.proofs.forms.is_within.Goals as goal
+use Rattle.ul_ranges.proofs.form_tests.is_within.Goals as goal
 
 pub returns-in-Word-Word : goal.returns-in-Word-Word
 returns-in-Word-Word c =

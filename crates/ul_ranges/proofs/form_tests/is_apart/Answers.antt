@@ -1,5 +1,5 @@
 use Rattle.ul_ranges.proofs.FormTests.{words_apart, many_apart}
-use Rattle.ul_ranges.proofs.forms.is_apart.Goals as goal
+use Rattle.ul_ranges.proofs.form_tests.is_apart.Goals as goal
 
 pub returns-in-Word-Word : goal.returns-in-Word-Word
 returns-in-Word-Word c =
