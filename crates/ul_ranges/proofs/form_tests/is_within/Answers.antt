@@ -3,7 +3,7 @@ use Rattle.std.proofs.lemmas.Bool.{false≢true}
 use Rattle.ul_ranges.specs.Forms.{AreForms, AreWithin}
 use Rattle.ul_ranges.specs.declared.forms.Form.{Form}
 use Rattle.ul_ranges.proofs.FormTests.{words_within, many_within, many_without}
-use Rattle.ul_ranges.proofs.forms.is_within.Goals as goal
+use Rattle.ul_ranges.proofs.form_tests.is_within.Goals as goal
 
 pub returns-in-Word-Word : goal.returns-in-Word-Word
 returns-in-Word-Word c =
@@ -13,8 +13,8 @@ returns-in-Word-Word c =
 pub returns-in-Many-Many : goal.returns-in-Many-Many
 returns-in-Many-Many c =
     rw (c.in-Many-Many.is-0, c.in-Many-Many.is-1)
-    (many_within _ _ c.in-Many-Many.xs c.in-Many-Many.ys c.are_within.result (rw (c.in-Many-Many.is-0, c.in-Many-Many.is-1) at c.requires)
-    (rw (c.as_slice.ensures, c.as_slice-in-Many-Many.ensures) at c.are_within.ensures))
+    (many_within _ _ c.in-Many-Many.xs c.in-Many-Many.ys c.are_clear.result (rw (c.in-Many-Many.is-0, c.in-Many-Many.is-1) at c.requires)
+    (rw (c.as_slice.ensures, c.as_slice-in-Many-Many.ensures) at c.are_clear.ensures))
 
 pub returns-in_default-2 : goal.returns-in_default-2
 returns-in_default-2 c = (

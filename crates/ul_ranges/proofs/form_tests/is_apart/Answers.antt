@@ -1,5 +1,5 @@
 use Rattle.ul_ranges.proofs.FormTests.{words_apart, many_apart}
-use Rattle.ul_ranges.proofs.forms.is_apart.Goals as goal
+use Rattle.ul_ranges.proofs.form_tests.is_apart.Goals as goal
 
 pub returns-in-Word-Word : goal.returns-in-Word-Word
 returns-in-Word-Word c =
@@ -9,5 +9,5 @@ returns-in-Word-Word c =
 pub returns-in-Many-Many : goal.returns-in-Many-Many
 returns-in-Many-Many c =
     rw (c.in-Many-Many.is-0, c.in-Many-Many.is-1)
-    (many_apart _ _ c.in-Many-Many.xs c.in-Many-Many.ys c.are_apart.result (rw (c.in-Many-Many.is-0, c.in-Many-Many.is-1) at c.requires)
-    (rw (c.as_slice.ensures, c.as_slice-in-Many-Many.ensures) at c.are_apart.ensures))
+    (many_apart _ _ c.in-Many-Many.xs c.in-Many-Many.ys c.are_clear.result (rw (c.in-Many-Many.is-0, c.in-Many-Many.is-1) at c.requires)
+    (rw (c.as_slice.ensures, c.as_slice-in-Many-Many.ensures) at c.are_clear.ensures))

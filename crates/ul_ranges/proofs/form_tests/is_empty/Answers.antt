@@ -1,5 +1,5 @@
 use Rattle.ul_ranges.proofs.FormTests.{word_empty, few_empty, many_filled}
-use Rattle.ul_ranges.proofs.forms.is_empty.Goals as goal
+use Rattle.ul_ranges.proofs.form_tests.is_empty.Goals as goal
 
 pub returns-in-Word : goal.returns-in-Word
 returns-in-Word c = rw c.in-Word.is (word_empty _ c.in-Word.word (rw c.in-Word.is at c.requires))

@@ -3,7 +3,7 @@ use Rattle.std.proofs.lemmas.Bool.{false≢true}
 use Rattle.ul_ranges.specs.Forms.{AreForms, AreSame}
 use Rattle.ul_ranges.specs.declared.forms.Form.{Form}
 use Rattle.ul_ranges.proofs.FormTests.{words_same, few_same, many_same, few_differ, many_differ}
-use Rattle.ul_ranges.proofs.forms.same.Goals as goal
+use Rattle.ul_ranges.proofs.form_tests.same.Goals as goal
 
 pub returns-in-Word-Word : goal.returns-in-Word-Word
 returns-in-Word-Word c =
