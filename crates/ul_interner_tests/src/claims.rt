@@ -138,6 +138,16 @@ fn are_all(numbers: &[u64], limit: u64) -> bool {
     numbers.len() as u64 == limit
 }
 
+// Whether the seats drew all numbers below the limit.
+fn are_gathered(alloc: Global, claims: Claims, seats: Vec<ClaimSeat>, limit: u64) -> bool
+    requires { All (λ s. s.claims ≡ claims) seats.items }
+{
+    match claims.gather(alloc, seats) {
+        Ok(numbers) => are_all(numbers.as_slice(), limit),
+        Err(_) => false,
+    }
+}
+
 // Whether the first seat and so many others, each in a thread of its own, draw each number below the limit once.
 fn threads_draw_all<R: Threads + Sync>(
     rt: &R,
@@ -145,13 +155,13 @@ fn threads_draw_all<R: Threads + Sync>(
     limit: u16,
     others: u16,
 ) -> Result<bool, AllocError> {
-    let (claims, first) = Claims::begin(alloc, limit as u64)?;
+    let limit = limit as u64;
+    let (claims, first) = Claims::begin(alloc, limit)?;
     let mut drawers = drawers(alloc, &claims, first, others)?;
     draw_in_threads(rt, &claims, drawers.as_mut_slice());
     let drawn = count_drawn(drawers.as_slice());
     let seats = seats_of(alloc, &claims, drawers)?;
-    let numbers = claims.gather(alloc, seats)?;
-    Ok(drawn == Some(limit as u64) && are_all(numbers.as_slice(), limit as u64))
+    Ok(drawn == Some(limit) && are_gathered(alloc, claims, seats, limit))
 }
 
 // Whether a seat draws this number, or none.
@@ -185,8 +195,7 @@ fn two_seats_are_gathered(alloc: Global) -> Result<bool, AllocError> {
     let mut second = claims.split(alloc, &mut first)?;
     let in_turn = draw_in_turn(&claims, &mut first, &mut second);
     let seats = Vec::from_array(alloc, [first, second])?;
-    let numbers = claims.gather(alloc, seats)?;
-    Ok(in_turn && are_all(numbers.as_slice(), 4))
+    Ok(in_turn && are_gathered(alloc, claims, seats, 4))
 }
 
 const CASES: &str = "one seat draws nothing below 0\n\

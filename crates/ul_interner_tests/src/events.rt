@@ -35,6 +35,13 @@ const ROWS: &str = "hash ||0\n\
     levels\n\
     leaves";
 
+// A row with one item more, if that was made.
+fn with_made<T: Drop>(row: Vec<T>, made: Result<T, AllocError>) -> Result<Vec<T>, AllocError> {
+    let (mut row, item) = (row, made?);
+    row.push(item)?;
+    Ok(row)
+}
+
 fn leaf(alloc: Global, text: &str) -> Result<Plant<Word>, AllocError> {
     let label = Word::new(alloc, text)?;
     Ok(Plant {
@@ -43,13 +50,18 @@ fn leaf(alloc: Global, text: &str) -> Result<Plant<Word>, AllocError> {
     })
 }
 
-// The tree of a label and leaves, which the text lists with blanks between them.
-fn tree(alloc: Global, label: &str, leaves: &str) -> Result<Plant<Word>, AllocError> {
+fn leaves_of(alloc: Global, leaves: &str) -> Result<Vec<Plant<Word>>, AllocError> {
     let mut parts = Vec::new(alloc);
     for text in leaves.split_whitespace() {
-        parts.push(leaf(alloc, text)?)?;
+        parts = with_made(parts, leaf(alloc, text))?;
     }
+    Ok(parts)
+}
+
+// The tree of a label and leaves, which the text lists with blanks between them.
+fn tree(alloc: Global, label: &str, leaves: &str) -> Result<Plant<Word>, AllocError> {
     let label = Word::new(alloc, label)?;
+    let parts = leaves_of(alloc, leaves)?;
     Ok(Plant { label, parts })
 }
 
@@ -143,16 +155,22 @@ fn is_answered(
     Ok(told(state.step(alloc, event)) == want)
 }
 
+fn script_holds(alloc: Global, state: &mut CoreState<Word>, shards: u8) -> bool
+    requires { 1 ≤ shards }
+{
+    for line in SCRIPT.split('\n') {
+        if is_answered(alloc, state, shards, line) != Ok(true) {
+            return false;
+        }
+    }
+    true
+}
+
 fn are_answered(alloc: Global, shards: u8) -> Result<bool, AllocError>
     requires { 1 ≤ shards }
 {
     let mut state = CoreState::begin(alloc, shards)?;
-    for line in SCRIPT.split('\n') {
-        if !is_answered(alloc, &mut state, shards, line)? {
-            return Ok(false);
-        }
-    }
-    Ok(true)
+    Ok(script_holds(alloc, &mut state, shards))
 }
 
 fn events(alloc: Global, shards: u8) -> Result<Vec<Event<Word>>, AllocError>
@@ -161,19 +179,22 @@ fn events(alloc: Global, shards: u8) -> Result<Vec<Event<Word>>, AllocError>
     let mut events = Vec::new(alloc);
     for line in SCRIPT.split('\n') {
         let (text, _) = cells(line);
-        events.push(event(alloc, shards, text)?)?;
+        events = with_made(events, event(alloc, shards, text))?;
     }
     Ok(events)
+}
+
+fn is_taken(alloc: Global, state: &mut CoreState<Word>, events: Vec<Event<Word>>) -> bool {
+    state.run(alloc, events) == Ok(6) && state.step(alloc, Event::Claim) == Ok(Some(2))
 }
 
 // Whether the script takes six of its events, and the next number drawn is 2.
 fn is_run(alloc: Global, shards: u8) -> Result<bool, AllocError>
     requires { 1 ≤ shards }
 {
-    let events = events(alloc, shards)?;
     let mut state = CoreState::begin(alloc, shards)?;
-    let taken = state.run(alloc, events)?;
-    Ok(taken == 6 && state.step(alloc, Event::Claim) == Ok(Some(2)))
+    let events = events(alloc, shards)?;
+    Ok(is_taken(alloc, &mut state, events))
 }
 
 fn is_script(alloc: Global, kind: &str) -> Result<bool, AllocError> {

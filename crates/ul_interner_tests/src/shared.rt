@@ -4,6 +4,7 @@ ghost use Rattle.ul_interner.specs.Known.{Known, Knows};
 
 use crate::labels::{Number, Word};
 use std::alloc::{AllocError, Global};
+use std::fmt::Write;
 use std::sync::Wait;
 use std::thread;
 use std::thread::Threads;
@@ -33,12 +34,14 @@ fn is_at<R: Wait>(
     pass: &mut Pass<Number>,
     number: u64,
     id: (u8, u64),
-) -> Result<bool, AllocError>
+) -> bool
     requires { pass.old.table ≡ interner.now }
     ensures { pass.new.table ≡ pass.old.table }
 {
-    let mark = leaf(rt, alloc, interner, pass, number)?;
-    Ok(mark.label().number == number && mark.id() == id)
+    match leaf(rt, alloc, interner, pass, number) {
+        Ok(mark) => mark.label().number == number && mark.id() == id,
+        Err(_) => false,
+    }
 }
 
 fn leaf_of_two_passes_is_one<R: Wait>(
@@ -46,15 +49,15 @@ fn leaf_of_two_passes_is_one<R: Wait>(
     alloc: Global,
     interner: &Interner<Number>,
     pass: &mut Pass<Number>,
-) -> Result<bool, AllocError>
+) -> bool
     requires { pass.old.table ≡ interner.now }
 {
     let mut second = interner.split(pass);
-    let first = is_at(rt, alloc, interner, pass, 7, (7, 0))?;
-    let again = is_at(rt, alloc, interner, &mut second, 7, (7, 0))?;
-    let other = is_at(rt, alloc, interner, &mut second, 8, (8, 0))?;
+    let first = is_at(rt, alloc, interner, pass, 7, (7, 0));
+    let again = is_at(rt, alloc, interner, &mut second, 7, (7, 0));
+    let other = is_at(rt, alloc, interner, &mut second, 8, (8, 0));
     interner.join(pass, second);
-    Ok(first && again && other)
+    first && again && other
 }
 
 // Whether each leaf below 16 goes to the shard of its number, twice over, and the next one to the first.
@@ -63,13 +66,13 @@ fn leaf_goes_to_shard_of_hash<R: Wait>(
     alloc: Global,
     interner: &Interner<Number>,
     pass: &mut Pass<Number>,
-) -> Result<bool, AllocError>
+) -> bool
     requires { pass.old.table ≡ interner.now }
 {
     for number in 0..32u64 {
         let shard = number % 16;
-        if !is_at(rt, alloc, interner, pass, shard, (shard as u8, 0))? {
-            return Ok(false);
+        if !is_at(rt, alloc, interner, pass, shard, (shard as u8, 0)) {
+            return false;
         }
     }
     is_at(rt, alloc, interner, pass, 16, (0, 1))
@@ -81,15 +84,15 @@ fn make_goes_on_after_want_of_memory<R: Wait>(
     alloc: Global,
     interner: &Interner<Number>,
     pass: &mut Pass<Number>,
-) -> Result<bool, AllocError>
+) -> bool
     requires { pass.old.table ≡ interner.now }
 {
-    let seven = leaf(rt, alloc, interner, pass, 7)?;
-    let next = match is_at(rt, alloc, interner, pass, 23, (7, 1)) {
-        Ok(is_next) => is_next,
-        Err(_) => is_at(rt, alloc, interner, pass, 23, (7, 1))?,
+    let Ok(seven) = leaf(rt, alloc, interner, pass, 7) else {
+        return false;
     };
-    Ok(next && seven.id() == (7, 0))
+    let next = is_at(rt, alloc, interner, pass, 23, (7, 1))
+        || is_at(rt, alloc, interner, pass, 23, (7, 1));
+    next && seven.id() == (7, 0)
 }
 
 // The tree with two parts.
@@ -130,7 +133,7 @@ fn node<R: Wait>(
     pair(rt, alloc, interner, pass, 1, &left, &right)
 }
 
-// Whether the node over two leaves is a given one.
+// Whether the node over two leaves is made, and is a given one or isn't.
 fn is_node<R: Wait>(
     rt: &R,
     alloc: Global,
@@ -139,14 +142,17 @@ fn is_node<R: Wait>(
     known: &Mark<Number>,
     left: u64,
     right: u64,
-) -> Result<bool, AllocError>
+    want: bool,
+) -> bool
     requires own { pass.old.table ≡ interner.now }
     requires known { Known pass.old known.now }
     ensures knows { Knows pass.old pass.new }
     ensures known { Known pass.new known.now }
 {
-    let made = node(rt, alloc, interner, pass, left, right)?;
-    Ok(same(pass, known, &made))
+    match node(rt, alloc, interner, pass, left, right) {
+        Ok(made) => same(pass, known, &made) == want,
+        Err(_) => false,
+    }
 }
 
 // Whether the parts have the identities of the leaves 3 and 5.
@@ -155,15 +161,13 @@ fn has_parts(node: &Mark<Number>) -> bool {
 }
 
 // Whether a mark apart is the same.
-fn is_same_apart(
-    alloc: Global,
-    pass: &Pass<Number>,
-    node: &Mark<Number>,
-) -> Result<bool, AllocError>
+fn is_same_apart(alloc: Global, pass: &Pass<Number>, node: &Mark<Number>) -> bool
     requires { Known pass.now node.now }
 {
-    let apart = node.apart(alloc)?;
-    Ok(same(pass, node, &apart) && apart.label().number == 1 && has_parts(&apart))
+    match node.apart(alloc) {
+        Ok(apart) => { same(pass, node, &apart) && apart.label().number == 1 && has_parts(&apart) }
+        Err(_) => false,
+    }
 }
 
 fn node_keeps_identities_of_parts<R: Wait>(
@@ -171,14 +175,15 @@ fn node_keeps_identities_of_parts<R: Wait>(
     alloc: Global,
     interner: &Interner<Number>,
     pass: &mut Pass<Number>,
-) -> Result<bool, AllocError>
+) -> bool
     requires { pass.old.table ≡ interner.now }
 {
-    let made = node(rt, alloc, interner, pass, 3, 5)?;
-    let again = is_node(rt, alloc, interner, pass, &made, 3, 5)?;
-    let turned = is_node(rt, alloc, interner, pass, &made, 5, 3)?;
-    let apart = is_same_apart(alloc, pass, &made)?;
-    Ok(again && !turned && apart && has_parts(&made))
+    let Ok(made) = node(rt, alloc, interner, pass, 3, 5) else {
+        return false;
+    };
+    let again = is_node(rt, alloc, interner, pass, &made, 3, 5, true);
+    let turned = is_node(rt, alloc, interner, pass, &made, 5, 3, false);
+    again && turned && is_same_apart(alloc, pass, &made) && has_parts(&made)
 }
 
 // What one thread makes, and the identities of it.
@@ -188,22 +193,20 @@ struct Maker {
     ids: Vec<(u8, u64)>,
 }
 
-// A leaf, and a node with the leaf twice.
+// The identities of a leaf, and of a node with the leaf twice.
 fn leaf_and_node<R: Wait>(
     rt: &R,
     alloc: Global,
     interner: &Interner<Number>,
-    maker: &mut Maker,
+    pass: &mut Pass<Number>,
     number: u64,
-) -> Result<(), AllocError>
-    requires { maker.old.pass.table ≡ interner.now }
-    ensures { maker.new.pass.table ≡ maker.old.pass.table }
+) -> Result<((u8, u64), (u8, u64)), AllocError>
+    requires { pass.old.table ≡ interner.now }
+    ensures { pass.new.table ≡ pass.old.table }
 {
-    let below = leaf(rt, alloc, interner, &mut maker.pass, number)?;
-    let node = pair(rt, alloc, interner, &mut maker.pass, number, &below, &below)?;
-    maker.ids.push(below.id())?;
-    maker.ids.push(node.id())?;
-    Ok(())
+    let below = leaf(rt, alloc, interner, pass, number)?;
+    let node = pair(rt, alloc, interner, pass, number, &below, &below)?;
+    Ok((below.id(), node.id()))
 }
 
 // The last identity of a chain of 2,000 nodes, each over the one before and a leaf.
@@ -235,7 +238,9 @@ fn make_all<R: Wait>(
     ensures { maker.new.pass.table ≡ interner.now }
 {
     for number in 0..500 {
-        leaf_and_node(rt, alloc, interner, maker, number)?;
+        let (leaf, node) = leaf_and_node(rt, alloc, interner, &mut maker.pass, number)?;
+        maker.ids.push(leaf)?;
+        maker.ids.push(node)?;
     }
     let last = chain(rt, alloc, interner, &mut maker.pass)?;
     maker.ids.push(last)?;
@@ -302,12 +307,16 @@ fn eight_threads_agree_on_identities<R: Threads + Wait + Sync>(
     alloc: Global,
     interner: &Interner<Number>,
     pass: &mut Pass<Number>,
-) -> Result<bool, AllocError>
+) -> bool
     requires { pass.old.table ≡ interner.now }
 {
-    let mut all = makers(alloc, interner, pass, 8)?;
-    make_in_threads(rt, alloc, interner, all.as_mut_slice());
-    Ok(are_alike(all.as_slice()))
+    match makers(alloc, interner, pass, 8) {
+        Ok(mut all) => {
+            make_in_threads(rt, alloc, interner, all.as_mut_slice());
+            are_alike(all.as_slice())
+        }
+        Err(_) => false,
+    }
 }
 
 // Whether the mark of a word has this identity.
@@ -318,60 +327,64 @@ fn is_word<R: Wait>(
     pass: &mut Pass<Word>,
     text: &str,
     id: (u8, u64),
-) -> Result<bool, AllocError>
+) -> bool
     requires { pass.old.table ≡ interner.now }
     ensures { pass.new.table ≡ pass.old.table }
 {
-    let label = Word::new(alloc, text)?;
-    let mark = interner.make(rt, alloc, pass, label, Vec::new(alloc))?;
-    Ok(mark.id() == id)
+    let Ok(label) = Word::new(alloc, text) else {
+        return false;
+    };
+    match interner.make(rt, alloc, pass, label, Vec::new(alloc)) {
+        Ok(mark) => mark.id() == id,
+        Err(_) => false,
+    }
 }
 
-fn words_are_compared_by_their_bytes<R: Wait>(
+// Whether words of five bytes, whose hash is one, all go to that hash's shard, each to the place behind its colon.
+fn are_words<R: Wait>(
     rt: &R,
     alloc: Global,
     interner: &Interner<Word>,
     pass: &mut Pass<Word>,
-) -> Result<bool, AllocError>
-    requires { pass.old.table ≡ interner.now }
-{
-    let first = is_word(rt, alloc, interner, pass, "alpha", (5, 0))?;
-    let second = is_word(rt, alloc, interner, pass, "omega", (5, 1))?;
-    let again = is_word(rt, alloc, interner, pass, "alpha", (5, 0))?;
-    Ok(first && second && again)
-}
-
-// Whether so many words of five bytes, whose hash is one, all go to that hash's shard, one after another.
-fn each_is_found<R: Wait>(
-    rt: &R,
-    alloc: Global,
-    interner: &Interner<Word>,
-    pass: &mut Pass<Word>,
-    count: u64,
-) -> Result<bool, AllocError>
+    words: &str,
+) -> bool
     requires { pass.old.table ≡ interner.now }
     ensures { pass.new.table ≡ pass.old.table }
 {
-    for number in 0..count {
-        let text = format!(in alloc; "{number:05}")?;
-        if !is_word(rt, alloc, interner, pass, text.as_str(), (5, number))? {
-            return Ok(false);
+    for item in words.split(' ') {
+        let (word, place) = item.split_once(':').unwrap_or((item, ""));
+        let place = place.parse::<u64>().unwrap_or(u64::MAX);
+        if !is_word(rt, alloc, interner, pass, word, (5, place)) {
+            return false;
         }
     }
-    Ok(true)
+    true
 }
 
+// So many words of five digits, each with its number.
+fn numbered(alloc: Global, count: u64) -> Result<String, AllocError> {
+    let mut words = String::from_str(alloc, "00000:0")?;
+    for number in 1..count {
+        write!(words, " {number:05}:{number}")?;
+    }
+    Ok(words)
+}
+
+// Whether so many words go to one shard, one after another.
 fn labels_of_one_hash_are_told_apart<R: Wait>(
     rt: &R,
     alloc: Global,
     interner: &Interner<Word>,
     pass: &mut Pass<Word>,
-) -> Result<bool, AllocError>
+    count: u64,
+) -> bool
     requires { pass.old.table ≡ interner.now }
+    ensures { pass.new.table ≡ pass.old.table }
 {
-    let first = each_is_found(rt, alloc, interner, pass, 300)?;
-    let again = each_is_found(rt, alloc, interner, pass, 400)?;
-    Ok(first && again)
+    match numbered(alloc, count) {
+        Ok(words) => are_words(rt, alloc, interner, pass, words.as_str()),
+        Err(_) => false,
+    }
 }
 
 // What is tried, each with an interner of its own.
@@ -383,13 +396,15 @@ const CASES: &str = "a leaf of two passes is one\n\
     words are compared by their bytes\n\
     labels of one hash are told apart";
 
-fn is_case<R: Threads + Wait + Sync>(
+fn holds<R: Threads + Wait + Sync>(
     rt: &R,
     alloc: Global,
+    interner: &Interner<Number>,
+    pass: &mut Pass<Number>,
     case: &str,
-) -> Result<bool, AllocError> {
-    let (interner, mut pass) = Interner::<Number>::begin(alloc)?;
-    let (interner, pass) = (&interner, &mut pass);
+) -> bool
+    requires { pass.old.table ≡ interner.now }
+{
     match case {
         "a leaf of two passes is one" => leaf_of_two_passes_is_one(rt, alloc, interner, pass),
         "a leaf goes to the shard of its hash" => {
@@ -401,25 +416,46 @@ fn is_case<R: Threads + Wait + Sync>(
         "a node keeps the identities of its parts" => {
             node_keeps_identities_of_parts(rt, alloc, interner, pass)
         }
-        "eight threads agree on identities" => {
-            eight_threads_agree_on_identities(rt, alloc, interner, pass)
-        }
-        _ => is_case_of_words(rt, alloc, case),
+        _ => eight_threads_agree_on_identities(rt, alloc, interner, pass),
     }
 }
 
-fn is_case_of_words<R: Wait>(rt: &R, alloc: Global, case: &str) -> Result<bool, AllocError> {
-    let (interner, mut pass) = Interner::<Word>::begin(alloc)?;
+fn holds_of_words<R: Wait>(
+    rt: &R,
+    alloc: Global,
+    interner: &Interner<Word>,
+    pass: &mut Pass<Word>,
+    case: &str,
+) -> bool
+    requires { pass.old.table ≡ interner.now }
+{
     if case == "words are compared by their bytes" {
-        words_are_compared_by_their_bytes(rt, alloc, &interner, &mut pass)
-    } else {
-        labels_of_one_hash_are_told_apart(rt, alloc, &interner, &mut pass)
+        return are_words(rt, alloc, interner, pass, "alpha:0 omega:1 alpha:0");
+    }
+    labels_of_one_hash_are_told_apart(rt, alloc, interner, pass, 300)
+        && labels_of_one_hash_are_told_apart(rt, alloc, interner, pass, 400)
+}
+
+fn is_case_of_words<R: Wait>(rt: &R, alloc: Global, case: &str) -> bool {
+    match Interner::<Word>::begin(alloc) {
+        Ok((interner, mut pass)) => holds_of_words(rt, alloc, &interner, &mut pass, case),
+        Err(_) => false,
+    }
+}
+
+fn is_case<R: Threads + Wait + Sync>(rt: &R, alloc: Global, case: &str) -> bool {
+    if case.starts_with("words") || case.starts_with("labels") {
+        return is_case_of_words(rt, alloc, case);
+    }
+    match Interner::<Number>::begin(alloc) {
+        Ok((interner, mut pass)) => holds(rt, alloc, &interner, &mut pass, case),
+        Err(_) => false,
     }
 }
 
 #[test]
 fn marks_have_identities(rt: HostRuntime) {
     for case in CASES.split('\n') {
-        assert!(rt; is_case(&rt, rt.alloc(), case) == Ok(true), "{case}");
+        assert!(rt; is_case(&rt, rt.alloc(), case), "{case}");
     }
 }

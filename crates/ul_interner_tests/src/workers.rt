@@ -90,30 +90,49 @@ fn is_done<R: Threads + Wait + Sync>(
     }
 }
 
-// Whether rounds of work are done, and leave the mark of a leaf as it was.
+// The identity of a leaf.
+fn identity<R: Wait>(
+    rt: &R,
+    alloc: Global,
+    interner: &Interner<Number>,
+    pass: &mut Pass<Number>,
+    number: u64,
+) -> Option<(u8, u64)>
+    requires { pass.old.table ≡ interner.now }
+    ensures { pass.new.table ≡ pass.old.table }
+{
+    match interner.make(rt, alloc, pass, Number { number }, Vec::new(alloc)) {
+        Ok(mark) => Some(mark.id()),
+        Err(_) => None,
+    }
+}
+
+// Whether rounds of work are done, and leave a leaf its identity.
 fn are_done<R: Threads + Wait + Sync>(
     rt: &R,
     alloc: Global,
     interner: &Interner<Number>,
     pass: &mut Pass<Number>,
-) -> Result<bool, AllocError>
+) -> bool
     requires { pass.old.table ≡ interner.now }
 {
-    let before = interner.make(rt, alloc, pass, Number { number: 7 }, Vec::new(alloc))?;
+    let before = identity(rt, alloc, interner, pass, 7);
     let each = is_done(rt, alloc, interner, pass, 3, 4096, 4096);
     let nothing = is_done(rt, alloc, interner, pass, 64, 0, 500);
     let failed = is_done(rt, alloc, interner, pass, 8, 1000, 500);
     let again = is_done(rt, alloc, interner, pass, 8, 500, 500);
-    let after = interner.make(rt, alloc, pass, Number { number: 7 }, Vec::new(alloc))?;
-    Ok(each && nothing && failed && again && before.id() == after.id())
+    let after = identity(rt, alloc, interner, pass, 7);
+    each && nothing && failed && again && before.is_some() && before == after
 }
 
-fn rounds_are_done<R: Threads + Wait + Sync>(rt: &R, alloc: Global) -> Result<bool, AllocError> {
-    let (interner, mut pass) = Interner::<Number>::begin(alloc)?;
-    are_done(rt, alloc, &interner, &mut pass)
+fn rounds_are_done<R: Threads + Wait + Sync>(rt: &R, alloc: Global) -> bool {
+    match Interner::<Number>::begin(alloc) {
+        Ok((interner, mut pass)) => are_done(rt, alloc, &interner, &mut pass),
+        Err(_) => false,
+    }
 }
 
 #[test]
 fn each_result_at_its_place(rt: HostRuntime) {
-    assert!(rt; rounds_are_done(&rt, rt.alloc()) == Ok(true));
+    assert!(rt; rounds_are_done(&rt, rt.alloc()));
 }
