@@ -6,7 +6,7 @@ use std::alloc::{AllocError, Global};
 use std::marker::Model;
 
 /// The numbers below 2^96, cut into half-open pieces: each goes from its start up to the next one's, the last up to 2^96.
-#[derive(Drop)]
+#[derive(Debug, Drop)]
 pub struct Cuts {
     starts: Vec<u128>,
 }

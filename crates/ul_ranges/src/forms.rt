@@ -14,7 +14,7 @@ use std::alloc::{AllocError, Global};
 
 // How a set is kept, behind its size: up to 64 numbers by the bits of one word; more by the one member that there may be, or by
 // blocks of bits where there are two members at least. The size shares a word with the tag, so that a set takes 16 bytes.
-#[derive(Drop)]
+#[derive(Debug, Drop)]
 pub enum Form {
     Word(u32, u64),
     Few(u32, Option<u32>),

@@ -8,7 +8,7 @@ use std::marker::Model;
 use std::sync::Arc;
 
 /// A list that several owners may share. It is written to only while it has one owner.
-#[derive(Drop)]
+#[derive(Debug, Drop)]
 pub struct SharedList<T> {
     items: Arc<Vec<T>, Global>,
 }
