@@ -11,6 +11,7 @@ use ul_base::{Node, Open};
 use ul_forks::{ForkAnswer, ForkFault, ForkLeaf, Forked, Path};
 use ul_interner::Interner;
 use ul_marker::Marker;
+use ul_test_rows::put;
 use ul_tree::{Tree, of_marker};
 use ul_version::Version;
 use ul_workers::Round;
@@ -79,12 +80,6 @@ fork-strategy = 'fewest'
 1 2
 [0] refused in sys_platform == 'win32'
 "#;
-
-// Puts a piece. One that finds no memory is left out, and then what is told isn't what is wanted: so what puts pieces
-// together has no failure to hand on.
-fn put(told: &mut String, piece: &str) {
-    let _ = told.push_str(piece);
-}
 
 // Puts the digits of a path.
 fn put_path(told: &mut String, path: &Path) {

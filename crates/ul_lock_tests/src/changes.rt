@@ -3,8 +3,9 @@
 //! A row has the fault, a piece of the text, and what stands in its place. `~` is the end of a line, and `^` a carriage
 //! return.
 
-use crate::texts::{FILES, LEAVES, cells, told};
+use crate::texts::{FILES, LEAVES, told};
 use std::alloc::{AllocError, Global};
+use ul_test_rows::cells;
 
 // The first lines of two leaves and their first package, and then their edges and their other packages.
 const PARTS: &str = r#"line 1|version = 2~|version = 3~

@@ -7,13 +7,14 @@
 ghost use Rattle.ul_lock_walk.specs.WellFormed.{IsWellFormed};
 
 use crate::sizes::chain;
-use crate::texts::{cells, put, text_named};
+use crate::texts::text_named;
 use std::alloc::Global;
 use std::fmt::Write;
 use ul_base::Name;
 use ul_filter::{WalkFault, atoms, environment, environment_text, walk};
 use ul_lock::{Lock, read};
 use ul_marker::{Atom, EnvFault, Machine, World, world_of};
+use ul_test_rows::{cells, put};
 
 const ROWS: &str = "leaves 3.8.18 linux 7 - outside
 leaves 3.10.4 linux 7 - numpy==1.26~

@@ -1,8 +1,8 @@
 //! Large locks, and locks at their two limits, as texts.
 
-use crate::texts::put;
 use std::alloc::Global;
 use std::fmt::Write;
+use ul_test_rows::put;
 
 const HEAD: &str = "version = 2\nroot = \"a\"\n";
 

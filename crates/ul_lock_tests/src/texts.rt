@@ -1,11 +1,9 @@
 //! Locks as texts, and what reading and writing say of them, piece by piece.
-//!
-//! A piece that finds no memory is left out, and then what is told isn't what is wanted. So what puts pieces together
-//! has no failure to hand on, and its proof no path for one.
 
 use std::alloc::Global;
 use std::fmt::Write;
 use ul_lock::{Lock, LockFault, WriteFault, read, write};
+use ul_test_rows::put;
 
 // A project with one dependency.
 const PINS: &str = r#"version = 2
@@ -270,16 +268,6 @@ x = [
     { name = "b", version = "1" },
 ]
 "#;
-
-/// What comes before the first such mark of a row, and what comes after it.
-pub(crate) fn cells(row: &str, mark: char) -> (&str, &str) {
-    row.split_once(mark).unwrap_or((row, ""))
-}
-
-/// Puts a piece.
-pub(crate) fn put(told: &mut String, piece: &str) {
-    let _ = told.push_str(piece);
-}
 
 fn put_fault(told: &mut String, fault: &LockFault) {
     let _ = match fault {

@@ -1,8 +1,9 @@
 //! Whole texts, texts that are cut off, and large ones.
 
 use crate::sizes::{chain, long, systems};
-use crate::texts::{cells, text_named, told, written};
+use crate::texts::{text_named, told, written};
 use std::alloc::Global;
+use ul_test_rows::cells;
 
 // What is told of a text: what is written of each lock, `whole`; of one of version 1, which has no files, beside that
 // of version 2, `first`; of a chain of packages; of so many paths to true; and of so many bytes. And what is read of the
