@@ -1,13 +1,13 @@
 //! Problems and derivations of texts, which the tests share.
 //!
-//! The nodes of a problem stand between semicolons: `NAME FIRST SIZE FRONT` or `NAME/EXTRA FIRST SIZE FRONT`, and after
-//! a comma what each of its versions needs, a set of another node's. A version is a number, from `FIRST` on, behind each
-//! part of `FRONT`, which `#` separates.
+//! The nodes of a problem stand between semicolons: `NAME FIRST SIZE FRONT`, an extra as `NAME/EXTRA FIRST SIZE FRONT`,
+//! and after a comma what each of its versions needs, a set of another node's. A version is a number, from `FIRST` on,
+//! behind each part of `FRONT`, which `#` separates.
 //!
 //! A set stands as `NODE SIZE LOW HIGH`: of a node with so many versions those from `LOW` to before `HIGH`.
 //!
-//! The steps of a derivation stand between semicolons: `need SET>SET`, `base SET`, `python SET`, or `cut LEFT RIGHT NODE`
-//! and after commas its terms, `in SET` or `not SET`.
+//! The steps of a derivation stand between semicolons: `need SET>SET`, `base SET`, `python SET`, or
+//! `cut LEFT RIGHT NODE` and after commas its terms, `in SET` or `not SET`.
 ghost use Rattle.std.specs.Prelude.{◌<◌, All};
 
 use std::alloc::{AllocError, Global};

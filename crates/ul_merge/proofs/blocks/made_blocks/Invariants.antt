@@ -2,7 +2,7 @@ use Rattle.std.proofs.Common.{take}
 use Rattle.ul_interner.specs.Known.{Knows}
 use Rattle.ul_merge.specs.Blocks.{MakesBlock, catalog_in, leaves_in, supported_in}
 use Rattle.ul_merge.specs.Made.{AreMade}
-use Rattle.ul_merge.proofs.blocks.put_blocks.Given as goal
+use Rattle.ul_merge.proofs.blocks.made_blocks.Given as goal
 
 abbrev pub invariant-loop-group : goal.invariant-loop-group
 invariant-loop-group g l = record {
