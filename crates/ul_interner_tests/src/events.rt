@@ -4,6 +4,7 @@ ghost use Rattle.std.specs.Prelude.{◌≡◌, ◌≤◌, IfOk};
 use crate::labels::{Number, Word};
 use std::alloc::{AllocError, Global};
 use ul_core::{CoreState, Event, EventFault, Label, Plant, hash_step, is_same, structural_hash};
+use ul_test_rows::cells;
 
 // What is tried, a case a row. The first word says what the others are:
 //
@@ -65,25 +66,20 @@ fn tree(alloc: Global, label: &str, leaves: &str) -> Result<Plant<Word>, AllocEr
     Ok(Plant { label, parts })
 }
 
-// What comes before the first bar of a row, and what comes after it.
-fn cells(row: &str) -> (&str, &str) {
-    row.split_once('|').unwrap_or((row, ""))
-}
-
 // The number that a word is, or 1.
 fn number(word: &str) -> u64 {
     word.parse::<u64>().unwrap_or(1)
 }
 
 fn is_hashed(alloc: Global, label: &str, rest: &str) -> Result<bool, AllocError> {
-    let (leaves, want) = cells(rest);
+    let (leaves, want) = cells(rest, '|');
     let want = number(want);
     let plant = tree(alloc, label, leaves)?;
     Ok(structural_hash(&plant) == want)
 }
 
 fn is_compared(alloc: Global, label: &str, rest: &str) -> Result<bool, AllocError> {
-    let (leaves, want) = cells(rest);
+    let (leaves, want) = cells(rest, '|');
     let want = want == "same";
     let plant = tree(alloc, label, leaves)?;
     let first = tree(alloc, "p", "one two")?;
@@ -91,7 +87,7 @@ fn is_compared(alloc: Global, label: &str, rest: &str) -> Result<bool, AllocErro
 }
 
 fn is_next(hash: &str, rest: &str) -> bool {
-    let (part, want) = cells(rest);
+    let (part, want) = cells(rest, '|');
     hash_step(number(hash), number(part)) == number(want)
 }
 
@@ -150,7 +146,7 @@ fn is_answered(
 ) -> Result<bool, AllocError>
     requires { 1 ≤ shards }
 {
-    let (text, want) = cells(line);
+    let (text, want) = cells(line, '|');
     let event = event(alloc, shards, text)?;
     Ok(told(state.step(alloc, event)) == want)
 }
@@ -178,7 +174,7 @@ fn events(alloc: Global, shards: u8) -> Result<Vec<Event<Word>>, AllocError>
 {
     let mut events = Vec::new(alloc);
     for line in SCRIPT.split('\n') {
-        let (text, _) = cells(line);
+        let (text, _) = cells(line, '|');
         events = with_made(events, event(alloc, shards, text))?;
     }
     Ok(events)
@@ -276,7 +272,7 @@ fn each_leaf_is_taken_once(alloc: Global) -> Result<bool, AllocError> {
 
 fn is_row(alloc: Global, line: &str) -> Result<bool, AllocError> {
     let (kind, row) = line.split_once(' ').unwrap_or((line, ""));
-    let (first, rest) = cells(row);
+    let (first, rest) = cells(row, '|');
     match kind {
         "hash" => is_hashed(alloc, first, rest),
         "same" => is_compared(alloc, first, rest),

@@ -1,7 +1,8 @@
 //! Texts of many paths, and of deep ones.
-use crate::outcomes::{cells, has_text, is_told, number, text_of};
+use crate::outcomes::{has_text, is_told, number, text_of};
 use std::alloc::{AllocError, Global};
 use std::fmt::Write;
+use ul_test_rows::cells;
 
 // Rows of what is tried. The first word says what the others are:
 //
@@ -42,7 +43,7 @@ fn pairs(alloc: Global, first: &str, count: usize) -> Result<String, AllocError>
     let mut left = count;
     for pair in PAIRS.split(' ') {
         if left > 0 {
-            let (one, other) = cells(pair);
+            let (one, other) = cells(pair, '|');
             let between = if left == count { "" } else { " or " };
             write!(
                 made,
@@ -65,8 +66,8 @@ fn is_again(alloc: Global, marker: &str, size: usize) -> bool {
 }
 
 fn are_pairs(alloc: Global, kind: &str, row: &str) -> Result<bool, AllocError> {
-    let (first, rest) = cells(row);
-    let (count, want) = cells(rest);
+    let (first, rest) = cells(row, '|');
+    let (count, want) = cells(rest, '|');
     let marker = pairs(alloc, first, number(count))?;
     Ok(if kind == "long" {
         has_text(alloc, marker.as_str(), want)
@@ -76,15 +77,15 @@ fn are_pairs(alloc: Global, kind: &str, row: &str) -> Result<bool, AllocError> {
 }
 
 fn are_many(alloc: Global, row: &str) -> Result<bool, AllocError> {
-    let (before, rest) = cells(row);
-    let (separator, rest) = cells(rest);
-    let (count, outcome) = cells(rest);
+    let (before, rest) = cells(row, '|');
+    let (separator, rest) = cells(rest, '|');
+    let (count, outcome) = cells(rest, '|');
     let spelled = numbered(alloc, before, "'", separator, number(count))?;
     Ok(is_told(alloc, spelled.as_str(), outcome))
 }
 
 fn is_deep(alloc: Global, kind: &str, row: &str) -> Result<bool, AllocError> {
-    let (count, outcome) = cells(row);
+    let (count, outcome) = cells(row, '|');
     let spelled = deep(alloc, number(count))?;
     Ok(match kind {
         "deep" => is_told(alloc, spelled.as_str(), outcome),

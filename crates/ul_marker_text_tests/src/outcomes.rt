@@ -8,11 +8,6 @@ use ul_marker_text::{TextFault, read, read_marker, text};
 use ul_tree::part::is_false;
 use ul_tree::{Tree, of_marker};
 
-/// What comes before the first bar of a text, and what comes after it.
-pub(crate) fn cells(text: &str) -> (&str, &str) {
-    text.split_once('|').unwrap_or((text, ""))
-}
-
 /// The number that digits are, or 0.
 pub(crate) fn number(digits: &str) -> usize {
     digits.parse::<usize>().unwrap_or(0)

@@ -1,6 +1,7 @@
 //! Texts of trees, and texts of none.
-use crate::outcomes::{cells, has_text, is_marker, is_told};
+use crate::outcomes::{has_text, is_marker, is_told};
 use std::alloc::Global;
+use ul_test_rows::cells;
 
 // What is tried, a case a row. The first word says what the others are:
 //
@@ -84,7 +85,7 @@ const ROWS: &str = "text python_version >= '3.8'|python_full_version >= '3.8.0'#
     bytes";
 
 fn is_text(alloc: Global, row: &str) -> bool {
-    let (marker, spelled) = cells(row);
+    let (marker, spelled) = cells(row, '|');
     has_text(alloc, marker, spelled) && (spelled == "false" || is_told(alloc, spelled, "again"))
 }
 
