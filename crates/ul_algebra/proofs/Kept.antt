@@ -3,6 +3,7 @@ use Rattle.std.specs.Prelude.{IfOk, IfSome}
 use Rattle.std.specs.Option.{option_copied}
 use Rattle.std.specs.declared.alloc.AllocError.{AllocError}
 use Rattle.std.proofs.Common.{Bor, Ok, Err, Result, ◌≡◌, ℕ, Bool, true, false, cond, Some, None, Option, refl, ap, sym, ◌∙◌, subst, rules}
+use Rattle.ul_base.proofs.ForCallers.{made_holds}
 use Rattle.ul_core.specs.declared.trees.Tree.{Tree}
 use Rattle.ul_interner.specs.Marked.{plain, id_of}
 use Rattle.ul_interner.specs.Known.{Held, Known, Knows, tree_at}
@@ -87,6 +88,16 @@ part_diagram g h m p t more d f e r = record { known = f h (known_stays g h more
 pub if_share : (r : Result Seen AllocError) (m : Seen) (P : Seen → Type 0) → IfOk r (λ d. d ≡ m) → P m → IfOk r P
 if_share (Ok d) m P e p = subst P (sym e) p
 if_share (Err e) m P q p = tt
+
+-- what holds of a mark that is made holds of it where it was handed on
+pub if_handed : (made r : Result Seen AllocError) (P : Seen → Type 0) → IfOk r (λ d. made ≡ Ok d) → IfOk made P → IfOk r P
+if_handed made (Ok d) P e p = made_holds made d P e p
+if_handed made (Err e) P q p = tt
+
+-- two facts of a mark that is made
+pub made_both : (r : Result Seen AllocError) (P Q R : Seen → Type 0) → ((m : Seen) → P m → Q m → R m) → IfOk r P → IfOk r Q → IfOk r R
+made_both (Ok m) P Q R f p q = f m p q
+made_both (Err e) P Q R f p q = tt
 
 -- a result that is known is known where more is known
 pub own_more : (g h : Held DiagramLabel) → Knows g h → (o : Option Seen) → OwnKnown g o → OwnKnown h o

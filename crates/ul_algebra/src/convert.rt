@@ -15,6 +15,7 @@ use crate::join::closed;
 use crate::{Diagram, nodes};
 use std::alloc::{AllocError, Global};
 use std::sync::Wait;
+use ul_base::owned::{beside, made_from, with_made};
 use ul_nodes::level::{Key, Level};
 use ul_tree::join::closed as closed_tree;
 use ul_tree::{Tree, part};
@@ -76,9 +77,9 @@ fn diagram_of<R: Wait>(
         Some(level) => {
             let room = deeper(room)?;
             let made = diagrams_in(algebra, rt, alloc, tree, level, room)?;
-            let other = diagram_of(algebra, rt, alloc, part::rest_of(tree), room)?;
-            let d = closed(algebra, rt, alloc, level, &other, made)?;
-            Ok(d)
+            let rest = diagram_of(algebra, rt, alloc, part::rest_of(tree), room);
+            let (branches, other) = beside(made, rest)?;
+            made_from(closed(algebra, rt, alloc, level, &other, branches), other)
         }
     }
 }
@@ -103,8 +104,8 @@ fn diagrams_in<'x, R: Wait>(
     let mut made: Vec<(Key<'x>, Diagram)> = Vec::new(alloc);
     for index in 0..part::branch_count(tree) {
         let branch = part::branch_at(tree, index);
-        let next = diagram_of(algebra, rt, alloc, branch.part, room)?;
-        made.push((branch.key, next))?;
+        let next = diagram_of(algebra, rt, alloc, branch.part, room);
+        made = with_made(made, beside(branch.key, next))?;
     }
     Ok(made)
 }
@@ -120,9 +121,9 @@ fn spelled_tree(alloc: Global, diagram: &Diagram, room: usize) -> Result<Tree, A
         Some(level) => {
             let room = deeper(room)?;
             let made = trees_in(alloc, diagram, level, room)?;
-            let other = spelled_tree(alloc, nodes::rest_of(diagram), room)?;
-            let t = closed_tree(alloc, level, other, made)?;
-            Ok(t)
+            let rest = spelled_tree(alloc, nodes::rest_of(diagram), room);
+            let (branches, other) = beside(made, rest)?;
+            closed_tree(alloc, level, other, branches)
         }
     }
 }
@@ -143,8 +144,8 @@ fn trees_in<'x>(
     let mut made: Vec<(Key<'x>, Tree)> = Vec::new(alloc);
     for index in 0..nodes::branch_count(diagram) {
         let branch = nodes::branch_at(diagram, index);
-        let next = spelled_tree(alloc, branch.part, room)?;
-        made.push((branch.key, next))?;
+        let next = spelled_tree(alloc, branch.part, room);
+        made = with_made(made, beside(branch.key, next))?;
     }
     Ok(made)
 }

@@ -1,5 +1,5 @@
 //! A diagram made of two, part by part.
-ghost use Rattle.std.specs.Prelude.{◌≡◌, ◌∷◌, ◌++◌, [], Some, IfOk};
+ghost use Rattle.std.specs.Prelude.{◌≡◌, ◌∷◌, ◌++◌, [], Some, IfOk, map};
 ghost use Rattle.ul_interner.specs.Known.{Known, Knows};
 ghost use Rattle.ul_nodes.specs.Reduced.{IsReduced};
 ghost use Rattle.ul_nodes.specs.Apply.{first_of};
@@ -7,8 +7,9 @@ ghost use Rattle.ul_nodes.specs.Rows.{IfSome};
 ghost use Rattle.ul_nodes.specs.Keys.{level_view, AreKeysOf, KeysOf};
 ghost use Rattle.ul_algebra.specs.Answers.{IsDiagram};
 ghost use Rattle.ul_algebra.specs.Joinings.{IsJoin, IsJoinAtOnce, at_once_tree, FollowsSide};
-ghost use Rattle.ul_algebra.specs.Made.{PartsKnown, AreJoined, closed_tree};
-ghost use Rattle.ul_algebra.specs.Spelled.{tree_of};
+ghost use Rattle.ul_algebra.specs.Made.{AreKnown, PartsKnown, AreJoined, closed_tree};
+ghost use Rattle.ul_algebra.specs.Spelled.{spelling, tree_of};
+ghost use Rattle.ul_algebra.specs.declared.labels.DiagramLabel.TheVariants.{Opaque};
 
 use crate::Diagram;
 use crate::algebra::Algebra;
@@ -19,6 +20,8 @@ use crate::nodes::{Diagrams, known, truth_value};
 use crate::questions::{AtOnce, Joining, Operation};
 use std::alloc::{AllocError, Global};
 use std::sync::Wait;
+use ul_base::owned::{beside, made_from};
+use ul_marker::Atom;
 use ul_nodes::branches::add;
 use ul_nodes::closing::{Closed, closed_level};
 use ul_nodes::level::{Key, Level};
@@ -41,6 +44,43 @@ fn halves(alloc: Global, holds: Diagram, fails: Diagram) -> Result<Vec<Diagram>,
     parts.push(holds)?;
     parts.push(fails)?;
     Ok(parts)
+}
+
+// A node of points: the parts of their keys, and the other part.
+fn points_node<R: Wait>(
+    algebra: &mut Algebra<'_>,
+    rt: &R,
+    alloc: Global,
+    label: DiagramLabel,
+    parts: Vec<Diagram>,
+    other: Diagram,
+) -> Result<Diagram, AllocError>
+    requires { AreKnown algebra.old (parts.items ++ (other ∷ [])) }
+    ensures knows { Knows algebra.old algebra.new }
+    ensures tree { IfOk result (λ d. tree_of d ≡ spelling label (map tree_of (parts.items ++ (other ∷ [])))) }
+    ensures known { IfOk result (Known algebra.new) }
+{
+    let (label, parts) = beside(label, parts_and_other(parts, other))?;
+    algebra.node(rt, alloc, label, parts)
+}
+
+// A node of an opaque comparison: where it holds, and where it doesn't.
+fn opaque_node<R: Wait>(
+    algebra: &mut Algebra<'_>,
+    rt: &R,
+    alloc: Global,
+    atom: &Atom,
+    holds: Diagram,
+    fails: Diagram,
+) -> Result<Diagram, AllocError>
+    requires { AreKnown algebra.old (holds ∷ fails ∷ []) }
+    ensures knows { Knows algebra.old algebra.new }
+    ensures tree { IfOk result (λ d. tree_of d ≡ spelling (Opaque atom.now) (map tree_of (holds ∷ fails ∷ []))) }
+    ensures known { IfOk result (Known algebra.new) }
+{
+    let parts = halves(alloc, holds, fails)?;
+    let (sides, atom) = beside(parts, atom.copy(alloc))?;
+    algebra.node(rt, alloc, DiagramLabel::Opaque { atom }, sides)
 }
 
 // A node of a level that has these branches; its other part where it has none.
@@ -69,14 +109,18 @@ pub(crate) fn closed<R: Wait>(
             other,
         } => {
             let points = Points::of(texts);
-            let parts = parts_and_other(parts, other)?;
-            let d = algebra.node(rt, alloc, DiagramLabel::Extra { points }, parts)?;
-            Ok(d)
+            points_node(
+                algebra,
+                rt,
+                alloc,
+                DiagramLabel::Extra { points },
+                parts,
+                other,
+            )
         }
         Closed::Python { starts, parts } => {
             let starts = Starts::of(starts);
-            let d = algebra.node(rt, alloc, DiagramLabel::Python { starts }, parts)?;
-            Ok(d)
+            algebra.node(rt, alloc, DiagramLabel::Python { starts }, parts)
         }
         Closed::Text {
             variable,
@@ -85,15 +129,11 @@ pub(crate) fn closed<R: Wait>(
             other,
         } => {
             let points = Points::of(texts);
-            let parts = parts_and_other(parts, other)?;
-            let d = algebra.node(rt, alloc, DiagramLabel::Text { variable, points }, parts)?;
-            Ok(d)
+            let label = DiagramLabel::Text { variable, points };
+            points_node(algebra, rt, alloc, label, parts, other)
         }
         Closed::Opaque { atom, holds, fails } => {
-            let parts = halves(alloc, holds, fails)?;
-            let atom = atom.copy(alloc)?;
-            let d = algebra.node(rt, alloc, DiagramLabel::Opaque { atom }, parts)?;
-            Ok(d)
+            opaque_node(algebra, rt, alloc, atom, holds, fails)
         }
     }
 }
@@ -197,8 +237,7 @@ pub(crate) fn joined<R: Wait>(
     ensures reduced { IfOk result (λ d. IsReduced (tree_of d)) }
 {
     if let Some(found) = at_once(algebra, op, a, b) {
-        let made = taken(algebra, rt, alloc, found, a, b)?;
-        return Ok(made);
+        return taken(algebra, rt, alloc, found, a, b);
     }
     if op.commutes() {
         if is_before(b, a) {
@@ -206,8 +245,7 @@ pub(crate) fn joined<R: Wait>(
             return Ok(made);
         }
     }
-    let made = joined_once(algebra, rt, alloc, op, a, b, room)?;
-    Ok(made)
+    joined_once(algebra, rt, alloc, op, a, b, room)
 }
 
 // The same in this order. An answer that was found before is found again by the two identities, so each pair of
@@ -233,8 +271,7 @@ fn joined_once<R: Wait>(
         return found.share();
     }
     let made = joined_anew(algebra, rt, alloc, op, a, b, room)?;
-    algebra.remember(Operation::Joined(op), a, b, &made)?;
-    Ok(made)
+    algebra.remembered(Operation::Joined(op), a, b, made)
 }
 
 // The same, part by part.
@@ -272,9 +309,9 @@ fn joined_anew<R: Wait>(
                 rest_at::<Diagrams>(b, level),
                 room,
             )?;
-            let made = branches(algebra, rt, alloc, op, a, b, level, &keys, &other, room)?;
-            let d = closed(algebra, rt, alloc, level, &other, made)?;
-            Ok(d)
+            let made = branches(algebra, rt, alloc, op, a, b, level, &keys, &other, room);
+            let (rest, made) = beside(other, made_from(made, keys))?;
+            made_from(closed(algebra, rt, alloc, level, &rest, made), rest)
         }
     }
 }

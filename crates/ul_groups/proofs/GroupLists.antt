@@ -1,7 +1,7 @@
 -- Entries that were added before those that are left, and lists of groups that were made before those of others.
 use Rattle.std.proofs.Common.{◌≡◌, ◌+◌, ◌<◌, ◌≤◌, ◌++◌, ◌∙◌, ℕ, suc, List, [], ◌∷◌, length, drop, get_or, refl, ap, sym, subst, append_assoc, append-nil, add-one, drop-cons}
 use Rattle.std.proofs.Math.ListN.{drop_of_length-le}
-use Rattle.std.specs.Prelude.{Ok, Err}
+use Rattle.std.specs.Prelude.{Result, Ok, Err}
 use Rattle.ul_requirement.specs.Fields.{RequirementFields}
 use Rattle.ul_project.specs.Groups.{GroupFields}
 use Rattle.ul_project.specs.Results.{◌>>=◌}
@@ -105,6 +105,6 @@ pub lists_start : (groups : GroupByName) (found : ExtraLists) (gs : List GroupFi
 lists_start groups found gs e = start_behind (group_lists groups gs) ∙ ap (λ (f : ExtraLists). behind f (group_lists groups gs)) (sym e)
 
 -- equal groups have equal lists
-pub same_lists : {X : Type 0} (view : X → ExtraLists) (fault : ProjectFault) (one other : GroupByName) (gs : List GroupFields) → one ≡ other
-    → Gives view (Err fault) (group_lists one gs) → Gives view (Err fault) (group_lists other gs)
-same_lists view fault one other gs e h = subst (λ (groups : GroupByName). Gives view (Err fault) (group_lists groups gs)) e h
+pub same_lists : {X : Type 0} (view : X → ExtraLists) (answer : Result X ProjectFault) (one other : GroupByName) (gs : List GroupFields) → one ≡ other
+    → Gives view answer (group_lists one gs) → Gives view answer (group_lists other gs)
+same_lists view answer one other gs e h = subst (λ (groups : GroupByName). Gives view answer (group_lists groups gs)) e h

@@ -3,7 +3,6 @@ mod AdjustedLists
 mod AdjustedPackages
 mod ExtendedProjects
 mod ExtraLists
-mod ExtraMarkers
 mod GroupExamples
 mod GroupLists
 mod GroupMaps

@@ -8,6 +8,7 @@ use crate::name_lists::{Requirements, on_name};
 use std::alloc::{AllocError, Global};
 use std::collections::BTreeMap;
 use ul_base::Name;
+use ul_base::owned::beside;
 use ul_project::joined_markers;
 use ul_requirement::Requirement;
 
@@ -21,20 +22,23 @@ fn overridden_by(
     ensures { IfOk result (λ q. q ≡ Adjusted.overridden_by requirement.now by.now) }
 {
     let requirement = requirement.copy(alloc)?;
-    let by = by.copy(alloc)?;
+    let (requirement, by) = beside(requirement, by.copy(alloc))?;
     let Requirement {
         name,
         extras,
-        specifiers: _without,
+        specifiers: replaced,
         marker,
     } = requirement;
     let Requirement {
-        name: _name,
-        extras: _extras,
+        name: same,
+        extras: none,
         specifiers,
         marker: other,
     } = by;
-    let marker = joined_markers(alloc, marker, other)?;
+    drop((replaced, same, none));
+    let marker = joined_markers(alloc, marker, other);
+    let (kept, marker) = beside((name, extras, specifiers), marker)?;
+    let (name, extras, specifiers) = kept;
     Ok(Requirement {
         name,
         extras,
@@ -43,8 +47,7 @@ fn overridden_by(
     })
 }
 
-// What a constraint adds to a requirement.
-#[tactic(auto, using(crate::proofs::AdjustedLists::joined_valid))]
+// What a constraint adds to a requirement: what an override would make of it, without extras.
 fn constrained_by(
     alloc: Global,
     requirement: &Requirement,
@@ -52,26 +55,18 @@ fn constrained_by(
 ) -> Result<Requirement, AllocError>
     ensures { IfOk result (λ q. q ≡ Adjusted.constrained_by requirement.now by.now) }
 {
-    let requirement = requirement.copy(alloc)?;
-    let by = by.copy(alloc)?;
     let Requirement {
         name,
-        extras: _without,
-        specifiers: _specifiers,
-        marker,
-    } = requirement;
-    let Requirement {
-        name: _name,
-        extras: _extras,
+        extras,
         specifiers,
-        marker: other,
-    } = by;
-    let both = joined_markers(alloc, marker, other)?;
+        marker,
+    } = overridden_by(alloc, requirement, by)?;
+    drop(extras);
     Ok(Requirement {
         name,
         extras: Vec::new(alloc),
         specifiers,
-        marker: both,
+        marker,
     })
 }
 

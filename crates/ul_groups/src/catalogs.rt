@@ -10,6 +10,7 @@ use crate::name_lists::{Requirements, by_name};
 use std::alloc::{AllocError, Global};
 use std::collections::BTreeMap;
 use ul_base::Name;
+use ul_base::owned::{beside, with_made};
 use ul_index::Catalog;
 use ul_project::Project;
 use ul_requirement::{FileEntry, Package, Release, Requirement};
@@ -29,11 +30,13 @@ fn adjusted_release(
     let version: &Version = &release.version;
     let version = version.copy(alloc)?;
     let python: &Specifiers = &release.python;
-    let python = copy_specifiers(alloc, python)?;
+    let (version, python) = beside(version, copy_specifiers(alloc, python))?;
     let requirements: &Vec<Requirement> = &release.requirements;
-    let requirements = adjusted_list(alloc, constraints, overrides, requirements)?;
+    let requirements = adjusted_list(alloc, constraints, overrides, requirements);
+    let (kept, requirements) = beside((version, python), requirements)?;
     let files: &Vec<FileEntry> = &release.files;
-    let files = copy_files(alloc, files)?;
+    let (kept, files) = beside((kept, requirements), copy_files(alloc, files))?;
+    let ((version, python), requirements) = kept;
     Ok(Release {
         version,
         python,
@@ -55,7 +58,10 @@ fn adjusted_releases(
 {
     let mut list = Vec::with_capacity(alloc, releases.len())?;
     for release in releases {
-        list.push(adjusted_release(alloc, constraints, overrides, release)?)?;
+        list = with_made(
+            list,
+            adjusted_release(alloc, constraints, overrides, release),
+        )?;
     }
     Ok(list)
 }
@@ -74,7 +80,8 @@ fn adjusted_package(
     let name: &Name = &found.name;
     let name = name.copy(alloc)?;
     let releases: &Vec<Release> = &found.releases;
-    let releases = adjusted_releases(alloc, constraints, overrides, releases)?;
+    let releases = adjusted_releases(alloc, constraints, overrides, releases);
+    let (name, releases) = beside(name, releases)?;
     Ok(Package {
         name,
         entries: found.entries,
@@ -94,7 +101,7 @@ fn adjusted_packages(
 {
     let mut list = Vec::with_capacity(alloc, packages.len())?;
     for found in packages {
-        list.push(adjusted_package(alloc, constraints, overrides, found)?)?;
+        list = with_made(list, adjusted_package(alloc, constraints, overrides, found))?;
     }
     Ok(list)
 }

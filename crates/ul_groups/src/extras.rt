@@ -1,13 +1,11 @@
 //! Projects whose groups are extras.
 
 ghost use Rattle.std.specs.List.Sorted.{IsStrictlySortedBy};
-ghost use Rattle.std.specs.Prelude.{◌≡◌, ◌++◌, ◌-◌, IfOk, OnOk, drop, fold, length, map, option_map, sum, take, zip};
+ghost use Rattle.std.specs.Prelude.{◌≡◌, ◌++◌, ◌-◌, IfOk, OnOk, drop, fold, length, map, sum, take, zip};
 ghost use Rattle.std.specs.Vec.Iter.{into_iter_items};
 ghost use Rattle.ul_base.specs.Names.{name_cmp};
-ghost use Rattle.ul_marker.specs.Views.{marker_view};
 ghost use Rattle.ul_project.specs.Extras as Extras;
 ghost use Rattle.ul_project.specs.Lists.{by_name, names_of, put_list};
-ghost use Rattle.ul_requirement.specs.Fields.{MayBeFormula};
 ghost use Rattle.ul_groups.specs.Answers.{Gives};
 ghost use Rattle.ul_groups.specs.Expanded as Expanded;
 ghost use Rattle.ul_groups.specs.GroupMaps.{groups_in};
@@ -17,41 +15,9 @@ use crate::name_lists::Requirements;
 use std::alloc::{AllocError, Global};
 use std::collections::BTreeMap;
 use ul_base::Name;
-use ul_marker::Marker;
-use ul_project::{Group, Project, ProjectFault, group_extra, joined_markers};
+use ul_base::owned::{beside, with_made, with_one};
+use ul_project::{Group, Project, ProjectFault, group_extra, of_extra};
 use ul_requirement::{Package, Release, Requirement};
-
-// The marker `extra == 'NAME'`.
-fn extra_marker(alloc: Global, name: &Name) -> Result<Option<Marker>, AllocError>
-    ensures marker { IfOk result (λ m. option_map marker_view m ≡ Extras.extra_marker name.now) }
-    ensures valid { IfOk result (λ m. MayBeFormula (option_map marker_view m)) }
-{
-    let literal = String::from_str(alloc, name.text())?;
-    Ok(Some(Marker::Extra {
-        literal,
-        equal: true,
-    }))
-}
-
-// A requirement of an extra, as the project's.
-fn of_extra(alloc: Global, name: &Name, requirement: Requirement) -> Result<Requirement, AllocError>
-    ensures { IfOk result (λ q. q ≡ Extras.of_extra name.now requirement) }
-{
-    let Requirement {
-        name: target,
-        extras,
-        specifiers,
-        marker,
-    } = requirement;
-    let extra = extra_marker(alloc, name)?;
-    let marker = joined_markers(alloc, marker, extra)?;
-    Ok(Requirement {
-        name: target,
-        extras,
-        specifiers,
-        marker,
-    })
-}
 
 // The requirements of an extra, as the project's.
 fn list_of_extra(
@@ -63,7 +29,7 @@ fn list_of_extra(
 {
     let mut list = Vec::new(alloc);
     for requirement in requirements {
-        list.push(of_extra(alloc, name, requirement)?)?;
+        list = with_made(list, of_extra(alloc, name, requirement))?;
     }
     Ok(list)
 }
@@ -78,8 +44,9 @@ fn extra_list(
 {
     let list = group_list(alloc, map, group)?;
     let name: &Name = &group.name;
-    let extra = group_extra(alloc, name)?;
-    let list = list_of_extra(alloc, &extra, list)?;
+    let (list, extra) = beside(list, group_extra(alloc, name))?;
+    let list = list_of_extra(alloc, &extra, list);
+    let (extra, list) = beside(extra, list)?;
     Ok((extra, Requirements { list }))
 }
 
@@ -106,8 +73,9 @@ fn all_group_lists(
     ensures { Gives (λ v. v.items) result (Expanded.group_lists (Expanded.group_named groups.now) groups.now) }
 {
     let map = groups_by_name(alloc, groups)?;
-    let lists = group_lists(alloc, &map, groups)?;
-    Ok(lists)
+    let lists = group_lists(alloc, &map, groups);
+    drop(map);
+    lists
 }
 
 // How many requirements are the project's own, and no extra's.
@@ -135,7 +103,7 @@ fn next_list(
         let Some(requirement) = rest.next() else {
             return Ok(list);
         };
-        list.push(requirement)?;
+        list = with_one(list, requirement)?;
     }
     Ok(list)
 }
@@ -245,9 +213,15 @@ fn joined_requirements(
 {
     let own = own_size(requirements.len(), sizes.as_slice());
     let mut rest = requirements.into_iter();
-    let mut requirements = next_list(alloc, &mut rest, own)?;
-    let lists = all_lists(alloc, extras, sizes.as_slice(), rest, lists)?;
-    let (extras, sizes) = add_lists(alloc, &mut requirements, lists)?;
+    let first = next_list(alloc, &mut rest, own);
+    let (kept, first) = beside((rest, extras, sizes, lists), first)?;
+    let (rest, extras, sizes, lists) = kept;
+    let lists = all_lists(alloc, extras, sizes.as_slice(), rest, lists);
+    drop(sizes);
+    let (mut requirements, lists) = beside(first, lists)?;
+    let added = add_lists(alloc, &mut requirements, lists);
+    let (requirements, added) = beside(requirements, added)?;
+    let (extras, sizes) = added;
     Ok((requirements, extras, sizes))
 }
 
@@ -274,13 +248,10 @@ fn release_with(
         yanked,
         files,
     } = release;
-    let (requirements, extras, sizes) = joined_requirements(
-        alloc,
-        requirements,
-        extras,
-        sizes,
-        lists,
-    )?;
+    let joined = joined_requirements(alloc, requirements, extras, sizes, lists);
+    let (kept, joined) = beside((version, python, files), joined)?;
+    let (version, python, files) = kept;
+    let (requirements, extras, sizes) = joined;
     let release = Release {
         version,
         python,
@@ -317,9 +288,13 @@ fn with_extras(
     let Some(release) = releases.pop() else {
         unreachable!();
     };
-    let (release, extras, sizes) = release_with(alloc, release, extras, sizes, lists)?;
-    let mut releases = Vec::new(alloc);
-    releases.push(release)?;
+    drop(releases);
+    let extended = release_with(alloc, release, extras, sizes, lists);
+    let (name, extended) = beside(name, extended)?;
+    let (release, extras, sizes) = extended;
+    let releases = with_one(Vec::new(alloc), release);
+    let (kept, releases) = beside((name, extras, sizes), releases)?;
+    let (name, extras, sizes) = kept;
     let found = Package {
         name,
         entries,
@@ -345,11 +320,16 @@ fn extended_project(
         region,
         mode,
         strategy,
-        groups: _groups,
+        groups,
         constraints,
         overrides,
     } = project;
-    let (package, extras, sizes) = with_extras(alloc, package, extras, sizes, lists)?;
+    drop(groups);
+    let extended = with_extras(alloc, package, extras, sizes, lists);
+    let bounds = (constraints, overrides);
+    let (kept, extended) = beside((environments, region, bounds), extended)?;
+    let (environments, region, (constraints, overrides)) = kept;
+    let (package, extras, sizes) = extended;
     Ok(Project {
         package,
         extras,

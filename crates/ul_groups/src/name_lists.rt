@@ -10,6 +10,7 @@ use std::alloc::{AllocError, Global};
 use std::collections::BTreeMap;
 use std::marker::Model;
 use ul_base::Name;
+use ul_base::owned::{beside, with_made};
 use ul_requirement::Requirement;
 
 /// Requirements, which contracts see as their list.
@@ -68,9 +69,9 @@ fn add(
         (at_name lists.old.entries other ++ requirement.now ∷ []) (at_name lists.old.entries other)) }
 {
     let name: &Name = &requirement.name;
-    let mut list = taken(alloc, lists, name);
-    list.push(requirement.copy(alloc)?)?;
-    put(lists, name.copy(alloc)?, list)?;
+    let list = with_made(taken(alloc, lists, name), requirement.copy(alloc))?;
+    let (list, name) = beside(list, name.copy(alloc))?;
+    put(lists, name, list)?;
     Ok(())
 }
 

@@ -6,15 +6,15 @@
 ghost use Rattle.std.specs.Prelude.{◌≡◌, ◌∷◌, [], IsTrue, bytes_eq, length};
 ghost use Rattle.ul_index.specs.Catalogs.{IsCatalog};
 
-use crate::texts::{cells, project_of, push_requirement};
-use std::alloc::Global;
+use crate::texts::{expanded_project, put_requirements};
+use std::alloc::{AllocError, Global};
 use std::fmt::Write;
-use std::test::Fail;
 use ul_base::Name;
-use ul_groups::{adjust, expand};
+use ul_groups::adjust;
 use ul_index::{Catalog, document};
 use ul_project::Project;
 use ul_requirement::{Package, Release};
+use ul_test_rows::{cells, put};
 
 const ROWS: &str =
     r#"dependencies = ["q[x]>=1; os_name=='a'", 'r', 's']~[tool.uv]~constraint-dependencies = ["r<3; os_name=='b'", 'q', 'u']~override-dependencies = ['q==2', 'q<9,>1', 't']|r [{"version": "7", "requires_dist": ["t[y]>4", "u"]}]~x []|p 0: q+x==2;aA q;aA q+x<9>1;aA q;aA r r<3;bB s ~r 7: t+y u u ~x ~
@@ -30,21 +30,12 @@ dependencies = ['P']~[tool.uv]~override-dependencies = ['p==0']|x []~y []|p 0: p
 dependencies = ['t']~[dependency-groups]~a = [{include-group = 'b'}, 'q']~b = ["t>1; os_name == 'a'"]~[tool.uv]~constraint-dependencies = ['q<3']~override-dependencies = ['t==1']|x []~y []|p 0: t==1 t==1;A q;AB q<3;AB t==1; ~x ~y ~
 dependencies = ['a']~[tool.uv]~constraint-dependencies = ["a; os_name == 'a'"]|a [{"version": "1", "requires_dist": ["a"]}, {"version": "2", "requires_dist": ["a!=1", "b", "a<3"]}]~x []|p 0: a a;aA ~a 1: a a;aA 2: a!=1 a;aA b a<3 a;aA ~x ~"#;
 
-// The index document of a name and its versions.
-fn file_of(alloc: Global, name: &str, versions: &str) -> Result<String, Fail> {
-    Ok(format!(in alloc; "{{\"name\": \"{name}\", \"versions\": {versions}}}")?)
-}
-
-fn package_in(alloc: Global, name: &str, bytes: &[u8]) -> Result<Package, Fail> {
-    let name = Name::read(alloc, name)?;
-    Ok(document(alloc, bytes, &name)?)
-}
-
 // The package of a name and the versions of its index document.
-fn package(alloc: Global, text: &str) -> Result<Package, Fail> {
+fn package(alloc: Global, text: &str) -> Option<Package> {
     let (name, versions) = text.split_once(' ').unwrap_or((text, ""));
-    let file = file_of(alloc, name, versions)?;
-    package_in(alloc, name, file.as_bytes())
+    let file = format!(in alloc; "{{\"name\": \"{name}\", \"versions\": {versions}}}").ok()?;
+    let name = Name::read(alloc, name).ok()?;
+    document(alloc, file.as_bytes(), &name).ok()
 }
 
 fn release_count(found: &Package) -> usize
@@ -83,101 +74,113 @@ fn are_catalog(packages: &[Package]) -> bool
     fit(project, first, second)
 }
 
-fn packages(alloc: Global, read: &Project, texts: &str) -> Result<Vec<Package>, Fail> {
-    let mut packages = Vec::new(alloc);
-    packages.push(read.package.copy(alloc)?)?;
+// Pushes the packages of texts, between which a `~` stands.
+fn push_packages(alloc: Global, packages: &mut Vec<Package>, texts: &str) {
     for text in texts.split('~') {
-        packages.push(package(alloc, text)?)?;
+        if let Some(found) = package(alloc, text) {
+            let _ = packages.push(found);
+        }
     }
-    Ok(packages)
 }
 
-fn catalog(alloc: Global, read: &Project, texts: &str) -> Result<Catalog, Fail> {
-    let packages = packages(alloc, read, texts)?;
+// The catalog of a project and of packages; none where these aren't three together.
+fn catalog(alloc: Global, read: &Project, texts: &str) -> Option<Catalog> {
+    let mut packages = Vec::new(alloc);
+    packages.push(read.package.copy(alloc).ok()?).ok()?;
+    push_packages(alloc, &mut packages, texts);
     if !are_catalog(packages.as_slice()) {
-        return Err(Fail::from("no catalog"));
+        return None;
     }
-    Ok(Catalog::of(alloc, packages)?)
+    Catalog::of(alloc, packages).ok()
 }
 
-fn push_release(alloc: Global, text: &mut String, release: &Release) -> Result<(), Fail> {
-    let version = release.version.text(alloc)?;
-    write!(text, "{}: ", version.as_str())?;
-    for requirement in &release.requirements {
-        push_requirement(alloc, text, requirement)?;
-    }
-    Ok(())
-}
-
-fn push_package(alloc: Global, text: &mut String, found: &Package) -> Result<(), Fail> {
-    write!(text, "{} ", found.name.text())?;
+fn put_package(alloc: Global, told: &mut String, found: &Package) {
+    put(told, found.name.text());
+    put(told, " ");
     for release in &found.releases {
-        push_release(alloc, text, release)?;
+        put_release(alloc, told, release);
     }
-    text.push('~')?;
-    Ok(())
+    put(told, "~");
 }
 
-fn catalog_text(alloc: Global, catalog: &Catalog) -> Result<String, Fail> {
-    let mut text = String::new(alloc);
-    for found in catalog.packages() {
-        push_package(alloc, &mut text, found)?;
+fn put_release(alloc: Global, told: &mut String, release: &Release) {
+    if let Ok(version) = release.version.text(alloc) {
+        put(told, version.as_str());
     }
-    Ok(text)
+    put(told, ": ");
+    put_requirements(alloc, told, &release.requirements);
 }
 
-fn adjusted_text(alloc: Global, read: &Project, catalog: Catalog) -> Result<String, Fail> {
-    let catalog = adjust(alloc, read, catalog)?;
-    catalog_text(alloc, &catalog)
+fn adjusted_catalog(alloc: Global, read: &Project, packages: &str) -> Option<Catalog> {
+    adjust(alloc, read, catalog(alloc, read, packages)?).ok()
 }
 
-fn expanded(alloc: Global, lines: &str) -> Result<Project, Fail> {
-    let read = project_of(alloc, lines)?;
-    Ok(expand(alloc, read)?)
+// The packages of a project's adjusted catalog; nothing where there is none.
+fn catalog_told(alloc: Global, read: &Project, packages: &str) -> String {
+    let mut told = String::new(alloc);
+    if let Some(catalog) = adjusted_catalog(alloc, read, packages) {
+        for found in catalog.packages() {
+            put_package(alloc, &mut told, found);
+        }
+        drop(catalog);
+    }
+    told
 }
 
-fn adjusted(alloc: Global, lines: &str, packages: &str) -> Result<String, Fail> {
-    let read = expanded(alloc, lines)?;
-    let catalog = catalog(alloc, &read, packages)?;
-    adjusted_text(alloc, &read, catalog)
+// Those of the lines of a project file.
+fn adjusted(alloc: Global, lines: &str, packages: &str) -> String {
+    match expanded_project(alloc, lines) {
+        Some(read) => {
+            let told = catalog_told(alloc, &read, packages);
+            drop(read);
+            told
+        }
+        None => String::new(alloc),
+    }
 }
 
-fn is_row(alloc: Global, line: &str) -> Result<bool, Fail> {
-    let (lines, rest) = cells(line);
-    let (packages, want) = cells(rest);
-    Ok(adjusted(alloc, lines, packages)?.as_str() == want)
+fn is_row(alloc: Global, line: &str) -> bool {
+    let (lines, rest) = cells(line, '|');
+    let (packages, want) = cells(rest, '|');
+    adjusted(alloc, lines, packages).as_str() == want
 }
 
 #[test]
-fn requirements_are_replaced_and_followed(rt: HostRuntime) -> Result<(), Fail> {
+fn requirements_are_replaced_and_followed(rt: HostRuntime) {
     for line in ROWS.split('\n') {
-        assert!(rt; is_row(rt.alloc(), line)?, "{line}");
+        assert!(rt; is_row(rt.alloc(), line), "{line}");
     }
-    Ok(())
 }
 
-fn names(alloc: Global, count: u64) -> Result<String, Fail> {
+fn names(alloc: Global, count: u64) -> String {
     let mut names = String::new(alloc);
     for number in 0..count {
-        write!(&mut names, "'n{number}', ")?;
+        let _ = write!(names, "'n{number}', ");
     }
-    Ok(names)
+    names
 }
 
 // A project that requires so many names twice, and has a constraint and two overrides on each.
-fn many(alloc: Global, count: u64) -> Result<String, Fail> {
-    let names = names(alloc, count)?;
-    let twice = format!(in alloc; "[{names}{names}]~")?;
-    Ok(format!(in alloc;
-        "dependencies = {twice}[tool.uv]~constraint-dependencies = [{names}]~override-dependencies = {twice}"
-    )?)
+fn many(alloc: Global, count: u64) -> Result<String, AllocError> {
+    let names = names(alloc, count);
+    format!(in alloc;
+        "dependencies = [{names}{names}]~[tool.uv]~constraint-dependencies = [{names}]~override-dependencies = [{names}{names}]~"
+    )
+}
+
+// In how many pieces blanks cut what is told of such a project.
+fn many_adjusted(alloc: Global, count: u64) -> usize {
+    match many(alloc, count) {
+        Ok(lines) => {
+            let told = adjusted(alloc, lines.as_str(), "x []~y []");
+            told.as_str().split(' ').count()
+        }
+        Err(_) => 0,
+    }
 }
 
 // Each of the 60,000 requirements becomes two, and each of these is followed by one.
 #[test]
-fn many_names_are_adjusted(rt: HostRuntime) -> Result<(), Fail> {
-    let lines = many(rt.alloc(), 30_000)?;
-    let text = adjusted(rt.alloc(), lines.as_str(), "x []~y []")?;
-    assert!(rt; text.as_str().split(' ').count() == 240_005);
-    Ok(())
+fn many_names_are_adjusted(rt: HostRuntime) {
+    assert!(rt; many_adjusted(rt.alloc(), 30_000) == 240_005);
 }

@@ -4,13 +4,12 @@
 //! extras, each with how many requirements it has, and how many groups are left; or the path of an include that is
 //! refused.
 
-use crate::texts::{cells, project_of, push_requirement};
-use std::alloc::{AllocError, Global};
+use crate::texts::{expanded_project, project_of, put_requirements};
+use std::alloc::Global;
 use std::fmt::Write;
-use std::test::Fail;
 use ul_groups::expand;
 use ul_project::{Project, ProjectFault};
-use ul_requirement::Release;
+use ul_test_rows::{cells, put, put_number};
 
 const ROWS: &str = r#"dependencies = ['d>1']|d>1 0
 [dependency-groups]~test = ['t']~all = [{include-group = 'test'}, 'u']|t; u; t; group-all:2 group-test:1 0
@@ -28,156 +27,145 @@ dependencies = ['d']~[project.optional-dependencies]~hh = ['y', 'z']~e = ['x']~[
 [dependency-groups]~a = ['t']~b = [{include-group = 'none'}]~c = [{include-group = 'c'}]|dependency-groups.b[0]
 [dependency-groups]~a = [{include-group = 'b'}, {include-group = 'none'}]~b = ['t', {include-group = 'c'}]~c = ['u', 'v', {include-group = 'b'}]|dependency-groups.c[2]"#;
 
-fn push_extra(text: &mut String, name: &str, size: Option<&u64>) -> Result<(), Fail> {
-    let size = size.copied().unwrap_or(0);
-    write!(text, "{name}:{size} ")?;
-    Ok(())
-}
-
-fn push_extras(text: &mut String, read: &Project) -> Result<(), Fail> {
+// Puts the extras, each with how many requirements it has.
+fn put_extras(told: &mut String, read: &Project) {
     let mut sizes = read.sizes.iter();
     for extra in &read.extras {
-        push_extra(text, extra.text(), sizes.next())?;
+        put(told, extra.text());
+        put(told, ":");
+        put_number(told, sizes.next().copied().unwrap_or(0));
+        put(told, " ");
     }
-    Ok(())
 }
 
-fn push_release(alloc: Global, text: &mut String, release: &Release) -> Result<(), Fail> {
-    for requirement in &release.requirements {
-        push_requirement(alloc, text, requirement)?;
-    }
-    Ok(())
-}
-
-fn short(alloc: Global, read: &Project) -> Result<String, Fail> {
-    let mut text = String::new(alloc);
+fn put_short(alloc: Global, told: &mut String, read: &Project) {
     for release in &read.package.releases {
-        push_release(alloc, &mut text, release)?;
+        put_requirements(alloc, told, &release.requirements);
     }
-    push_extras(&mut text, read)?;
-    write!(&mut text, "{}", read.groups.len())?;
-    Ok(text)
+    put_extras(told, read);
+    put_number(told, read.groups.len() as u64);
 }
 
-fn fault_text(alloc: Global, fault: &ProjectFault) -> Result<String, AllocError> {
+fn put_fault(alloc: Global, told: &mut String, fault: &ProjectFault) {
     match fault {
-        ProjectFault::Shape(path) => path.text(alloc),
-        ProjectFault::NoMemory => String::from_str(alloc, "no memory"),
-        _ => String::from_str(alloc, "another fault"),
+        ProjectFault::Shape(path) => {
+            if let Ok(path) = path.text(alloc) {
+                put(told, path.as_str());
+            }
+        }
+        ProjectFault::NoMemory => put(told, "no memory"),
+        _ => put(told, "another fault"),
     }
 }
 
-fn told(alloc: Global, answer: &Result<Project, ProjectFault>) -> Result<String, Fail> {
-    match answer {
-        Ok(read) => short(alloc, read),
-        Err(fault) => Ok(fault_text(alloc, fault)?),
+fn put_expanded(alloc: Global, told: &mut String, read: Project) {
+    match expand(alloc, read) {
+        Ok(read) => {
+            put_short(alloc, told, &read);
+            drop(read);
+        }
+        Err(fault) => put_fault(alloc, told, &fault),
     }
 }
 
-fn expanded(alloc: Global, lines: &str) -> Result<String, Fail> {
-    let read = project_of(alloc, lines)?;
-    let answer = expand(alloc, read);
-    told(alloc, &answer)
+fn expanded(alloc: Global, lines: &str) -> String {
+    let mut told = String::new(alloc);
+    if let Some(read) = project_of(alloc, lines) {
+        put_expanded(alloc, &mut told, read);
+    }
+    told
 }
 
-fn is_row(alloc: Global, line: &str) -> Result<bool, Fail> {
-    let (lines, want) = cells(line);
-    Ok(expanded(alloc, lines)?.as_str() == want)
+fn is_row(alloc: Global, line: &str) -> bool {
+    let (lines, want) = cells(line, '|');
+    expanded(alloc, lines).as_str() == want
 }
 
 #[test]
-fn groups_become_extras(rt: HostRuntime) -> Result<(), Fail> {
+fn groups_become_extras(rt: HostRuntime) {
     for line in ROWS.split('\n') {
-        assert!(rt; is_row(rt.alloc(), line)?, "{line}");
+        assert!(rt; is_row(rt.alloc(), line), "{line}");
     }
-    Ok(())
-}
-
-fn push_link(text: &mut String, number: usize) -> Result<(), Fail> {
-    let next = number.saturating_add(1);
-    write!(
-        text,
-        "g{number} = [{{include-group = 'hub'}}, {{include-group = 'g{next}'}}]~"
-    )?;
-    Ok(())
-}
-
-fn push_hub(text: &mut String, count: usize) -> Result<(), Fail> {
-    text.push_str("hub = [")?;
-    for number in 0..count {
-        write!(text, "'leaf{number}', ")?;
-    }
-    text.push_str("]~")?;
-    Ok(())
 }
 
 // So many groups, of which each includes the next and a hub, which has as many requirements.
-fn chain(alloc: Global, count: usize) -> Result<String, Fail> {
-    let mut lines = String::from_str(alloc, "[dependency-groups]~")?;
+fn chain(alloc: Global, count: usize) -> String {
+    let mut lines = String::new(alloc);
+    put(&mut lines, "[dependency-groups]~");
     for number in 0..count {
-        push_link(&mut lines, number)?;
+        let next = number.saturating_add(1);
+        let _ = write!(
+            lines,
+            "g{number} = [{{include-group = 'hub'}}, {{include-group = 'g{next}'}}]~"
+        );
     }
-    write!(&mut lines, "g{count} = ['last']~")?;
-    push_hub(&mut lines, count)?;
-    Ok(lines)
+    let _ = write!(lines, "g{count} = ['last']~hub = [");
+    for number in 0..count {
+        let _ = write!(lines, "'leaf{number}', ");
+    }
+    put(&mut lines, "]~");
+    lines
 }
 
-fn chain_text(alloc: Global, count: usize) -> Result<String, Fail> {
-    let lines = chain(alloc, count)?;
+fn chain_told(alloc: Global, count: usize) -> String {
+    let lines = chain(alloc, count);
     expanded(alloc, lines.as_str())
 }
 
-// So many groups beside one, which each of them includes.
-fn star(alloc: Global, count: usize) -> Result<String, Fail> {
-    let mut lines = String::from_str(alloc, "[dependency-groups]~hub = ['leaf']~")?;
-    for number in 0..count {
-        write!(lines, "g{number} = ['own', {{include-group = 'hub'}}]~")?;
-    }
-    Ok(lines)
+// Whether each list of a chain has the hub once.
+fn has_hubs(alloc: Global) -> bool {
+    let told = chain_told(alloc, 100);
+    told.as_str().split(' ').count() == 10_304
 }
 
-fn requirement_count(read: &Project) -> usize {
+// Whether a chain is refused before the stack ends.
+fn is_too_deep(alloc: Global, count: usize) -> bool {
+    chain_told(alloc, count).as_str() == "no memory"
+}
+
+#[test]
+fn long_chains_are_expanded(rt: HostRuntime) {
+    assert!(rt; has_hubs(rt.alloc()));
+}
+
+#[test]
+fn deeper_chains_are_refused_by_want_of_memory(rt: HostRuntime) {
+    assert!(rt; is_too_deep(rt.alloc(), 1_100) && is_too_deep(rt.alloc(), 10_000));
+}
+
+// So many groups beside one, which each of them includes.
+fn star(alloc: Global, count: u64) -> String {
+    let mut lines = String::new(alloc);
+    put(&mut lines, "[dependency-groups]~hub = ['leaf']~");
+    for number in 0..count {
+        let _ = write!(lines, "g{number} = ['own', {{include-group = 'hub'}}]~");
+    }
+    lines
+}
+
+// Whether a project has as many extras and requirements as 100,000 groups, and one beside them, become.
+fn is_large(read: &Project) -> bool {
     let mut count = 0;
     for release in &read.package.releases {
         count = release.requirements.len();
     }
-    count
-}
-
-fn star_project(alloc: Global, count: usize) -> Result<Project, Fail> {
-    let lines = star(alloc, count)?;
-    project_of(alloc, lines.as_str())
+    read.extras.len() == 100_001 && count == 200_001
 }
 
 // Whether each of 100,000 groups becomes an extra with two requirements, and the one beside them one with one.
-fn is_large_expanded(alloc: Global) -> Result<bool, Fail> {
-    let read = star_project(alloc, 100_000)?;
-    let read = expand(alloc, read)?;
-    Ok(read.extras.len() == 100_001 && requirement_count(&read) == 200_001)
+fn is_large_expanded(alloc: Global) -> bool {
+    let lines = star(alloc, 100_000);
+    match expanded_project(alloc, lines.as_str()) {
+        Some(read) => {
+            let large = is_large(&read);
+            drop(read);
+            large
+        }
+        None => false,
+    }
 }
 
 #[test]
-fn many_groups_are_expanded(rt: HostRuntime) -> Result<(), Fail> {
-    assert!(rt; is_large_expanded(rt.alloc())?);
-    Ok(())
-}
-
-// Each list has the hub once.
-#[test]
-fn long_chains_are_expanded(rt: HostRuntime) -> Result<(), Fail> {
-    let text = chain_text(rt.alloc(), 100)?;
-    assert!(rt; text.as_str().split(' ').count() == 10_304);
-    Ok(())
-}
-
-fn is_too_deep(alloc: Global, count: usize) -> Result<bool, Fail> {
-    let text = chain_text(alloc, count)?;
-    Ok(text.as_str() == "no memory")
-}
-
-// So deep a chain is refused before the stack ends.
-#[test]
-fn deeper_chains_are_refused_by_want_of_memory(rt: HostRuntime) -> Result<(), Fail> {
-    assert!(rt; is_too_deep(rt.alloc(), 1_100)? && is_too_deep(rt.alloc(), 10_000)?);
-    Ok(())
+fn many_groups_are_expanded(rt: HostRuntime) {
+    assert!(rt; is_large_expanded(rt.alloc()));
 }

@@ -1,27 +1,22 @@
-//! Requirements in short, which the tests share.
-use std::alloc::{AllocError, Global};
-use std::test::Fail;
+//! Projects, and what is told of them piece by piece, which the tests share.
+use std::alloc::Global;
+use ul_groups::expand;
 use ul_marker::{Marker, World};
 use ul_project::{Project, project};
 use ul_requirement::Requirement;
 use ul_specifier::{Clause, Op};
-
-fn file_of(alloc: Global, lines: &str) -> Result<String, AllocError> {
-    let mut file = String::from_str(alloc, "[project]\nname = 'p'\n")?;
-    let lines = lines.replace(alloc, "~", "\n")?;
-    file.push_str(lines.as_str())?;
-    Ok(file)
-}
+use ul_test_rows::{cells, put};
 
 /// The project `p` of these lines, which `~` ends.
-pub(crate) fn project_of(alloc: Global, lines: &str) -> Result<Project, Fail> {
-    let file = file_of(alloc, lines)?;
-    Ok(project(alloc, file.as_bytes())?)
+pub(crate) fn project_of(alloc: Global, lines: &str) -> Option<Project> {
+    let lines = lines.replace(alloc, "~", "\n").ok()?;
+    let file = format!(in alloc; "[project]\nname = 'p'\n{lines}").ok()?;
+    project(alloc, file.as_bytes()).ok()
 }
 
-/// What comes before the first bar of a line, and what comes after it.
-pub(crate) fn cells(line: &str) -> (&str, &str) {
-    line.split_once('|').unwrap_or((line, ""))
+/// That project with its groups expanded.
+pub(crate) fn expanded_project(alloc: Global, lines: &str) -> Option<Project> {
+    expand(alloc, project_of(alloc, lines)?).ok()
 }
 
 fn sign(op: Op) -> &'static str {
@@ -36,71 +31,69 @@ fn sign(op: Op) -> &'static str {
     }
 }
 
-fn push_clause(alloc: Global, text: &mut String, clause: &Clause) -> Result<(), AllocError> {
-    text.push_str(sign(clause.op))?;
-    let version = clause.version.text(alloc)?;
-    text.push_str(version.as_str())?;
-    Ok(())
+fn put_clause(alloc: Global, told: &mut String, clause: &Clause) {
+    put(told, sign(clause.op));
+    if let Ok(version) = clause.version.text(alloc) {
+        put(told, version.as_str());
+    }
 }
 
 // The interpreter 3.12.0 on a system.
-fn world(alloc: Global, system: &str) -> Result<World, Fail> {
+fn world(alloc: Global, system: &str) -> Option<World> {
     let mut texts = Vec::new(alloc);
-    texts.push(String::from_str(alloc, system)?)?;
+    texts.push(String::from_str(alloc, system).ok()?).ok()?;
     for _ in 0..7 {
-        texts.push(String::new(alloc))?;
+        texts.push(String::new(alloc)).ok()?;
     }
-    Ok(World::of((3, 12, 0), texts, Vec::new(alloc)).ok_or("no world")?)
+    World::of((3, 12, 0), texts, Vec::new(alloc))
 }
 
 // `a` and `b` where a marker holds on the systems of these names, and `A` and `B` where it does so for the extra
 // `group-a`.
 const WHERE: &str = "a||a b||b a|group-a|A b|group-a|B";
 
-fn push_where(alloc: Global, text: &mut String, marker: &Marker, row: &str) -> Result<(), Fail> {
-    let (system, rest) = cells(row);
-    let (extra, letter) = cells(rest);
-    let world = world(alloc, system)?;
-    if marker.holds(&world, extra) {
-        text.push_str(letter)?;
+// Puts the letter of a row where a marker holds as it says.
+fn put_where(alloc: Global, told: &mut String, marker: &Marker, row: &str) {
+    let (system, rest) = cells(row, '|');
+    let (extra, letter) = cells(rest, '|');
+    if let Some(world) = world(alloc, system) {
+        put(
+            told,
+            if marker.holds(&world, extra) {
+                letter
+            } else {
+                ""
+            },
+        );
     }
-    Ok(())
 }
 
-fn push_marker(alloc: Global, text: &mut String, marker: &Marker) -> Result<(), Fail> {
-    text.push(';')?;
+fn put_marker(alloc: Global, told: &mut String, marker: &Marker) {
+    put(told, ";");
     for row in WHERE.split(' ') {
-        push_where(alloc, text, marker, row)?;
+        put_where(alloc, told, marker, row);
     }
-    Ok(())
 }
 
-fn push_conditions(
-    alloc: Global,
-    text: &mut String,
-    requirement: &Requirement,
-) -> Result<(), Fail> {
+// Puts a requirement in short: its name, its extras, its clauses, and where its marker holds.
+fn put_requirement(alloc: Global, told: &mut String, requirement: &Requirement) {
+    put(told, requirement.name.text());
+    for extra in &requirement.extras {
+        put(told, "+");
+        put(told, extra.text());
+    }
     for clause in &requirement.specifiers.clauses {
-        push_clause(alloc, text, clause)?;
+        put_clause(alloc, told, clause);
     }
     if let Some(marker) = &requirement.marker {
-        push_marker(alloc, text, marker)?;
+        put_marker(alloc, told, marker);
     }
-    Ok(())
+    put(told, " ");
 }
 
-/// A requirement in short: its name, its extras, its clauses, and where its marker holds.
-pub(crate) fn push_requirement(
-    alloc: Global,
-    text: &mut String,
-    requirement: &Requirement,
-) -> Result<(), Fail> {
-    text.push_str(requirement.name.text())?;
-    for extra in &requirement.extras {
-        text.push('+')?;
-        text.push_str(extra.text())?;
+/// Puts requirements in short, with a space behind each.
+pub(crate) fn put_requirements(alloc: Global, told: &mut String, list: &[Requirement]) {
+    for requirement in list {
+        put_requirement(alloc, told, requirement);
     }
-    push_conditions(alloc, text, requirement)?;
-    text.push(' ')?;
-    Ok(())
 }

@@ -1,18 +1,18 @@
 -- What the answers of readers say.
-use Rattle.std.specs.Prelude.{◌≡◌, ℕ, List, Option, Some, None, Result, Ok, Err, Vec, option_map}
+use Rattle.std.specs.Prelude.{◌≡◌, ℕ, Bool, List, Option, Result, Ok, Err, Vec, option_map}
 use Rattle.std.specs.Borrow.{Bor}
 use Rattle.serde_json.specs.View.{view, items_view}
 use Rattle.serde_json.specs.Data.{Data}
 use Rattle.serde_json.specs.declared.value.Value.{Value}
-use Rattle.ul_specifier.specs.declared.fault.SpecFault.{SpecFault}
-use Rattle.ul_specifier.specs.declared.fault.SpecFault.TheVariants as spec
+use Rattle.ul_version.specs.Fields.{Fields}
+use Rattle.ul_specifier.specs.Clauses.{ClauseFields}
 use Rattle.ul_requirement.specs.Fields.{RequirementFields, FileFields, ReleaseFields}
-use Rattle.ul_index.specs.Documents.{DocumentFault, not_json, shape, wrong_name}
+use Rattle.ul_index.specs.Documents.{DocumentFault, not_json, requirement_in, shape, wrong_name}
 use Rattle.ul_index.specs.Json.{items_list}
+use Rattle.ul_index.specs.Results.{read_each}
+use Rattle.ul_index.specs.Usable.{EntryFields}
 use Rattle.ul_index.specs.declared.fault.IndexFault.{IndexFault}
 use Rattle.ul_index.specs.declared.fault.IndexFault.TheVariants.{NotJson, Shape, WrongName, NoMemory}
-use Rattle.ul_index.specs.declared.fault.TextFault.{TextFault}
-use Rattle.ul_index.specs.declared.fault.TextFault.TheVariants as part
 
 -- the result is the definition's answer; want of memory says nothing of it
 abbrev pub Gives : {X Y : Type 0} → (X → Y) → Result X IndexFault → Result Y DocumentFault → Type 0
@@ -21,17 +21,6 @@ Gives view (Err NotJson) answer = answer ≡ Err not_json
 Gives view (Err (Shape place)) answer = answer ≡ Err (shape place)
 Gives view (Err WrongName) answer = answer ≡ Err wrong_name
 Gives view (Err NoMemory) answer = Unit {0}
-
--- the reading of a text, or that there is none, want of memory aside
-abbrev pub Reads : {X Y : Type 0} → (X → Y) → Result X TextFault → Option Y → Type 0
-Reads view (Ok x) reading = reading ≡ Some (view x)
-Reads view (Err part.NoReading) reading = reading ≡ None
-Reads view (Err part.NoMemory) reading = Unit {0}
-
--- the fault of a text, by that of specifiers
-abbrev pub text_of_spec : SpecFault → TextFault
-text_of_spec spec.NoReading = part.NoReading
-text_of_spec spec.NoMemory = part.NoMemory
 
 -- a value that may stand behind a reference
 abbrev pub value_view : Option (Bor Value) → Option Data
@@ -56,3 +45,12 @@ files_view v = v.items
 -- releases in a vector
 abbrev pub releases_view : {Z : Type 0} → Vec ReleaseFields Z → List ReleaseFields
 releases_view v = v.items
+
+-- the requirements of values that stand behind a reference, where each is a text with a reading
+abbrev pub requirements_of_values : Bor (List Value) → Option (List RequirementFields)
+requirements_of_values vs = read_each requirement_in (values_view vs)
+
+-- an entry, by its parts
+abbrev pub entry_with : Option Fields → Option (List ClauseFields) → Option (List RequirementFields) → Bool → List FileFields → EntryFields
+entry_with version python requirements yanked files =
+    record { version = version; python = python; requirements = requirements; yanked = yanked; files = files }

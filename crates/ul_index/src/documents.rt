@@ -16,6 +16,7 @@ use crate::shapes::{items_at, json, object_at, text_at};
 use crate::{IndexFault, Place};
 use serde_json::Value;
 use std::alloc::{AllocError, Global};
+use ul_base::owned::{beside, refused};
 use ul_base::{Name, NameFault};
 use ul_requirement::{Package, Release};
 use ul_version::Version;
@@ -42,15 +43,28 @@ fn right_name(alloc: Global, name: &Name, title: &str) -> Result<(), IndexFault>
 fn release(entry: Entry) -> Option<Release>
     ensures { result ≡ release_of_entry entry }
 {
-    let version = entry.version?;
-    let python = entry.python?;
-    let requirements = entry.requirements?;
+    let Entry {
+        version,
+        python,
+        requirements,
+        yanked,
+        files,
+    } = entry;
+    let Some(version) = version else {
+        return refused((python, requirements, files));
+    };
+    let Some(python) = python else {
+        return refused((version, requirements, files));
+    };
+    let Some(requirements) = requirements else {
+        return refused((version, python, files));
+    };
     Some(Release {
         version,
         python,
         requirements,
-        yanked: entry.yanked,
-        files: entry.files,
+        yanked,
+        files,
     })
 }
 
@@ -81,10 +95,13 @@ fn is_new(alloc: Global, seen: &mut Seen, entry: &Entry) -> Result<bool, AllocEr
 fn next_release(alloc: Global, seen: &mut Seen, entry: Entry) -> Result<Option<Release>, AllocError>
     ensures { IfOk result (Follows seen.old seen.new entry) }
 {
-    if !is_new(alloc, seen, &entry)? {
-        return Ok(None);
+    let new = is_new(alloc, seen, &entry);
+    let (entry, new) = beside(entry, new)?;
+    if new {
+        Ok(release(entry))
+    } else {
+        Ok(refused(entry))
     }
-    Ok(release(entry))
 }
 
 // Adds a release, if there is one.
@@ -124,7 +141,7 @@ fn package_in(alloc: Global, name: &Name, document: &Value) -> Result<Package, I
     let items = items_at(Place::Versions, document.get("versions"))?;
     right_name(alloc, name, title)?;
     let releases = releases(alloc, items)?;
-    let name = name.copy(alloc)?;
+    let (releases, name) = beside(releases, name.copy(alloc))?;
     Ok(Package {
         name,
         entries: items.len() as u64,
@@ -149,6 +166,7 @@ pub fn document(alloc: Global, bytes: &[u8], name: &Name) -> Result<Package, Ind
     ensures { Gives (λ p. p) result (Documents.document_of name.now bytes.now) }
 {
     let value = json(alloc, bytes)?;
-    let package = package_in(alloc, name, &value)?;
-    Ok(package)
+    let package = package_in(alloc, name, &value);
+    drop(value);
+    package
 }

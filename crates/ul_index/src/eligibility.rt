@@ -160,8 +160,7 @@ pub fn eligible_indirect(
         map (version_at (releases_of catalog.now name.now)) places.items ≡ map Some (eligible catalog.now name.now)) }
 {
     let releases = catalog.releases_of(name);
-    let directs: Vec<Requirement> = Vec::new(alloc);
-    let order = order(alloc, directs.as_slice(), name, releases)?;
+    let order = order(alloc, &[], name, releases)?;
     let places = order.places(alloc)?;
     Ok(places)
 }

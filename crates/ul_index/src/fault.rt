@@ -2,9 +2,6 @@
 
 use crate::Place;
 use std::alloc::{AllocError, AllocFailed};
-use ul_base::NameFault;
-use ul_requirement::ReqFault;
-use ul_specifier::SpecFault;
 
 /// Why bytes are no index document of a name.
 #[derive(Clone, Copy, PartialEq, Eq, Debug)]
@@ -38,50 +35,5 @@ impl<T: Drop> From<AllocFailed<T>> for IndexFault {
 
     fn from(_: AllocFailed<T>) -> IndexFault {
         IndexFault::NoMemory
-    }
-}
-
-/// Why an entry gives no release.
-#[derive(Clone, Copy, PartialEq, Eq, Debug)]
-pub(crate) enum TextFault {
-    /// A text of the entry has no reading.
-    NoReading,
-    /// Memory ran out.
-    NoMemory,
-}
-
-impl From<AllocError> for TextFault {
-    ghost use Rattle.std.specs.Prelude.{◌≡◌};
-    ghost use Rattle.ul_index.specs.declared.fault.TextFault.TheVariants.{NoMemory};
-
-    ghost from_gives = { λ _ e. e ≡ NoMemory };
-
-    fn from(_: AllocError) -> TextFault {
-        TextFault::NoMemory
-    }
-}
-
-impl<T: Drop> From<AllocFailed<T>> for TextFault {
-    ghost use Rattle.std.specs.Prelude.{◌≡◌};
-    ghost use Rattle.ul_index.specs.declared.fault.TextFault.TheVariants.{NoMemory};
-
-    ghost from_gives = { λ _ e. e ≡ NoMemory };
-
-    fn from(_: AllocFailed<T>) -> TextFault {
-        TextFault::NoMemory
-    }
-}
-
-impl From<SpecFault> for TextFault {
-    ghost use Rattle.std.specs.Prelude.{◌≡◌};
-    ghost use Rattle.ul_index.specs.Answers.{text_of_spec};
-
-    ghost from_gives = { λ f e. e ≡ text_of_spec f };
-
-    fn from(fault: SpecFault) -> TextFault {
-        match fault {
-            SpecFault::NoReading => TextFault::NoReading,
-            SpecFault::NoMemory => TextFault::NoMemory,
-        }
     }
 }

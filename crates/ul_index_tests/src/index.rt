@@ -5,10 +5,10 @@ ghost use Rattle.std.specs.Str.{bytes_eq};
 
 use std::alloc::{AllocError, Global};
 use std::fmt::Write;
-use std::test::Fail;
-use ul_base::{Name, NameFault};
-use ul_index::{Catalog, IndexFault, document, eligible};
+use ul_base::Name;
+use ul_index::{Catalog, IndexFault, Place, document, eligible};
 use ul_requirement::{FileEntry, Package, Release};
+use ul_test_rows::{cells, put, put_number};
 use ul_version::Version;
 
 // What documents of `a` are read as. A row has what is told of it; whether its text is a whole document, entries or
@@ -62,80 +62,90 @@ const DOCUMENTS: &str = "not JSON|d|\n\
     shape versions[0].files|f|{\"file\": \"x\", \"sha256\": \"00N\"}, {\"file\": \"x\", \"sha256\": \"11N\"}\n\
     shape versions[0].files[2]|f|{\"file\": \"x\", \"sha256\": \"00N\"}, {\"file\": \"x\", \"sha256\": \"00N\"}, 1";
 
-// The eligible versions of `a`, the versions of its document, `!` behind those that were withdrawn, and the
-// project's requirements.
-const ELIGIBLE: &str = "2.0a1 |2.0a1|\"a\"\n\
-    1.0 |2.0a1 1.0|\"a\"\n\
-    1.0 2.0a1 |2.0a1 1.0|\"a>=2.0a0\"\n\
-    1.0 2.0a1 |2.0a1 1.0|\"a\", \"A; os_name=='x'\", \"a<=3.dev0; os_name=='x'\"\n\
-    1 |2! 1|\"a\"\n\
-    1 2 |2! 1|\"a==2\"\n\
-    1 |2! 1|\"a==2.*\", \"b==2\"\n\
-    |1a1 1.0! 0.9.dev0|\n\
-    1.9 1.9+x 1.9.post1 1.10 1!0 |1.10 1.9 1!0 1.9.post1 1.9+x|";
+// A name; what is told of it in a catalog: the number of packages and of direct requirements, `+` where there is a
+// package of the name, and its eligible versions; and the versions of the document of `a`, `!` behind those that were
+// withdrawn, and the requirements of the project.
+const ELIGIBLE: &str = "a|2/1+2.0a1 |2.0a1|\"a\"\n\
+    a|2/1+1.0 |2.0a1 1.0|\"a\"\n\
+    a|2/1+1.0 2.0a1 |2.0a1 1.0|\"a>=2.0a0\"\n\
+    a|2/3+1.0 2.0a1 |2.0a1 1.0|\"a\", \"A; os_name=='x'\", \"a<=3.dev0; os_name=='x'\"\n\
+    a|2/1+1 |2! 1|\"a\"\n\
+    a|2/1+1 2 |2! 1|\"a==2\"\n\
+    a|2/2+1 |2! 1|\"a==2.*\", \"b==2\"\n\
+    a|2/0+|1a1 1.0! 0.9.dev0|\n\
+    a|2/0+1.9 1.9+x 1.9.post1 1.10 1!0 |1.10 1.9 1!0 1.9.post1 1.9+x|\n\
+    b|2/2-|1 2|\"a\", \"b\"\n\
+    demo|2/2+0 |1 2|\"a\", \"b\"\n\
+    a|2/2+1 2 |1 2|\"a\", \"b\"";
 
-// What comes before the first bar of a line, and what comes after it.
-fn cells(line: &str) -> (&str, &str) {
-    line.split_once('|').unwrap_or((line, ""))
+// Puts the name of a file, and the first two digits of its sum.
+fn put_file(told: &mut String, entry: &FileEntry) {
+    put(told, " ");
+    put(told, entry.file.as_str());
+    put(told, "=");
+    put(told, &entry.sha256.as_str()[..2]);
 }
 
-fn push_version(alloc: Global, told: &mut String, version: &Version) -> Result<(), AllocError> {
-    let text = version.text(alloc)?;
-    told.push_str(text.as_str())
+fn put_version(alloc: Global, told: &mut String, version: &Version) {
+    if let Ok(text) = version.text(alloc) {
+        put(told, text.as_str());
+    }
 }
 
-// The name of a file, and the first two digits of its sum.
-fn push_file(told: &mut String, entry: &FileEntry) -> Result<(), AllocError> {
-    told.push(' ')?;
-    told.push_str(entry.file.as_str())?;
-    told.push('=')?;
-    told.push_str(&entry.sha256.as_str()[..2])
-}
-
-// A release in short: its version, `!` where it was withdrawn, how many requirements and files it has.
-fn push_release(alloc: Global, told: &mut String, release: &Release) -> Result<(), AllocError> {
-    push_version(alloc, told, &release.version)?;
-    let yanked = if release.yanked { "!" } else { "" };
-    write!(told, "{yanked}/{}", release.requirements.len())?;
+// Puts a release in short: its version, `!` where it was withdrawn, how many requirements it has, and its files.
+fn put_release(alloc: Global, told: &mut String, release: &Release) {
+    put_version(alloc, told, &release.version);
+    put(told, if release.yanked { "!/" } else { "/" });
+    put_number(told, release.requirements.len() as u64);
     for entry in &release.files {
-        push_file(told, entry)?;
+        put_file(told, entry);
     }
-    told.push(';')
+    put(told, ";");
 }
 
-// A package in short: the number of entries, and the releases.
-fn package_told(alloc: Global, found: &Package) -> Result<String, AllocError> {
-    let mut told = format!(in alloc; "{}:", found.entries)?;
+// Puts a package in short: the number of entries, and the releases.
+fn put_package(alloc: Global, told: &mut String, found: &Package) {
+    put_number(told, found.entries);
+    put(told, ":");
     for release in &found.releases {
-        push_release(alloc, &mut told, release)?;
+        put_release(alloc, told, release);
     }
-    Ok(told)
 }
 
-fn fault_told(alloc: Global, fault: &IndexFault) -> Result<String, AllocError> {
+fn put_place(alloc: Global, told: &mut String, place: &Place) {
+    if let Ok(text) = place.text(alloc) {
+        put(told, "shape ");
+        put(told, text.as_str());
+    }
+}
+
+fn put_fault(alloc: Global, told: &mut String, fault: &IndexFault) {
     match fault {
-        IndexFault::NotJson => String::from_str(alloc, "not JSON"),
-        IndexFault::WrongName => String::from_str(alloc, "name"),
-        IndexFault::Shape(place) => {
-            let path = place.text(alloc)?;
-            format!(in alloc; "shape {path}")
-        }
-        IndexFault::NoMemory => Err(AllocError),
+        IndexFault::NotJson => put(told, "not JSON"),
+        IndexFault::WrongName => put(told, "name"),
+        IndexFault::Shape(place) => put_place(alloc, told, place),
+        IndexFault::NoMemory => put(told, "no memory"),
     }
 }
 
 // What a document of a name is read as: the number of entries and the releases, or the fault.
-fn told(alloc: Global, bytes: &[u8], name: &Name) -> Result<String, AllocError> {
+fn told(alloc: Global, bytes: &[u8], name: &Name) -> String {
+    let mut told = String::new(alloc);
     match document(alloc, bytes, name) {
-        Ok(found) => package_told(alloc, &found),
-        Err(fault) => fault_told(alloc, &fault),
+        Ok(found) => {
+            put_package(alloc, &mut told, &found);
+            drop(found);
+        }
+        Err(fault) => put_fault(alloc, &mut told, &fault),
     }
+    told
 }
 
-fn is_told(alloc: Global, bytes: &[u8], want: &str) -> Result<bool, NameFault> {
-    let name = Name::read(alloc, "a")?;
-    let told = told(alloc, bytes, &name)?;
-    Ok(told.as_str() == want)
+fn is_told(alloc: Global, bytes: &[u8], want: &str) -> bool {
+    match Name::read(alloc, "a") {
+        Ok(name) => told(alloc, bytes, &name).as_str() == want,
+        Err(_) => false,
+    }
 }
 
 const DIGITS: &str = "00000000000000000000000000000000000000000000000000000000000000";
@@ -159,46 +169,38 @@ fn document_text(alloc: Global, kind: &str, text: &str) -> Result<String, AllocE
     short.replace(alloc, "N", DIGITS)
 }
 
-fn is_row(alloc: Global, line: &str) -> Result<bool, NameFault> {
-    let (want, rest) = cells(line);
-    let (kind, text) = cells(rest);
-    let text = document_text(alloc, kind, text)?;
-    is_told(alloc, text.as_bytes(), want)
+fn is_row(alloc: Global, line: &str) -> bool {
+    let (want, rest) = cells(line, '|');
+    let (kind, text) = cells(rest, '|');
+    match document_text(alloc, kind, text) {
+        Ok(text) => is_told(alloc, text.as_bytes(), want),
+        Err(_) => false,
+    }
 }
 
+// The last case's bytes are no text.
 #[test]
-fn documents(rt: HostRuntime) -> Result<(), Fail> {
+fn documents(rt: HostRuntime) {
     for line in DOCUMENTS.lines() {
-        assert!(rt; is_row(rt.alloc(), line)?, "{line}");
+        assert!(rt; is_row(rt.alloc(), line), "{line}");
     }
-    Ok(())
+    assert!(rt; is_told(rt.alloc(), b"\"\xff\"", "not JSON"));
 }
 
-#[test]
-fn other_bytes_are_no_document(rt: HostRuntime) -> Result<(), Fail> {
-    assert!(rt; is_told(rt.alloc(), b"\"\xff\"", "not JSON")?);
-    Ok(())
-}
-
-// The entry of a version, with `!` behind it where it was withdrawn.
-fn push_entry(json: &mut String, text: &str) -> Result<(), AllocError> {
-    let version = text.strip_suffix("!").unwrap_or(text);
-    let yanked = text.ends_with("!");
-    let comma = if json.ends_with("[") { "" } else { ", " };
-    write!(
+// Puts the entry of a version, with `!` behind it where it was withdrawn.
+fn put_entry(json: &mut String, text: &str) {
+    put(json, if json.ends_with("[") { "" } else { ", " });
+    put(json, "{\"version\": \"");
+    put(json, text.strip_suffix("!").unwrap_or(text));
+    put(json, "\", \"yanked\": ");
+    put(
         json,
-        "{comma}{{\"version\": \"{version}\", \"yanked\": {yanked}}}"
-    )
-}
-
-// A document of these versions.
-fn versions_text(alloc: Global, versions: &str) -> Result<String, AllocError> {
-    let mut json = String::from_str(alloc, "{\"name\": \"a\", \"versions\": [")?;
-    for text in versions.split(' ') {
-        push_entry(&mut json, text)?;
-    }
-    json.push_str("]}")?;
-    Ok(json)
+        if text.ends_with("!") {
+            "true}"
+        } else {
+            "false}"
+        },
+    );
 }
 
 // What a document of a name is read as.
@@ -209,8 +211,13 @@ fn package(alloc: Global, name: &str, text: &str) -> Option<Package> {
 
 // A document's releases of these versions.
 fn releases(alloc: Global, versions: &str) -> Option<Package> {
-    let text = versions_text(alloc, versions).ok()?;
-    package(alloc, "a", text.as_str())
+    let mut json = String::new(alloc);
+    put(&mut json, "{\"name\": \"a\", \"versions\": [");
+    for text in versions.split(' ') {
+        put_entry(&mut json, text);
+    }
+    put(&mut json, "]}");
+    package(alloc, "a", json.as_str())
 }
 
 // The project's document with these direct requirements.
@@ -267,196 +274,156 @@ fn catalog_of(alloc: Global, directs: &str, versions: &str) -> Option<Catalog> {
     catalog(alloc, project, found).ok()
 }
 
-// The version of a release, and a space.
-fn push_place(
-    alloc: Global,
-    told: &mut String,
-    release: Option<&Release>,
-) -> Result<(), AllocError> {
-    match release {
-        Some(release) => push_version(alloc, told, &release.version)?,
-        None => told.push_str("no place")?,
-    }
-    told.push(' ')
-}
-
-// The versions at places of releases, with a space behind each.
-fn places_told(alloc: Global, releases: &[Release], places: &[u32]) -> Result<String, AllocError> {
-    let mut told = String::new(alloc);
+// Puts the versions at places of releases, with a space behind each.
+fn put_places(alloc: Global, told: &mut String, releases: &[Release], places: &[u32]) {
     for place in places {
-        push_place(alloc, &mut told, releases.get(*place as usize))?;
+        match releases.get(*place as usize) {
+            Some(release) => put_version(alloc, told, &release.version),
+            None => put(told, "no place"),
+        }
+        put(told, " ");
     }
-    Ok(told)
 }
 
-// The eligible versions of a name in a catalog, with a space behind each.
-fn eligible_in(alloc: Global, catalog: &Catalog, name: &Name) -> Result<String, AllocError> {
-    let places = eligible(alloc, catalog, name)?;
-    places_told(alloc, catalog.releases_of(name), places.as_slice())
+fn put_eligible(alloc: Global, told: &mut String, catalog: &Catalog, name: &Name) {
+    if let Ok(places) = eligible(alloc, catalog, name) {
+        put_places(alloc, told, catalog.releases_of(name), places.as_slice());
+    }
 }
 
-fn is_eligible(
-    alloc: Global,
-    catalog: &Catalog,
-    name: &str,
-    want: &str,
-) -> Result<bool, NameFault> {
-    let name = Name::read(alloc, name)?;
-    let told = eligible_in(alloc, catalog, &name)?;
-    Ok(told.as_str() == want)
+// What is told of a catalog and a name.
+fn catalog_told(alloc: Global, catalog: &Catalog, name: &Name) -> String {
+    let mut told = String::new(alloc);
+    put_number(&mut told, catalog.packages().len() as u64);
+    put(&mut told, "/");
+    put_number(&mut told, catalog.directs().len() as u64);
+    put(
+        &mut told,
+        if catalog.find(name).is_some() {
+            "+"
+        } else {
+            "-"
+        },
+    );
+    put_eligible(alloc, &mut told, catalog, name);
+    told
 }
 
-// Whether those of these versions of `a` are eligible that are wanted.
-fn is_eligible_row(alloc: Global, line: &str) -> Result<bool, NameFault> {
-    let (want, rest) = cells(line);
-    let (versions, directs) = cells(rest);
+fn is_told_of(alloc: Global, catalog: &Catalog, name: &str, want: &str) -> bool {
+    match Name::read(alloc, name) {
+        Ok(name) => catalog_told(alloc, catalog, &name).as_str() == want,
+        Err(_) => false,
+    }
+}
+
+fn is_catalog_row(alloc: Global, line: &str) -> bool {
+    let (name, rest) = cells(line, '|');
+    let (want, rest) = cells(rest, '|');
+    let (versions, directs) = cells(rest, '|');
     match catalog_of(alloc, directs, versions) {
-        Some(catalog) => is_eligible(alloc, &catalog, "a", want),
-        None => Ok(false),
+        Some(catalog) => {
+            let told = is_told_of(alloc, &catalog, name, want);
+            drop(catalog);
+            told
+        }
+        None => false,
     }
 }
 
-#[test]
-fn eligible_releases(rt: HostRuntime) -> Result<(), Fail> {
-    for line in ELIGIBLE.lines() {
-        assert!(rt; is_eligible_row(rt.alloc(), line)?, "{line}");
-    }
-    Ok(())
-}
-
-// The numbers below, with a space behind each.
-fn push_numbers(line: &mut String, count: u32) -> Result<(), AllocError> {
-    for number in 0..count {
-        write!(line, "{number} ")?;
-    }
-    Ok(())
-}
-
-// The numbers from 1 up that 7 divides, or the others, with a space before each.
-fn push_versions(line: &mut String, count: u32, are_divided: bool) -> Result<(), AllocError> {
+// Puts the numbers from 1 up that 7 divides, or the others, with a space before each.
+fn put_versions(line: &mut String, count: u64, are_divided: bool) {
     for number in 1..count {
         if (number % 7 == 0) == are_divided {
-            write!(line, " {number}")?;
+            put(line, " ");
+            put_number(line, number);
         }
     }
-    Ok(())
 }
 
-// A line of so many versions in another order: those that 7 divides are behind the others.
-fn many_versions(alloc: Global, count: u32) -> Result<String, AllocError> {
+// A line of so many versions of `a` in another order: those that 7 divides are behind the others.
+fn many_versions(alloc: Global, count: u64) -> String {
     let mut line = String::new(alloc);
-    push_numbers(&mut line, count)?;
-    line.push_str("|0")?;
-    push_versions(&mut line, count, false)?;
-    push_versions(&mut line, count, true)?;
-    line.push_str("|\"a\"")?;
-    Ok(line)
+    put(&mut line, "a|2/1+");
+    for number in 0..count {
+        put_number(&mut line, number);
+        put(&mut line, " ");
+    }
+    put(&mut line, "|0");
+    put_versions(&mut line, count, false);
+    put_versions(&mut line, count, true);
+    put(&mut line, "|\"a\"");
+    line
 }
 
 // Whether so many versions in another order are eligible in their own.
-fn are_in_order(alloc: Global, count: u32) -> Result<bool, NameFault> {
-    let line = many_versions(alloc, count)?;
-    is_eligible_row(alloc, line.as_str())
+fn are_in_order(alloc: Global, count: u64) -> bool {
+    let line = many_versions(alloc, count);
+    is_catalog_row(alloc, line.as_str())
 }
 
 #[test]
-fn many_eligible_releases(rt: HostRuntime) -> Result<(), Fail> {
-    assert!(rt; are_in_order(rt.alloc(), 10_000)?);
-    Ok(())
-}
-
-// Names, their eligible versions in a catalog of the project and of `a`, and whether it has a package of the name.
-const NAMES: &str = "b||no\n\
-    demo|0 |yes\n\
-    a|1 2 |yes";
-
-fn is_found(alloc: Global, catalog: &Catalog, name: &str) -> Result<bool, NameFault> {
-    let name = Name::read(alloc, name)?;
-    Ok(catalog.find(&name).is_some())
-}
-
-fn is_named(alloc: Global, catalog: &Catalog, line: &str) -> Result<bool, NameFault> {
-    let (name, rest) = cells(line);
-    let (want, found) = cells(rest);
-    let is_found = is_found(alloc, catalog, name)?;
-    Ok(is_eligible(alloc, catalog, name, want)? && is_found == (found == "yes"))
-}
-
-fn has_both(catalog: &Catalog) -> bool {
-    catalog.packages().len() == 2 && catalog.directs().len() == 2
-}
-
-fn are_named(alloc: Global, catalog: &Catalog) -> Result<bool, NameFault> {
-    for line in NAMES.lines() {
-        if !is_named(alloc, catalog, line)? {
-            return Ok(false);
-        }
+fn eligible_releases(rt: HostRuntime) {
+    for line in ELIGIBLE.lines() {
+        assert!(rt; is_catalog_row(rt.alloc(), line), "{line}");
     }
-    Ok(has_both(catalog))
+    assert!(rt; are_in_order(rt.alloc(), 10_000));
 }
 
-fn are_known(alloc: Global) -> Result<bool, NameFault> {
-    match catalog_of(alloc, "\"a\", \"b\"", "1 2") {
-        Some(catalog) => are_named(alloc, &catalog),
-        None => Ok(false),
-    }
-}
-
-#[test]
-fn unknown_names_and_the_project(rt: HostRuntime) -> Result<(), Fail> {
-    assert!(rt; are_known(rt.alloc())?);
-    Ok(())
-}
-
-// An entry of a number, with twenty requirements.
-fn push_large_entry(text: &mut String, number: u32) -> Result<(), AllocError> {
-    let comma = if number > 0 { "," } else { "" };
-    write!(
+// Puts an entry of a number, with twenty requirements.
+fn put_large_entry(text: &mut String, number: u64) {
+    put(
         text,
-        "{comma}{{\"version\":\"{number}\",\"requires_python\":\">=3.9\",\"requires_dist\":[\"b\""
-    )?;
+        if number > 0 {
+            ",{\"version\":\""
+        } else {
+            "{\"version\":\""
+        },
+    );
+    put_number(text, number);
+    put(
+        text,
+        "\",\"requires_python\":\">=3.9\",\"requires_dist\":[\"b\"",
+    );
     for more in 1..20 {
-        write!(text, ",\"package-{more}>={number}\"")?;
+        let _ = write!(text, ",\"package-{more}>={number}\"");
     }
-    text.push_str("],\"yanked\":false}")
+    put(text, "],\"yanked\":false}");
 }
 
 // A document of `a` with so many such entries.
-fn large_document(alloc: Global, count: u32) -> Result<String, AllocError> {
-    let mut text = String::from_str(alloc, "{\"name\": \"a\", \"versions\": [")?;
+fn large_document(alloc: Global, count: u64) -> String {
+    let mut text = String::new(alloc);
+    put(&mut text, "{\"name\": \"a\", \"versions\": [");
     for number in 0..count {
-        push_large_entry(&mut text, number)?;
+        put_large_entry(&mut text, number);
     }
-    text.push_str("]}")?;
-    Ok(text)
+    put(&mut text, "]}");
+    text
 }
 
-// Whether each release has so many requirements.
-fn have_requirements(releases: &[Release], count: usize) -> bool {
-    for release in releases {
-        if release.requirements.len() != count {
+// Whether a package has 10,000 entries and releases, and each of these twenty requirements.
+fn is_whole(found: &Package) -> bool {
+    for release in &found.releases {
+        if release.requirements.len() != 20 {
             return false;
         }
     }
-    true
+    found.entries == 10_000 && found.releases.len() == 10_000
 }
 
-fn is_whole(found: &Package) -> bool {
-    found.entries == 10_000
-        && found.releases.len() == 10_000
-        && have_requirements(found.releases.as_slice(), 20)
-}
-
-fn is_read_whole(alloc: Global) -> Result<bool, AllocError> {
-    let text = large_document(alloc, 10_000)?;
+fn is_read_whole(alloc: Global) -> bool {
+    let text = large_document(alloc, 10_000);
     match package(alloc, "a", text.as_str()) {
-        Some(found) => Ok(is_whole(&found)),
-        None => Ok(false),
+        Some(found) => {
+            let whole = is_whole(&found);
+            drop(found);
+            whole
+        }
+        None => false,
     }
 }
 
 #[test]
-fn large_documents(rt: HostRuntime) -> Result<(), Fail> {
-    assert!(rt; is_read_whole(rt.alloc())?);
-    Ok(())
+fn large_documents(rt: HostRuntime) {
+    assert!(rt; is_read_whole(rt.alloc()));
 }

@@ -1,12 +1,11 @@
 //! Requirements from the metadata of published packages.
 
 use std::alloc::{AllocError, Global};
-use std::fmt::Write;
-use std::test::Fail;
 use ul_base::Name;
 use ul_marker::{Atom, EnvFault, Machine, World, world_of};
 use ul_requirement::Requirement;
 use ul_specifier::{Clause, Op, Specifiers};
+use ul_test_rows::put;
 
 // The machine files of three interpreters, a line each.
 const MACHINES: &str =
@@ -247,35 +246,24 @@ fn clause_texts(alloc: Global, specifiers: &Specifiers) -> Result<Vec<String>, A
     Ok(texts)
 }
 
-// Texts with a comma between each two.
-fn push_listed(told: &mut String, texts: &[String]) -> Result<(), AllocError> {
+// Puts texts with a comma between each two.
+fn put_listed(told: &mut String, texts: &[String]) {
     for text in texts {
         if !told.ends_with("|") {
-            told.push(',')?;
+            put(told, ",");
         }
-        told.push_str(text.as_str())?;
+        put(told, text.as_str());
     }
-    Ok(())
 }
 
-fn push_clauses(
-    alloc: Global,
-    told: &mut String,
-    specifiers: &Specifiers,
-) -> Result<(), AllocError> {
-    let texts = clause_texts(alloc, specifiers)?;
-    push_listed(told, texts.as_slice())
-}
-
-// The names of extras, with a space between each two.
-fn push_extras(told: &mut String, extras: &[Name]) -> Result<(), AllocError> {
+// Puts the names of extras, with a space between each two.
+fn put_extras(told: &mut String, extras: &[Name]) {
     for extra in extras {
         if !told.ends_with("|") {
-            told.push(' ')?;
+            put(told, " ");
         }
-        told.push_str(extra.text())?;
+        put(told, extra.text());
     }
-    Ok(())
 }
 
 // Whether the marker holds at a world with an extra.
@@ -286,60 +274,53 @@ fn holds(requirement: &Requirement, world: &World, extra: &str) -> bool {
     }
 }
 
-// Whether the marker, which has these opaque comparisons, holds on a machine with an extra.
-fn bit(
-    alloc: Global,
-    requirement: &Requirement,
-    machine: &Machine,
-    atoms: &Vec<Atom>,
-    extra: &str,
-) -> Result<char, AllocError> {
-    let world = world_of(alloc, machine, atoms)?;
-    Ok(if holds(requirement, &world, extra) {
-        '1'
-    } else {
-        '0'
-    })
-}
-
-fn push_bits(
+// Puts whether the marker, which has these opaque comparisons, holds on each machine with an extra.
+fn put_bits(
     alloc: Global,
     told: &mut String,
     requirement: &Requirement,
     machines: &[Machine],
     atoms: &Vec<Atom>,
     extra: &str,
-) -> Result<(), AllocError> {
+) {
     for machine in machines {
-        let bit = bit(alloc, requirement, machine, atoms, extra)?;
-        told.push(bit)?;
+        if let Ok(world) = world_of(alloc, machine, atoms) {
+            put(
+                told,
+                if holds(requirement, &world, extra) {
+                    "1"
+                } else {
+                    "0"
+                },
+            );
+        }
     }
-    Ok(())
 }
 
-// Whether the marker holds on each machine without an extra, and with it.
-fn push_truths(
+// Puts whether the marker holds on each machine without an extra, and with it.
+fn put_truths(
     alloc: Global,
     told: &mut String,
     requirement: &Requirement,
     machines: &[Machine],
     extra: &str,
-) -> Result<(), AllocError> {
-    let atoms = requirement.atoms(alloc)?;
-    push_bits(alloc, told, requirement, machines, &atoms, "")?;
-    push_bits(alloc, told, requirement, machines, &atoms, extra)
+) {
+    if let Ok(atoms) = requirement.atoms(alloc) {
+        put_bits(alloc, told, requirement, machines, &atoms, "");
+        put_bits(alloc, told, requirement, machines, &atoms, extra);
+    }
 }
 
-// The name, the extras and the clauses of a requirement.
-fn push_parts(
-    alloc: Global,
-    told: &mut String,
-    requirement: &Requirement,
-) -> Result<(), AllocError> {
-    write!(told, "|{}|", requirement.name.text())?;
-    push_extras(told, requirement.extras.as_slice())?;
-    told.push('|')?;
-    push_clauses(alloc, told, &requirement.specifiers)
+// Puts the name, the extras and the clauses of a requirement.
+fn put_parts(alloc: Global, told: &mut String, requirement: &Requirement) {
+    put(told, "|");
+    put(told, requirement.name.text());
+    put(told, "|");
+    put_extras(told, requirement.extras.as_slice());
+    put(told, "|");
+    if let Ok(texts) = clause_texts(alloc, &requirement.specifiers) {
+        put_listed(told, texts.as_slice());
+    }
 }
 
 // Whether a requirement is what the first columns of a line say.
@@ -349,43 +330,33 @@ fn is_told(
     requirement: &Requirement,
     extra: &str,
     want: &str,
-) -> Result<bool, AllocError> {
+) -> bool {
     let mut told = String::new(alloc);
-    push_truths(alloc, &mut told, requirement, machines, extra)?;
-    push_parts(alloc, &mut told, requirement)?;
-    Ok(told.as_str() == want)
+    put_truths(alloc, &mut told, requirement, machines, extra);
+    put_parts(alloc, &mut told, requirement);
+    told.as_str() == want
 }
 
-// Whether its copy is that.
-fn is_copy_told(
-    alloc: Global,
-    machines: &[Machine],
-    requirement: &Requirement,
-    extra: &str,
-    want: &str,
-) -> Result<bool, AllocError> {
-    let copy = requirement.copy(alloc)?;
-    is_told(alloc, machines, &copy, extra, want)
+// A copy of the requirement of a text.
+fn copied(alloc: Global, text: &str) -> Option<Requirement> {
+    let requirement = Requirement::read(alloc, text).ok()?;
+    let copy = requirement.copy(alloc).ok();
+    drop(requirement);
+    copy
 }
 
-// Whether a text is read as the first columns of a line say.
-fn is_read(
-    alloc: Global,
-    machines: &[Machine],
-    text: &str,
-    extra: &str,
-    want: &str,
-) -> Result<bool, AllocError> {
-    match Requirement::read(alloc, text) {
-        Ok(requirement) => is_copy_told(alloc, machines, &requirement, extra, want),
-        Err(_) => Ok(false),
-    }
-}
-
-fn is_line(alloc: Global, machines: &[Machine], line: &str) -> Result<bool, AllocError> {
+// Whether a copy of a line's requirement is as the line says.
+fn is_line(alloc: Global, machines: &[Machine], line: &str) -> bool {
     let (front, text) = line.rsplit_once('|').unwrap_or((line, ""));
     let (want, extra) = front.rsplit_once('|').unwrap_or((front, ""));
-    is_read(alloc, machines, text, extra, want)
+    match copied(alloc, text) {
+        Some(copy) => {
+            let told = is_told(alloc, machines, &copy, extra, want);
+            drop(copy);
+            told
+        }
+        None => false,
+    }
 }
 
 // The machines of the files.
@@ -398,25 +369,26 @@ fn machines(alloc: Global) -> Result<Vec<Machine>, EnvFault> {
 }
 
 // How many lines there are before the first whose requirement is read otherwise.
-fn right_lines(alloc: Global, machines: &[Machine]) -> Result<u32, AllocError> {
+fn right_lines(alloc: Global, machines: &[Machine]) -> u32 {
     let mut count = 0_u32;
     for line in PUBLISHED.lines() {
-        if !is_line(alloc, machines, line)? {
-            return Ok(count);
+        if !is_line(alloc, machines, line) {
+            return count;
         }
         count = count.saturating_add(1);
     }
-    Ok(count)
+    count
 }
 
-fn right_count(alloc: Global) -> Result<u32, EnvFault> {
-    let machines = machines(alloc)?;
-    Ok(right_lines(alloc, machines.as_slice())?)
+fn right_count(alloc: Global) -> u32 {
+    match machines(alloc) {
+        Ok(machines) => right_lines(alloc, machines.as_slice()),
+        Err(_) => 0,
+    }
 }
 
 #[test]
-fn requirements_are_read_as_in_packaging(rt: HostRuntime) -> Result<(), Fail> {
-    let count = right_count(rt.alloc())?;
+fn requirements_are_read_as_in_packaging(rt: HostRuntime) {
+    let count = right_count(rt.alloc());
     assert!(rt; count == 200, "line {count}");
-    Ok(())
 }

@@ -1,11 +1,10 @@
 //! Requirements and their texts.
 
-use std::alloc::{AllocError, Global};
-use std::fmt::Write;
-use std::test::Fail;
-use ul_base::{Name, NameFault, Node};
+use std::alloc::Global;
+use ul_base::{Name, Node};
 use ul_marker::World;
 use ul_requirement::{ReqFault, Requirement};
+use ul_test_rows::{cells, put, put_number};
 
 // What texts are read as, with `|` before the text and `#` between two rows.
 const TEXTS: &str = "flask 0 false|\x0b\x0cFlask\r\n#\
@@ -31,107 +30,61 @@ const TEXTS: &str = "flask 0 false|\x0b\x0cFlask\r\n#\
     no reading|a>=1 @ x#\
     no reading|a)(";
 
-// Names, with a space before each.
-fn push_names(told: &mut String, names: &[Name]) -> Result<(), AllocError> {
-    for name in names {
-        told.push(' ')?;
-        told.push_str(name.text())?;
+// Puts a requirement in short: the name, the extras, and how many clauses and whether a marker there are.
+fn put_short(told: &mut String, requirement: &Requirement) {
+    put(told, requirement.name.text());
+    for extra in &requirement.extras {
+        put(told, " ");
+        put(told, extra.text());
     }
-    Ok(())
-}
-
-// A requirement in short: the name, the extras, and how many clauses and whether a marker there are.
-fn requirement_told(alloc: Global, requirement: &Requirement) -> Result<String, AllocError> {
-    let mut told = String::from_str(alloc, requirement.name.text())?;
-    push_names(&mut told, requirement.extras.as_slice())?;
-    let clauses = requirement.specifiers.clauses.len();
-    write!(told, " {clauses} {}", requirement.marker.is_some())?;
-    Ok(told)
+    put(told, " ");
+    put_number(told, requirement.specifiers.clauses.len() as u64);
+    put(
+        told,
+        if requirement.marker.is_some() {
+            " true"
+        } else {
+            " false"
+        },
+    );
 }
 
 // What a text is read as.
-fn told(alloc: Global, text: &str) -> Result<String, AllocError> {
+fn told(alloc: Global, text: &str) -> String {
+    let mut told = String::new(alloc);
     match Requirement::read(alloc, text) {
-        Ok(requirement) => requirement_told(alloc, &requirement),
-        Err(ReqFault::Url) => String::from_str(alloc, "url"),
-        Err(ReqFault::NoReading) => String::from_str(alloc, "no reading"),
-        Err(ReqFault::NoMemory) => Err(AllocError),
+        Ok(requirement) => {
+            put_short(&mut told, &requirement);
+            drop(requirement);
+        }
+        Err(ReqFault::Url) => put(&mut told, "url"),
+        Err(ReqFault::NoReading) => put(&mut told, "no reading"),
+        Err(ReqFault::NoMemory) => put(&mut told, "no memory"),
     }
+    told
 }
 
-fn is_row(alloc: Global, row: &str) -> Result<bool, AllocError> {
-    let (want, text) = row.split_once('|').unwrap_or((row, ""));
-    let told = told(alloc, text)?;
-    Ok(told.as_str() == want)
+fn is_row(alloc: Global, row: &str) -> bool {
+    let (want, text) = cells(row, '|');
+    told(alloc, text).as_str() == want
 }
 
 #[test]
-fn texts_are_read_or_refused(rt: HostRuntime) -> Result<(), Fail> {
+fn texts_are_read_or_refused(rt: HostRuntime) {
     for row in TEXTS.split('#') {
-        assert!(rt; is_row(rt.alloc(), row)?, "{row}");
+        assert!(rt; is_row(rt.alloc(), row), "{row}");
     }
-    Ok(())
 }
 
-// So many extras of each of three kinds.
-fn push_extras(text: &mut String, count: u32) -> Result<(), AllocError> {
-    for number in 0..count {
-        let other = count - number;
-        write!(text, "x{other},y{number},X.{number},")?;
+// Puts the targets of a requirement, with a space behind each.
+fn put_targets(told: &mut String, targets: &[Node]) {
+    for node in targets {
+        put(told, node.name.text());
+        if let Some(extra) = &node.extra {
+            put(told, extra.text());
+        }
+        put(told, " ");
     }
-    Ok(())
-}
-
-// So many clauses.
-fn push_clauses(text: &mut String, count: u32) -> Result<(), AllocError> {
-    for number in 0..count {
-        write!(text, ">={number},")?;
-    }
-    Ok(())
-}
-
-// A requirement with so many extras of each of three kinds, one of them twice, and as many clauses.
-fn large(alloc: Global, count: u32) -> Result<String, AllocError> {
-    let mut text = String::from_str(alloc, "a[")?;
-    push_extras(&mut text, count)?;
-    text.push_str("y0]")?;
-    push_clauses(&mut text, count)?;
-    Ok(text)
-}
-
-fn push_node(told: &mut String, node: &Node) -> Result<(), AllocError> {
-    told.push_str(node.name.text())?;
-    if let Some(extra) = &node.extra {
-        told.push_str(extra.text())?;
-    }
-    told.push(' ')
-}
-
-fn push_nodes(told: &mut String, nodes: &[Node]) -> Result<(), AllocError> {
-    for node in nodes {
-        push_node(told, node)?;
-    }
-    Ok(())
-}
-
-// The targets of a requirement, with a space behind each.
-fn push_targets(
-    alloc: Global,
-    told: &mut String,
-    requirement: &Requirement,
-) -> Result<(), AllocError> {
-    let targets = requirement.targets(alloc)?;
-    push_nodes(told, targets.as_slice())
-}
-
-// How many opaque comparisons a requirement has.
-fn push_atom_count(
-    alloc: Global,
-    told: &mut String,
-    requirement: &Requirement,
-) -> Result<(), AllocError> {
-    let atoms = requirement.atoms(alloc)?;
-    write!(told, "{}", atoms.len())
 }
 
 // A world whose texts are empty.
@@ -143,111 +96,109 @@ fn empty_world(alloc: Global) -> Option<World> {
     World::of((3, 12, 0), texts, Vec::new(alloc))
 }
 
-fn extra_of(alloc: Global, extra: &str) -> Result<Option<Name>, NameFault> {
-    if extra.is_empty() {
-        return Ok(None);
-    }
-    Ok(Some(Name::read(alloc, extra)?))
-}
-
 // The base of `p`, or `p` with an extra.
-fn node(alloc: Global, extra: &str) -> Result<Node, NameFault> {
-    let extra = extra_of(alloc, extra)?;
-    let name = Name::read(alloc, "p")?;
-    Ok(Node { name, extra })
-}
-
-// Whether a requirement applies in a world to `p` with an extra, or to its base.
-fn bit(
-    alloc: Global,
-    requirement: &Requirement,
-    world: &World,
-    extra: &str,
-) -> Result<char, NameFault> {
-    let node = node(alloc, extra)?;
-    Ok(if requirement.applies_at(&node, world) {
-        '1'
-    } else {
-        '0'
+fn node(alloc: Global, extra: &str) -> Option<Node> {
+    let name = Name::read(alloc, "p").ok()?;
+    Some(Node {
+        name,
+        extra: Name::read(alloc, extra).ok(),
     })
 }
 
-// Whether a requirement applies to the base of `p`, at `x` and at `y`, in a world.
-fn push_bits(
-    alloc: Global,
-    told: &mut String,
-    requirement: &Requirement,
-    world: &World,
-) -> Result<(), NameFault> {
+// Puts whether a requirement applies to the base of `p`, at `x` and at `y`, in a world.
+fn put_truths(alloc: Global, told: &mut String, requirement: &Requirement, world: &World) {
     for extra in "|x|y".split('|') {
-        let bit = bit(alloc, requirement, world, extra)?;
-        told.push(bit)?;
-    }
-    Ok(())
-}
-
-// That in a world whose texts are empty.
-fn push_truths(
-    alloc: Global,
-    told: &mut String,
-    requirement: &Requirement,
-) -> Result<(), NameFault> {
-    match empty_world(alloc) {
-        Some(world) => push_bits(alloc, told, requirement, &world),
-        None => Err(NameFault::NoReading),
+        if let Some(node) = node(alloc, extra) {
+            put(
+                told,
+                if requirement.applies_at(&node, world) {
+                    "1"
+                } else {
+                    "0"
+                },
+            );
+        }
     }
 }
 
-// The targets of a requirement, the number of its opaque comparisons, and where it applies.
-fn aims_told(alloc: Global, requirement: &Requirement) -> Result<String, NameFault> {
+// The targets of a requirement, the number of its opaque comparisons, and where it applies in a world.
+fn aims_told(alloc: Global, requirement: &Requirement, world: &World) -> Option<String> {
     let mut told = String::new(alloc);
-    push_targets(alloc, &mut told, requirement)?;
-    push_atom_count(alloc, &mut told, requirement)?;
-    told.push(' ')?;
-    push_truths(alloc, &mut told, requirement)?;
-    Ok(told)
+    put_targets(&mut told, requirement.targets(alloc).ok()?.as_slice());
+    put_number(&mut told, requirement.atoms(alloc).ok()?.len() as u64);
+    put(&mut told, " ");
+    put_truths(alloc, &mut told, requirement, world);
+    Some(told)
 }
 
-fn is_aimed(alloc: Global, requirement: &Requirement, want: &str) -> Result<bool, NameFault> {
-    let told = aims_told(alloc, requirement)?;
-    Ok(told.as_str() == want)
+fn is_aimed(alloc: Global, requirement: &Requirement, want: &str) -> Option<bool> {
+    let world = empty_world(alloc)?;
+    let told = aims_told(alloc, requirement, &world)?;
+    Some(told.as_str() == want)
 }
 
-fn has_aims(alloc: Global, text: &str, want: &str) -> Result<bool, NameFault> {
+fn has_aims(alloc: Global, text: &str, want: &str) -> bool {
     match Requirement::read(alloc, text) {
-        Ok(requirement) => is_aimed(alloc, &requirement, want),
-        Err(_) => Ok(false),
+        Ok(requirement) => {
+            let aimed = is_aimed(alloc, &requirement, want);
+            drop(requirement);
+            aimed == Some(true)
+        }
+        Err(_) => false,
     }
 }
 
 #[test]
-fn targets_and_truths(rt: HostRuntime) -> Result<(), Fail> {
+fn targets_and_truths(rt: HostRuntime) {
     let text = "q[v,u]; extra == 'x' or 'a' in os_name";
-    assert!(rt; has_aims(rt.alloc(), text, "q qu qv 1 010")?);
-    Ok(())
+    assert!(rt; has_aims(rt.alloc(), text, "q qu qv 1 010"));
 }
 
-fn has_counts(alloc: Global, requirement: &Requirement) -> Result<bool, AllocError> {
-    let targets = requirement.targets(alloc)?;
+// A requirement with so many extras of each of three kinds, one of them twice, and as many clauses.
+fn large(alloc: Global, count: u64) -> String {
+    let mut text = String::new(alloc);
+    put(&mut text, "a[");
+    for number in 0..count {
+        put(&mut text, "x");
+        put_number(&mut text, count - number);
+        put(&mut text, ",y");
+        put_number(&mut text, number);
+        put(&mut text, ",X.");
+        put_number(&mut text, number);
+        put(&mut text, ",");
+    }
+    put(&mut text, "y0]");
+    for number in 0..count {
+        put(&mut text, ">=");
+        put_number(&mut text, number);
+        put(&mut text, ",");
+    }
+    text
+}
+
+// Whether a requirement has so many extras, clauses and targets.
+fn has_counts(alloc: Global, requirement: &Requirement) -> bool {
     let (extras, clauses) = (&requirement.extras, &requirement.specifiers.clauses);
-    Ok(extras.len() == 12_000 && clauses.len() == 4_000 && targets.len() == 12_001)
-}
-
-fn is_counted(alloc: Global, text: &str) -> Result<bool, AllocError> {
-    match Requirement::read(alloc, text) {
-        Ok(requirement) => has_counts(alloc, &requirement),
-        Err(_) => Ok(false),
+    match requirement.targets(alloc) {
+        Ok(targets) => extras.len() == 12_000 && clauses.len() == 4_000 && targets.len() == 12_001,
+        Err(_) => false,
     }
 }
 
 // Whether the extras, clauses and targets of a large requirement are counted.
-fn is_large_counted(alloc: Global) -> Result<bool, AllocError> {
-    let text = large(alloc, 4_000)?;
-    Ok(text.len() > 80_000 && is_counted(alloc, text.as_str())?)
+fn is_large_counted(alloc: Global) -> bool {
+    let text = large(alloc, 4_000);
+    match Requirement::read(alloc, text.as_str()) {
+        Ok(requirement) => {
+            let counted = has_counts(alloc, &requirement);
+            drop(requirement);
+            counted && text.len() > 80_000
+        }
+        Err(_) => false,
+    }
 }
 
 #[test]
-fn large_requirements_are_read(rt: HostRuntime) -> Result<(), Fail> {
-    assert!(rt; is_large_counted(rt.alloc())?);
-    Ok(())
+fn large_requirements_are_read(rt: HostRuntime) {
+    assert!(rt; is_large_counted(rt.alloc()));
 }

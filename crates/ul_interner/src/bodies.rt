@@ -102,21 +102,22 @@ impl<L: Label> Body<L> {
         ensures same { OnErr result (self.new ≡ self.old) }
     {
         let mark = Mark::new(alloc, label, parts, shard, self.len(), hash)?;
-        self.push(alloc, mark.share()?)?;
+        self.push(alloc, &mark)?;
         Ok(mark)
     }
 
-    // The mark at the end.
-    fn push(&mut self, alloc: Global, mark: Mark<L>) -> Result<(), AllocError>
-        ensures made { IfOk result (λ _. self.new ≡ self.old ++ mark ∷ []) }
+    // Another handle on the mark at the end.
+    fn push(&mut self, alloc: Global, mark: &Mark<L>) -> Result<(), AllocError>
+        ensures made { IfOk result (λ _. self.new ≡ self.old ++ mark.now ∷ []) }
         ensures same { OnErr result (self.new ≡ self.old) }
     {
         self.widen(alloc);
         self.marks.reserve(1)?;
         self.older.reserve(1)?;
+        let own = mark.share()?;
         let bucket = bucket(mark.hash(), self.newest.len());
         self.older.push_reserved(self.newest[bucket]);
-        self.marks.push_reserved(mark);
+        self.marks.push_reserved(own);
         self.newest[bucket] = self.marks.len() as u64;
         Ok(())
     }

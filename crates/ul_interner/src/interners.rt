@@ -52,8 +52,8 @@ impl<L: Label> Interner<L> {
         ensures shards { IfOk result (λ r. r.0.slots ≡ shards) }
         ensures first { IfOk result (λ r. r.1 ≡ first_pass r.0) }
     {
-        let bodies = empty_bodies(alloc, shards)?;
         let words = Vec::from_elem(alloc, 0u64, shards + shards)?;
+        let bodies = empty_bodies(alloc, shards)?;
         match Table::new(alloc, words.as_slice(), bodies, &shards) {
             Ok((table, seat)) => Ok((Interner { table, shards }, Pass { seat })),
             Err(_) => Err(AllocError),

@@ -1,12 +1,13 @@
+//! Numbers that seats draw, in turn and in threads.
 ghost use Rattle.std.specs.Prelude.{◌≡◌, ◌+◌, ◌<◌, ◌≤◌, ℕ, All, IfOk, [], length, vec_len};
+ghost use Rattle.ul_claims.specs.Seats.{first_seat};
 
 use std::alloc::{AllocError, Global};
-use std::test::Fail;
 use std::thread;
 use std::thread::Threads;
 use ul_claims::{ClaimSeat, Claims};
 
-const LIMIT: u64 = 10_000;
+const LIMIT: u16 = 10_000;
 
 // One thread's seat, and what it saw of its draws.
 #[derive(Drop)]
@@ -30,21 +31,22 @@ fn make_drawer(seat: ClaimSeat) -> Drawer
     }
 }
 
-// The first seat and three more, each with a drawer.
-fn four_drawers(
+// The first seat and so many others, each with a drawer.
+fn drawers(
     alloc: Global,
     claims: &Claims,
     mut first: ClaimSeat,
+    others: u16,
 ) -> Result<Vec<Drawer>, AllocError>
-    requires { (first.claims ≡ claims.now) × (3 < first.parts) × (first.drawn ≡ []) }
+    requires { first ≡ first_seat claims.now }
     ensures some { IfOk result (λ v. 0 < vec_len v) }
     ensures fresh { IfOk result (λ v. All
         (λ d. (d.seat.claims ≡ claims.now) × (d.seat.drawn ≡ []) × (d.claims ≡ 0)) v.items) }
 {
     let mut drawers = Vec::new(alloc);
-    drawers.push(make_drawer(claims.split(alloc, &mut first)?))?;
-    drawers.push(make_drawer(claims.split(alloc, &mut first)?))?;
-    drawers.push(make_drawer(claims.split(alloc, &mut first)?))?;
+    for _ in 0..others {
+        drawers.push(make_drawer(claims.split(alloc, &mut first)?))?;
+    }
     drawers.push(make_drawer(first))?;
     Ok(drawers)
 }
@@ -60,7 +62,7 @@ fn draw_all(claims: &Claims, drawer: &mut Drawer)
             return;
         };
         let number = claim.number();
-        drawer.rising = drawer.rising && drawer.last.is_none_or(|last| last < number);
+        drawer.rising = drawer.rising && drawer.last < Some(number);
         drawer.last = Some(number);
         drawer.claims += 1;
     }
@@ -82,6 +84,18 @@ fn draw_in_threads<R: Threads + Sync>(rt: &R, claims: &Claims, drawers: &mut [Dr
             ensures { drawer.exit.now.seat.claims ≡ claims.entry.now }
         { draw_all(claims, drawer) },
     );
+}
+
+// How many numbers were drawn, if each drawer drew rising ones until there was none.
+fn count_drawn(drawers: &[Drawer]) -> Option<u64> {
+    let mut drawn: u64 = 0;
+    for drawer in drawers {
+        if !drawer.ended || !drawer.rising {
+            return None;
+        }
+        drawn = drawn.wrapping_add(drawer.claims);
+    }
+    Some(drawn)
 }
 
 // Takes a drawer's seat.
@@ -114,69 +128,91 @@ fn seats_of(
     Ok(seats)
 }
 
-#[test]
-fn nothing_below_limit_zero(rt: HostRuntime) -> Result<(), Fail> {
-    let alloc = rt.alloc();
-    let (claims, mut first) = Claims::begin(alloc, 0)?;
-    assert!(rt; claims.draw(&mut first).is_none());
-    let mut seats = Vec::new(alloc);
-    seats.push(first)?;
-    assert!(rt; claims.gather(alloc, seats)?.is_empty());
-    Ok(())
+// Whether these are all numbers below the limit, in order.
+fn are_all(numbers: &[u64], limit: u64) -> bool {
+    for place in 0..numbers.len() {
+        if numbers[place] != place as u64 {
+            return false;
+        }
+    }
+    numbers.len() as u64 == limit
 }
 
-#[test]
-fn two_seats_are_gathered(rt: HostRuntime) -> Result<(), Fail> {
-    let alloc = rt.alloc();
+// Whether the seats drew all numbers below the limit.
+fn are_gathered(alloc: Global, claims: Claims, seats: Vec<ClaimSeat>, limit: u64) -> bool
+    requires { All (λ s. s.claims ≡ claims) seats.items }
+{
+    match claims.gather(alloc, seats) {
+        Ok(numbers) => are_all(numbers.as_slice(), limit),
+        Err(_) => false,
+    }
+}
+
+// Whether the first seat and so many others, each in a thread of its own, draw each number below the limit once.
+fn threads_draw_all<R: Threads + Sync>(
+    rt: &R,
+    alloc: Global,
+    limit: u16,
+    others: u16,
+) -> Result<bool, AllocError> {
+    let limit = limit as u64;
+    let (claims, first) = Claims::begin(alloc, limit)?;
+    let mut drawers = drawers(alloc, &claims, first, others)?;
+    draw_in_threads(rt, &claims, drawers.as_mut_slice());
+    let drawn = count_drawn(drawers.as_slice());
+    let seats = seats_of(alloc, &claims, drawers)?;
+    Ok(drawn == Some(limit) && are_gathered(alloc, claims, seats, limit))
+}
+
+// Whether a seat draws this number, or none.
+fn draws(claims: &Claims, seat: &mut ClaimSeat, number: Option<u64>) -> bool
+    requires { (seat.old.claims ≡ claims.now) × (length seat.old.drawn < 4) }
+    ensures { (seat.new.claims ≡ claims.now) × (length seat.new.drawn ≡ length seat.old.drawn + 1) }
+{
+    match claims.draw(seat) {
+        Some(claim) => number == Some(claim.number()),
+        None => number.is_none(),
+    }
+}
+
+// Whether two seats draw the numbers below 4 in turn, and then none.
+fn draw_in_turn(claims: &Claims, first: &mut ClaimSeat, second: &mut ClaimSeat) -> bool
+    requires first { (first.old.claims ≡ claims.now) × (length first.old.drawn ≡ 0) }
+    requires second { (second.old.claims ≡ claims.now) × (length second.old.drawn ≡ 0) }
+    ensures { (first.new.claims ≡ claims.now) × (second.new.claims ≡ claims.now) }
+{
+    let zero = draws(claims, second, Some(0));
+    let one = draws(claims, first, Some(1));
+    let two = draws(claims, first, Some(2));
+    let three = draws(claims, second, Some(3));
+    let no_more = draws(claims, second, None);
+    let none = draws(claims, first, None);
+    zero && one && two && three && no_more && none
+}
+
+fn two_seats_are_gathered(alloc: Global) -> Result<bool, AllocError> {
     let (claims, mut first) = Claims::begin(alloc, 4)?;
     let mut second = claims.split(alloc, &mut first)?;
-    assert!(rt;
-        claims
-            .draw(&mut second)
-            .is_some_and(|claim| claim.number() == 0)
-    );
-    assert!(rt;
-        claims
-            .draw(&mut first)
-            .is_some_and(|claim| claim.number() == 1)
-    );
-    assert!(rt;
-        claims
-            .draw(&mut first)
-            .is_some_and(|claim| claim.number() == 2)
-    );
-    assert!(rt;
-        claims
-            .draw(&mut second)
-            .is_some_and(|claim| claim.number() == 3)
-    );
-    assert!(rt; claims.draw(&mut second).is_none());
-    assert!(rt; claims.draw(&mut first).is_none());
-    let mut seats = Vec::new(alloc);
-    seats.push(first)?;
-    seats.push(second)?;
-    let numbers = claims.gather(alloc, seats)?;
-    assert_eq!(rt; numbers.as_slice(), [0, 1, 2, 3].as_slice());
-    Ok(())
+    let in_turn = draw_in_turn(&claims, &mut first, &mut second);
+    let seats = Vec::from_array(alloc, [first, second])?;
+    Ok(in_turn && are_gathered(alloc, claims, seats, 4))
+}
+
+const CASES: &str = "one seat draws nothing below 0\n\
+    two seats in turn are gathered\n\
+    four threads draw each number once";
+
+fn is_case<R: Threads + Sync>(rt: &R, alloc: Global, case: &str) -> Result<bool, AllocError> {
+    match case {
+        "one seat draws nothing below 0" => threads_draw_all(rt, alloc, 0, 0),
+        "four threads draw each number once" => threads_draw_all(rt, alloc, LIMIT, 3),
+        _ => two_seats_are_gathered(alloc),
+    }
 }
 
 #[test]
-fn four_threads_draw_each_number_once(rt: HostRuntime) -> Result<(), Fail> {
-    let alloc = rt.alloc();
-    let (claims, first) = Claims::begin(alloc, LIMIT)?;
-    let mut drawers = four_drawers(alloc, &claims, first)?;
-    draw_in_threads(&rt, &claims, drawers.as_mut_slice());
-    let mut drawn: u64 = 0;
-    for drawer in &drawers {
-        assert!(rt; drawer.ended && drawer.rising);
-        drawn = drawn.wrapping_add(drawer.claims);
+fn claims_are_drawn_once(rt: HostRuntime) {
+    for case in CASES.split('\n') {
+        assert!(rt; is_case(&rt, rt.alloc(), case) == Ok(true), "{case}");
     }
-    assert_eq!(rt; drawn, LIMIT);
-    let seats = seats_of(alloc, &claims, drawers)?;
-    let numbers = claims.gather(alloc, seats)?;
-    assert_eq!(rt; numbers.len(), LIMIT as usize);
-    for (place, number) in numbers.iter().enumerate() {
-        assert_eq!(rt; *number, place as u64);
-    }
-    Ok(())
 }

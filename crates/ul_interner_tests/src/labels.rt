@@ -71,27 +71,3 @@ impl Word {
         Ok(Word { text })
     }
 }
-
-/// A label whose hash is 5, whatever its number.
-#[derive(Drop)]
-pub struct Alike {
-    pub number: u64,
-}
-
-impl Label for Alike {
-    ghost hash_of = { λ _. 5 };
-
-    fn same(&self, other: &Alike) -> bool {
-        self.number == other.number
-    }
-
-    fn hash(&self) -> u64 {
-        5
-    }
-
-    fn copy(&self, _alloc: Global) -> Result<Alike, AllocError> {
-        Ok(Alike {
-            number: self.number,
-        })
-    }
-}

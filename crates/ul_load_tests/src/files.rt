@@ -2,8 +2,9 @@
 
 ghost use Rattle.std.specs.Prelude.{None};
 
-use std::alloc::{AllocError, Global};
+use std::alloc::Global;
 use ul_base::{Files, MemFiles, ReadRefused};
+use ul_test_rows::put;
 
 /// Files in memory whose contents aren't told.
 #[derive(Drop)]
@@ -40,20 +41,20 @@ fn name_in(path: &str) -> Option<&str> {
     None
 }
 
-fn push_blanks(alloc: Global, text: &mut String, size: usize) -> Result<(), AllocError> {
-    let blanks = " ".repeat(alloc, size.saturating_sub(text.len()))?;
-    text.push_str(blanks.as_str())
+fn put_blanks(alloc: Global, text: &mut String, size: usize) {
+    if let Ok(blanks) = " ".repeat(alloc, size.saturating_sub(text.len())) {
+        put(text, blanks.as_str());
+    }
 }
 
-fn padded_text(alloc: Global, name: &str, size: usize) -> Result<Vec<u8>, AllocError> {
-    let mut text = format!(in alloc;
-        "{{\"name\": \"{name}\", \"versions\": [{{\"version\": \"1\"}}]}}"
-    )?;
-    push_blanks(alloc, &mut text, size)?;
-    if name == "d-long" {
-        text.push(' ')?;
-    }
-    Ok(text.into_bytes())
+fn padded_text(alloc: Global, name: &str, size: usize) -> Vec<u8> {
+    let mut text = String::new(alloc);
+    put(&mut text, "{\"name\": \"");
+    put(&mut text, name);
+    put(&mut text, "\", \"versions\": [{\"version\": \"1\"}]}");
+    put_blanks(alloc, &mut text, size);
+    put(&mut text, if name == "d-long" { " " } else { "" });
+    text.into_bytes()
 }
 
 impl Files for Padded {
@@ -67,7 +68,7 @@ impl Files for Padded {
         let Some(name) = name_in(path) else {
             return Ok(None);
         };
-        let bytes = padded_text(self.alloc, name, self.size)?;
+        let bytes = padded_text(self.alloc, name, self.size);
         if bytes.len() as u64 > limit {
             return Err(ReadRefused::TooLong);
         }

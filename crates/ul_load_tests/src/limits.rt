@@ -1,32 +1,23 @@
 //! The limits, each at its number and one past it.
 use crate::files::Padded;
-use crate::told::counted;
+use crate::told::told;
 use std::alloc::{AllocError, Global};
 use ul_base::MemFiles;
+use ul_test_rows::{cells, put};
 
-// Puts a piece with a number in place of each `#`.
-fn push_piece(
-    alloc: Global,
-    text: &mut String,
-    piece: &str,
-    number: u64,
-) -> Result<(), AllocError> {
+// A piece with a number in place of each `#`.
+fn numbered(alloc: Global, piece: &str, number: u64) -> Result<String, AllocError> {
     let number = format!(in alloc; "{number}")?;
-    let piece = piece.replace(alloc, "#", number.as_str())?;
-    text.push_str(piece.as_str())
+    piece.replace(alloc, "#", number.as_str())
 }
 
 // Puts so many pieces, with their numbers in place of `#`.
-fn push_pieces(
-    alloc: Global,
-    text: &mut String,
-    piece: &str,
-    count: u64,
-) -> Result<(), AllocError> {
+fn put_pieces(alloc: Global, text: &mut String, piece: &str, count: u64) {
     for number in 0..count {
-        push_piece(alloc, text, piece, number)?;
+        if let Ok(piece) = numbered(alloc, piece, number) {
+            put(text, piece.as_str());
+        }
     }
-    Ok(())
 }
 
 // The document of `a`, with these entries behind one of version 1.
@@ -40,32 +31,26 @@ fn files_of_a(alloc: Global, entries: &str) -> Result<MemFiles, AllocError> {
 }
 
 // What a project's file loads where `a` has these entries.
-fn told_of_a(alloc: Global, file: &str, entries: &str) -> Result<String, AllocError> {
-    let mut files = files_of_a(alloc, entries)?;
-    counted(alloc, &mut files, file)
+fn told_of_a(alloc: Global, file: &str, entries: &str) -> String {
+    match files_of_a(alloc, entries) {
+        Ok(mut files) => {
+            let told = told(alloc, &mut files, file, true);
+            drop(files);
+            told
+        }
+        Err(_) => String::new(alloc),
+    }
 }
 
 const A: &str = "[project]\nname = 'demo'\ndependencies = ['a==1']\n";
 
-// The second release of `a`, which requires so many names behind those of the project and of `a`.
-fn names_of_a(alloc: Global, count: u64) -> Result<String, AllocError> {
-    let mut text = String::from_str(alloc, ", {\"version\": \"2\", \"requires_dist\": [")?;
-    push_pieces(alloc, &mut text, "\"n#\", ", count.saturating_sub(1))?;
-    text.push_str("\"last\"]}")?;
-    Ok(text)
-}
-
-fn names_told(alloc: Global, count: u64) -> Result<String, AllocError> {
-    let entry = names_of_a(alloc, count)?;
+// A second release of `a`, which requires so many names behind those of the project and of `a`.
+fn names_told(alloc: Global, count: u64) -> String {
+    let mut entry = String::new(alloc);
+    put(&mut entry, ", {\"version\": \"2\", \"requires_dist\": [");
+    put_pieces(alloc, &mut entry, "\"n#\", ", count.saturating_sub(1));
+    put(&mut entry, "\"last\"]}");
     told_of_a(alloc, A, entry.as_str())
-}
-
-// The file of a project that requires so many names.
-fn own_names(alloc: Global, count: u64) -> Result<String, AllocError> {
-    let mut text = String::from_str(alloc, "[project]\nname = 'demo'\ndependencies = [")?;
-    push_pieces(alloc, &mut text, "'n#',", count)?;
-    text.push_str("]\n")?;
-    Ok(text)
 }
 
 // A folder whose first read fails.
@@ -75,30 +60,104 @@ fn failing_files(alloc: Global) -> Result<MemFiles, AllocError> {
     Ok(MemFiles::of(alloc, Vec::new(alloc), failing))
 }
 
+fn told_of_failing(alloc: Global, file: &str) -> String {
+    match failing_files(alloc) {
+        Ok(mut files) => {
+            let told = told(alloc, &mut files, file, true);
+            drop(files);
+            told
+        }
+        Err(_) => String::new(alloc),
+    }
+}
+
 // So many names behind that of the project, whose document fails to be read.
-fn own_names_told(alloc: Global, count: u64) -> Result<String, AllocError> {
-    let file = own_names(alloc, count)?;
-    let mut files = failing_files(alloc)?;
-    counted(alloc, &mut files, file.as_str())
+fn own_names_told(alloc: Global, count: u64) -> String {
+    let mut file = String::new(alloc);
+    put(&mut file, "[project]\nname = 'demo'\ndependencies = [");
+    put_pieces(alloc, &mut file, "'n#',", count);
+    put(&mut file, "]\n");
+    told_of_failing(alloc, file.as_str())
 }
 
 // A document of so many entries, all but the first without a reading.
-fn releases_told(alloc: Global, count: u64) -> Result<String, AllocError> {
-    let entries = ", {\"version\": \"!\"}".repeat(alloc, count.saturating_sub(1) as usize)?;
-    told_of_a(alloc, A, entries.as_str())
+fn releases_told(alloc: Global, count: u64) -> String {
+    match ", {\"version\": \"!\"}".repeat(alloc, count.saturating_sub(1) as usize) {
+        Ok(entries) => told_of_a(alloc, A, entries.as_str()),
+        Err(_) => String::new(alloc),
+    }
 }
 
 // A document of 16 MiB, and so many bytes more.
-fn bytes_told(alloc: Global, name: &str) -> Result<String, AllocError> {
-    let file = format!(in alloc;
-        "[project]\nname = 'demo'\ndependencies = ['a', '{name}', 'b']\n"
-    )?;
+fn bytes_told(alloc: Global, name: &str) -> String {
     let size = 16_777_216;
-    counted(alloc, &mut Padded { alloc, size }, file.as_str())
+    match format!(in alloc; "[project]\nname = 'demo'\ndependencies = ['a', '{name}', 'b']\n") {
+        Ok(file) => told(alloc, &mut Padded { alloc, size }, file.as_str(), true),
+        Err(_) => String::new(alloc),
+    }
 }
 
-// What is told, and the case: names of a release, names of the project, entries of a document, or the name of a
-// document of 16 MiB.
+// Puts a list of so many pieces behind its head.
+fn put_list(alloc: Global, text: &mut String, head: &str, piece: &str, count: u64) {
+    put(text, head);
+    put_pieces(alloc, text, piece, count);
+    put(text, "]\n");
+}
+
+// The file of a project with so many different comparisons in its requirements, each twice, and then so many in its
+// environments, constraints and overrides.
+fn comparing(alloc: Global, own: u64, each: u64) -> String {
+    let mut text = String::new(alloc);
+    let requirements = "[project]\nname = 'demo'\ndependencies = ['a', ";
+    let piece = "\"a; 'k#' in os_name or 'k#' in os_name\", ";
+    put_list(alloc, &mut text, requirements, piece, own);
+    let environments = "[tool.uv]\nenvironments = [";
+    put_list(
+        alloc,
+        &mut text,
+        environments,
+        "\"'e#' in os_name\", ",
+        each,
+    );
+    let constraints = "constraint-dependencies = [";
+    put_list(
+        alloc,
+        &mut text,
+        constraints,
+        "\"a; 'c#' in os_name\", ",
+        each,
+    );
+    let overrides = "override-dependencies = [";
+    put_list(
+        alloc,
+        &mut text,
+        overrides,
+        "\"a; 'o#' in os_name\", ",
+        each,
+    );
+    text
+}
+
+// Entries of `a` with a comparison; that of an entry without a reading doesn't count.
+const COMPARED: &str = ", {\"version\": \"2.#\", \"requires_dist\": [\"a; 'd#' in os_name\"]}, \
+    {\"version\": \"3.#\", \"requires_dist\": [\"a; 'u' in os_name\", \"!!\"]}";
+
+fn number(cell: &str) -> u64 {
+    cell.parse::<u64>().unwrap_or(0)
+}
+
+// So many comparisons in a project's requirements, in each list of its settings, and in the document of `a`.
+fn comparisons_told(alloc: Global, row: &str) -> String {
+    let (own, rest) = cells(row, ' ');
+    let (each, last) = cells(rest, ' ');
+    let file = comparing(alloc, number(own), number(each));
+    let mut entries = String::new(alloc);
+    put_pieces(alloc, &mut entries, COMPARED, number(last));
+    told_of_a(alloc, file.as_str(), entries.as_str())
+}
+
+// What is told, and the case: names of a release, names of the project, entries of a document, the name of a document
+// of 16 MiB, or comparisons of a project, of each list of its settings, and of the document of `a`.
 const NUMBERS: &str = "20000 packages|names 19998\n\
     packages|names 19999\n\
     read ix/n0.json|own 19999\n\
@@ -106,110 +165,33 @@ const NUMBERS: &str = "20000 packages|names 19998\n\
     2 packages|releases 200000\n\
     releases|releases 200001\n\
     4 packages|document d\n\
-    file-bytes ix/d-long.json|document d-long";
+    file-bytes ix/d-long.json|document d-long\n\
+    2 packages|comparisons 256 0 0\n\
+    comparisons|comparisons 257 0 0\n\
+    2 packages|comparisons 100 20 96\n\
+    comparisons|comparisons 100 20 97\n\
+    2 packages|comparisons 100 52 0\n\
+    comparisons|comparisons 98 53 0";
 
-fn told(alloc: Global, kind: &str, cell: &str) -> Result<String, AllocError> {
-    let count = number(cell);
+fn case_told(alloc: Global, kind: &str, cell: &str) -> String {
     match kind {
-        "names" => names_told(alloc, count),
-        "own" => own_names_told(alloc, count),
-        "releases" => releases_told(alloc, count),
+        "names" => names_told(alloc, number(cell)),
+        "own" => own_names_told(alloc, number(cell)),
+        "releases" => releases_told(alloc, number(cell)),
+        "comparisons" => comparisons_told(alloc, cell),
         _ => bytes_told(alloc, cell),
     }
 }
 
-fn is_row(alloc: Global, line: &str) -> Result<bool, AllocError> {
-    let (want, rest) = line.split_once('|').unwrap_or((line, ""));
-    let (kind, cell) = rest.split_once(' ').unwrap_or((rest, ""));
-    let told = told(alloc, kind, cell)?;
-    Ok(told.as_str() == want)
+fn is_row(alloc: Global, line: &str) -> bool {
+    let (want, rest) = cells(line, '|');
+    let (kind, cell) = cells(rest, ' ');
+    case_told(alloc, kind, cell).as_str() == want
 }
 
 #[test]
-fn numbers_and_one_past(rt: HostRuntime) -> Result<(), AllocError> {
+fn numbers_and_one_past(rt: HostRuntime) {
     for line in NUMBERS.lines() {
-        assert!(rt; is_row(rt.alloc(), line)?, "{line}");
+        assert!(rt; is_row(rt.alloc(), line), "{line}");
     }
-    Ok(())
-}
-
-// Puts a list of so many pieces behind its head.
-fn push_list(
-    alloc: Global,
-    text: &mut String,
-    head: &str,
-    piece: &str,
-    count: u64,
-) -> Result<(), AllocError> {
-    text.push_str(head)?;
-    push_pieces(alloc, text, piece, count)?;
-    text.push_str("]\n")
-}
-
-// Puts the lists of a project's settings, each of so many comparisons.
-fn push_settings(alloc: Global, text: &mut String, each: u64) -> Result<(), AllocError> {
-    let environments = "[tool.uv]\nenvironments = [";
-    push_list(alloc, text, environments, "\"'e#' in os_name\", ", each)?;
-    let constraints = "constraint-dependencies = [";
-    push_list(alloc, text, constraints, "\"a; 'c#' in os_name\", ", each)?;
-    let overrides = "override-dependencies = [";
-    push_list(alloc, text, overrides, "\"a; 'o#' in os_name\", ", each)
-}
-
-// The file of a project with so many different comparisons in its requirements, each twice, and then so many in its
-// environments, constraints and overrides.
-fn comparing(alloc: Global, own: u64, each: u64) -> Result<String, AllocError> {
-    let mut text = String::new(alloc);
-    let requirements = "[project]\nname = 'demo'\ndependencies = ['a', ";
-    let piece = "\"a; 'k#' in os_name or 'k#' in os_name\", ";
-    push_list(alloc, &mut text, requirements, piece, own)?;
-    push_settings(alloc, &mut text, each)?;
-    Ok(text)
-}
-
-// Entries of `a` with so many comparisons; those of entries without a reading don't count.
-fn compared(alloc: Global, count: u64) -> Result<String, AllocError> {
-    let mut text = String::new(alloc);
-    push_pieces(
-        alloc,
-        &mut text,
-        ", {\"version\": \"2.#\", \"requires_dist\": [\"a; 'd#' in os_name\"]}, {\"version\": \"3.#\", \"requires_dist\": [\"a; 'u' in os_name\", \"!!\"]}",
-        count,
-    )?;
-    Ok(text)
-}
-
-fn comparisons_told(alloc: Global, own: u64, each: u64, last: u64) -> Result<String, AllocError> {
-    let file = comparing(alloc, own, each)?;
-    let entries = compared(alloc, last)?;
-    told_of_a(alloc, file.as_str(), entries.as_str())
-}
-
-// What is told of a project, and how many comparisons there are in its requirements, in each list of its settings, and
-// in the document of `a`.
-const COMPARISONS: &str = "2 packages|256 0 0\n\
-    comparisons|257 0 0\n\
-    2 packages|100 20 96\n\
-    comparisons|100 20 97\n\
-    2 packages|100 52 0\n\
-    comparisons|98 53 0";
-
-fn number(cell: &str) -> u64 {
-    cell.parse::<u64>().unwrap_or(0)
-}
-
-fn is_compared(alloc: Global, line: &str) -> Result<bool, AllocError> {
-    let (want, rest) = line.split_once('|').unwrap_or((line, ""));
-    let (own, rest) = rest.split_once(' ').unwrap_or((rest, ""));
-    let (each, last) = rest.split_once(' ').unwrap_or((rest, ""));
-    let told = comparisons_told(alloc, number(own), number(each), number(last))?;
-    Ok(told.as_str() == want)
-}
-
-#[test]
-fn comparisons(rt: HostRuntime) -> Result<(), AllocError> {
-    for line in COMPARISONS.lines() {
-        assert!(rt; is_compared(rt.alloc(), line)?, "{line}");
-    }
-    Ok(())
 }

@@ -1,8 +1,9 @@
 //! Small folders: what is read, in which order, what counts, and which fault comes first.
 use crate::files::Untold;
-use crate::told::is_told;
+use crate::told::told;
 use std::alloc::{AllocError, Global};
 use ul_base::MemFiles;
+use ul_test_rows::cells;
 
 // A row has what is told, the project's requirements, the number of the read that fails (or `-`), and the documents,
 // which `~` separates, each behind its name and a blank. `V` stands for `"versions": [`, and `R` for `"requires_dist": [`.
@@ -52,53 +53,53 @@ fn failing_reads(alloc: Global, failing: &str) -> Result<Vec<u64>, AllocError> {
 }
 
 // Files with the documents of a row, of which one read may fail.
-fn files_of(alloc: Global, failing: &str, texts: &str) -> Result<MemFiles, AllocError> {
+fn files_of(alloc: Global, row: &str) -> Result<MemFiles, AllocError> {
+    let (failing, texts) = cells(row, '#');
     let numbers = failing_reads(alloc, failing)?;
     let files = documents(alloc, texts)?;
     Ok(MemFiles::of(alloc, files, numbers))
 }
 
-// Whether a row is told with files that are told.
-fn is_told_of(
-    alloc: Global,
-    file: &str,
-    failing: &str,
-    texts: &str,
-    want: &str,
-) -> Result<bool, AllocError> {
-    let mut files = files_of(alloc, failing, texts)?;
-    is_told(alloc, &mut files, file, want)
+// Whether a project's file is told with files that are told.
+fn is_told(alloc: Global, file: &str, row: &str, want: &str) -> bool {
+    match files_of(alloc, row) {
+        Ok(mut files) => {
+            let told = told(alloc, &mut files, file, false);
+            drop(files);
+            told.as_str() == want
+        }
+        Err(_) => false,
+    }
 }
 
 // Whether it is told so with files that aren't.
-fn is_told_of_untold(
-    alloc: Global,
-    file: &str,
-    failing: &str,
-    texts: &str,
-    want: &str,
-) -> Result<bool, AllocError> {
-    let files = files_of(alloc, failing, texts)?;
-    is_told(alloc, &mut Untold { files }, file, want)
+fn is_told_of_untold(alloc: Global, file: &str, row: &str, want: &str) -> bool {
+    match files_of(alloc, row) {
+        Ok(files) => {
+            let mut untold = Untold { files };
+            let told = told(alloc, &mut untold, file, false);
+            drop(untold);
+            told.as_str() == want
+        }
+        Err(_) => false,
+    }
 }
 
-fn is_case(alloc: Global, file: &str, rest: &str, want: &str) -> Result<bool, AllocError> {
-    let (failing, texts) = rest.split_once('#').unwrap_or((rest, ""));
-    let is_told = is_told_of(alloc, file, failing, texts, want)?;
-    Ok(is_told && is_told_of_untold(alloc, file, failing, texts, want)?)
-}
-
-fn is_row(alloc: Global, row: &str) -> Result<bool, AllocError> {
-    let (want, rest) = row.split_once('#').unwrap_or((row, ""));
-    let (requirements, rest) = rest.split_once('#').unwrap_or((rest, ""));
-    let file = format!(in alloc; "[project]\nname = 'demo'\ndependencies = [{requirements}]\n")?;
-    is_case(alloc, file.as_str(), rest, want)
+fn is_row(alloc: Global, row: &str) -> bool {
+    let (want, rest) = cells(row, '#');
+    let (requirements, rest) = cells(rest, '#');
+    match format!(in alloc; "[project]\nname = 'demo'\ndependencies = [{requirements}]\n") {
+        Ok(file) => {
+            is_told(alloc, file.as_str(), rest, want)
+                && is_told_of_untold(alloc, file.as_str(), rest, want)
+        }
+        Err(_) => false,
+    }
 }
 
 #[test]
-fn small_folders(rt: HostRuntime) -> Result<(), AllocError> {
+fn small_folders(rt: HostRuntime) {
     for row in ROWS.lines() {
-        assert!(rt; is_row(rt.alloc(), row)?, "{row}");
+        assert!(rt; is_row(rt.alloc(), row), "{row}");
     }
-    Ok(())
 }

@@ -1,41 +1,46 @@
 //! What a project loads, in one line.
-use std::alloc::{AllocError, Global};
-use std::fmt::Write;
+use std::alloc::Global;
 use ul_base::Files;
 use ul_index::{Catalog, IndexFault, Place};
 use ul_load::{LoadFault, load_project};
 use ul_project::{Project, project};
-use ul_requirement::Package;
+use ul_test_rows::{put, put_number};
 
-// The name, how many entries the document has, and how many releases there are.
-fn push_package(text: &mut String, found: &Package) -> Result<(), AllocError> {
-    let (entries, releases) = (found.entries, found.releases.len());
-    write!(text, "{} {entries}/{releases}, ", found.name.text())
-}
-
-fn catalog_text(alloc: Global, catalog: &Catalog) -> Result<String, AllocError> {
-    let mut text = String::new(alloc);
+// Puts the packages, each with its name, how many entries its document has, and how many releases there are.
+fn put_packages(told: &mut String, catalog: &Catalog) {
     for found in catalog.packages() {
-        push_package(&mut text, found)?;
+        put(told, found.name.text());
+        put(told, " ");
+        put_number(told, found.entries);
+        put(told, "/");
+        put_number(told, found.releases.len() as u64);
+        put(told, ", ");
     }
-    Ok(text)
 }
 
-fn shape_text(alloc: Global, path: &str, place: &Place) -> Result<String, AllocError> {
-    let place = place.text(alloc)?;
-    format!(in alloc; "{path}: shape {place}")
+// Puts the packages, or, in short, how many there are.
+fn put_catalog(told: &mut String, catalog: &Catalog, is_short: bool) {
+    if is_short {
+        put_number(told, catalog.packages().len() as u64);
+        put(told, " packages");
+    } else {
+        put_packages(told, catalog);
+    }
 }
 
-fn document_fault_text(
-    alloc: Global,
-    path: &str,
-    fault: &IndexFault,
-) -> Result<String, AllocError> {
+fn put_place(alloc: Global, told: &mut String, place: &Place) {
+    if let Ok(place) = place.text(alloc) {
+        put(told, ": shape ");
+        put(told, place.as_str());
+    }
+}
+
+fn put_document_fault(alloc: Global, told: &mut String, fault: &IndexFault) {
     match fault {
-        IndexFault::NotJson => format!(in alloc; "{path}: not JSON"),
-        IndexFault::WrongName => format!(in alloc; "{path}: name"),
-        IndexFault::Shape(place) => shape_text(alloc, path, place),
-        IndexFault::NoMemory => Err(AllocError),
+        IndexFault::NotJson => put(told, ": not JSON"),
+        IndexFault::WrongName => put(told, ": name"),
+        IndexFault::Shape(place) => put_place(alloc, told, place),
+        IndexFault::NoMemory => put(told, ": no memory"),
     }
 }
 
@@ -49,75 +54,45 @@ fn limit_text(fault: &LoadFault) -> &'static str {
     }
 }
 
-fn fault_text(alloc: Global, fault: &LoadFault) -> Result<String, AllocError> {
+fn put_fault(alloc: Global, told: &mut String, fault: &LoadFault) {
     match fault {
-        LoadFault::Read(path) => format!(in alloc; "read {path}"),
-        LoadFault::TooLong(path) => format!(in alloc; "file-bytes {path}"),
-        LoadFault::Document(path, fault) => document_fault_text(alloc, path.as_str(), fault),
-        _ => String::from_str(alloc, limit_text(fault)),
-    }
-}
-
-// What a project loads from the folder `ix`: the packages, or the fault.
-fn loaded<F: Files>(alloc: Global, files: &mut F, project: &Project) -> Result<String, AllocError> {
-    match load_project(alloc, files, "ix", project) {
-        Ok(catalog) => catalog_text(alloc, &catalog),
-        Err(fault) => fault_text(alloc, &fault),
-    }
-}
-
-fn is_loaded<F: Files>(
-    alloc: Global,
-    files: &mut F,
-    project: &Project,
-    want: &str,
-) -> Result<bool, AllocError> {
-    let told = loaded(alloc, files, project)?;
-    Ok(told.as_str() == want)
-}
-
-/// Whether this is told of what the project of a file loads from the folder `ix`.
-pub fn is_told<F: Files>(
-    alloc: Global,
-    files: &mut F,
-    file: &str,
-    want: &str,
-) -> Result<bool, AllocError> {
-    match project(alloc, file.as_bytes()) {
-        Ok(project) => {
-            let told = is_loaded(alloc, files, &project, want);
-            drop(project);
-            told
+        LoadFault::Read(path) => {
+            put(told, "read ");
+            put(told, path.as_str());
         }
-        Err(_) => Ok(false),
+        LoadFault::TooLong(path) => {
+            put(told, "file-bytes ");
+            put(told, path.as_str());
+        }
+        LoadFault::Document(path, fault) => {
+            put(told, path.as_str());
+            put_document_fault(alloc, told, fault);
+        }
+        _ => put(told, limit_text(fault)),
     }
 }
 
-fn count_text(alloc: Global, catalog: &Catalog) -> Result<String, AllocError> {
-    let count = catalog.packages().len();
-    format!(in alloc; "{count} packages")
-}
-
-// What a project loads in short: how many packages, or the fault.
-fn count_loaded<F: Files>(
-    alloc: Global,
-    files: &mut F,
-    project: &Project,
-) -> Result<String, AllocError> {
+// What a project loads from the folder `ix`: the packages, or, in short, how many there are; or the fault.
+fn loaded<F: Files>(alloc: Global, files: &mut F, project: &Project, is_short: bool) -> String {
+    let mut told = String::new(alloc);
     match load_project(alloc, files, "ix", project) {
-        Ok(catalog) => count_text(alloc, &catalog),
-        Err(fault) => fault_text(alloc, &fault),
+        Ok(catalog) => {
+            put_catalog(&mut told, &catalog, is_short);
+            drop(catalog);
+        }
+        Err(fault) => put_fault(alloc, &mut told, &fault),
     }
+    told
 }
 
 /// That of a project's file; nothing where it is none.
-pub fn counted<F: Files>(alloc: Global, files: &mut F, file: &str) -> Result<String, AllocError> {
+pub fn told<F: Files>(alloc: Global, files: &mut F, file: &str, is_short: bool) -> String {
     match project(alloc, file.as_bytes()) {
         Ok(project) => {
-            let told = count_loaded(alloc, files, &project);
+            let told = loaded(alloc, files, &project, is_short);
             drop(project);
             told
         }
-        Err(_) => Ok(String::new(alloc)),
+        Err(_) => String::new(alloc),
     }
 }

@@ -5,10 +5,10 @@
 
 use crate::texts::{FILES, LEAVES, told};
 use std::alloc::{AllocError, Global};
-use std::test::Fail;
+use ul_test_rows::cells;
 
-// The first lines of two leaves, and their first package.
-const TOP: &str = r#"line 1|version = 2~|version = 3~
+// The first lines of two leaves and their first package, and then their edges and their other packages.
+const PARTS: &str = r#"line 1|version = 2~|version = 3~
 read|version = 2~|version = 1~
 line 1|version = 2~|version=2~
 line 1|version = 2~|Version = 2~
@@ -43,10 +43,8 @@ line 9|]~~[[package]]~name = "demo"|]~~~[[package]]~name = "demo"
 line 9|[[package]]~name = "demo"|[package]~name = "demo"
 line 18|name = "demo"~version|name = "zemo"~version
 line 10|name = "demo"~version|name = "Demo"~version
-line 10|name = "demo"~version = "0.1"|version = "0.1"~name = "demo""#;
-
-// The edges of two leaves, and their other packages.
-const EDGES: &str = r#"line 11|"0.1"|"0.01"
+line 10|name = "demo"~version = "0.1"|version = "0.1"~name = "demo"
+line 11|"0.1"|"0.01"
 line 11|"0.1"|"v0.1"
 line 11|"0.1"|""
 line 11|"0.1"|"0.1 "
@@ -115,57 +113,43 @@ line 15|    { name = "b", version = "2" },~|
 line 15|x = [~|x = []~
 line 18|[[package]]~name = "b"|[package.optional-dependencies]~x = []~~[[package]]~name = "b""#;
 
-// A piece as it stands in a text.
-fn piece(alloc: Global, cell: &str) -> Result<String, AllocError> {
-    let text = cell.replace(alloc, "~", "\n")?;
-    Ok(text.replace(alloc, "^", "\r")?)
+// Cells as they stand in a text.
+fn written_out(alloc: Global, cells: &str) -> Result<String, AllocError> {
+    let text = cells.replace(alloc, "~", "\n")?;
+    text.replace(alloc, "^", "\r")
 }
 
-// The text with the first such piece changed, if there is one.
-fn changed(alloc: Global, text: &str, from: &str, to: &str) -> Result<Option<String>, AllocError> {
-    let Some((front, back)) = text.split_once(from) else {
-        return Ok(None);
-    };
-    let text = format!(in alloc; "{front}{to}{back}")?;
-    Ok(Some(text))
-}
-
-// Whether a text with the change of two cells has a fault.
-fn has_fault(alloc: Global, text: &str, cells: &str, want: &str) -> Result<bool, AllocError> {
-    let (from, to) = cells.split_once('|').unwrap_or((cells, ""));
-    let from = piece(alloc, from)?;
-    let to = piece(alloc, to)?;
-    match changed(alloc, text, from.as_str(), to.as_str())? {
-        None => Ok(false),
-        Some(text) => Ok(told(alloc, text.as_str().as_bytes())?.as_str() == want),
+// Whether a text in three parts has a fault.
+fn has_fault(alloc: Global, front: &str, middle: &str, back: &str, want: &str) -> bool {
+    match format!(in alloc; "{front}{middle}{back}") {
+        Ok(text) => told(alloc, text.as_bytes()).as_str() == want,
+        Err(_) => false,
     }
 }
 
-fn is_row(alloc: Global, text: &str, line: &str) -> Result<bool, AllocError> {
-    let (want, cells) = line.split_once('|').unwrap_or((line, ""));
-    has_fault(alloc, text, cells, want)
-}
-
-#[test]
-fn the_top_lines_and_the_first_package(rt: HostRuntime) -> Result<(), Fail> {
-    for line in TOP.split('\n') {
-        assert!(rt; is_row(rt.alloc(), LEAVES, line)?, "{line}");
+// Whether a text has a piece, and a fault with its first such piece changed.
+fn is_changed(alloc: Global, text: &str, change: &str, want: &str) -> bool {
+    let (from, to) = cells(change, '|');
+    match text.split_once(from) {
+        Some((front, back)) => has_fault(alloc, front, to, back, want),
+        None => false,
     }
-    Ok(())
 }
 
-#[test]
-fn the_edges_and_the_other_packages(rt: HostRuntime) -> Result<(), Fail> {
-    for line in EDGES.split('\n') {
-        assert!(rt; is_row(rt.alloc(), LEAVES, line)?, "{line}");
+fn is_row(alloc: Global, text: &str, line: &str) -> bool {
+    let (want, change) = cells(line, '|');
+    match written_out(alloc, change) {
+        Ok(change) => is_changed(alloc, text, change.as_str(), want),
+        Err(_) => false,
     }
-    Ok(())
 }
 
 #[test]
-fn files_and_extras(rt: HostRuntime) -> Result<(), Fail> {
+fn texts_with_a_change(rt: HostRuntime) {
+    for line in PARTS.split('\n') {
+        assert!(rt; is_row(rt.alloc(), LEAVES, line), "{line}");
+    }
     for line in LISTS.split('\n') {
-        assert!(rt; is_row(rt.alloc(), FILES, line)?, "{line}");
+        assert!(rt; is_row(rt.alloc(), FILES, line), "{line}");
     }
-    Ok(())
 }

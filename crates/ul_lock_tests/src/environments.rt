@@ -4,17 +4,17 @@
 //! `-`, and the text, in which `~` is the end of a line; or `outside`, or `extra` and the first extra that the root
 //! doesn't have.
 
-ghost use Rattle.std.specs.Prelude.{IfOk};
 ghost use Rattle.ul_lock_walk.specs.WellFormed.{IsWellFormed};
 
 use crate::sizes::chain;
 use crate::texts::text_named;
-use std::alloc::{AllocError, Global};
-use std::test::Fail;
+use std::alloc::Global;
+use std::fmt::Write;
 use ul_base::Name;
 use ul_filter::{WalkFault, atoms, environment, environment_text, walk};
 use ul_lock::{Lock, read};
-use ul_marker::{Atom, Machine, world_of};
+use ul_marker::{Atom, EnvFault, Machine, World, world_of};
+use ul_test_rows::{cells, put};
 
 const ROWS: &str = "leaves 3.8.18 linux 7 - outside
 leaves 3.10.4 linux 7 - numpy==1.26~
@@ -42,64 +42,50 @@ const KEYS: &str =
     "os_name sys_platform platform_machine platform_python_implementation platform_release \
     platform_system platform_version implementation_name implementation_version";
 
-// The keys with empty texts.
-fn empty_texts(alloc: Global) -> Result<String, AllocError> {
-    let mut text = String::new(alloc);
-    for key in KEYS.split(' ') {
-        let pair = format!(in alloc; "\"{key}\":\"\",")?;
-        text.push_str(pair.as_str())?;
-    }
-    Ok(text)
-}
-
 // A machine of three texts; its other texts are empty, but for the implementation's. Of a repeated key the last counts.
-fn machine(alloc: Global, python: &str, platform: &str, version: &str) -> Result<Machine, Fail> {
-    let texts = empty_texts(alloc)?;
-    let own = format!(in alloc;
-        "\"sys_platform\":\"{platform}\",\"platform_version\":\"{version}\",\"python_full_version\":\"{python}\""
-    )?;
-    let other = "\"platform_python_implementation\":\"CPython\",\"implementation_version\":\"3\"";
-    let file = format!(in alloc; "{{{texts}{own},{other}}}")?;
-    Ok(Machine::read(alloc, file.as_str().as_bytes())?)
-}
-
-fn lock_of(alloc: Global, text: &str) -> Result<Lock, Fail>
-    ensures { IfOk result (λ l. IsWellFormed l) }
-{
-    match read(alloc, text.as_bytes()) {
-        Ok(lock) => Ok(lock),
-        Err(_) => Err(Fail::from("no lock")),
+fn machine(
+    alloc: Global,
+    python: &str,
+    platform: &str,
+    version: &str,
+) -> Result<Machine, EnvFault> {
+    let mut file = String::new(alloc);
+    put(&mut file, "{");
+    for key in KEYS.split(' ') {
+        let _ = write!(file, "\"{key}\":\"\",");
     }
+    let _ = write!(
+        file,
+        "\"sys_platform\":\"{platform}\",\"platform_version\":\"{version}\",\
+        \"python_full_version\":\"{python}\",\"platform_python_implementation\":\"CPython\",\
+        \"implementation_version\":\"3\"}}"
+    );
+    Machine::read(alloc, file.as_bytes())
 }
 
-// The names of a cell between commas; none where it is `-`.
-fn names(alloc: Global, cell: &str) -> Result<Vec<Name>, Fail> {
+// The names of a cell between commas. What is no name, as `-`, is left out.
+fn names(alloc: Global, cell: &str) -> Vec<Name> {
     let mut names = Vec::new(alloc);
-    if cell == "-" {
-        return Ok(names);
-    }
     for word in cell.split(',') {
-        names.push(Name::read(alloc, word)?)?;
-    }
-    Ok(names)
-}
-
-fn fault_text(alloc: Global, fault: &WalkFault) -> Result<String, AllocError> {
-    let text = match fault {
-        WalkFault::Outside => String::from_str(alloc, "outside")?,
-        WalkFault::NoExtra(extra) => format!(in alloc; "extra {}", extra.text())?,
-        WalkFault::NoMemory => return Err(AllocError),
-    };
-    Ok(text)
-}
-
-fn line_text(alloc: Global, given: Result<Vec<u8>, WalkFault>) -> Result<String, Fail> {
-    match given {
-        Ok(text) => {
-            let text = String::from_utf8(text)?;
-            Ok(text.replace(alloc, "\n", "~")?)
+        if let Ok(name) = Name::read(alloc, word) {
+            let _ = names.push(name);
         }
-        Err(fault) => Ok(fault_text(alloc, &fault)?),
+    }
+    names
+}
+
+fn is_fault(fault: &WalkFault, want: &str) -> bool {
+    match fault {
+        WalkFault::Outside => want == "outside",
+        WalkFault::NoExtra(extra) => want.strip_prefix("extra ") == Some(extra.text()),
+        WalkFault::NoMemory => false,
+    }
+}
+
+fn is_answer(given: Result<Vec<u8>, WalkFault>, want: &str) -> bool {
+    match given {
+        Ok(text) => text.as_slice() == want.as_bytes(),
+        Err(fault) => is_fault(&fault, want),
     }
 }
 
@@ -119,94 +105,126 @@ fn by_steps(
     Ok(text)
 }
 
-fn is_given(
+// Whether a lock gives what is wanted, by one call and by each call of its own.
+fn is_given(alloc: Global, lock: &Lock, machine: &Machine, extras: &[Name], want: &str) -> bool
+    requires { IsWellFormed lock.now }
+{
+    is_answer(environment(alloc, lock, machine, extras), want)
+        && is_answer(by_steps(alloc, lock, machine, extras), want)
+}
+
+// Whether a lock's text gives it.
+fn is_text_given(
     alloc: Global,
-    lock: &Lock,
+    text: &str,
     machine: &Machine,
     extras: &[Name],
     want: &str,
-) -> Result<bool, Fail>
-    requires { IsWellFormed lock.now }
-{
-    let whole = line_text(alloc, environment(alloc, lock, machine, extras))?;
-    let steps = line_text(alloc, by_steps(alloc, lock, machine, extras))?;
-    Ok(whole.as_str() == want && steps.as_str() == want)
-}
-
-fn is_on(alloc: Global, lock: &Lock, machine: &Machine, cells: &str) -> Result<bool, Fail>
-    requires { IsWellFormed lock.now }
-{
-    let (extras, want) = cells.split_once(' ').unwrap_or((cells, ""));
-    let extras = names(alloc, extras)?;
-    is_given(alloc, lock, machine, extras.as_slice(), want)
-}
-
-// A machine's three cells, and what stands behind them.
-fn machine_at<'a>(alloc: Global, cells: &'a str) -> Result<(Machine, &'a str), Fail> {
-    let (python, rest) = cells.split_once(' ').unwrap_or((cells, ""));
-    let (platform, rest) = rest.split_once(' ').unwrap_or((rest, ""));
-    let (version, rest) = rest.split_once(' ').unwrap_or((rest, ""));
-    Ok((machine(alloc, python, platform, version)?, rest))
-}
-
-fn is_row(alloc: Global, line: &str) -> Result<bool, Fail> {
-    let (name, rest) = line.split_once(' ').unwrap_or((line, ""));
-    let lock = lock_of(alloc, text_named(name))?;
-    let (machine, rest) = machine_at(alloc, rest)?;
-    is_on(alloc, &lock, &machine, rest)
-}
-
-#[test]
-fn locks_give_environments(rt: HostRuntime) -> Result<(), Fail> {
-    for line in ROWS.split('\n') {
-        assert!(rt; is_row(rt.alloc(), line)?, "{line}");
+) -> bool {
+    match read(alloc, text.as_bytes()) {
+        Ok(lock) => {
+            let given = is_given(alloc, &lock, machine, extras, want);
+            drop(lock);
+            given
+        }
+        Err(_) => false,
     }
-    Ok(())
 }
 
-// The literals of a lock's comparisons, in the order of its text.
+fn is_on(alloc: Global, name: &str, machine: &Machine, rest: &str) -> bool {
+    let (extras, want) = cells(rest, ' ');
+    let extras = names(alloc, extras);
+    is_text_given(alloc, text_named(name), machine, extras.as_slice(), want)
+}
+
+// Whether a row whose lines are ended is so.
+fn is_case(alloc: Global, line: &str) -> bool {
+    let (name, rest) = cells(line, ' ');
+    let (python, rest) = cells(rest, ' ');
+    let (platform, rest) = cells(rest, ' ');
+    let (version, rest) = cells(rest, ' ');
+    match machine(alloc, python, platform, version) {
+        Ok(machine) => is_on(alloc, name, &machine, rest),
+        Err(_) => false,
+    }
+}
+
+fn is_row(alloc: Global, line: &str) -> bool {
+    match line.replace(alloc, "~", "\n") {
+        Ok(line) => is_case(alloc, line.as_str()),
+        Err(_) => false,
+    }
+}
+
+// The literals of a lock's comparisons, in the order of its text, behind its name.
 const LITERALS: &str = "leaves \nasking Py,7,7,linux,7,4";
 
-fn joined(alloc: Global, atoms: &[Atom]) -> Result<String, AllocError> {
+fn joined(alloc: Global, atoms: &[Atom]) -> String {
     let mut text = String::new(alloc);
     for atom in atoms {
-        if !text.is_empty() {
-            text.push(',')?;
+        let comma = if text.is_empty() { "" } else { "," };
+        put(&mut text, comma);
+        put(&mut text, atom.literal.as_str());
+    }
+    text
+}
+
+fn has_literals(alloc: Global, lock: &Lock, want: &str) -> bool
+    requires { IsWellFormed lock.now }
+{
+    match atoms(alloc, lock) {
+        Ok(atoms) => joined(alloc, atoms.as_slice()).as_str() == want,
+        Err(_) => false,
+    }
+}
+
+fn are_asked(alloc: Global, line: &str) -> bool {
+    let (name, want) = cells(line, ' ');
+    match read(alloc, text_named(name).as_bytes()) {
+        Ok(lock) => {
+            let asked = has_literals(alloc, &lock, want);
+            drop(lock);
+            asked
         }
-        text.push_str(atom.literal.as_str())?;
+        Err(_) => false,
     }
-    Ok(text)
 }
 
-fn are_asked(alloc: Global, line: &str) -> Result<bool, Fail> {
-    let (name, want) = line.split_once(' ').unwrap_or((line, ""));
-    let lock = lock_of(alloc, text_named(name))?;
-    let atoms = atoms(alloc, &lock)?;
-    Ok(joined(alloc, atoms.as_slice())?.as_str() == want)
+// How many picks a lock gives in a world; none where it gives no environment.
+fn pick_count(alloc: Global, lock: &Lock, world: &World) -> usize
+    requires { IsWellFormed lock.now }
+{
+    match walk(alloc, lock, world, &[]) {
+        Ok(picks) => picks.len(),
+        Err(_) => 0,
+    }
+}
+
+// How many a lock's text gives on a machine.
+fn walked(alloc: Global, text: &str, machine: &Machine) -> Option<usize> {
+    let world = world_of(alloc, machine, &Vec::new(alloc)).ok()?;
+    match read(alloc, text.as_bytes()) {
+        Ok(lock) => {
+            let count = pick_count(alloc, &lock, &world);
+            drop(lock);
+            Some(count)
+        }
+        Err(_) => None,
+    }
+}
+
+fn chain_walked(alloc: Global, count: u64) -> Option<usize> {
+    let machine = machine(alloc, "3.12.0", "linux", "7").ok()?;
+    walked(alloc, chain(alloc, count).as_str(), &machine)
 }
 
 #[test]
-fn comparisons_of_locks(rt: HostRuntime) -> Result<(), Fail> {
+fn locks_give_environments(rt: HostRuntime) {
+    for line in ROWS.split('\n') {
+        assert!(rt; is_row(rt.alloc(), line), "{line}");
+    }
     for line in LITERALS.split('\n') {
-        assert!(rt; are_asked(rt.alloc(), line)?, "{line}");
+        assert!(rt; are_asked(rt.alloc(), line), "{line}");
     }
-    Ok(())
-}
-
-// How many picks a lock's text gives.
-fn pick_count(alloc: Global, text: &str) -> Result<usize, Fail> {
-    let lock = lock_of(alloc, text)?;
-    let machine = machine(alloc, "3.12.0", "linux", "7")?;
-    let world = world_of(alloc, &machine, &Vec::new(alloc))?;
-    match walk(alloc, &lock, &world, &[]) {
-        Ok(picks) => Ok(picks.len()),
-        Err(_) => Err(Fail::from("no walk")),
-    }
-}
-
-#[test]
-fn walks_through_many_packages(rt: HostRuntime) -> Result<(), Fail> {
-    let text = chain(rt.alloc(), 20_000)?;
-    assert!(rt; pick_count(rt.alloc(), text.as_str())? == 20_000);
-    Ok(())
+    assert!(rt; chain_walked(rt.alloc(), 20_000) == Some(20_000));
 }

@@ -1,7 +1,9 @@
-//! Locks as texts, and what reading and writing say of them.
+//! Locks as texts, and what reading and writing say of them, piece by piece.
 
-use std::alloc::{AllocError, Global};
+use std::alloc::Global;
+use std::fmt::Write;
 use ul_lock::{Lock, LockFault, WriteFault, read, write};
+use ul_test_rows::put;
 
 // A project with one dependency.
 const PINS: &str = r#"version = 2
@@ -267,50 +269,61 @@ x = [
 ]
 "#;
 
-/// What reading says of a text: `read`, `line N`, `root` or `target K`.
-pub(crate) fn told(alloc: Global, text: &[u8]) -> Result<String, AllocError> {
-    match read(alloc, text) {
-        Ok(_) => String::from_str(alloc, "read"),
-        Err(fault) => fault_text(alloc, &fault),
-    }
+fn put_fault(told: &mut String, fault: &LockFault) {
+    let _ = match fault {
+        LockFault::Line(n) => write!(told, "line {n}"),
+        LockFault::Root => told.push_str("root"),
+        LockFault::Target(k) => write!(told, "target {k}"),
+        LockFault::NoMemory => told.push_str("no memory"),
+    };
 }
 
-fn fault_text(alloc: Global, fault: &LockFault) -> Result<String, AllocError> {
-    let text = match fault {
-        LockFault::Line(n) => format!(in alloc; "line {n}")?,
-        LockFault::Root => String::from_str(alloc, "root")?,
-        LockFault::Target(k) => format!(in alloc; "target {k}")?,
-        LockFault::NoMemory => return Err(AllocError),
+/// What reading says of a text: `read`, `line N`, `root` or `target K`.
+pub(crate) fn told(alloc: Global, text: &[u8]) -> String {
+    let mut told = String::new(alloc);
+    match read(alloc, text) {
+        Ok(lock) => {
+            put(&mut told, "read");
+            drop(lock);
+        }
+        Err(fault) => put_fault(&mut told, &fault),
+    }
+    told
+}
+
+fn put_refusal(told: &mut String, fault: &WriteFault) {
+    let _ = match fault {
+        WriteFault::TooManyPaths { paths } => write!(told, "paths {paths}"),
+        WriteFault::TooLong => told.push_str("long"),
+        WriteFault::NoMemory => told.push_str("no memory"),
     };
-    Ok(text)
+}
+
+fn put_written(alloc: Global, told: &mut String, lock: &Lock, want: &[u8]) {
+    match write(alloc, lock) {
+        Ok(bytes) => put(
+            told,
+            if bytes.as_slice() == want {
+                "same"
+            } else {
+                "other"
+            },
+        ),
+        Err(fault) => put_refusal(told, &fault),
+    }
 }
 
 /// What writing says of the lock of a text, beside the text that is wanted: `same`, `other`, `paths N` or `long`.
-pub(crate) fn written(alloc: Global, text: &[u8], want: &[u8]) -> Result<String, AllocError> {
-    match read(alloc, text) {
-        Ok(lock) => written_lock(alloc, &lock, want),
-        Err(fault) => fault_text(alloc, &fault),
+pub(crate) fn written(alloc: Global, text: &str, want: &str) -> String {
+    let mut told = String::new(alloc);
+    match read(alloc, text.as_bytes()) {
+        Ok(lock) => {
+            put_written(alloc, &mut told, &lock, want.as_bytes());
+            drop(lock);
+        }
+        Err(fault) => put_fault(&mut told, &fault),
     }
-}
-
-fn written_lock(alloc: Global, lock: &Lock, want: &[u8]) -> Result<String, AllocError> {
-    match write(alloc, lock) {
-        Ok(bytes) => String::from_str(alloc, sameness(bytes.as_slice() == want)),
-        Err(fault) => refusal_text(alloc, &fault),
-    }
-}
-
-fn sameness(same: bool) -> &'static str {
-    if same { "same" } else { "other" }
-}
-
-fn refusal_text(alloc: Global, fault: &WriteFault) -> Result<String, AllocError> {
-    let text = match fault {
-        WriteFault::TooManyPaths { paths } => format!(in alloc; "paths {paths}")?,
-        WriteFault::TooLong => String::from_str(alloc, "long")?,
-        WriteFault::NoMemory => return Err(AllocError),
-    };
-    Ok(text)
+    told
 }
 
 /// The lock's text of a name.

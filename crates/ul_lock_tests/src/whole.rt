@@ -1,62 +1,82 @@
-//! Whole texts, and texts that are cut off.
+//! Whole texts, texts that are cut off, and large ones.
 
+use crate::sizes::{chain, long, systems};
 use crate::texts::{text_named, told, written};
-use std::alloc::{AllocError, Global};
-use std::test::Fail;
+use std::alloc::Global;
+use ul_test_rows::cells;
 
-// Each lock is written as it was read.
-const NAMES: &str = "empty pins leaves extras files quoted platforms cycle asking";
-
-fn is_written(alloc: Global, name: &str) -> Result<bool, AllocError> {
-    let text = text_named(name).as_bytes();
-    Ok(written(alloc, text, text)?.as_str() == "same")
-}
-
-#[test]
-fn locks_are_written_as_they_were_read(rt: HostRuntime) -> Result<(), Fail> {
-    for name in NAMES.split(' ') {
-        assert!(rt; is_written(rt.alloc(), name)?, "{name}");
-    }
-    Ok(())
-}
-
-// Texts of version 1, which have no files, are written in version 2.
-const FIRST: &str = "empty pins leaves extras quoted platforms cycle asking";
-
-fn is_read_in_first(alloc: Global, name: &str) -> Result<bool, AllocError> {
-    let text = text_named(name);
-    let first = text.replace(alloc, "version = 2\n", "version = 1\n")?;
-    Ok(written(alloc, first.as_str().as_bytes(), text.as_bytes())?.as_str() == "same")
-}
-
-#[test]
-fn texts_of_version_1_are_written_in_version_2(rt: HostRuntime) -> Result<(), Fail> {
-    for name in FIRST.split(' ') {
-        assert!(rt; is_read_in_first(rt.alloc(), name)?, "{name}");
-    }
-    Ok(())
-}
-
-// Texts that are cut off behind so many bytes: the first lines of two leaves, and pins.
-const CUTS: &str = "0 leaves line 1\n\
+// What is told of a text: what is written of each lock, `whole`; of one of version 1, which has no files, beside that
+// of version 2, `first`; of a chain of packages; of so many paths to true; and of so many bytes. And what is read of the
+// first lines of two leaves and of pins, cut off behind so many bytes.
+const ROWS: &str = "whole empty same\n\
+    whole pins same\n\
+    whole leaves same\n\
+    whole extras same\n\
+    whole files same\n\
+    whole quoted same\n\
+    whole platforms same\n\
+    whole cycle same\n\
+    whole asking same\n\
+    first empty same\n\
+    first pins same\n\
+    first leaves same\n\
+    first extras same\n\
+    first quoted same\n\
+    first platforms same\n\
+    first cycle same\n\
+    first asking same\n\
+    packages 20000 same\n\
+    paths 4096 same\n\
+    paths 4097 paths 4097\n\
+    bytes 67108864 same\n\
+    bytes 67108865 long\n\
+    0 leaves line 1\n\
     141 leaves line 6\n\
     181 leaves root\n\
     224 leaves read\n\
     413 leaves target 0\n\
     60 pins line 6";
 
-fn is_cut(alloc: Global, line: &str) -> Result<bool, AllocError> {
-    let (count, rest) = line.split_once(' ').unwrap_or((line, ""));
-    let (name, want) = rest.split_once(' ').unwrap_or((rest, ""));
-    let bytes = text_named(name).as_bytes();
-    let count = count.parse::<usize>().unwrap_or(0).min(bytes.len());
-    Ok(told(alloc, &bytes[..count])?.as_str() == want)
+fn first_told(alloc: Global, text: &str) -> String {
+    match text.replace(alloc, "version = 2\n", "version = 1\n") {
+        Ok(first) => written(alloc, first.as_str(), text),
+        Err(_) => String::new(alloc),
+    }
+}
+
+fn cut_told(alloc: Global, text: &[u8], count: u64) -> String {
+    let count = (count as usize).min(text.len());
+    told(alloc, &text[..count])
+}
+
+fn made_told(alloc: Global, text: String) -> String {
+    written(alloc, text.as_str(), text.as_str())
+}
+
+fn number(cell: &str) -> u64 {
+    cell.parse::<u64>().unwrap_or(0)
+}
+
+fn case_told(alloc: Global, kind: &str, cell: &str) -> String {
+    match kind {
+        "whole" => written(alloc, text_named(cell), text_named(cell)),
+        "first" => first_told(alloc, text_named(cell)),
+        "packages" => made_told(alloc, chain(alloc, number(cell))),
+        "paths" => made_told(alloc, systems(alloc, number(cell))),
+        "bytes" => made_told(alloc, long(alloc, number(cell) as usize)),
+        count => cut_told(alloc, text_named(cell).as_bytes(), number(count)),
+    }
+}
+
+fn is_row(alloc: Global, line: &str) -> bool {
+    let (kind, rest) = cells(line, ' ');
+    let (cell, want) = cells(rest, ' ');
+    case_told(alloc, kind, cell).as_str() == want
 }
 
 #[test]
-fn texts_that_are_cut_off(rt: HostRuntime) -> Result<(), Fail> {
-    for line in CUTS.split('\n') {
-        assert!(rt; is_cut(rt.alloc(), line)?, "{line}");
+fn texts_are_read_and_written(rt: HostRuntime) {
+    for line in ROWS.split('\n') {
+        assert!(rt; is_row(rt.alloc(), line), "{line}");
     }
-    Ok(())
 }

@@ -8,35 +8,26 @@ use ul_marker_text::{TextFault, read, read_marker, text};
 use ul_tree::part::is_false;
 use ul_tree::{Tree, of_marker};
 
-/// What a reader makes of a text.
-#[derive(Clone, Copy, PartialEq, Eq, Debug)]
-pub(crate) enum Outcome {
-    /// It is read, and its tree has it again.
-    Again,
-    /// It is read, and its tree has another text.
-    Other,
-    /// It is read, and its tree has so many paths, too many for a text.
-    TooLong(u128),
-    /// It is the text of no tree.
-    NoReading,
-    /// Memory ran out.
-    NoMemory,
+/// The number that digits are, or 0.
+pub(crate) fn number(digits: &str) -> usize {
+    digits.parse::<usize>().unwrap_or(0)
 }
 
-/// What is made of a text.
-pub(crate) fn told(alloc: Global, spelled: &str) -> Outcome {
+/// Whether a text is read, and its tree has it `again` or has an `other` text, or so many paths, too many for a text;
+/// whether it is the text of no tree, and `refused`; or whether there is no `memory`.
+pub(crate) fn is_told(alloc: Global, spelled: &str, want: &str) -> bool {
     match read(alloc, spelled) {
-        Err(MarkerFault::NoReading) => Outcome::NoReading,
-        Err(MarkerFault::NoMemory) => Outcome::NoMemory,
+        Err(MarkerFault::NoReading) => want == "refused",
+        Err(MarkerFault::NoMemory) => want == "memory",
         Ok(tree) => match text(alloc, &tree) {
-            Ok(again) => {
-                if again.as_str() == spelled {
-                    return Outcome::Again;
-                }
-                Outcome::Other
-            }
-            Err(TextFault::TooLong { paths }) => Outcome::TooLong(paths),
-            Err(TextFault::NoMemory) => Outcome::NoMemory,
+            Ok(again) => want
+                == if again.as_str() == spelled {
+                    "again"
+                } else {
+                    "other"
+                },
+            Err(TextFault::TooLong { paths }) => paths == number(want) as u128,
+            Err(TextFault::NoMemory) => want == "memory",
         },
     }
 }

@@ -1,3 +1,4 @@
+mod HandedOn
 mod Unions
 mod ForkSteps
 mod MadeEdges

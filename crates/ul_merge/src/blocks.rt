@@ -1,9 +1,9 @@
 //! Packages of a lock.
-ghost use Rattle.std.specs.Prelude.{◌≡◌, [], IfOk, OnOk, All, map};
+ghost use Rattle.std.specs.Prelude.{◌≡◌, IfOk, All, map, option_map};
 ghost use Rattle.ul_interner.specs.Known.{Knows};
 ghost use Rattle.ul_requirement.specs.Truth.{base, with_extra};
 ghost use Rattle.ul_index.specs.Catalogs.{requirements};
-ghost use Rattle.ul_sound.specs.Merged.{AreEdgesOf};
+ghost use Rattle.ul_sound.specs.Merged.{AreEdgesOf, files_in};
 ghost use Rattle.ul_merge.specs.Blocks.{AreMadeExtras, ArePairMembers, AreSources, AreUsers, IsMadeBlock, IsMadeExtra, IsPairGroup, MakesBlock, MakesExtra};
 ghost use Rattle.ul_merge.specs.Blocks.{catalog_in, leaves_in, supported_in};
 ghost use Rattle.ul_merge.specs.Keys.{pair_of, pick_of};
@@ -21,8 +21,9 @@ use std::alloc::{AllocError, Global};
 use std::sync::Wait;
 use ul_algebra::Algebra;
 use ul_base::Node;
+use ul_base::owned::{beside, made_from, with_made};
 use ul_lock_lines::{Edges, Extra, Extras, Locked};
-use ul_requirement::Requirement;
+use ul_requirement::{Release, Requirement};
 
 // The edges of a node at a version.
 fn edges_of<R: Wait>(
@@ -54,7 +55,8 @@ fn edges_of<R: Wait>(
         sources.regions,
         truths.as_slice(),
         groups.as_slice(),
-    )?;
+    );
+    let edges = made_from(made_from(edges, groups), (truths, aims))?;
     Ok(Edges::of(edges))
 }
 
@@ -93,8 +95,8 @@ fn base_edges<R: Wait>(
         &pick,
         users.as_slice(),
         required,
-    )?;
-    Ok(edges)
+    );
+    made_from(edges, (users, node))
 }
 
 // An extra of a package.
@@ -116,9 +118,11 @@ fn extra_of<R: Wait>(
         (pair_of pair.now) group.now.key.name.now) }
 {
     let users: &Vec<usize> = &group.values;
+    let name = pair.name.copy(alloc)?;
+    let extra = group.key.name.copy(alloc)?;
     let node = Node {
-        name: pair.name.copy(alloc)?,
-        extra: Some(group.key.name.copy(alloc)?),
+        name,
+        extra: Some(extra),
     };
     let pick = PickKey {
         node: &node,
@@ -132,9 +136,10 @@ fn extra_of<R: Wait>(
         &pick,
         users.as_slice(),
         required,
-    )?;
-    let name = group.key.name.copy(alloc)?;
-    Ok(Extra { name, edges })
+    );
+    let edges = made_from(edges, node)?;
+    let (out, name) = beside(edges, group.key.name.copy(alloc))?;
+    Ok(Extra { name, edges: out })
 }
 
 // The extras of a package that leaves chose, each with the leaves' places.
@@ -158,8 +163,8 @@ fn made_extras<R: Wait>(
 {
     let mut extras = Vec::with_capacity(alloc, groups.len())?;
     for group in groups {
-        let extra = extra_of(rt, alloc, algebra, sources, pair, group, required)?;
-        extras.push(extra)?;
+        let extra = extra_of(rt, alloc, algebra, sources, pair, group, required);
+        extras = with_made(extras, extra)?;
     }
     Ok(extras)
 }
@@ -192,8 +197,38 @@ fn extras_of<R: Wait>(
         &group.key,
         groups.as_slice(),
         required,
-    )?;
+    );
+    let extras = made_from(extras, groups)?;
     Ok(Extras::of(extras))
+}
+
+// A package of a release, with its edges and extras.
+fn locked_with(
+    alloc: Global,
+    key: &PairKey<'_>,
+    release: Option<&Release>,
+    edges: Edges,
+    extras: Extras,
+) -> Result<Locked, AllocError>
+    ensures name { IfOk result (λ b. b.name ≡ key.now.name.now) }
+    ensures version { IfOk result (λ b. b.version ≡ key.now.version.now) }
+    ensures files { IfOk result (λ b. b.files ≡ files_in (option_map (λ r. r.now) release.entry)) }
+    ensures edges { IfOk result (λ b. b.edges ≡ edges) }
+    ensures extras { IfOk result (λ b. b.extras ≡ extras) }
+{
+    let (rows, files) = beside((edges, extras), files_of(alloc, release))?;
+    let (listed, name) = beside((rows, files), key.name.copy(alloc))?;
+    let (named, version) = beside((listed, name), key.version.copy(alloc))?;
+    let (listed, name) = named;
+    let (rows, files) = listed;
+    let (edges, extras) = rows;
+    Ok(Locked {
+        name,
+        version,
+        files,
+        edges,
+        extras,
+    })
 }
 
 // A package.
@@ -214,39 +249,31 @@ fn block_of<R: Wait>(
     let key = &group.key;
     let release = release_at(sources.catalog, key.name, key.version);
     let required = requirements_of(release);
-    let files = files_of(alloc, release)?;
     let edges = base_edges(rt, alloc, algebra, sources, group, required)?;
-    let extras = extras_of(rt, alloc, algebra, sources, group, required)?;
-    let name = key.name.copy(alloc)?;
-    let version = key.version.copy(alloc)?;
-    Ok(Locked {
-        name,
-        version,
-        files,
-        edges,
-        extras,
-    })
+    let extras = extras_of(rt, alloc, algebra, sources, group, required);
+    let (out, extras) = beside(edges, extras)?;
+    let block = locked_with(alloc, key, release, out, extras)?;
+    Ok(block)
 }
 
-/// Puts the packages that leaves chose, in order, into an empty list.
-pub(crate) fn put_blocks<R: Wait>(
+/// The packages that leaves chose, in order.
+pub(crate) fn made_blocks<R: Wait>(
     rt: &R,
     alloc: Global,
     algebra: &mut Algebra<'_>,
     sources: &Sources<'_>,
     groups: &[Group<PairKey<'_>, Member<'_>>],
-    blocks: &mut Vec<Locked>,
-) -> Result<(), AllocError>
+) -> Result<Vec<Locked>, AllocError>
     requires sources { AreSources algebra.old sources.now }
     requires groups { All (IsPairGroup sources.now.choices.now) groups.now }
-    requires none { blocks.old.items ≡ [] }
     ensures knows { Knows algebra.old algebra.new }
-    ensures blocks { OnOk result (AreMade (MakesBlock (catalog_in sources.now) (leaves_in sources.now)
-        (supported_in sources.now)) groups.now blocks.new.items) }
+    ensures blocks { IfOk result (λ v. AreMade (MakesBlock (catalog_in sources.now) (leaves_in sources.now)
+        (supported_in sources.now)) groups.now v.items) }
 {
+    let mut blocks = Vec::with_capacity(alloc, groups.len())?;
     for group in groups {
-        let block = block_of(rt, alloc, algebra, sources, group)?;
-        blocks.push(block)?;
+        let block = block_of(rt, alloc, algebra, sources, group);
+        blocks = with_made(blocks, block)?;
     }
-    Ok(())
+    Ok(blocks)
 }

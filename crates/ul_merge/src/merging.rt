@@ -8,7 +8,7 @@ ghost use Rattle.ul_sound.specs.Merged.{AreBlocks, IsMergedLock};
 ghost use Rattle.ul_merge.specs.Merging.{AreLeaves};
 ghost use Rattle.ul_merge.specs.Views.{ForkLeaf, leaf_of};
 
-use crate::blocks::put_blocks;
+use crate::blocks::made_blocks;
 use crate::choices::choices_of;
 use crate::forks::fork_regions;
 use crate::members::members_of;
@@ -17,6 +17,7 @@ use crate::sources::Sources;
 use std::alloc::{AllocError, Global};
 use std::sync::Wait;
 use ul_algebra::{Algebra, Diagram};
+use ul_base::owned::{beside, made_from};
 use ul_base::{Name, Node};
 use ul_generations::Leaf;
 use ul_index::Catalog;
@@ -57,6 +58,15 @@ fn supported_of<R: Wait>(
     Ok(d)
 }
 
+// The name of a project's package.
+fn root_of(alloc: Global, project: &Project) -> Result<Name, AllocError>
+    ensures { IfOk result (λ n. n ≡ project.now.package.name) }
+{
+    let name: &Name = &project.package.name;
+    let root = name.copy(alloc)?;
+    Ok(root)
+}
+
 // The packages of the lock.
 fn packages_of<R: Wait>(
     rt: &R,
@@ -85,8 +95,8 @@ fn packages_of<R: Wait>(
         choices: choices.as_slice(),
         catalog,
     };
-    let mut blocks = Vec::with_capacity(alloc, groups.len())?;
-    put_blocks(rt, alloc, algebra, &sources, groups.as_slice(), &mut blocks)?;
+    let blocks = made_blocks(rt, alloc, algebra, &sources, groups.as_slice());
+    let blocks = made_from(blocks, ((regions, choices), groups))?;
     Ok(Packages::of(blocks))
 }
 
@@ -110,10 +120,13 @@ pub fn merge<R: Wait>(
 {
     let supported = supported_of(rt, alloc, algebra, project)?;
     let forks = fork_regions(rt, alloc, algebra, leaves, &supported)?;
-    let packages = packages_of(rt, alloc, algebra, catalog, project, &supported, leaves)?;
-    let tree = algebra.tree(alloc, &supported)?;
-    let name: &Name = &project.package.name;
-    let root = name.copy(alloc)?;
+    let packages = packages_of(rt, alloc, algebra, catalog, project, &supported, leaves);
+    let rows = beside(forks, packages)?;
+    let tree = made_from(algebra.tree(alloc, &supported), supported);
+    let (listed, tree) = beside(rows, tree)?;
+    let (parts, root) = beside((listed, tree), root_of(alloc, project))?;
+    let (listed, tree) = parts;
+    let (forks, packages) = listed;
     Ok(Lock {
         root,
         supported: Region::of(tree),

@@ -1,6 +1,23 @@
 -- Loops that put an image of each element behind the others.
-use Rattle.std.proofs.Common.{◌≡◌, ◌<◌, ◌+◌, ℕ, List, [], ◌∷◌, ◌++◌, length, get_or, map, take, sym, ap, ◌∙◌}
+use Rattle.std.proofs.Common.{◌≡◌, ◌<◌, ◌+◌, ℕ, List, [], ◌∷◌, ◌++◌, length, get_or, map, take, sym, ap, ◌∙◌, Result, Ok, Err}
+use Rattle.std.specs.Prelude.{IfOk}
+use Rattle.std.specs.declared.alloc.AllocError.{AllocError}
 use Rattle.std.proofs.lemmas.List.{map-append, map_more}
+use Rattle.ul_base.proofs.ForCallers.{made_holds}
+
+-- what holds of what was made holds of it where it was handed on
+pub if_handed : {A : Type 0} (made r : Result A AllocError) (P : A → Type 0) → IfOk r (λ x. made ≡ Ok x) → IfOk made P → IfOk r P
+if_handed made (Ok x) P e p = made_holds made x P e p
+if_handed made (Err e) P q p = tt
+
+-- what holds of what was made holds of what was handed on twice
+pub twice_handed : {A : Type 0} (made between : Result A AllocError) (x : A) (P : A → Type 0) → between ≡ Ok x → IfOk between (λ y. made ≡ Ok y) → IfOk made P → P x
+twice_handed made between x P e f p = made_holds made x P (made_holds between x (λ y. made ≡ Ok y) e f) p
+
+-- places that are put into a row of their own
+pub placed : (r : Result (List ℕ) AllocError) (xs ys : List ℕ) → IfOk r (λ x. x ≡ xs) → xs ≡ ys → IfOk r (λ x. x ≡ ys)
+placed (Ok x) xs ys h e = h ∙ e
+placed (Err q) xs ys h e = tt
 
 -- images of what was found are those of what was read
 pub images_more : {A B C : Type 0} (f : A → C) (g : B → C) (done now : List A) (xs : List B) (i : ℕ) (a : A) (x : B) → now ≡ done ++ a ∷ [] → map f done ≡ map g (take i xs) → f a ≡ g x → i < length xs → x ≡ get_or xs i x

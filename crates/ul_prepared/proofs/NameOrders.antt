@@ -12,7 +12,7 @@ use Rattle.ul_index.specs.Eligible.{eligible}
 use Rattle.ul_index.specs.Preference.{is_direct, is_kept, is_oldest_first, preference}
 use Rattle.ul_region.specs.Problem.{AreVersionsAt}
 use Rattle.ul_prepared.specs.KeptPlaces.{is_on}
-use Rattle.ul_prepared.specs.Orders.{tried_places}
+use Rattle.ul_prepared.specs.Orders.{order_in, tried_places}
 use Rattle.ul_prepared.specs.Prepared.{IsName}
 use Rattle.ul_prepared.specs.declared.prepared.NameFacts.{NameFacts}
 use Rattle.ul_prepared.proofs.KeptPlaces.{any_reverse}
@@ -41,22 +41,29 @@ preferred c wish n vs oldest e o =
     ap (λ (xs : List Fields). filter (is_kept wish n) (reverse xs) ++ filter (λ x. not (is_kept wish n x)) (cond oldest xs (reverse xs))) e
     ∙ ap (λ (b : Bool). filter (is_kept wish n) (reverse (eligible c n)) ++ filter (λ x. not (is_kept wish n x)) (cond b (eligible c n) (reverse (eligible c n)))) o
 
--- what makes a name's facts right
-pub name_is : {A : Type 0} (now : A → Fields) (c : Packages) (wish : WishFields) (n : List ℕ) (vs : List Fields) (kept : List A) (flags : List Bool) (oldest : Bool) (order : List ℕ) (f : NameFacts)
-    → f.name ≡ n → f.versions ≡ vs → f.order ≡ order → vs ≡ eligible c n → Increases VersionBefore (eligible c n) → length vs < 2 ^ 32
+-- the order in which the versions of a name are tried
+pub order_is : {A : Type 0} (now : A → Fields) (c : Packages) (wish : WishFields) (n : List ℕ) (vs : List Fields) (kept : List A) (flags : List Bool) (oldest : Bool) (order : List ℕ)
     → map now kept ≡ reverse (map (λ (k : List ℕ × Fields). k.1) (filter (is_on n) wish.kept))
-    → flags ≡ map (λ (x : Fields). list_any (λ (k : A). is_eq (version_cmp (now k) x)) kept) vs → oldest ≡ is_oldest_first wish.mode (is_direct c n) → order ≡ tried_places flags oldest → IsName c wish f
-name_is {A} now c wish n vs kept flags oldest order f named has ordered are rising few old flagged way tried =
+    → flags ≡ map (λ (x : Fields). list_any (λ (k : A). is_eq (version_cmp (now k) x)) kept) vs → oldest ≡ is_oldest_first wish.mode (is_direct c n) → order ≡ tried_places flags oldest → order ≡ order_in c wish n vs
+order_is {A} now c wish n vs kept flags oldest order old flagged way tried =
     let p : Fields → Bool = is_kept wish n in
     let same : (x : Fields) → list_any (λ (k : A). is_eq (version_cmp (now k) x)) kept ≡ is_kept wish n x =
     (λ x. any_map now (λ (y : Fields). is_eq (version_cmp y x)) kept ∙ (ap (λ (z : List Fields). list_any (λ (y : Fields). is_eq (version_cmp y x)) z) old
     ∙ (any_reverse (λ (y : Fields). is_eq (version_cmp y x)) (map (λ (k : List ℕ × Fields). k.1) (filter (is_on n) wish.kept)) ∙ any_kept n (λ (y : Fields). is_eq (version_cmp y x)) wish.kept))) in
     let flags_are : flags ≡ map p vs = flagged ∙ same_map (λ (x : Fields). list_any (λ (k : A). is_eq (version_cmp (now k) x)) kept) p same vs in
-    let order_is : f.order ≡ tried_places (map p vs) oldest = ordered ∙ (tried ∙ ap (λ (z : List Bool). tried_places z oldest) flags_are) in record {
+    tried ∙ (ap (λ (z : List Bool). tried_places z oldest) flags_are ∙ ap (λ (b : Bool). tried_places (map p vs) b) way)
+
+-- what makes a name's facts right
+pub name_is : (c : Packages) (wish : WishFields) (n : List ℕ) (vs : List Fields) (order : List ℕ) (f : NameFacts)
+    → f.name ≡ n → f.versions ≡ vs → f.order ≡ order → vs ≡ eligible c n → Increases VersionBefore (eligible c n) → length vs < 2 ^ 32 → order ≡ order_in c wish n vs → IsName c wish f
+name_is c wish n vs order f named has ordered are rising few tried =
+    let p : Fields → Bool = is_kept wish n in
+    let oldest : Bool = is_oldest_first wish.mode (is_direct c n) in
+    let order_is : f.order ≡ tried_places (map p vs) oldest = ordered ∙ tried in record {
       versions = has ∙ (are ∙ ap (eligible c) (sym named));
       increasing = subst (Increases VersionBefore) (sym (has ∙ are)) rising;
       few = subst (λ (xs : List Fields). length xs < 2 ^ 32) (sym has) few;
       whole = subst (λ (ks : List ℕ). IsOrderOf (length f.versions) ks) (sym order_is) (subst (λ (m : ℕ). IsOrderOf m (tried_places (map p vs) oldest)) (length-map vs p ∙ ap (λ (z : List Fields). length z) (sym has)) (tried_whole (map p vs) oldest));
       order = subst (λ (xs : List Fields). AreVersionsAt xs f.order (preference c wish f.name)) (sym has) (subst (λ (ks : List ℕ). AreVersionsAt vs ks (preference c wish f.name)) (sym order_is)
-          (subst (λ (zs : List Fields). AreVersionsAt vs (tried_places (map p vs) oldest) zs) (preferred c wish n vs oldest are way ∙ ap (preference c wish) (sym named)) (tried_at vs p oldest)));
+          (subst (λ (zs : List Fields). AreVersionsAt vs (tried_places (map p vs) oldest) zs) (preferred c wish n vs oldest are refl ∙ ap (preference c wish) (sym named)) (tried_at vs p oldest)));
     }

@@ -1,6 +1,7 @@
 -- By which parts of versions clauses admit them.
-use Rattle.std.specs.Prelude.{◌-◌, ◌&&◌, ℕ, List, Bool, true, false, not, Option, Some, None, length, slice_get, if◌then◌else◌}
+use Rattle.std.specs.Prelude.{◌≡◌, ◌-◌, ◌&&◌, ℕ, List, Bool, true, false, not, Option, Some, None, Result, Ok, length, slice_get, if◌then◌else◌}
 use Rattle.std.specs.Ordering.{is_eq, is_gt, is_lt}
+use Rattle.std.specs.declared.alloc.AllocError.{AllocError}
 use Rattle.ul_version.specs.Fields.{Fields}
 use Rattle.ul_specifier.specs.Clauses.{ClauseFields, has_local}
 use Rattle.ul_specifier.specs.Meaning.{meets_clause}
@@ -58,3 +59,7 @@ is_met s (Some c) = meets_clause s c
 -- whether the version at a place meets the clause
 abbrev pub is_met_at : ClauseFields → List Fields → ℕ → Bool
 is_met_at s versions place = is_met s (slice_get versions place)
+
+-- a set that an operation makes of a set and another one, which was made
+abbrev pub IsMadeWith : (List Bool → List Bool → List Bool) → List Bool → Result (List Bool) AllocError → List Bool → Type 0
+IsMadeWith operation set made whole = (others : List Bool) × (made ≡ Ok others) × (whole ≡ operation set others)

@@ -1,5 +1,6 @@
 //! Needs of requirements by places of nodes.
 ghost use Rattle.std.specs.Prelude.{◌≡◌, All, IfOk, IsTrue, map};
+ghost use Rattle.ul_base.specs.Owned.{HasOneMore};
 ghost use Rattle.ul_prepared.specs.Aims.{AreReleaseAims, AreRequirementAims, HasNode, needs_on};
 ghost use Rattle.ul_prepared.specs.Permitted.{IsRising, IsSetOf};
 ghost use Rattle.ul_prepared.specs.Prepared.{AreAims, IsAim};
@@ -9,6 +10,7 @@ use crate::permitted::Sets;
 use crate::prepared::{NameFacts, Planned};
 use std::alloc::{AllocError, Global};
 use std::collections::HashMap;
+use ul_base::owned::{beside, made_from, with_made};
 use ul_base::{Name, Node};
 use ul_problem::{Need, NeedRow, NeedRows};
 use ul_requirement::{Release, Requirement};
@@ -88,24 +90,23 @@ fn aims_of<'a>(
     names: &[NameFacts],
     nodes: &[Planned<'_>],
     requirement: &'a Requirement,
-) -> Result<Vec<Need>, AllocError>
+) -> Result<NeedRow, AllocError>
     requires rising { All IsRising names.now }
     requires sets { All (IsSetOf names.now) sets.old.list.items }
     ensures sets { All (IsSetOf names.now) sets.new.list.items }
-    ensures aims { IfOk result (λ v. AreAims names.now nodes.now v.items (needs_of requirement.now)) }
+    ensures aims { IfOk result (λ row. AreAims names.now nodes.now row (needs_of requirement.now)) }
 {
     let targets = requirement.targets(alloc)?;
-    let specifiers: &Specifiers = &requirement.specifiers;
     let aims = aims_at(
         alloc,
         sets,
         index,
         names,
         nodes,
-        specifiers,
+        &requirement.specifiers,
         targets.as_slice(),
-    )?;
-    Ok(aims)
+    );
+    made_from(aims, targets)
 }
 
 // The needs of targets, in order.
@@ -117,18 +118,32 @@ fn aims_at<'a>(
     nodes: &[Planned<'_>],
     specifiers: &'a Specifiers,
     targets: &[Node],
-) -> Result<Vec<Need>, AllocError>
+) -> Result<NeedRow, AllocError>
     requires rising { All IsRising names.now }
     requires sets { All (IsSetOf names.now) sets.old.list.items }
     ensures sets { All (IsSetOf names.now) sets.new.list.items }
-    ensures aims { IfOk result (λ v. AreAims names.now nodes.now v.items (needs_on specifiers.now targets.now)) }
+    ensures aims { IfOk result (λ row. AreAims names.now nodes.now row (needs_on specifiers.now targets.now)) }
 {
-    let mut aims = Vec::with_capacity(alloc, targets.len())?;
+    let mut row = NeedRow::none();
     for target in targets {
-        let one = aim(alloc, sets, index, names, nodes, specifiers, target)?;
-        aims.push(one)?;
+        let one = aim(alloc, sets, index, names, nodes, specifiers, target);
+        row = with_need(alloc, row, one)?;
     }
-    Ok(aims)
+    Ok(row)
+}
+
+// A row with one need more, if that was made; else it is let go.
+fn with_need(
+    alloc: Global,
+    row: NeedRow,
+    made: Result<Need, AllocError>,
+) -> Result<NeedRow, AllocError>
+    ensures { IfOk result (λ all. HasOneMore row made all) }
+{
+    let (held, need) = beside(row, made)?;
+    let mut row = held;
+    row.push(alloc, need)?;
+    Ok(row)
 }
 
 // The needs of each requirement, in order.
@@ -139,18 +154,18 @@ fn requirement_aims<'a>(
     names: &[NameFacts],
     nodes: &[Planned<'_>],
     requirements: &'a [Requirement],
-) -> Result<Vec<NeedRow>, AllocError>
+) -> Result<NeedRows, AllocError>
     requires rising { All IsRising names.now }
     requires sets { All (IsSetOf names.now) sets.old.list.items }
     ensures sets { All (IsSetOf names.now) sets.new.list.items }
-    ensures aims { IfOk result (λ v. AreRequirementAims names.now nodes.now v.items requirements.now) }
+    ensures aims { IfOk result (λ rows. AreRequirementAims names.now nodes.now rows requirements.now) }
 {
     let mut rows = Vec::with_capacity(alloc, requirements.len())?;
     for requirement in requirements {
-        let aims = aims_of(alloc, sets, index, names, nodes, requirement)?;
-        rows.push(NeedRow::of(aims))?;
+        let aims = aims_of(alloc, sets, index, names, nodes, requirement);
+        rows = with_made(rows, aims)?;
     }
-    Ok(rows)
+    Ok(NeedRows::of(rows))
 }
 
 fn requirements_in(release: &Release) -> &[Requirement]
@@ -181,8 +196,8 @@ pub(crate) fn release_aims<'a>(
     let mut list = Vec::with_capacity(alloc, releases.len())?;
     for release in releases {
         let release: &'a Release = release;
-        let rows = requirement_aims(alloc, sets, index, names, nodes, requirements_in(release))?;
-        list.push(NeedRows::of(rows))?;
+        let rows = requirement_aims(alloc, sets, index, names, nodes, requirements_in(release));
+        list = with_made(list, rows)?;
     }
     Ok(list)
 }

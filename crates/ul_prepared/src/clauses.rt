@@ -4,16 +4,65 @@
 ghost use Rattle.std.specs.Prelude.{◌≡◌, ◌<◌, ◌≤◌, ◌-◌, ◌^◌, IfOk, cond, filter, length, map, not, true};
 ghost use Rattle.std.specs.List.{range_with_len};
 ghost use Rattle.ul_problem.specs.Problems.{Increases, VersionBefore};
-ghost use Rattle.ul_ranges.specs.Flags.{front, less};
+ghost use Rattle.ul_ranges.specs.Flags.{both, either, front, less};
 ghost use Rattle.ul_specifier.specs.Meaning.{meets_clause, meets_list};
 ghost use Rattle.ul_prepared.specs.Clauses;
-ghost use Rattle.ul_prepared.specs.Clauses.{equals_by, is_compatible_with, is_met_at, is_from, is_strict, is_up_to};
+ghost use Rattle.ul_prepared.specs.Clauses.{IsMadeWith, equals_by, is_compatible_with, is_met_at, is_from, is_strict, is_up_to};
 
 use crate::parts::{Part, count_before, count_through};
 use std::alloc::{AllocError, Global};
+use ul_base::owned::{beside, made_from};
 use ul_ranges::Ordinals;
 use ul_specifier::{Clause, Op, Specifiers};
 use ul_version::Version;
+
+// The members of a set that another one lacks, if that was made.
+fn difference(
+    alloc: Global,
+    set: Ordinals,
+    made: Result<Ordinals, AllocError>,
+) -> Result<Ordinals, AllocError>
+    requires { IfOk made (λ others. length set ≡ length others) }
+    ensures { IfOk result (IsMadeWith less set made) }
+{
+    let (own, others) = beside(set, made)?;
+    let mut set = own;
+    let put = set.put_less(alloc, &others);
+    let both = beside(set, made_from(put, others))?;
+    Ok(both.0)
+}
+
+// The members of a set that another one has too, if that was made.
+fn intersection(
+    alloc: Global,
+    set: Ordinals,
+    made: Result<Ordinals, AllocError>,
+) -> Result<Ordinals, AllocError>
+    requires { IfOk made (λ others. length set ≡ length others) }
+    ensures { IfOk result (IsMadeWith both set made) }
+{
+    let (own, others) = beside(set, made)?;
+    let mut set = own;
+    let put = set.put_meet(alloc, &others);
+    let both = beside(set, made_from(put, others))?;
+    Ok(both.0)
+}
+
+// The members of a set and of another one, if that was made.
+fn union(
+    alloc: Global,
+    set: Ordinals,
+    made: Result<Ordinals, AllocError>,
+) -> Result<Ordinals, AllocError>
+    requires { IfOk made (λ others. length set ≡ length others) }
+    ensures { IfOk result (IsMadeWith either set made) }
+{
+    let (own, others) = beside(set, made)?;
+    let mut set = own;
+    let put = set.put_join(alloc, &others);
+    let both = beside(set, made_from(put, others))?;
+    Ok(both.0)
+}
 
 // The set, of this size, of the numbers from one on that are below another.
 fn between(alloc: Global, size: u32, low: u32, high: u32) -> Result<Ordinals, AllocError>
@@ -21,10 +70,8 @@ fn between(alloc: Global, size: u32, low: u32, high: u32) -> Result<Ordinals, Al
     requires high { high ≤ size }
     ensures { IfOk result (λ s. s ≡ less (front size high) (front size low)) }
 {
-    let mut set = Ordinals::front(alloc, size, high)?;
-    let fronts = Ordinals::front(alloc, size, low)?;
-    set.put_less(alloc, &fronts)?;
-    Ok(set)
+    let set = Ordinals::front(alloc, size, high)?;
+    difference(alloc, set, Ordinals::front(alloc, size, low))
 }
 
 // Which of rising versions equal a version by a part.
@@ -56,10 +103,8 @@ fn unequal_set(
     requires rising { Increases VersionBefore versions.now }
     ensures { IfOk result (λ s. s ≡ map (λ c. not (equals_by part version.now c)) versions.now) }
 {
-    let mut set = Ordinals::all(alloc, versions.len() as u32)?;
-    let equal = equal_set(alloc, part, version, versions)?;
-    set.put_less(alloc, &equal)?;
-    Ok(set)
+    let set = Ordinals::all(alloc, versions.len() as u32)?;
+    difference(alloc, set, equal_set(alloc, part, version, versions))
 }
 
 // Which of rising versions, without their local parts, are at least a version.
@@ -98,10 +143,9 @@ fn compatible_set(
     ensures { IfOk result (λ s. s ≡ map (is_compatible_with version.now) versions.now) }
 {
     let count = version.release.len().saturating_sub(1);
-    let mut set = set_from(alloc, version, versions)?;
-    let series = equal_set(alloc, Part::Prefix(count), version, versions)?;
-    set.put_meet(alloc, &series)?;
-    Ok(set)
+    let set = set_from(alloc, version, versions)?;
+    let series = equal_set(alloc, Part::Prefix(count), version, versions);
+    intersection(alloc, set, series)
 }
 
 // By which part `==` and `!=` compare: with `.*` by as many numbers as the version has, and without it by the local part
@@ -170,15 +214,14 @@ fn strict_set(alloc: Global, clause: &Clause, versions: &[Version]) -> Result<Or
     let high = count_through(Part::Release, &clause.version, versions) as u32;
     let members = met_between(alloc, clause, versions, low, high)?;
     let after = admits_after(clause.op);
-    let mut set = Ordinals::of_list(alloc, size, &members)?;
+    let set = made_from(Ordinals::of_list(alloc, size, &members), members)?;
     let others = between(
         alloc,
         size,
         chosen(after, high, 0),
         chosen(after, size, low),
-    )?;
-    set.put_join(alloc, &others)?;
-    Ok(set)
+    );
+    union(alloc, set, others)
 }
 
 // Which of rising versions meet a clause.
@@ -210,8 +253,7 @@ fn clauses_set(
 {
     let mut set = Ordinals::all(alloc, versions.len() as u32)?;
     for clause in clauses {
-        let one = clause_set(alloc, clause, versions)?;
-        set.put_meet(alloc, &one)?;
+        set = intersection(alloc, set, clause_set(alloc, clause, versions))?;
     }
     Ok(set)
 }

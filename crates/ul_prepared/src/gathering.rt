@@ -9,6 +9,7 @@ use crate::prepared::{NameFacts, Planned};
 use crate::sources::Sources;
 use std::alloc::{AllocError, Global};
 use std::collections::{HashMap, HashSet};
+use ul_base::owned::{beside, made_from, with_made};
 use ul_base::{Name, Node};
 use ul_index::Catalog;
 use ul_requirement::{Release, Requirement, Wish};
@@ -74,12 +75,14 @@ impl<'a> Gathered<'a> {
         if self.places.contains_key(name) {
             return Ok(());
         }
-        let (facts, releases) = known_of(alloc, sources, name)?;
         let own = name.copy(alloc)?;
         let place = self.names.len();
-        self.names.push(facts)?;
-        self.releases.push(releases)?;
         self.places.insert(own, place)?;
+        self.names.reserve(1)?;
+        self.releases.reserve(1)?;
+        let (facts, releases) = known_of(alloc, sources, name)?;
+        self.names.push_reserved(facts);
+        self.releases.push_reserved(releases);
         Ok(())
     }
 
@@ -181,6 +184,28 @@ impl<'a> Gathered<'a> {
         }
         Err(AllocError)
     }
+
+    // Takes in all that is reached from the nodes that a region starts from.
+    fn meet_all(
+        &mut self,
+        alloc: Global,
+        sources: &Sources<'a, '_>,
+        starts: &[Node],
+    ) -> Result<(), AllocError>
+        requires { AreKnown sources.now.0 sources.now.1 self.old.names.items self.old.releases.items }
+        ensures { IfOk result (λ _. AreKnown sources.now.0 sources.now.1 self.new.names.items self.new.releases.items) }
+    {
+        for start in starts {
+            self.meet_start(alloc, sources, start)?;
+        }
+        for place in 0..usize::MAX {
+            if place >= self.names.len() {
+                return Ok(());
+            }
+            self.meet_releases(alloc, sources, place)?;
+        }
+        Err(AllocError)
+    }
 }
 
 /// All that is reached from the nodes that a region starts from.
@@ -198,16 +223,9 @@ pub(crate) fn gather_all<'a>(
 {
     let sources = Sources::of(alloc, catalog, wish)?;
     let mut all = Gathered::new(alloc);
-    for start in starts {
-        all.meet_start(alloc, &sources, start)?;
-    }
-    for place in 0..usize::MAX {
-        if place >= all.names.len() {
-            return Ok(all);
-        }
-        all.meet_releases(alloc, &sources, place)?;
-    }
-    Err(AllocError)
+    let met = made_from(all.meet_all(alloc, &sources, starts), sources);
+    let both = beside(all, met)?;
+    Ok(both.0)
 }
 
 fn has_name(facts: &NameFacts, name: &Name) -> bool
@@ -258,7 +276,8 @@ fn bare_node<'a>(
     ensures node { IfOk result (λ p. p.node ≡ node) }
     ensures named { IfOk result (IsNamed names.now) }
 {
-    let name = name_place(names, places, &node.name)?;
+    let name = name_place(names, places, &node.name);
+    let (node, name) = beside(node, name)?;
     Ok(Planned {
         node,
         base: None,
@@ -268,7 +287,7 @@ fn bare_node<'a>(
     })
 }
 
-/// The nodes without their rows: of nodes in order, each once.
+/// The nodes without their rows, in order, each once.
 ///
 /// # Errors
 ///
@@ -282,11 +301,13 @@ pub(crate) fn bare_nodes<'a>(
     ensures increasing { IfOk result (λ v. Increases PlannedBefore v.items) }
     ensures named { IfOk result (λ v. All (IsNamed names.now) v.items) }
 {
-    let mut bare: Vec<Planned<'a>> = Vec::with_capacity(alloc, nodes.len())?;
+    let mut nodes = nodes;
+    nodes.sort()?;
+    let mut bare: Vec<Planned<'a>> = Vec::new(alloc);
     for node in nodes {
         if comes_after(bare.as_slice(), &node) {
-            let one = bare_node(alloc, names, places, node)?;
-            bare.push(one)?;
+            let one = bare_node(alloc, names, places, node);
+            bare = with_made(bare, one)?;
         }
     }
     Ok(bare)

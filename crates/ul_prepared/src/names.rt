@@ -8,7 +8,7 @@ ghost use Rattle.ul_index.specs.Eligible.{eligible, version_at};
 ghost use Rattle.ul_index.specs.Preference as spec;
 ghost use Rattle.ul_index.specs.Preference.{is_direct, is_kept};
 ghost use Rattle.ul_problem.specs.Problems.{Increases, VersionBefore};
-ghost use Rattle.ul_prepared.specs.Orders.{flag_at, places_below, tried_places};
+ghost use Rattle.ul_prepared.specs.Orders.{flag_at, order_in, places_below, tried_places};
 ghost use Rattle.ul_prepared.specs.Prepared.{IsName};
 ghost use Rattle.ul_prepared.specs.Releases.{AreReleasesOf};
 
@@ -16,6 +16,7 @@ use crate::prepared::NameFacts;
 use crate::sources::Sources;
 use std::alloc::{AllocError, Global};
 use ul_base::Name;
+use ul_base::owned::{beside, made_from, with_made};
 use ul_index::laws::eligible_rises;
 use ul_index::{Catalog, eligible, eligible_indirect};
 use ul_problem::{Places, Versions};
@@ -63,8 +64,7 @@ fn versions_of(alloc: Global, releases: &[&Release]) -> Result<Vec<Version>, All
     let mut versions = Vec::with_capacity(alloc, releases.len())?;
     for release in releases {
         let release: &Release = release;
-        let version = version_of(alloc, release)?;
-        versions.push(version)?;
+        versions = with_made(versions, version_of(alloc, release))?;
     }
     Ok(versions)
 }
@@ -220,6 +220,23 @@ pub(crate) fn releases_of<'a>(
     Ok(releases)
 }
 
+// The places of a name's versions in the order in which they are tried.
+fn order_of(
+    alloc: Global,
+    sources: &Sources<'_, '_>,
+    name: &Name,
+    versions: &[Version],
+) -> Result<Places, AllocError>
+    requires { length versions.now < 2 ^ 32 }
+    ensures { IfOk result (λ o. o ≡ order_in sources.now.0 sources.now.1 name.now versions.now) }
+{
+    let kept = sources.wish().kept(alloc, name)?;
+    let flags = made_from(flags_of(alloc, kept.as_slice(), versions), kept)?;
+    let oldest = is_oldest_first(sources, name);
+    let order = made_from(tried(alloc, flags.as_slice(), oldest), flags)?;
+    Places::of(alloc, order)
+}
+
 /// What is known of a name, by its eligible releases in the order of their versions.
 ///
 /// # Errors
@@ -237,14 +254,12 @@ pub(crate) fn name_facts(
     ensures name { IfOk result (λ f. f.name ≡ name.now) }
     ensures facts { IfOk result (IsName sources.now.0 sources.now.1) }
 {
-    let versions = versions_of(alloc, releases)?;
-    let kept = sources.wish().kept(alloc, name)?;
-    let flags = flags_of(alloc, kept.as_slice(), versions.as_slice())?;
-    let oldest = is_oldest_first(sources, name);
-    let order = tried(alloc, flags.as_slice(), oldest)?;
-    let name = name.copy(alloc)?;
-    let versions = Versions::of(alloc, versions)?;
-    let order = Places::of(alloc, order)?;
+    let list = versions_of(alloc, releases)?;
+    let order = order_of(alloc, sources, name, list.as_slice());
+    let (list, order) = beside(list, order)?;
+    let (order, versions) = beside(order, Versions::of(alloc, list))?;
+    let (facts, name) = beside((versions, order), name.copy(alloc))?;
+    let (versions, order) = facts;
     Ok(NameFacts {
         name,
         versions,

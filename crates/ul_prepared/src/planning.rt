@@ -9,7 +9,7 @@ ghost use Rattle.ul_prepared.specs.Permitted.{IsRising, IsSetOf};
 ghost use Rattle.ul_prepared.specs.Prepared.{AreNodesAt};
 
 use crate::aims::{place_of, release_aims};
-use crate::gathering::Releases;
+use crate::gathering::{Releases, index_of};
 use crate::permitted::Sets;
 use crate::prepared::{NameFacts, Planned};
 use std::alloc::{AllocError, Global};
@@ -17,6 +17,7 @@ use std::collections::HashMap;
 use std::sync::Wait;
 use ul_algebra::Algebra;
 use ul_base::Node;
+use ul_base::owned::{beside, made_from, with_made};
 use ul_region::{Row, Truths, row_of};
 use ul_requirement::Release;
 
@@ -37,8 +38,8 @@ fn rows_of<'a, R: Wait>(
     let mut rows = Vec::with_capacity(alloc, releases.len())?;
     for release in releases {
         let release: &'a Release = release;
-        let row = row_of(rt, alloc, algebra, truths, node, release)?;
-        rows.push(row)?;
+        let row = row_of(rt, alloc, algebra, truths, node, release);
+        rows = with_made(rows, row)?;
     }
     Ok(rows)
 }
@@ -92,9 +93,11 @@ fn planned_at<'a, R: Wait>(
         (map (λ r. r.now) releases.now)) }
 {
     let base = base_of(alloc, index, names, nodes, planned)?;
-    let aims = release_aims(alloc, sets, index, names, nodes, releases)?;
-    let node = planned.node.copy(alloc)?;
-    let rows = rows_of(rt, alloc, algebra, truths, &node, releases)?;
+    let rows = rows_of(rt, alloc, algebra, truths, &planned.node, releases)?;
+    let aims = release_aims(alloc, sets, index, names, nodes, releases);
+    let asked = beside(rows, aims)?;
+    let (kept, node) = beside(asked, planned.node.copy(alloc))?;
+    let (rows, aims) = kept;
     Ok(Planned {
         node,
         base,
@@ -147,16 +150,13 @@ fn own_rows<'a, R: Wait>(
     Ok(made)
 }
 
-/// The nodes with their rows, in the order of the bare ones.
-///
-/// # Errors
-///
-/// Only for want of memory.
-pub(crate) fn planned_nodes<'a, R: Wait>(
+// The nodes with their rows, in the order of the bare ones; `sets` is what was found of specifiers so far.
+fn planned_nodes<'a, R: Wait>(
     rt: &R,
     alloc: Global,
     algebra: &mut Algebra<'_>,
     truths: &mut Truths,
+    sets: &mut Sets<'a>,
     index: &HashMap<Node, usize>,
     names: &[NameFacts],
     releases: &[Releases<'a>],
@@ -164,29 +164,25 @@ pub(crate) fn planned_nodes<'a, R: Wait>(
 ) -> Result<Vec<Planned<'a>>, AllocError>
     requires truths { All (IsDiagram algebra.old) truths.old.marks.items }
     requires rising { All IsRising names.now }
+    requires sets { All (IsSetOf names.now) sets.old.list.items }
     requires named { All (IsNamed names.now) bare.now }
     ensures grown { IsGrown algebra.old truths.old.marks.items algebra.new truths.new.marks.items }
     ensures same { IfOk result (λ v. AreSameNodes v.items bare.now) }
     ensures rows { IfOk result (λ v. All
         (HasOwnRows algebra.new names.now bare.now truths.new.marks.items releases.now) v.items) }
 {
-    let mut sets = Sets::new(alloc);
     let mut nodes = Vec::with_capacity(alloc, bare.len())?;
     for one in bare {
         let made = own_rows(
-            rt, alloc, algebra, truths, &mut sets, index, names, bare, releases, one,
-        )?;
-        nodes.push(made)?;
+            rt, alloc, algebra, truths, sets, index, names, bare, releases, one,
+        );
+        nodes = with_made(nodes, made)?;
     }
     Ok(nodes)
 }
 
-/// The places of nodes, in order.
-///
-/// # Errors
-///
-/// Only for want of memory.
-pub(crate) fn places_of(
+// The places of nodes, in order.
+fn places_of(
     alloc: Global,
     index: &HashMap<Node, usize>,
     names: &[NameFacts],
@@ -201,4 +197,38 @@ pub(crate) fn places_of(
         places.push(place as u64)?;
     }
     Ok(places)
+}
+
+/// The nodes with their rows, in the order of the bare ones, and the places of those that a region starts from.
+///
+/// # Errors
+///
+/// Only for want of memory.
+pub(crate) fn placed_nodes<'a, R: Wait>(
+    rt: &R,
+    alloc: Global,
+    algebra: &mut Algebra<'_>,
+    truths: &mut Truths,
+    names: &[NameFacts],
+    releases: &[Releases<'a>],
+    bare: &[Planned<'_>],
+    starts: &[Node],
+) -> Result<(Vec<Planned<'a>>, Vec<u64>), AllocError>
+    requires truths { All (IsDiagram algebra.old) truths.old.marks.items }
+    requires rising { All IsRising names.now }
+    requires named { All (IsNamed names.now) bare.now }
+    ensures grown { IsGrown algebra.old truths.old.marks.items algebra.new truths.new.marks.items }
+    ensures same { IfOk result (λ both. AreSameNodes both.0.items bare.now) }
+    ensures rows { IfOk result (λ both. All
+        (HasOwnRows algebra.new names.now bare.now truths.new.marks.items releases.now) both.0.items) }
+    ensures roots { IfOk result (λ both. AreNodesAt both.0.items both.1.items starts.now) }
+{
+    let index = index_of(alloc, bare)?;
+    let mut sets = Sets::new(alloc);
+    let planned = planned_nodes(
+        rt, alloc, algebra, truths, &mut sets, &index, names, releases, bare,
+    );
+    let (places, nodes) = beside(index, made_from(planned, sets))?;
+    let roots = places_of(alloc, &places, names, nodes.as_slice(), starts);
+    beside(nodes, made_from(roots, places))
 }

@@ -3,11 +3,12 @@ ghost use Rattle.std.specs.Prelude.{◌≡◌, IfOk};
 ghost use Rattle.ul_interner.specs.Known.{Knows};
 ghost use Rattle.ul_prepared.specs.Prepared.{IsPrepared};
 
-use crate::gathering::{Gathered, bare_nodes, gather_all, index_of};
-use crate::planning::{places_of, planned_nodes};
+use crate::gathering::{Gathered, bare_nodes, gather_all};
+use crate::planning::placed_nodes;
 use std::alloc::{AllocError, Global};
 use std::sync::Wait;
 use ul_algebra::{Algebra, Diagram};
+use ul_base::owned::{beside, made_from};
 use ul_base::{Name, Node};
 use ul_index::Catalog;
 use ul_problem::{NeedRows, Places, Versions};
@@ -81,22 +82,23 @@ impl<'a> Prepared<'a> {
             nodes,
             ..
         } = gather_all(alloc, catalog, starts, wish)?;
-        let mut nodes = nodes;
-        nodes.sort()?;
-        let bare = bare_nodes(alloc, names.as_slice(), &places, nodes)?;
-        let index = index_of(alloc, bare.as_slice())?;
+        let bare = bare_nodes(alloc, names.as_slice(), &places, nodes);
+        let (known, bare) = beside((names, releases), made_from(bare, places))?;
+        let (names, releases) = known;
         let mut truths = Truths::new(alloc);
-        let nodes = planned_nodes(
+        let placed = placed_nodes(
             rt,
             alloc,
             algebra,
             &mut truths,
-            &index,
             names.as_slice(),
             releases.as_slice(),
             bare.as_slice(),
-        )?;
-        let roots = places_of(alloc, &index, names.as_slice(), nodes.as_slice(), starts)?;
+            starts,
+        );
+        let (shared, placed) = beside((names, truths), made_from(placed, (releases, bare)))?;
+        let (names, truths) = shared;
+        let (nodes, roots) = placed;
         Ok(Prepared {
             catalog,
             starts,

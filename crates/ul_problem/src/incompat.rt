@@ -5,6 +5,7 @@ ghost use Rattle.ul_problem.specs.Steps.{IsIncompat};
 use crate::term::{Term, Terms};
 use std::alloc::{AllocError, Global};
 use std::marker::Model;
+use ul_base::owned::beside;
 
 // Terms as they are held: up to two, as most steps say them, in place, and more in a list.
 #[derive(Drop)]
@@ -71,8 +72,8 @@ impl Saying {
         match &self.held {
             Held::One([term]) => Ok(Saying::one(term.copy(alloc)?)),
             Held::Two([first, second]) => {
-                let first = first.copy(alloc)?;
-                Ok(Saying::two(first, second.copy(alloc)?))
+                let (first, second) = beside(first.copy(alloc)?, second.copy(alloc))?;
+                Ok(Saying::two(first, second))
             }
             Held::Listed(terms) => Ok(Saying::of(terms.copy(alloc)?)),
         }

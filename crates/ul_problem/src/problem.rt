@@ -9,6 +9,7 @@ use std::alloc::{AllocError, Global};
 use std::marker::Model;
 use std::mem;
 use ul_base::Node;
+use ul_base::owned::{beside, with_one};
 use ul_ranges::Ordinals;
 
 /// A need of a version: a target, and which of its versions meet the need.
@@ -37,12 +38,16 @@ fn only_of<T>(one: [T; 1]) -> T
     only
 }
 
-// The items of an array of two.
-fn both_of<T>(two: [T; 2]) -> (T, T)
-    ensures { two ≡ result.0 ∷ result.1 ∷ [] }
+// The same needs in a list.
+fn listed(alloc: Global, held: HeldNeeds) -> Result<Vec<Need>, AllocError>
+    ensures { IfOk result (λ list. list.items ≡ needs_held held) }
 {
-    let [first, second] = two;
-    (first, second)
+    match held {
+        HeldNeeds::Empty => Ok(Vec::new(alloc)),
+        HeldNeeds::One(one) => Ok(Vec::from_array(alloc, one)?),
+        HeldNeeds::Two(two) => Ok(Vec::from_array(alloc, two)?),
+        HeldNeeds::Listed(list) => Ok(list),
+    }
 }
 
 // Needs with one more.
@@ -51,46 +56,22 @@ fn with_need(alloc: Global, held: HeldNeeds, need: Need) -> Result<HeldNeeds, Al
 {
     match held {
         HeldNeeds::Empty => Ok(HeldNeeds::One([need])),
-        HeldNeeds::One(one) => {
-            let first = only_of(one);
-            Ok(HeldNeeds::Two([first, need]))
-        }
-        HeldNeeds::Two(two) => {
-            let (first, second) = both_of(two);
-            let mut list = Vec::with_capacity(alloc, 4)?;
-            list.push(first)?;
-            list.push(second)?;
-            list.push(need)?;
-            Ok(HeldNeeds::Listed(list))
-        }
-        HeldNeeds::Listed(mut list) => {
-            list.push(need)?;
+        HeldNeeds::One(one) => Ok(HeldNeeds::Two([only_of(one), need])),
+        held => {
+            let (need, list) = beside(need, listed(alloc, held))?;
+            let list = with_one(list, need)?;
             Ok(HeldNeeds::Listed(list))
         }
     }
 }
 
-// The same needs in a list with room for so many, unless they are in a list.
+// The same needs in a list with room for so many.
 fn with_room(alloc: Global, held: HeldNeeds, count: usize) -> Result<HeldNeeds, AllocError>
     ensures { IfOk result (λ h. needs_held h ≡ needs_held held) }
 {
-    match held {
-        HeldNeeds::Empty => Ok(HeldNeeds::Listed(Vec::with_capacity(alloc, count)?)),
-        HeldNeeds::One(one) => {
-            let first = only_of(one);
-            let mut list = Vec::with_capacity(alloc, count)?;
-            list.push(first)?;
-            Ok(HeldNeeds::Listed(list))
-        }
-        HeldNeeds::Two(two) => {
-            let (first, second) = both_of(two);
-            let mut list = Vec::with_capacity(alloc, count)?;
-            list.push(first)?;
-            list.push(second)?;
-            Ok(HeldNeeds::Listed(list))
-        }
-        HeldNeeds::Listed(list) => Ok(HeldNeeds::Listed(list)),
-    }
+    let mut list = listed(alloc, held)?;
+    list.reserve(count.saturating_sub(list.len()))?;
+    Ok(HeldNeeds::Listed(list))
 }
 
 // Puts the number at the target's place in its place, or 0 where there is none.

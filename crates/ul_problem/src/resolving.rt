@@ -7,6 +7,7 @@ ghost use Rattle.ul_problem.specs.Steps.{AreOfOne, AreTermsOf, IsResolvent, reso
 ghost use Rattle.ul_problem.specs.Turns.{turn_of, lone_of, AreLevel, IsPassed};
 
 use crate::incompat::Incompat;
+use crate::saying::written;
 use crate::term::{Term, Terms, same_terms};
 use std::alloc::{AllocError, Global};
 
@@ -202,9 +203,5 @@ fn both_terms(
     } else {
         left.meet(alloc, right)?
     };
-    Ok(if term.always_holds() {
-        None
-    } else {
-        Some(term)
-    })
+    Ok(written(term))
 }

@@ -1,7 +1,9 @@
 //! What a step says.
 ghost use Rattle.std.specs.Prelude.{◌≡◌, ◌∷◌, [], length, slice_get, IfOk};
 ghost use Rattle.ul_problem.specs.Plain.{base_in};
-ghost use Rattle.ul_problem.specs.Terms.{node_of, set_of};
+ghost use Rattle.ul_problem.specs.Problems.{IsWellFormed};
+ghost use Rattle.ul_problem.specs.Terms.{meet_of, node_of, set_of};
+ghost use Rattle.ul_problem.specs.declared.term.Term.TheVariants.{In, NotIn};
 ghost use Rattle.ul_problem.specs.Steps.{AreTermsOf, IsStepWithin, base_or, says, pair_of, with_term, term_to_say};
 
 use crate::incompat::{Incompat, Saying};
@@ -9,6 +11,8 @@ use crate::problem::{NodeFacts, Problem};
 use crate::step::Step;
 use crate::term::{Term, Terms};
 use std::alloc::{AllocError, Global};
+use ul_base::owned::{beside, made_from};
+use ul_ranges::Ordinals;
 
 impl Step {
     /// The incompatibility that the step says, of a step whose places and sets are the problem's.
@@ -17,32 +21,52 @@ impl Step {
         ensures value { IfOk result (λ ts. ts ≡ says problem.now self.now) }
         ensures fits { IfOk result (λ ts. AreTermsOf problem.now ts) }
     {
+        let terms = self.terms(alloc, problem)?;
+        Ok(Incompat::said(terms))
+    }
+
+    // The terms of what the step says.
+    fn terms(&self, alloc: Global, problem: &Problem) -> Result<Saying, AllocError>
+        requires { IsStepWithin problem.now self.now }
+        ensures value { IfOk result (λ ts. ts ≡ says problem.now self.now) }
+        ensures whole { IsWellFormed problem.now }
+    {
         let nodes = problem.nodes();
-        let terms = match self {
+        match self {
             Step::Need {
                 node,
                 versions,
                 target,
                 permitted,
-            } => {
-                let term = Term::In(*node, versions.copy(alloc)?);
-                pair(alloc, term, Term::NotIn(*target, permitted.copy(alloc)?))?
-            }
+            } => implied(alloc, *node, versions, *target, permitted),
             Step::Python { node, versions } => {
-                Saying::one(Term::In(*node, versions.copy(alloc)?))
+                Ok(Saying::one(Term::In(*node, versions.copy(alloc)?)))
             }
             Step::Base { node, versions } => {
-                let term = Term::In(*node, versions.copy(alloc)?);
-                pair(
-                    alloc,
-                    term,
-                    Term::NotIn(base_or_node(nodes, *node), versions.copy(alloc)?),
-                )?
+                implied(alloc, *node, versions, base_or_node(nodes, *node), versions)
             }
-            Step::Cut { terms, .. } => Saying::of(terms.copy(alloc)?),
-        };
-        Ok(Incompat::said(terms))
+            Step::Cut { terms, .. } => Ok(Saying::of(terms.copy(alloc)?)),
+        }
     }
+}
+
+// Not the node at these versions with the target elsewhere than at those that are permitted.
+fn implied(
+    alloc: Global,
+    node: u64,
+    versions: &Ordinals,
+    target: u64,
+    permitted: &Ordinals,
+) -> Result<Saying, AllocError>
+    requires { node ≡ target → length versions.now ≡ length permitted.now }
+    ensures { IfOk result (λ ts. ts ≡ pair_of (In node versions.now) (NotIn target permitted.now)) }
+{
+    let (versions, permitted) = beside(versions.copy(alloc)?, permitted.copy(alloc))?;
+    pair(
+        alloc,
+        Term::In(node, versions),
+        Term::NotIn(target, permitted),
+    )
 }
 
 // The place of a node's base, or the node's own where it has none.
@@ -55,8 +79,8 @@ fn base_or_node(nodes: &[NodeFacts], node: u64) -> u64
     }
 }
 
-// The term, or none where it always holds.
-fn written(term: Term) -> Option<Term>
+/// The term, or none where it always holds.
+pub(crate) fn written(term: Term) -> Option<Term>
     ensures { result ≡ term_to_say term }
 {
     if term.always_holds() {
@@ -92,6 +116,16 @@ fn pair(alloc: Global, term: Term, other: Term) -> Result<Saying, AllocError>
     } else if other.node() < term.node() {
         Ok(listed(alloc, written(other), written(term)))
     } else {
-        Ok(listed(alloc, written(term.meet(alloc, &other)?), None))
+        made_from(met(alloc, &term, &other), (term, other))
     }
+}
+
+// Two terms on one node, met into one.
+fn met(alloc: Global, term: &Term, other: &Term) -> Result<Saying, AllocError>
+    requires nodes { node_of term.now ≡ node_of other.now }
+    requires sizes { length (set_of term.now) ≡ length (set_of other.now) }
+    ensures { IfOk result (λ ts. ts ≡ with_term (term_to_say (meet_of term.now other.now)) []) }
+{
+    let both = term.meet(alloc, other)?;
+    Ok(listed(alloc, written(both), None))
 }

@@ -4,6 +4,7 @@ ghost use Rattle.std.specs.Prelude.{◌≡◌, IfOk};
 use crate::term::Terms;
 use std::alloc::{AllocError, Global};
 use std::marker::Model;
+use ul_base::owned::beside;
 use ul_ranges::Ordinals;
 
 /// A step. It says that no serving selection has all of some terms.
@@ -48,8 +49,7 @@ impl Step {
                 target,
                 permitted,
             } => {
-                let versions = versions.copy(alloc)?;
-                let permitted = permitted.copy(alloc)?;
+                let (versions, permitted) = beside(versions.copy(alloc)?, permitted.copy(alloc))?;
                 Ok(Step::Need {
                     node: *node,
                     versions,

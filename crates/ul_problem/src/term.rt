@@ -5,6 +5,7 @@ ghost use Rattle.ul_problem.specs.Terms.{node_of, set_of, meet_of, join_of, nega
 
 use std::alloc::{AllocError, Global};
 use std::marker::Model;
+use ul_base::owned::with_made;
 use ul_ranges::Ordinals;
 
 /// What is said of a selection: `In`, that it has the node at a version of the set; `NotIn`, that this isn't so.
@@ -70,7 +71,7 @@ fn copied(alloc: Global, terms: &[Term]) -> Result<Vec<Term>, AllocError>
 {
     let mut copies = Vec::with_capacity(alloc, terms.len())?;
     for term in terms {
-        copies.push(term.copy(alloc)?)?;
+        copies = with_made(copies, term.copy(alloc))?;
     }
     Ok(copies)
 }

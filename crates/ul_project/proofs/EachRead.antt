@@ -1,7 +1,8 @@
 -- What was read, before what is left to read; and parts that are refused.
-use Rattle.std.proofs.Common.{◌≡◌, ◌++◌, ◌+◌, ℕ, List, [], ◌∷◌, refl, ap, sym, ◌∙◌, append_assoc, append-nil}
+use Rattle.std.proofs.Common.{◌≡◌, ◌++◌, ◌+◌, ℕ, List, [], ◌∷◌, refl, ap, sym, append_assoc, append-nil}
 use Rattle.std.specs.Prelude.{Result, Ok, Err}
 use Rattle.ul_project.specs.Answers.{Gives}
+use Rattle.ul_project.specs.Kept.{IsFaultOf}
 use Rattle.ul_project.specs.Results.{◌>>=◌, each_from}
 use Rattle.ul_project.specs.Shapes.{Fault, Reading, not_toml, requirement_fault, shape, unsupported}
 use Rattle.ul_project.specs.declared.fault.ProjectFault.{ProjectFault}
@@ -16,6 +17,21 @@ Gives-err view view' (Requirement path) part whole f h = f (requirement_fault pa
 Gives-err view view' (Unsupported path) part whole f h = f (unsupported path) h
 Gives-err view view' EmptyRegion part whole f h = absurd h
 Gives-err view view' NoMemory part whole f h = tt
+
+-- what refuses a part that was read beside what is kept refuses the whole
+pub read-err : {X Y X' Y' : Type 0} (view : X → Y) (view' : X' → Y') (read : Result X ProjectFault) (fault : ProjectFault) (part : Reading Y) (whole : Reading Y')
+    → IsFaultOf read fault → Gives view read part → ((f : Fault) → part ≡ Err f → whole ≡ Err f) → Gives view' (Err fault) whole
+read-err view view' read NotToml part whole is given refused =
+    let same : read ≡ Err NotToml = is (λ n. cc) in Gives-err view view' NotToml part whole refused (rw same at given)
+read-err view view' read (Shape path) part whole is given refused =
+    let same : read ≡ Err (Shape path) = is (λ n. cc) in Gives-err view view' (Shape path) part whole refused (rw same at given)
+read-err view view' read (Requirement path) part whole is given refused =
+    let same : read ≡ Err (Requirement path) = is (λ n. cc) in Gives-err view view' (Requirement path) part whole refused (rw same at given)
+read-err view view' read (Unsupported path) part whole is given refused =
+    let same : read ≡ Err (Unsupported path) = is (λ n. cc) in Gives-err view view' (Unsupported path) part whole refused (rw same at given)
+read-err view view' read EmptyRegion part whole is given refused =
+    let same : read ≡ Err EmptyRegion = is (λ n. cc) in Gives-err view view' EmptyRegion part whole refused (rw same at given)
+read-err view view' read NoMemory part whole is given refused = tt
 
 -- values found, and then those that are read of the rest
 abbrev pub behind : {B : Type 0} → List B → Reading (List B) → Reading (List B)

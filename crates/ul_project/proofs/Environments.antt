@@ -1,6 +1,6 @@
 -- Environments that were read, and one more.
-use Rattle.std.proofs.Common.{◌≡◌, ◌++◌, ℕ, List, [], ◌∷◌, map, refl, ap, subst, sym, ◌∙◌}
-use Rattle.ul_comparison.specs.Formulas.{Formula, AreFormulas, IsFormula}
+use Rattle.std.proofs.Common.{◌≡◌, ◌++◌, List, [], ◌∷◌, map, refl, ap, subst, sym, ◌∙◌}
+use Rattle.ul_comparison.specs.Formulas.{AreFormulas, IsFormula}
 use Rattle.ul_marker.specs.Views.{marker_view, markers_view}
 use Rattle.ul_marker.specs.declared.marker.Marker.{Marker}
 

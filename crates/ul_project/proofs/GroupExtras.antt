@@ -1,11 +1,10 @@
 -- The extra that a group becomes is a name in its normal form.
-use Rattle.std.proofs.Common.{◌≡◌, ◌++◌, ◌&&◌, ◌||◌, ◌==◌, ℕ, List, [], ◌∷◌, codes, Bool, true, false, Option, Some, None, refl, sym, ap, ◌∙◌, arith, unwrap_or}
-use Rattle.std.proofs.lemmas.Bool.{and_parts, cases_Bool, true≢false}
+use Rattle.std.proofs.Common.{◌≡◌, ◌++◌, ℕ, List, [], ◌∷◌, codes, true, false, Some, refl, sym, ap, ◌∙◌, arith}
+use Rattle.std.proofs.lemmas.Bool.{and_parts}
 use Rattle.std.proofs.lemmas.Bool.Decides.{nat_tests}
 use Rattle.std.specs.Char.{is_ascii_alphanumeric}
 use Rattle.std.specs.List.{list_all}
-use Rattle.std.specs.Str.{str_to_ascii_lowercase}
-use Rattle.ul_base.specs.Names.{single_hyphens, has_ends, is_name, is_name_byte, is_separator, leads_with_separator, name_of, normal_form}
+use Rattle.ul_base.specs.Names.{has_ends, is_name, is_name_byte, is_separator, leads_with_separator, name_of, normal_form}
 use Rattle.ul_base.proofs.ForCallers.{name-is_name, name-normal_form}
 use Rattle.ul_project.specs.Lists.{group_extra}
 

@@ -1,11 +1,11 @@
 -- The names of groups are those of their lists.
-use Rattle.std.proofs.Common.{◌≡◌, ◌++◌, ◌∙◌, ℕ, List, [], ◌∷◌, map, refl, ap, sym, subst, append-nil}
+use Rattle.std.proofs.Common.{◌≡◌, ◌∙◌, List, [], ◌∷◌, map, refl, ap, sym, subst}
 use Rattle.std.specs.List.Sorted.{IsStrictlySortedBy}
 use Rattle.std.specs.Map.{keys_of}
 use Rattle.ul_base.specs.Names.{name_cmp}
 use Rattle.ul_project.specs.GroupLists.{group_of}
 use Rattle.ul_project.specs.Groups.{GroupFields}
-use Rattle.ul_project.specs.Lists.{Named, names_of}
+use Rattle.ul_project.specs.Lists.{Named}
 use Rattle.ul_project.specs.declared.group.GroupEntry.{GroupEntry}
 
 named : (lists : List (Named (List GroupEntry))) → map (λ (g : GroupFields). g.name) (map group_of lists) ≡ keys_of lists

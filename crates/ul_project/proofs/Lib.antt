@@ -1,6 +1,8 @@
 mod TomlReading
 mod Values
 mod EachRead
+mod Chains
+mod Parts
 mod GroupExtras
 mod ExtraMarkers
 mod GroupNames

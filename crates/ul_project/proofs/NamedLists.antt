@@ -1,8 +1,7 @@
 -- Lists that were put in order, before those that are left to read.
-use Rattle.std.proofs.Common.{◌≡◌, ◌&&◌, ◌||◌, ◌∙◌, ℕ, List, [], ◌∷◌, map, fold, Bool, true, false, not, Option, Some, None, refl, ap, sym, is_some, cond}
-use Rattle.std.specs.Prelude.{Result, Ok, Err}
+use Rattle.std.proofs.Common.{◌≡◌, ◌||◌, ℕ, List, [], ◌∷◌, fold, Bool, true, false, Option, Some, refl, ap, sym, is_some, cond}
+use Rattle.std.specs.Prelude.{Ok, Err}
 use Rattle.std.specs.BTreeMap.{is_at}
-use Rattle.std.specs.List.{list_any}
 use Rattle.std.specs.Map.{lookup}
 use Rattle.toml.specs.Data.{Data, Members, no_members, member}
 use Rattle.ul_base.specs.Names.{name_cmp, name_of}

@@ -1,12 +1,10 @@
 -- The truths of environments and of the region.
-use Rattle.std.proofs.Common.{◌≡◌, ◌&&◌, ◌||◌, ◌==◌, ◌∙◌, ℕ, suc, List, [], ◌∷◌, map, length, Bool, true, false, true≢false, refl, ap, ap₂, sym, subst, ◌++◌, ◌+◌, ◌<◌, drop, get_or, append_assoc}
+use Rattle.std.proofs.Common.{◌≡◌, ◌&&◌, ◌||◌, ◌==◌, ◌∙◌, ℕ, List, [], ◌∷◌, map, length, Bool, true, false, true≢false, refl, ap, ap₂, sym, subst, ◌++◌, ◌+◌, ◌<◌, drop, get_or, append_assoc}
 use Rattle.std.proofs.lemmas.List.{drop_more, map-append}
 use Rattle.ul_comparison.specs.Formulas.{AreFormulas}
 use Rattle.ul_marker.specs.Views.{markers_view}
 use Rattle.ul_tree.specs.Joining.{truths_of}
 use Rattle.std.specs.List.{list_any}
-use Rattle.ul_comparison.specs.Formulas.{Formula}
-use Rattle.ul_comparison.specs.Truth.{marker_holds}
 use Rattle.ul_marker.specs.Views.{marker_view}
 use Rattle.ul_comparison.specs.Worlds.{WorldFields, IsWorld}
 use Rattle.ul_marker.specs.declared.marker.Marker.{Marker}

@@ -14,12 +14,17 @@ use Rattle.ul_tree.specs.Joining.{truths_of}
 use Rattle.ul_tree.specs.declared.tree.Tree.{Tree}
 use Rattle.ul_project.specs.Fields.{ProjectFields}
 use Rattle.ul_project.specs.Headline.{IsOf, IsNowhere}
-use Rattle.ul_project.specs.ProjectFile.{FileFields}
+use Rattle.ul_project.specs.ProjectFile.{FileFields, RequiredFields}
 use Rattle.ul_project.specs.Region.{holds_bare}
-use Rattle.ul_project.specs.Shapes.{Fault, Reading, not_toml, requirement_fault, shape, unsupported}
+use Rattle.ul_project.specs.Shapes.{Reading, not_toml, requirement_fault, shape, unsupported}
 use Rattle.ul_project.specs.Toml.{items_list}
 use Rattle.ul_project.specs.declared.fault.ProjectFault.{ProjectFault}
 use Rattle.ul_project.specs.declared.fault.ProjectFault.TheVariants.{NotToml, Shape, Requirement, Unsupported, EmptyRegion, NoMemory}
+use Rattle.ul_project.specs.declared.path.ArrayPlace.{ArrayPlace}
+use Rattle.ul_project.specs.declared.path.ArrayPlace.TheVariants as lent
+use Rattle.ul_project.specs.declared.path.Place.{Place}
+use Rattle.ul_project.specs.declared.path.Place.TheVariants as place
+use Rattle.ul_project.specs.declared.reading.Required.{Required}
 
 -- the result is the definition's answer; want of memory says nothing of it, and no reader judges the region
 abbrev pub Gives : {X Y : Type 0} → (X → Y) → Result X ProjectFault → Reading Y → Type 0
@@ -66,3 +71,13 @@ IsAnswerOf file (Err (Requirement path)) = ⊥
 IsAnswerOf file (Err (Unsupported path)) = ⊥
 IsAnswerOf file (Err EmptyRegion) = IsNowhere file
 IsAnswerOf file (Err NoMemory) = Unit {0}
+
+-- the place of an array, whose name is lent
+abbrev pub place_of : ArrayPlace → Place
+place_of (lent.Key k) = place.Key k
+place_of (lent.Extra name) = place.Extra name.now
+place_of (lent.Group name) = place.Group name.now
+
+-- what a file requires
+abbrev pub required_view : Required → RequiredFields
+required_view r = record { requirements = r.requirements.items; extras = r.extras.entries; groups = r.groups.items }

@@ -1,5 +1,5 @@
 -- The dependency groups of a project file (PEP 735).
-use Rattle.std.specs.Prelude.{ℕ, suc, ◌==◌, List, codes, map, Option, Some, None, Result, Ok, Err, if◌then◌else◌}
+use Rattle.std.specs.Prelude.{ℕ, suc, ◌==◌, List, codes, map, Option, Some, None, Ok, if◌then◌else◌}
 use Rattle.toml.specs.Data.{Data, string, table, Members, no_members, member, get_member}
 use Rattle.ul_base.specs.Names.{name_of}
 use Rattle.ul_project.specs.Groups.{GroupFields}

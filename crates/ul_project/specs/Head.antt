@@ -1,5 +1,5 @@
 -- The name, the version and the interpreters of a project (PEP 621).
-use Rattle.std.specs.Prelude.{ℕ, List, [], ◌∷◌, ◌||◌, codes, Bool, true, false, Option, Some, None, Result, Ok, Err, if◌then◌else◌}
+use Rattle.std.specs.Prelude.{ℕ, List, [], ◌||◌, codes, Bool, true, false, Option, Ok, Err, if◌then◌else◌}
 use Rattle.std.specs.List.{list_all, list_any}
 use Rattle.std.specs.Str.{bytes_eq}
 use Rattle.toml.specs.Data.{Data, string, Members, get_member}
@@ -48,6 +48,11 @@ dynamic_at value = optional_items_at (at_key key.Dynamic) value >>= dynamic_of
 unfoldable pub python_at : Option Data → Reading (List ClauseFields)
 python_at value =
     text_or [] (at_key key.RequiresPython) value >>= λ text. or_fault (shape (at_key key.RequiresPython)) (specifiers_of text)
+
+-- the interpreters that `project` asks for, where no field that is needed is left to a build
+abbrev pub python_in : Members → Reading (List ClauseFields)
+python_in project =
+    dynamic_at (get_member (codes "dynamic") project) >>= λ _. python_at (get_member (codes "requires-python") project)
 
 -- the name, the version and the interpreters
 pub record HeadFields : Type 0 where

@@ -14,5 +14,6 @@ pub mod Fields
 pub mod Groups
 pub mod Paths
 pub mod Answers
+pub mod Kept
 pub mod Laws
 pub mod Vectors

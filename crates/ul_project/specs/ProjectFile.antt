@@ -1,6 +1,6 @@
 -- A project file: a `pyproject.toml` (PEP 621, PEP 735), with keys of uv. The checks are made in the order in which
 -- they stand here, and the first that fails answers. Other keys and tables are passed over.
-use Rattle.std.specs.Prelude.{ℕ, List, [], ◌∷◌, ◌++◌, codes, map, false, Result, Ok, Err}
+use Rattle.std.specs.Prelude.{ℕ, List, [], ◌∷◌, ◌++◌, codes, map, false, Ok}
 use Rattle.std.specs.List.Sorted.{IsStrictlySortedBy}
 use Rattle.toml.specs.Data.{Members, get_member}
 use Rattle.ul_base.specs.Names.{name_cmp}
@@ -12,7 +12,7 @@ use Rattle.ul_project.specs.Fields.{ProjectFields}
 use Rattle.ul_project.specs.GroupLists.{groups_at}
 use Rattle.ul_project.specs.Groups.{GroupFields}
 use Rattle.ul_project.specs.Head.{HeadFields, head_in}
-use Rattle.ul_project.specs.Lists.{names_of}
+use Rattle.ul_project.specs.Lists.{Named, names_of}
 use Rattle.ul_project.specs.Requirements.{requirements_at}
 use Rattle.ul_project.specs.Results.{◌>>=◌, or_fault}
 use Rattle.ul_project.specs.Settings.{SettingsFields, settings_in}
@@ -72,4 +72,31 @@ project_with region file = record {
   groups = file.groups;
   constraints = file.settings.constraints;
   overrides = file.settings.overrides;
+}
+
+-- ---- its parts
+
+-- what a document and its table `project` require: the requirements, the lists of the extras, and the groups
+pub record RequiredFields : Type 0 where
+  pub requirements : List RequirementFields
+  pub extras : List (Named (List RequirementFields))
+  pub groups : List GroupFields
+
+-- what they require, in the order of the checks
+unfoldable pub required_in : (document project : Members) → Reading RequiredFields
+required_in document project = do
+  dependencies ← requirements_at (Key key.Dependencies) (get_member (codes "dependencies") project)
+  extras ← extras_at (get_member (codes "optional-dependencies") project)
+  groups ← groups_at (names_of extras) (get_member (codes "dependency-groups") document)
+  Ok (record { requirements = dependencies; extras = extras; groups = groups })
+
+-- the file of these parts
+abbrev pub file_with : HeadFields → RequiredFields → SettingsFields → FileFields
+file_with head required settings = record {
+  head = head;
+  requirements = required.requirements ++ extra_requirements required.extras;
+  extras = names_of required.extras;
+  sizes = map extra_size required.extras;
+  groups = required.groups;
+  settings = settings;
 }

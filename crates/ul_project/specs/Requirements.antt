@@ -1,5 +1,5 @@
 -- Lists of requirements (PEP 508, PEP 621).
-use Rattle.std.specs.Prelude.{ℕ, List, [], ◌∷◌, Bool, true, false, Option, Some, None, Result, Ok, Err, ◌||◌, if◌then◌else◌}
+use Rattle.std.specs.Prelude.{ℕ, List, [], ◌∷◌, Bool, true, false, Option, Some, None, Ok, Err, ◌||◌, if◌then◌else◌}
 use Rattle.toml.specs.Data.{Data}
 use Rattle.ul_comparison.specs.Formulas.{Formula}
 use Rattle.ul_marker.specs.Parts.{asks_extra}
@@ -7,7 +7,7 @@ use Rattle.ul_requirement.specs.Fields.{RequirementFields}
 use Rattle.ul_requirement.specs.Reading as grammar
 use Rattle.ul_requirement.specs.Reading.{reading_of}
 use Rattle.ul_project.specs.Results.{◌>>=◌, each_from}
-use Rattle.ul_project.specs.Shapes.{Reading, optional_items_at, requirement_fault, shape, text_at, unsupported}
+use Rattle.ul_project.specs.Shapes.{Reading, optional_items_at, requirement_fault, text_at, unsupported}
 use Rattle.ul_project.specs.declared.path.Place.{Place}
 use Rattle.ul_project.specs.declared.path.ProjectPath.{ProjectPath}
 use Rattle.ul_project.specs.declared.path.ProjectPath.TheVariants.{Whole, Entry}

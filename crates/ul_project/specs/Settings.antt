@@ -1,5 +1,5 @@
 -- What a project file asks of a resolver under `tool.uv`.
-use Rattle.std.specs.Prelude.{ℕ, List, [], ◌∷◌, codes, Option, Some, None, Result, Ok, Err, if◌then◌else◌}
+use Rattle.std.specs.Prelude.{ℕ, List, [], ◌∷◌, codes, Option, Some, None, Ok, Err, if◌then◌else◌}
 use Rattle.std.specs.Str.{bytes_eq}
 use Rattle.toml.specs.Data.{Data, string, Members, get_member}
 use Rattle.ul_comparison.specs.Formulas.{Formula}
@@ -17,7 +17,7 @@ use Rattle.ul_project.specs.declared.path.Place.TheVariants.{Key}
 use Rattle.ul_project.specs.declared.path.ProjectKey.{ProjectKey}
 use Rattle.ul_project.specs.declared.path.ProjectKey.TheVariants as key
 use Rattle.ul_project.specs.declared.path.ProjectPath.{ProjectPath}
-use Rattle.ul_project.specs.declared.path.ProjectPath.TheVariants.{Whole, Entry}
+use Rattle.ul_project.specs.declared.path.ProjectPath.TheVariants.{Entry}
 
 -- ---- tables
 
@@ -97,6 +97,14 @@ unfoldable pub strategy_at : Option Data → Reading Strategy
 strategy_at None = Ok Fewest
 strategy_at (Some (string word)) = or_fault (unsupported (at_key key.ForkStrategy)) (strategy_of word)
 strategy_at (Some other) = Err (unsupported (at_key key.ForkStrategy))
+
+-- which versions are tried first, and when a region is split; which pre-releases count is looked at between them
+unfoldable pub choices_in : Members → Reading (Mode × Strategy)
+choices_in uv = do
+  mode ← mode_at (get_member (codes "resolution") uv)
+  _ ← prerelease_at (get_member (codes "prerelease") uv)
+  strategy ← strategy_at (get_member (codes "fork-strategy") uv)
+  Ok (mode, strategy)
 
 -- ---- all of them
 

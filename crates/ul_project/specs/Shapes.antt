@@ -1,15 +1,11 @@
 -- The faults of a project file, and values of some shape.
-use Rattle.std.specs.Prelude.{ℕ, List, [], ◌∷◌, codes, Bool, true, false, Option, Some, None, Result, Ok, Err, if◌then◌else◌}
-use Rattle.std.specs.List.{list_any}
-use Rattle.std.specs.Str.{bytes_eq}
-use Rattle.toml.specs.Data.{Data, string, array, table, Items, Members, no_members}
-use Rattle.ul_project.specs.Results.{◌>>=◌}
+use Rattle.std.specs.Prelude.{ℕ, List, [], Option, Some, None, Result, Ok, Err}
+use Rattle.toml.specs.Data.{Data, string, array, table, Members, no_members}
 use Rattle.ul_project.specs.Toml.{items_list}
-use Rattle.ul_project.specs.declared.path.Place.{Place}
 use Rattle.ul_project.specs.declared.path.Place.TheVariants.{Key}
 use Rattle.ul_project.specs.declared.path.ProjectKey.{ProjectKey}
 use Rattle.ul_project.specs.declared.path.ProjectPath.{ProjectPath}
-use Rattle.ul_project.specs.declared.path.ProjectPath.TheVariants.{Whole, Entry}
+use Rattle.ul_project.specs.declared.path.ProjectPath.TheVariants.{Whole}
 
 -- why bytes are no project
 pub data Fault : Type 0 where

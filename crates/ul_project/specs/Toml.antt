@@ -1,7 +1,7 @@
 -- What stands in a TOML document.
 use Rattle.std.specs.Prelude.{ℕ, List, [], ◌∷◌, Bool, true, false, Option, Some, None, if◌then◌else◌}
 use Rattle.std.specs.Str.{is_utf8}
-use Rattle.toml.specs.Data.{Data, array, table, Items, no_items, item, Members, no_members, member}
+use Rattle.toml.specs.Data.{Data, array, table, Items, no_items, item, Members, no_members}
 use Rattle.toml.specs.Parse.{parse_document}
 
 -- the document that the bytes are, where `toml` reads them

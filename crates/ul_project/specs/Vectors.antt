@@ -1,6 +1,6 @@
 -- Worked examples: what project files say, and the first of two faults.
-use Rattle.std.specs.Prelude.{◌≡◌, ℕ, List, [], ◌∷◌, codes, Bool, true, false, Option, Some, None, Result, Ok, Err, option_map}
-use Rattle.ul_version.specs.Fields.{Fields, plain}
+use Rattle.std.specs.Prelude.{◌≡◌, ℕ, List, [], ◌∷◌, codes, true, false, Option, Some, None, Ok, Err}
+use Rattle.ul_version.specs.Fields.{plain}
 use Rattle.ul_specifier.specs.Clauses.{ClauseFields}
 use Rattle.ul_specifier.specs.declared.clause.Op.TheVariants.{AtLeast}
 use Rattle.ul_comparison.specs.Formulas.{Formula, all, extra, text, more, none}
@@ -9,7 +9,7 @@ use Rattle.ul_comparison.specs.declared.variable.Variable.TheVariants.{OsName}
 use Rattle.ul_requirement.specs.Fields.{RequirementFields}
 use Rattle.ul_requirement.specs.declared.wish.Mode.TheVariants.{Highest, Lowest}
 use Rattle.ul_requirement.specs.declared.wish.Strategy.TheVariants.{Fewest, Deep}
-use Rattle.ul_project.specs.ProjectFile.{FileFields, file_of}
+use Rattle.ul_project.specs.ProjectFile.{file_of}
 use Rattle.ul_project.specs.Region.{is_supported}
 use Rattle.ul_project.specs.Settings.{SettingsFields}
 use Rattle.ul_project.specs.Shapes.{at_key, not_toml, requirement_fault, shape, unsupported}

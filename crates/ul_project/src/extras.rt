@@ -12,14 +12,16 @@ ghost use Rattle.ul_project.specs.Extras as Extras;
 ghost use Rattle.ul_project.specs.Lists.{names_of};
 
 use crate::lists::{NamedList, are_names, ordered_lists};
+use crate::path::ArrayPlace;
 use crate::requirements::requirements_at;
 use crate::shapes::{at_key, optional_table_at};
-use crate::{Place, ProjectFault, ProjectKey};
+use crate::{ProjectFault, ProjectKey};
 use std::alloc::{AllocError, Global};
 use std::collections::BTreeMap;
 use std::marker::Model;
 use toml::Value;
 use ul_base::Name;
+use ul_base::owned::{beside, with_one};
 use ul_marker::Marker;
 use ul_requirement::Requirement;
 
@@ -48,8 +50,7 @@ impl NamedList for Requirements {
     ghost list_at = { extra_list_at };
 
     fn read(alloc: Global, name: &Name, value: &Value) -> Result<Requirements, ProjectFault> {
-        let place = Place::Extra(name.copy(alloc)?);
-        let list = requirements_at(alloc, &place, Some(value))?;
+        let list = requirements_at(alloc, ArrayPlace::Extra(name), Some(value))?;
         Ok(Requirements { list })
     }
 }
@@ -62,11 +63,13 @@ pub(crate) fn extras_at(
 ) -> Result<BTreeMap<Name, Requirements>, ProjectFault>
     ensures { Gives (λ m. m.entries) result (Extras.extras_at (value_view value.entry)) }
 {
-    let none: BTreeMap<Name, Requirements> = BTreeMap::new(alloc);
     let Some(table) = optional_table_at(ProjectKey::OptionalDependencies, value)? else {
-        return Ok(none);
+        return Ok(BTreeMap::new(alloc));
     };
-    if !are_names(alloc, &none, table)? {
+    let none: BTreeMap<Name, Requirements> = BTreeMap::new(alloc);
+    let named = are_names(alloc, &none, table);
+    drop(none);
+    if !named? {
         return Err(ProjectFault::Shape(at_key(ProjectKey::OptionalDependencies)));
     }
     let lists = ordered_lists(alloc, ProjectKey::OptionalDependencies, table)?;
@@ -78,9 +81,9 @@ fn all_of(alloc: Global, left: Marker, right: Marker) -> Result<Marker, AllocErr
     ensures { IfOk result (λ m. Some (marker_view m)
         ≡ Extras.joined_markers (Some (marker_view left)) (Some (marker_view right))) }
 {
-    let mut parts = Vec::new(alloc);
-    parts.push(left)?;
-    parts.push(right)?;
+    let parts = with_one(Vec::new(alloc), left);
+    let (right, parts) = beside(right, parts)?;
+    let parts = with_one(parts, right)?;
     Ok(Marker::All(parts))
 }
 
@@ -115,8 +118,30 @@ fn extra_marker(alloc: Global, name: &Name) -> Result<Option<Marker>, AllocError
     }))
 }
 
-// A requirement of an extra, as the project's.
-fn of_extra(alloc: Global, name: &Name, requirement: Requirement) -> Result<Requirement, AllocError>
+// A marker joined with `extra == 'NAME'`.
+fn marker_of_extra(
+    alloc: Global,
+    name: &Name,
+    marker: Option<Marker>,
+) -> Result<Option<Marker>, AllocError>
+    requires { MayBeFormula (option_map marker_view marker) }
+    ensures marker { IfOk result (λ m. option_map marker_view m
+        ≡ Extras.joined_markers (option_map marker_view marker) (Extras.extra_marker name.now)) }
+    ensures valid { IfOk result (λ m. MayBeFormula (option_map marker_view m)) }
+{
+    let (marker, extra) = beside(marker, extra_marker(alloc, name))?;
+    let marker = joined_markers(alloc, marker, extra)?;
+    Ok(marker)
+}
+
+/// A requirement of an extra, as the project's: `extra == 'NAME'` is joined to its marker.
+///
+/// The only error is want of memory.
+pub fn of_extra(
+    alloc: Global,
+    name: &Name,
+    requirement: Requirement,
+) -> Result<Requirement, AllocError>
     ensures { IfOk result (λ q. q ≡ Extras.of_extra name.now requirement) }
 {
     let Requirement {
@@ -125,29 +150,15 @@ fn of_extra(alloc: Global, name: &Name, requirement: Requirement) -> Result<Requ
         specifiers,
         marker,
     } = requirement;
-    let extra = extra_marker(alloc, name)?;
-    let marker = joined_markers(alloc, marker, extra)?;
+    let marker = marker_of_extra(alloc, name, marker);
+    let (kept, marker) = beside((target, extras, specifiers), marker)?;
+    let (target, extras, specifiers) = kept;
     Ok(Requirement {
         name: target,
         extras,
         specifiers,
         marker,
     })
-}
-
-// How many requirements each extra has.
-pub(crate) fn sizes(
-    alloc: Global,
-    lists: &BTreeMap<Name, Requirements>,
-) -> Result<Vec<u64>, AllocError>
-    ensures { IfOk result (λ v. v.items ≡ map Extras.extra_size lists.now.entries) }
-{
-    let mut sizes = Vec::new(alloc);
-    for (name, list) in lists.iter() {
-        let _name: &Name = name;
-        sizes.push(list.list.as_slice().len() as u64)?;
-    }
-    Ok(sizes)
 }
 
 // Puts the requirements of an extra, as the project's, behind others.
@@ -166,22 +177,44 @@ fn add_list(
     Ok(())
 }
 
-// Puts the requirements of all extras, as the project's, behind others, and answers the extras.
-pub(crate) fn add_lists(
+// Puts the requirements of all extras, as the project's, behind others; answers the extras, and how many requirements
+// each has.
+fn add_lists(
     alloc: Global,
     requirements: &mut Vec<Requirement>,
     lists: BTreeMap<Name, Requirements>,
-) -> Result<Vec<Name>, AllocError>
+) -> Result<(Vec<Name>, Vec<u64>), AllocError>
     ensures requirements { OnOk result (requirements.new.items
         ≡ requirements.old.items ++ Extras.extra_requirements lists.entries) }
-    ensures extras { IfOk result (λ v. v.items ≡ names_of lists.entries) }
-    ensures rises { IfOk result (λ v. IsStrictlySortedBy name_cmp v.items) }
+    ensures extras { IfOk result (λ t. t.0.items ≡ names_of lists.entries) }
+    ensures sizes { IfOk result (λ t. t.1.items ≡ map Extras.extra_size lists.entries) }
+    ensures rises { IfOk result (λ t. IsStrictlySortedBy name_cmp t.0.items) }
 {
     let _size = lists.len();
     let mut extras = Vec::new(alloc);
+    let mut sizes = Vec::new(alloc);
     for (name, list) in lists {
+        sizes.push(list.list.len() as u64)?;
         add_list(alloc, requirements, &name, list.list)?;
         extras.push(name)?;
     }
-    Ok(extras)
+    Ok((extras, sizes))
+}
+
+/// Requirements with those of all extras, as the project's, behind them; the extras, and how many requirements each has.
+pub(crate) fn with_extras(
+    alloc: Global,
+    requirements: Vec<Requirement>,
+    lists: BTreeMap<Name, Requirements>,
+) -> Result<(Vec<Requirement>, Vec<Name>, Vec<u64>), AllocError>
+    ensures requirements { IfOk result (λ t. t.0.items ≡ requirements.items ++ Extras.extra_requirements lists.entries) }
+    ensures extras { IfOk result (λ t. t.1.items ≡ names_of lists.entries) }
+    ensures sizes { IfOk result (λ t. t.2.items ≡ map Extras.extra_size lists.entries) }
+    ensures rises { IfOk result (λ t. IsStrictlySortedBy name_cmp t.1.items) }
+{
+    let mut requirements = requirements;
+    let added = add_lists(alloc, &mut requirements, lists);
+    let (requirements, added) = beside(requirements, added)?;
+    let (extras, sizes) = added;
+    Ok((requirements, extras, sizes))
 }

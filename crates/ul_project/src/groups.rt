@@ -10,16 +10,21 @@ ghost use Rattle.ul_project.specs.Lists.{names_of};
 ghost use Rattle.ul_project.specs.Results.{each_from, or_fault};
 ghost use Rattle.ul_project.specs.Shapes.{shape};
 ghost use Rattle.ul_project.specs.Toml.{items_list};
+ghost use Rattle.ul_project.specs.declared.path.Place.{Place};
+ghost use Rattle.ul_project.specs.declared.path.ProjectPath.{ProjectPath};
 
 use crate::extras::Requirements;
+use crate::kept::with_read;
 use crate::lists::{NamedList, are_names, ordered_lists};
+use crate::path::ArrayPlace;
 use crate::requirements::requirement_at;
 use crate::shapes::{at_key, items_at, optional_table_at, value_at};
-use crate::{Group, GroupEntry, Place, ProjectFault, ProjectKey, ProjectPath};
+use crate::{Group, GroupEntry, ProjectFault, ProjectKey};
 use std::alloc::{AllocError, Global};
 use std::collections::BTreeMap;
 use std::marker::Model;
 use toml::{Table, Value};
+use ul_base::owned::with_one;
 use ul_base::{Name, NameFault};
 
 /// The entries of a group, which contracts see as their list.
@@ -80,10 +85,7 @@ fn include_at(alloc: Global, group: &Name, entry: u64, table: &Table) -> Result<
 {
     match included(alloc, table)? {
         Some(name) => Ok(name),
-        None => {
-            let place = Place::Group(group.copy(alloc)?);
-            Err(ProjectFault::Shape(ProjectPath::Entry(place, entry)))
-        }
+        None => Err(ProjectFault::Shape(ArrayPlace::Group(group).entry(alloc, entry)?)),
     }
 }
 
@@ -103,8 +105,7 @@ fn group_entry_at(
             Ok(GroupEntry::Include(name))
         }
         value => {
-            let place = Place::Group(group.copy(alloc)?);
-            let requirement = requirement_at(alloc, &place, entry, value)?;
+            let requirement = requirement_at(alloc, ArrayPlace::Group(group), entry, value)?;
             Ok(GroupEntry::Needs(requirement))
         }
     }
@@ -122,8 +123,7 @@ fn group_entries(
     let mut list = Vec::new(alloc);
     let mut number: u64 = 0;
     for item in items {
-        let entry = group_entry_at(alloc, group, number, item)?;
-        list.push(entry)?;
+        list = with_read(list, group_entry_at(alloc, group, number, item))?;
         number += 1;
     }
     Ok(list)
@@ -136,8 +136,7 @@ impl NamedList for Entries {
 
     #[tactic(auto, unfolding(crate::specs::GroupLists::group_entries_at))]
     fn read(alloc: Global, name: &Name, value: &Value) -> Result<Entries, ProjectFault> {
-        let place = Place::Group(name.copy(alloc)?);
-        let items = items_at(alloc, &place, Some(value))?;
+        let items = items_at(alloc, ArrayPlace::Group(name), Some(value))?;
         let list = group_entries(alloc, name, items)?;
         Ok(Entries { list })
     }
@@ -171,10 +170,11 @@ fn groups_of(alloc: Global, lists: BTreeMap<Name, Entries>) -> Result<Vec<Group>
     let _size = lists.len();
     let mut groups = Vec::new(alloc);
     for (name, entries) in lists {
-        groups.push(Group {
+        let group = Group {
             name,
             entries: entries.list,
-        })?;
+        };
+        groups = with_one(groups, group)?;
     }
     Ok(groups)
 }

@@ -7,8 +7,10 @@ ghost use Rattle.ul_project.specs.Answers.{Gives, value_view};
 ghost use Rattle.ul_project.specs.Head as spec;
 ghost use Rattle.ul_project.specs.Toml.{items_list};
 
+use crate::kept::read_beside;
+use crate::path::ArrayPlace;
 use crate::shapes::{at_key, optional_items_at, text_at, text_or, value_at};
-use crate::{Place, ProjectFault, ProjectKey};
+use crate::{ProjectFault, ProjectKey};
 use std::alloc::Global;
 use std::marker::Model;
 use toml::{Table, Value};
@@ -111,7 +113,7 @@ fn some_needed(items: &[Value]) -> bool
 fn dynamic_at(alloc: Global, value: Option<&Value>) -> Result<(), ProjectFault>
     ensures { Gives (λ _. tt) result (spec.dynamic_at (value_view value.entry)) }
 {
-    let items = optional_items_at(alloc, &Place::Key(ProjectKey::Dynamic), value)?;
+    let items = optional_items_at(alloc, ArrayPlace::Key(ProjectKey::Dynamic), value)?;
     if !are_texts(items) {
         return Err(ProjectFault::Shape(at_key(ProjectKey::Dynamic)));
     }
@@ -134,15 +136,26 @@ fn python_at(alloc: Global, value: Option<&Value>) -> Result<Specifiers, Project
     }
 }
 
+// The interpreters that `project` asks for, where no needed field is left to a build.
+fn python_in(alloc: Global, project: &Table) -> Result<Specifiers, ProjectFault>
+    ensures { Gives (λ s. s) result (spec.python_in (table_view project.now)) }
+{
+    dynamic_at(alloc, value_at(project, "dynamic"))?;
+    let python = python_at(alloc, value_at(project, "requires-python"))?;
+    Ok(python)
+}
+
 // What `project` says of them, in the order of the checks.
 #[tactic(auto, unfolding(crate::specs::Head::head_in))]
 pub(crate) fn head_in(alloc: Global, project: &Table) -> Result<Head, ProjectFault>
     ensures { Gives (λ h. h) result (spec.head_in (table_view project.now)) }
 {
     let name = name_at(alloc, value_at(project, "name"))?;
-    let version = version_at(alloc, value_at(project, "version"))?;
-    dynamic_at(alloc, value_at(project, "dynamic"))?;
-    let python = python_at(alloc, value_at(project, "requires-python"))?;
+    let version = version_at(alloc, value_at(project, "version"));
+    let (name, version) = read_beside(name, version)?;
+    let python = python_in(alloc, project);
+    let (kept, python) = read_beside((name, version), python)?;
+    let (name, version) = kept;
     Ok(Head {
         name,
         version,

@@ -6,6 +6,7 @@ mod fault;
 mod group;
 mod groups;
 mod head;
+mod kept;
 pub mod laws;
 mod lists;
 mod path;
@@ -16,7 +17,7 @@ mod requirements;
 mod settings;
 mod shapes;
 
-pub use extras::joined_markers;
+pub use extras::{joined_markers, of_extra};
 pub use fault::ProjectFault;
 pub use group::{Group, GroupEntry};
 pub use lists::group_extra;

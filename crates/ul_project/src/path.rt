@@ -1,6 +1,7 @@
 //! Places of a project file that are refused.
 
 ghost use Rattle.std.specs.Prelude.{◌≡◌, IfOk, string_bytes};
+ghost use Rattle.ul_project.specs.Answers.{place_of};
 ghost use Rattle.ul_project.specs.Paths.{key_text, path_text, place_text};
 
 use std::alloc::{AllocError, Global};
@@ -68,6 +69,16 @@ pub enum Place {
     Group(Name),
 }
 
+/// The place of an array that is read: a [`Place`] whose name is lent.
+///
+/// Contracts see it as the place, `place_of`.
+#[derive(Clone, Copy)]
+pub(crate) enum ArrayPlace<'a> {
+    Key(ProjectKey),
+    Extra(&'a Name),
+    Group(&'a Name),
+}
+
 /// A path of a project file: a place, or an entry of the array there. Entries count from 0.
 #[derive(PartialEq, Eq, Debug, Drop)]
 pub enum ProjectPath {
@@ -130,6 +141,35 @@ impl Place {
             Place::Group(name) => group_text(alloc, name)?,
         };
         Ok(text)
+    }
+}
+
+impl<'a> ArrayPlace<'a> {
+    // The place, with a name of its own.
+    fn place(self, alloc: Global) -> Result<Place, AllocError>
+        ensures { IfOk result (λ p. p ≡ place_of self.entry) }
+    {
+        match self {
+            ArrayPlace::Key(key) => Ok(Place::Key(key)),
+            ArrayPlace::Extra(name) => Ok(Place::Extra(name.copy(alloc)?)),
+            ArrayPlace::Group(name) => Ok(Place::Group(name.copy(alloc)?)),
+        }
+    }
+
+    /// The path of the array.
+    pub(crate) fn whole(self, alloc: Global) -> Result<ProjectPath, AllocError>
+        ensures { IfOk result (λ p. p ≡ ProjectPath.Whole (place_of self.entry)) }
+    {
+        let place = self.place(alloc)?;
+        Ok(ProjectPath::Whole(place))
+    }
+
+    /// The path of an entry of the array.
+    pub(crate) fn entry(self, alloc: Global, entry: u64) -> Result<ProjectPath, AllocError>
+        ensures { IfOk result (λ p. p ≡ ProjectPath.Entry (place_of self.entry) entry) }
+    {
+        let place = self.place(alloc)?;
+        Ok(ProjectPath::Entry(place, entry))
     }
 }
 

@@ -1,26 +1,32 @@
 //! Reading project files.
 
-ghost use Rattle.std.specs.Prelude.{◌≡◌, IfOk, false};
+ghost use Rattle.std.specs.List.Sorted.{IsStrictlySortedBy};
+ghost use Rattle.std.specs.Prelude.{◌≡◌, IfOk, false, map};
 ghost use Rattle.toml.specs.View.{table_view};
 ghost use Rattle.ul_nodes.specs.Plain.{truth};
 ghost use Rattle.ul_tree.specs.Regions.{HasTruth, IsRegionTree};
 ghost use Rattle.ul_tree.specs.Views.{tree_view};
-ghost use Rattle.ul_project.specs.Answers.{Gives, IsAnswerOf};
+ghost use Rattle.ul_base.specs.Names.{name_cmp};
+ghost use Rattle.ul_project.specs.Answers.{Gives, IsAnswerOf, required_view};
 ghost use Rattle.ul_project.specs.Headline.{IsAnswer, supported_by};
 ghost use Rattle.ul_project.specs.ProjectFile as ProjectFile;
 
-use crate::extras::{add_lists, extras_at, sizes};
+use crate::extras::{Requirements, extras_at, with_extras};
 use crate::groups::groups_at;
 use crate::head::{Head, head_in};
+use crate::kept::read_beside;
+use crate::path::ArrayPlace;
 use crate::region::region;
 use crate::requirements::requirements_at;
 use crate::settings::{Settings, settings_in};
 use crate::shapes::{document, table_at, value_at};
-use crate::{Group, Place, Project, ProjectFault, ProjectKey};
+use crate::{Group, Project, ProjectFault, ProjectKey};
 use std::alloc::{AllocError, Global};
+use std::collections::BTreeMap;
 use std::marker::Model;
 use toml::Table;
 use ul_base::Name;
+use ul_base::owned::{beside, with_one};
 use ul_marker::Marker;
 use ul_requirement::{Package, Release, Requirement};
 use ul_specifier::Specifiers;
@@ -54,20 +60,54 @@ impl Model for File {
     ghost invariant = { λ f. IsFile f.extras.items (map (λ g. g.name) f.groups.items) };
 }
 
-// What a document says.
-#[tactic(auto, unfolding(crate::specs::ProjectFile::file_in))]
-fn file_in(alloc: Global, document: &Table) -> Result<File, ProjectFault>
-    ensures { Gives (λ f. f) result (ProjectFile.file_in (table_view document.now)) }
+/// What a file requires: its requirements, the lists of its extras, and its groups.
+#[derive(Drop)]
+struct Required {
+    requirements: Vec<Requirement>,
+    extras: BTreeMap<Name, Requirements>,
+    groups: Vec<Group>,
+}
+
+// What a document and its table `project` require.
+#[tactic(auto, unfolding(crate::specs::ProjectFile::required_in))]
+fn required_in(alloc: Global, document: &Table, project: &Table) -> Result<Required, ProjectFault>
+    ensures required { Gives required_view result
+        (ProjectFile.required_in (table_view document.now) (table_view project.now)) }
+    ensures rises { IfOk result (λ r. IsStrictlySortedBy name_cmp (map (λ g. g.name) r.groups.items)) }
 {
-    let project = table_at(ProjectKey::Project, value_at(document, "project"))?;
-    let head = head_in(alloc, project)?;
-    let place = Place::Key(ProjectKey::Dependencies);
-    let mut requirements = requirements_at(alloc, &place, value_at(project, "dependencies"))?;
-    let lists = extras_at(alloc, value_at(project, "optional-dependencies"))?;
-    let groups = groups_at(alloc, &lists, value_at(document, "dependency-groups"))?;
-    let settings = settings_in(alloc, document)?;
-    let sizes = sizes(alloc, &lists)?;
-    let extras = add_lists(alloc, &mut requirements, lists)?;
+    let place = ArrayPlace::Key(ProjectKey::Dependencies);
+    let requirements = requirements_at(alloc, place, value_at(project, "dependencies"))?;
+    let extras = extras_at(alloc, value_at(project, "optional-dependencies"));
+    let (requirements, extras) = read_beside(requirements, extras)?;
+    let groups = groups_at(alloc, &extras, value_at(document, "dependency-groups"));
+    let (kept, groups) = read_beside((requirements, extras), groups)?;
+    let (requirements, extras) = kept;
+    Ok(Required {
+        requirements,
+        extras,
+        groups,
+    })
+}
+
+// The file of these parts.
+fn file_with(
+    alloc: Global,
+    head: Head,
+    required: Required,
+    settings: Settings,
+) -> Result<File, AllocError>
+    requires { IsStrictlySortedBy name_cmp (map (λ g. g.name) required.groups.items) }
+    ensures { IfOk result (λ f. f ≡ ProjectFile.file_with head (required_view required) settings) }
+{
+    let Required {
+        requirements,
+        extras,
+        groups,
+    } = required;
+    let listed = with_extras(alloc, requirements, extras);
+    let (kept, listed) = beside((head, groups, settings), listed)?;
+    let (head, groups, settings) = kept;
+    let (requirements, extras, sizes) = listed;
     Ok(File {
         head,
         requirements,
@@ -78,14 +118,31 @@ fn file_in(alloc: Global, document: &Table) -> Result<File, ProjectFault>
     })
 }
 
+// What a document says.
+#[tactic(auto, unfolding(crate::specs::ProjectFile::file_in))]
+fn file_in(alloc: Global, document: &Table) -> Result<File, ProjectFault>
+    ensures { Gives (λ f. f) result (ProjectFile.file_in (table_view document.now)) }
+{
+    let project = table_at(ProjectKey::Project, value_at(document, "project"))?;
+    let head = head_in(alloc, project)?;
+    let required = required_in(alloc, document, project);
+    let (head, required) = read_beside(head, required)?;
+    let settings = settings_in(alloc, document);
+    let (kept, settings) = read_beside((head, required), settings)?;
+    let (head, required) = kept;
+    let file = file_with(alloc, head, required, settings)?;
+    Ok(file)
+}
+
 // What the bytes say.
 #[tactic(auto, unfolding(crate::specs::ProjectFile::file_of))]
 fn file_of(alloc: Global, bytes: &[u8]) -> Result<File, ProjectFault>
     ensures { Gives (λ f. f) result (ProjectFile.file_of bytes.now) }
 {
     let document = document(alloc, bytes)?;
-    let file = file_in(alloc, &document)?;
-    Ok(file)
+    let file = file_in(alloc, &document);
+    drop(document);
+    file
 }
 
 // The project as a package with one release.
@@ -106,8 +163,8 @@ fn package_of(
         yanked: false,
         files: Vec::new(alloc),
     };
-    let mut releases = Vec::new(alloc);
-    releases.push(release)?;
+    let releases = with_one(Vec::new(alloc), release);
+    let (name, releases) = beside(name, releases)?;
     Ok(Package {
         name,
         entries: 1,
@@ -115,7 +172,7 @@ fn package_of(
     })
 }
 
-// The project that a file says, with a region.
+// The project of a file, as a package, with a region.
 fn project_with(alloc: Global, region: Tree, file: File) -> Result<Project, AllocError>
     requires region { IsRegionTree (tree_view region) }
     requires some { tree_view region ≡ truth false → ⊥ }
@@ -129,6 +186,10 @@ fn project_with(alloc: Global, region: Tree, file: File) -> Result<Project, Allo
         groups,
         settings,
     } = file;
+    let package = package_of(alloc, head.name, head.version, requirements);
+    let lists = (extras, sizes, groups);
+    let (kept, package) = beside((region, lists, settings), package)?;
+    let (region, (extras, sizes, groups), settings) = kept;
     let Settings {
         constraints,
         overrides,
@@ -136,7 +197,6 @@ fn project_with(alloc: Global, region: Tree, file: File) -> Result<Project, Allo
         mode,
         strategy,
     } = settings;
-    let package = package_of(alloc, head.name, head.version, requirements)?;
     Ok(Project {
         package,
         extras,
@@ -167,8 +227,10 @@ fn region_of(alloc: Global, file: &File) -> Result<Tree, AllocError>
 fn project_of(alloc: Global, file: File) -> Result<Project, ProjectFault>
     ensures { IsAnswerOf file result }
 {
-    let region = region_of(alloc, &file)?;
+    let region = region_of(alloc, &file);
+    let (file, region) = beside(file, region)?;
     if is_false(&region) {
+        drop((file, region));
         return Err(ProjectFault::EmptyRegion);
     }
     let project = project_with(alloc, region, file)?;

@@ -10,6 +10,7 @@ ghost use Rattle.ul_project.specs.Region.{holds_bare, some_holds, is_supported};
 ghost use Rattle.ul_project.specs.Answers.{HoldAsEnvironments};
 
 use std::alloc::{AllocError, Global};
+use ul_base::owned::{beside, made_from, with_made};
 use ul_marker::Marker;
 use ul_specifier::Specifiers;
 use ul_tree::markers::joined;
@@ -21,8 +22,8 @@ fn environment_tree(alloc: Global, marker: &Marker) -> Result<Tree, AllocError>
     ensures reduced { IfOk result IsTree }
     ensures truth { IfOk result (λ t. HoldsAtWorlds t (λ w x. holds_bare w (marker_view marker.now))) }
 {
-    let tree = of_marker(alloc, marker)?;
-    let tree = plain_at_extra(alloc, &tree, "")?;
+    let marked = of_marker(alloc, marker)?;
+    let tree = made_from(plain_at_extra(alloc, &marked, ""), marked)?;
     Ok(tree)
 }
 
@@ -34,8 +35,7 @@ fn environment_trees(alloc: Global, environments: &[Marker]) -> Result<Vec<Tree>
 {
     let mut trees = Vec::new(alloc);
     for marker in environments {
-        let tree = environment_tree(alloc, marker)?;
-        trees.push(tree)?;
+        trees = with_made(trees, environment_tree(alloc, marker))?;
     }
     Ok(trees)
 }
@@ -64,7 +64,8 @@ pub(crate) fn region(
     if environments.is_empty() {
         return Ok(python);
     }
-    let some = some_environment(alloc, environments)?;
-    let region = plain_and(alloc, &python, &some)?;
+    let (python, some) = beside(python, some_environment(alloc, environments))?;
+    let region = plain_and(alloc, &python, &some);
+    let region = made_from(region, (python, some))?;
     Ok(region)
 }

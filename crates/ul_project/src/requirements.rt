@@ -3,13 +3,15 @@
 ghost use Rattle.std.specs.Prelude.{◌≡◌, option_map};
 ghost use Rattle.toml.specs.View.{items_view, view};
 ghost use Rattle.ul_marker.specs.Views.{marker_view};
-ghost use Rattle.ul_project.specs.Answers.{Gives, list_view, value_view};
+ghost use Rattle.ul_project.specs.Answers.{Gives, list_view, place_of, value_view};
 ghost use Rattle.ul_project.specs.Requirements as Requirements;
 ghost use Rattle.ul_project.specs.Results.{each_from};
 ghost use Rattle.ul_project.specs.Toml.{items_list};
 
+use crate::ProjectFault;
+use crate::kept::with_read;
+use crate::path::ArrayPlace;
 use crate::shapes::{entry_text, optional_items_at};
-use crate::{Place, ProjectFault, ProjectPath};
 use std::alloc::Global;
 use toml::Value;
 use ul_marker::Marker;
@@ -19,23 +21,17 @@ use ul_requirement::{ReqFault, Requirement};
 #[tactic(auto, unfolding(crate::specs::Requirements::requirement_at))]
 pub(crate) fn requirement_at(
     alloc: Global,
-    place: &Place,
+    place: ArrayPlace<'_>,
     entry: u64,
     value: &Value,
 ) -> Result<Requirement, ProjectFault>
-    ensures { Gives (λ q. q) result (Requirements.requirement_at place.now entry (view value.now)) }
+    ensures { Gives (λ q. q) result (Requirements.requirement_at (place_of place.entry) entry (view value.now)) }
 {
     let text = entry_text(alloc, place, entry, value)?;
     match Requirement::read(alloc, text) {
         Ok(requirement) => Ok(requirement),
-        Err(ReqFault::Url) => {
-            let place = place.copy(alloc)?;
-            Err(ProjectFault::Unsupported(ProjectPath::Entry(place, entry)))
-        }
-        Err(ReqFault::NoReading) => {
-            let place = place.copy(alloc)?;
-            Err(ProjectFault::Requirement(ProjectPath::Entry(place, entry)))
-        }
+        Err(ReqFault::Url) => Err(ProjectFault::Unsupported(place.entry(alloc, entry)?)),
+        Err(ReqFault::NoReading) => Err(ProjectFault::Requirement(place.entry(alloc, entry)?)),
         Err(ReqFault::NoMemory) => Err(ProjectFault::NoMemory),
     }
 }
@@ -43,17 +39,16 @@ pub(crate) fn requirement_at(
 // The requirements of the values of an array at a place.
 fn requirements(
     alloc: Global,
-    place: &Place,
+    place: ArrayPlace<'_>,
     items: &[Value],
 ) -> Result<Vec<Requirement>, ProjectFault>
     ensures { Gives list_view result
-        (each_from (Requirements.requirement_at place.now) 0 (items_list (items_view items.now))) }
+        (each_from (Requirements.requirement_at (place_of place.entry)) 0 (items_list (items_view items.now))) }
 {
     let mut list = Vec::new(alloc);
     let mut number: u64 = 0;
     for item in items {
-        let requirement = requirement_at(alloc, place, number, item)?;
-        list.push(requirement)?;
+        list = with_read(list, requirement_at(alloc, place, number, item))?;
         number += 1;
     }
     Ok(list)
@@ -63,10 +58,10 @@ fn requirements(
 #[tactic(auto, unfolding(crate::specs::Requirements::requirements_at))]
 pub(crate) fn requirements_at(
     alloc: Global,
-    place: &Place,
+    place: ArrayPlace<'_>,
     value: Option<&Value>,
 ) -> Result<Vec<Requirement>, ProjectFault>
-    ensures { Gives list_view result (Requirements.requirements_at place.now (value_view value.entry)) }
+    ensures { Gives list_view result (Requirements.requirements_at (place_of place.entry) (value_view value.entry)) }
 {
     let items = optional_items_at(alloc, place, value)?;
     let list = requirements(alloc, place, items)?;
@@ -95,30 +90,33 @@ fn speaks_of_extras(requirement: &Requirement) -> bool
 #[tactic(auto, unfolding(crate::specs::Requirements::bound_at))]
 fn bound_at(
     alloc: Global,
-    place: &Place,
+    place: ArrayPlace<'_>,
     entry: u64,
     value: &Value,
 ) -> Result<Requirement, ProjectFault>
-    ensures { Gives (λ q. q) result (Requirements.bound_at place.now entry (view value.now)) }
+    ensures { Gives (λ q. q) result (Requirements.bound_at (place_of place.entry) entry (view value.now)) }
 {
     let requirement = requirement_at(alloc, place, entry, value)?;
     if speaks_of_extras(&requirement) {
-        let place = place.copy(alloc)?;
-        return Err(ProjectFault::Unsupported(ProjectPath::Entry(place, entry)));
+        drop(requirement);
+        return Err(ProjectFault::Unsupported(place.entry(alloc, entry)?));
     }
     Ok(requirement)
 }
 
 // The constraints, or the overrides, of the values of an array at a place.
-fn bounds(alloc: Global, place: &Place, items: &[Value]) -> Result<Vec<Requirement>, ProjectFault>
+fn bounds(
+    alloc: Global,
+    place: ArrayPlace<'_>,
+    items: &[Value],
+) -> Result<Vec<Requirement>, ProjectFault>
     ensures { Gives list_view result
-        (each_from (Requirements.bound_at place.now) 0 (items_list (items_view items.now))) }
+        (each_from (Requirements.bound_at (place_of place.entry)) 0 (items_list (items_view items.now))) }
 {
     let mut list = Vec::new(alloc);
     let mut number: u64 = 0;
     for item in items {
-        let requirement = bound_at(alloc, place, number, item)?;
-        list.push(requirement)?;
+        list = with_read(list, bound_at(alloc, place, number, item))?;
         number += 1;
     }
     Ok(list)
@@ -128,10 +126,10 @@ fn bounds(alloc: Global, place: &Place, items: &[Value]) -> Result<Vec<Requireme
 #[tactic(auto, unfolding(crate::specs::Requirements::bounds_at))]
 pub(crate) fn bounds_at(
     alloc: Global,
-    place: &Place,
+    place: ArrayPlace<'_>,
     value: Option<&Value>,
 ) -> Result<Vec<Requirement>, ProjectFault>
-    ensures { Gives list_view result (Requirements.bounds_at place.now (value_view value.entry)) }
+    ensures { Gives list_view result (Requirements.bounds_at (place_of place.entry) (value_view value.entry)) }
 {
     let items = optional_items_at(alloc, place, value)?;
     let list = bounds(alloc, place, items)?;

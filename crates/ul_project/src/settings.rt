@@ -10,6 +10,8 @@ ghost use Rattle.ul_project.specs.Settings as spec;
 ghost use Rattle.ul_project.specs.Shapes.{at_key};
 ghost use Rattle.ul_project.specs.Toml.{items_list};
 
+use crate::kept::{read_beside, with_read};
+use crate::path::ArrayPlace;
 use crate::requirements::bounds_at;
 use crate::shapes::{
     at_key, entry_text, items_at, optional_table_at, says_nothing, text_or, value_at, value_in,
@@ -18,6 +20,7 @@ use crate::{Place, ProjectFault, ProjectKey, ProjectPath};
 use std::alloc::Global;
 use std::marker::Model;
 use toml::{Table, Value};
+use ul_base::owned::with_one;
 use ul_marker::{Marker, MarkerFault};
 use ul_requirement::{Mode, Requirement, Strategy};
 
@@ -112,7 +115,12 @@ fn environment_at(alloc: Global, entry: u64, value: &Value) -> Result<Marker, Pr
     ensures marker { Gives marker_view result (spec.environment_at entry (view value.now)) }
     ensures valid { IfOk result (λ m. IsFormula (marker_view m)) }
 {
-    let text = entry_text(alloc, &Place::Key(ProjectKey::Environments), entry, value)?;
+    let text = entry_text(
+        alloc,
+        ArrayPlace::Key(ProjectKey::Environments),
+        entry,
+        value,
+    )?;
     match Marker::read(alloc, text) {
         Ok(marker) => Ok(marker),
         Err(MarkerFault::NoReading) => Err(ProjectFault::Shape(environment_path(entry))),
@@ -128,8 +136,7 @@ fn environments(alloc: Global, items: &[Value]) -> Result<Vec<Marker>, ProjectFa
     let mut list = Vec::new(alloc);
     let mut number: u64 = 0;
     for item in items {
-        let marker = environment_at(alloc, number, item)?;
-        list.push(marker)?;
+        list = with_read(list, environment_at(alloc, number, item))?;
         number += 1;
     }
     Ok(list)
@@ -142,8 +149,7 @@ fn only(alloc: Global, marker: Marker) -> Result<Vec<Marker>, ProjectFault>
     ensures valid { IfOk result (λ v. AreFormulas (markers_view v.items)) }
     ensures memory { IfErr result (λ e. e ≡ ProjectFault.NoMemory) }
 {
-    let mut list = Vec::new(alloc);
-    list.push(marker)?;
+    let list = with_one(Vec::new(alloc), marker)?;
     Ok(list)
 }
 
@@ -161,7 +167,11 @@ fn environments_at(alloc: Global, value: Option<&Value>) -> Result<Vec<Marker>, 
             Ok(list)
         }
         Some(value) => {
-            let items = items_at(alloc, &Place::Key(ProjectKey::Environments), Some(value))?;
+            let items = items_at(
+                alloc,
+                ArrayPlace::Key(ProjectKey::Environments),
+                Some(value),
+            )?;
             let list = environments(alloc, items)?;
             Ok(list)
         }
@@ -231,6 +241,17 @@ fn strategy_at(value: Option<&Value>) -> Result<Strategy, ProjectFault>
     }
 }
 
+// Which versions are tried first, and when a region is split.
+#[tactic(auto, unfolding(crate::specs::Settings::choices_in))]
+fn choices_in(uv: Option<&Table>) -> Result<(Mode, Strategy), ProjectFault>
+    ensures { Gives (λ c. c) result (spec.choices_in (members_view uv.entry)) }
+{
+    let mode = mode_at(value_in(uv, "resolution"))?;
+    prerelease_at(value_in(uv, "prerelease"))?;
+    let strategy = strategy_at(value_in(uv, "fork-strategy"))?;
+    Ok((mode, strategy))
+}
+
 // What a file asks of the resolver, in the order of the checks.
 #[tactic(auto, unfolding(crate::specs::Settings::settings_in))]
 pub(crate) fn settings_in(alloc: Global, document: &Table) -> Result<Settings, ProjectFault>
@@ -238,14 +259,16 @@ pub(crate) fn settings_in(alloc: Global, document: &Table) -> Result<Settings, P
 {
     let uv = uv_at(document)?;
     all_silent(uv)?;
-    let place = Place::Key(ProjectKey::ConstraintDependencies);
-    let constraints = bounds_at(alloc, &place, value_in(uv, "constraint-dependencies"))?;
-    let place = Place::Key(ProjectKey::OverrideDependencies);
-    let overrides = bounds_at(alloc, &place, value_in(uv, "override-dependencies"))?;
-    let environments = environments_at(alloc, value_in(uv, "environments"))?;
-    let mode = mode_at(value_in(uv, "resolution"))?;
-    prerelease_at(value_in(uv, "prerelease"))?;
-    let strategy = strategy_at(value_in(uv, "fork-strategy"))?;
+    let place = ArrayPlace::Key(ProjectKey::ConstraintDependencies);
+    let constraints = bounds_at(alloc, place, value_in(uv, "constraint-dependencies"))?;
+    let place = ArrayPlace::Key(ProjectKey::OverrideDependencies);
+    let overrides = bounds_at(alloc, place, value_in(uv, "override-dependencies"));
+    let (constraints, overrides) = read_beside(constraints, overrides)?;
+    let environments = environments_at(alloc, value_in(uv, "environments"));
+    let (bounds, environments) = read_beside((constraints, overrides), environments)?;
+    let (lists, choices) = read_beside((bounds, environments), choices_in(uv))?;
+    let ((constraints, overrides), environments) = lists;
+    let (mode, strategy) = choices;
     Ok(Settings {
         constraints,
         overrides,

@@ -3,12 +3,13 @@
 ghost use Rattle.std.specs.Prelude.{◌≡◌, option_map};
 ghost use Rattle.toml.specs.Data.{get_member};
 ghost use Rattle.toml.specs.View.{table_view, view};
-ghost use Rattle.ul_project.specs.Answers.{Gives, members_view, value_view, values_view};
+ghost use Rattle.ul_project.specs.Answers.{Gives, members_view, place_of, value_view, values_view};
 ghost use Rattle.ul_project.specs.Results.{or_fault};
 ghost use Rattle.ul_project.specs.Shapes as Shapes;
 ghost use Rattle.ul_project.specs.Toml.{toml_of};
 ghost use Rattle.ul_project.specs.Toml as Toml;
 
+use crate::path::ArrayPlace;
 use crate::{Place, ProjectFault, ProjectKey, ProjectPath};
 use std::alloc::Global;
 use toml::{Table, Value};
@@ -112,46 +113,40 @@ pub(crate) fn text_or<'a>(
 // A text that is an entry of the array at a place.
 pub(crate) fn entry_text<'a>(
     alloc: Global,
-    place: &Place,
+    place: ArrayPlace<'_>,
     entry: u64,
     value: &'a Value,
 ) -> Result<&'a str, ProjectFault>
-    ensures { Gives (λ s. s.now) result (Shapes.text_at (ProjectPath.Entry place.now entry) (Some (view value.now))) }
+    ensures { Gives (λ s. s.now) result (Shapes.text_at (ProjectPath.Entry (place_of place.entry) entry) (Some (view value.now))) }
 {
     match value {
         Value::String(text) => Ok(text.as_str()),
-        _ => {
-            let place = place.copy(alloc)?;
-            Err(ProjectFault::Shape(ProjectPath::Entry(place, entry)))
-        }
+        _ => Err(ProjectFault::Shape(place.entry(alloc, entry)?)),
     }
 }
 
 // An array.
 pub(crate) fn items_at<'a>(
     alloc: Global,
-    place: &Place,
+    place: ArrayPlace<'_>,
     value: Option<&'a Value>,
 ) -> Result<&'a [Value], ProjectFault>
-    ensures { Gives values_view result (Shapes.items_at (ProjectPath.Whole place.now) (value_view value.entry)) }
+    ensures { Gives values_view result (Shapes.items_at (ProjectPath.Whole (place_of place.entry)) (value_view value.entry)) }
 {
     match value {
         Some(Value::Array(items)) => Ok(items.as_slice()),
-        _ => {
-            let place = place.copy(alloc)?;
-            Err(ProjectFault::Shape(ProjectPath::Whole(place)))
-        }
+        _ => Err(ProjectFault::Shape(place.whole(alloc)?)),
     }
 }
 
 // An array, or nothing, which is as the empty one.
 pub(crate) fn optional_items_at<'a>(
     alloc: Global,
-    place: &Place,
+    place: ArrayPlace<'_>,
     value: Option<&'a Value>,
 ) -> Result<&'a [Value], ProjectFault>
     ensures { Gives values_view result
-        (Shapes.optional_items_at (ProjectPath.Whole place.now) (value_view value.entry)) }
+        (Shapes.optional_items_at (ProjectPath.Whole (place_of place.entry)) (value_view value.entry)) }
 {
     match value {
         None => Ok(&[]),

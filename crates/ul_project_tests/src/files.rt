@@ -1,33 +1,12 @@
-//! Small project files: one row for each place that can be refused, the first of two faults, and what is read.
-use crate::told::told;
+//! Small project files.
+use crate::told::is_read;
 use std::alloc::Global;
-use std::test::Fail;
+use ul_test_rows::{cells, put};
 
-// What stands before each row's lines: nothing, the head of a project, or that and `tool.uv`.
-fn file_of(alloc: Global, kind: &str, lines: &str) -> Result<String, Fail> {
-    let mut text = String::new(alloc);
-    if kind != "w" {
-        text.push_str("[project]\nname = 'demo'\n")?;
-    }
-    if kind == "u" {
-        text.push_str("[tool.uv]\n")?;
-    }
-    for line in lines.split('~') {
-        text.push_str(line)?;
-        text.push('\n')?;
-    }
-    Ok(text)
-}
-
-// Whether a row is told as it says. It has what is told, the kind of the file, and its lines, which `~` separates.
-fn is_row(alloc: Global, row: &str) -> Result<bool, Fail> {
-    let (want, rest) = row.split_once('#').unwrap_or((row, ""));
-    let (kind, lines) = rest.split_once('#').unwrap_or((rest, ""));
-    let file = file_of(alloc, kind, lines)?;
-    Ok(told(alloc, file.as_bytes())?.as_str() == want)
-}
-
-const PLACES: &str = "not TOML#w#[\n\
+// What is told of a file, its kind, and its lines, which `~` separates: a row for each place that can be refused, those
+// in which the first of two faults is told, and files that are read. Before the lines stands nothing (`w`), the head of
+// a project (`p`), or that and `tool.uv` (`u`).
+const ROWS: &str = "not TOML#w#[\n\
     shape project#w#x = 1\n\
     shape project#w#project = 1\n\
     shape project.name#w#[project]\n\
@@ -100,9 +79,8 @@ const PLACES: &str = "not TOML#w#[\n\
     unsupported tool.uv.fork-strategy#u#fork-strategy = 'most'\n\
     empty region#p#requires-python = '>=3,<3'\n\
     empty region#p#requires-python = '<3'~[tool.uv]~environments = \"python_version >= '3'\"\n\
-    empty region#u#environments = [\"extra == 'x'\", \"os_name == 'a' and os_name == 'b'\"]";
-
-const FIRST: &str = "shape project#w#tool = 1\n\
+    empty region#u#environments = [\"extra == 'x'\", \"os_name == 'a' and os_name == 'b'\"]\n\
+    shape project#w#tool = 1\n\
     shape project.name#w#[project]~version = 'x'\n\
     shape project.version#p#dynamic = ['dependencies']~version = 'x'\n\
     unsupported project.dynamic#p#requires-python = 1~dynamic = ['dependencies']\n\
@@ -123,9 +101,8 @@ const FIRST: &str = "shape project#w#tool = 1\n\
     shape tool.uv.environments#u#resolution = 1~environments = 1\n\
     shape tool.uv.resolution#u#prerelease = 1~resolution = 1\n\
     unsupported tool.uv.prerelease#u#fork-strategy = 1~prerelease = 1\n\
-    unsupported tool.uv.fork-strategy#p#requires-python = '<0'~[tool.uv]~fork-strategy = 1";
-
-const READ: &str = "demo 0 | | | | | 1 0 1 highest fewest#p#\n\
+    unsupported tool.uv.fork-strategy#p#requires-python = '<0'~[tool.uv]~fork-strategy = 1\n\
+    demo 0 | | | | | 1 0 1 highest fewest#p#\n\
     a-b 1.0rc1 | | | | | 1 0 1 highest fewest#w#[project]~name = 'A__b'~version = ' v1.0.RC1 '~more = 1~[other]\n\
     demo 0 a b+x+y:2; | | | | | 1 0 1 highest fewest#p#dynamic = ['version']~dependencies = ['a', \"b [y,X,x] (>1, <3) ; os_name == 'x'\"]\n\
     demo 0 a b! c! c! | x y-z | | | | 1 0 1 highest fewest#p#dependencies = ['a']~[project.optional-dependencies]~'Y.Z' = ['c', \"c; os_name == 'x'\"]~x = ['b']\n\
@@ -137,26 +114,33 @@ const READ: &str = "demo 0 | | | | | 1 0 1 highest fewest#p#\n\
     demo 0 | | | | | 1 2 2 lowest-direct requires-python#u#environments = [\"os_name == 'x'\", \"os_name == 'y'\"]~resolution = 'lowest-direct'~fork-strategy = 'requires-python'\n\
     demo 0 | | | | | 1 2 1 highest deep#p#requires-python = '>=3.9,!=3.8.1'~[tool.uv]~environments = [\"os_name == 'x'\", \"os_name != 'x'\"]~fork-strategy = 'deep'~prerelease = 'if-necessary-or-explicit'~resolution = 'highest'";
 
-#[test]
-fn places_of_faults(rt: HostRuntime) -> Result<(), Fail> {
-    for row in PLACES.split('\n') {
-        assert!(rt; is_row(rt.alloc(), row)?, "{row}");
+// The file of a kind and of lines.
+fn file_of(alloc: Global, kind: &str, lines: &str) -> String {
+    let mut file = String::new(alloc);
+    if kind != "w" {
+        put(&mut file, "[project]\nname = 'demo'\n");
     }
-    Ok(())
+    if kind == "u" {
+        put(&mut file, "[tool.uv]\n");
+    }
+    for line in lines.split('~') {
+        put(&mut file, line);
+        put(&mut file, "\n");
+    }
+    file
+}
+
+// Whether a row is told as it says.
+fn is_row(alloc: Global, row: &str) -> bool {
+    let (want, rest) = cells(row, '#');
+    let (kind, lines) = cells(rest, '#');
+    let file = file_of(alloc, kind, lines);
+    is_read(alloc, file.as_bytes(), want)
 }
 
 #[test]
-fn first_of_two_faults(rt: HostRuntime) -> Result<(), Fail> {
-    for row in FIRST.split('\n') {
-        assert!(rt; is_row(rt.alloc(), row)?, "{row}");
+fn files_are_read_or_refused(rt: HostRuntime) {
+    for row in ROWS.split('\n') {
+        assert!(rt; is_row(rt.alloc(), row), "{row}");
     }
-    Ok(())
-}
-
-#[test]
-fn files_that_are_read(rt: HostRuntime) -> Result<(), Fail> {
-    for row in READ.split('\n') {
-        assert!(rt; is_row(rt.alloc(), row)?, "{row}");
-    }
-    Ok(())
 }

@@ -1,8 +1,8 @@
 //! Large project files.
-use crate::told::told;
-use std::alloc::Global;
-use std::test::Fail;
-use ul_project::project;
+use crate::told::put_fault;
+use std::alloc::{AllocError, Global};
+use ul_project::{Project, project};
+use ul_test_rows::{cells, put, put_number};
 
 // Each row: what is counted, what stands before the lines, how many lines, the line, in which `#` stands for its number,
 // and what stands behind the lines. `~` ends a line of the file.
@@ -19,62 +19,68 @@ const ROWS: &str = "1000 2000 0 0|[project.optional-dependencies]~|1000|extra-# 
     0 0 0 1000|[tool.uv]~environments = [|1000|\"os_name == 'n#'\",|]~\n\
     not TOML|x = |100000|[|";
 
-fn push_lines(file: &mut String, text: &str) -> Result<(), Fail> {
-    for letter in text.chars() {
-        file.push(if letter == '~' { '\n' } else { letter })?;
-    }
-    Ok(())
-}
-
-// The file of a row.
-fn file_of(alloc: Global, head: &str, count: &str, line: &str, end: &str) -> Result<String, Fail> {
-    let mut file = String::from_str(alloc, "[project]\nname = 'demo'\n")?;
-    push_lines(&mut file, head)?;
-    let (front, back) = line.split_once('#').unwrap_or((line, ""));
-    for number in 0..count.parse::<u64>().unwrap_or(0) {
-        push_lines(&mut file, front)?;
+// Puts so many lines, with the number of each in place of `#`.
+fn put_lines(file: &mut String, line: &str, count: u64) {
+    let (front, back) = cells(line, '#');
+    for number in 0..count {
+        put(file, front);
         if front.len() < line.len() {
-            file.push_str(format!(in alloc; "{number}")?.as_str())?;
+            put_number(file, number);
         }
-        push_lines(&mut file, back)?;
+        put(file, back);
     }
-    push_lines(&mut file, end)?;
-    Ok(file)
-}
-
-// How many extras, requirements, groups and environments a file has, or its fault.
-fn counted(alloc: Global, file: &str) -> Result<String, Fail> {
-    let Ok(project) = project(alloc, file.as_bytes()) else {
-        return told(alloc, file.as_bytes());
-    };
-    let mut requirements = 0;
-    for release in &project.package.releases {
-        requirements = release.requirements.len();
-    }
-    let extras = project.extras.len();
-    let groups = project.groups.len();
-    let environments = project.environments.len();
-    Ok(format!(in alloc; "{extras} {requirements} {groups} {environments}")?)
 }
 
 // The file of a row's cells behind the first.
-fn row_file(alloc: Global, cells: &str) -> Result<String, Fail> {
-    let (head, rest) = cells.split_once('|').unwrap_or((cells, ""));
-    let (count, rest) = rest.split_once('|').unwrap_or((rest, ""));
-    let (line, end) = rest.split_once('|').unwrap_or((rest, ""));
-    file_of(alloc, head, count, line, end)
+fn file_of(alloc: Global, row: &str) -> Result<String, AllocError> {
+    let (head, rest) = cells(row, '|');
+    let (count, rest) = cells(rest, '|');
+    let (line, end) = cells(rest, '|');
+    let mut file = String::new(alloc);
+    put(&mut file, "[project]~name = 'demo'~");
+    put(&mut file, head);
+    put_lines(&mut file, line, count.parse::<u64>().unwrap_or(0));
+    put(&mut file, end);
+    file.replace(alloc, "~", "\n")
 }
 
-fn is_row(alloc: Global, row: &str) -> Result<bool, Fail> {
-    let (want, cells) = row.split_once('|').unwrap_or((row, ""));
-    let file = row_file(alloc, cells)?;
-    Ok(counted(alloc, file.as_str())?.as_str() == want)
+// Puts how many extras, requirements, groups and environments a project has.
+fn put_counts(told: &mut String, project: &Project) {
+    put_number(told, project.extras.len() as u64);
+    for release in &project.package.releases {
+        put(told, " ");
+        put_number(told, release.requirements.len() as u64);
+    }
+    put(told, " ");
+    put_number(told, project.groups.len() as u64);
+    put(told, " ");
+    put_number(told, project.environments.len() as u64);
+}
+
+// What a file is read as: these numbers, or the fault.
+fn counted(alloc: Global, file: &str) -> String {
+    let mut told = String::new(alloc);
+    match project(alloc, file.as_bytes()) {
+        Ok(project) => {
+            put_counts(&mut told, &project);
+            drop(project);
+        }
+        Err(fault) => put_fault(alloc, &mut told, &fault),
+    }
+    told
+}
+
+fn is_row(alloc: Global, row: &str) -> bool {
+    let (want, rest) = cells(row, '|');
+    match file_of(alloc, rest) {
+        Ok(file) => counted(alloc, file.as_str()).as_str() == want,
+        Err(_) => false,
+    }
 }
 
 #[test]
-fn large_files(rt: HostRuntime) -> Result<(), Fail> {
+fn large_files(rt: HostRuntime) {
     for row in ROWS.split('\n') {
-        assert!(rt; is_row(rt.alloc(), row)?, "{row}");
+        assert!(rt; is_row(rt.alloc(), row), "{row}");
     }
-    Ok(())
 }

@@ -1,60 +1,70 @@
 //! What a project file is read as, in one line.
 use std::alloc::Global;
-use std::test::Fail;
+use std::fmt::Write;
 use ul_base::Name;
 use ul_project::{Group, GroupEntry, Project, ProjectFault, ProjectPath, project};
-use ul_requirement::{Mode, Requirement, Strategy};
+use ul_requirement::{Mode, Release, Requirement, Strategy};
+use ul_test_rows::{put, put_number};
 use ul_tree::paths;
 
-fn push_name(text: &mut String, name: &Name) -> Result<(), Fail> {
-    text.push_str(name.text())?;
-    text.push(' ')?;
-    Ok(())
+fn put_name(told: &mut String, name: &Name) {
+    put(told, name.text());
+    put(told, " ");
 }
 
-// A requirement in short: its name, its extras, how many clauses it has, and `;` where it has a marker.
-fn push_requirement(
-    alloc: Global,
-    text: &mut String,
-    requirement: &Requirement,
-) -> Result<(), Fail> {
-    text.push_str(requirement.name.text())?;
+// Puts a requirement in short: its name, its extras, how many clauses it has, and `;` where it has a marker, or `!` for
+// one that asks for an extra.
+fn put_requirement(told: &mut String, requirement: &Requirement) {
+    put(told, requirement.name.text());
     for extra in &requirement.extras {
-        text.push('+')?;
-        text.push_str(extra.text())?;
+        put(told, "+");
+        put(told, extra.text());
     }
     let count = requirement.specifiers.clauses.len();
     if count > 0 {
-        let count = format!(in alloc; ":{count}")?;
-        text.push_str(count.as_str())?;
+        put(told, ":");
+        put_number(told, count as u64);
     }
     if let Some(marker) = &requirement.marker {
-        text.push(if marker.asks_extra() { '!' } else { ';' })?;
+        put(told, if marker.asks_extra() { "!" } else { ";" });
     }
-    text.push(' ')?;
-    Ok(())
+    put(told, " ");
 }
 
-fn push_requirements(alloc: Global, text: &mut String, list: &[Requirement]) -> Result<(), Fail> {
+fn put_requirements(told: &mut String, list: &[Requirement]) {
     for requirement in list {
-        push_requirement(alloc, text, requirement)?;
+        put_requirement(told, requirement);
     }
-    Ok(())
 }
 
-fn push_group(alloc: Global, text: &mut String, group: &Group) -> Result<(), Fail> {
-    text.push_str(group.name.text())?;
-    text.push_str("= ")?;
-    for entry in &group.entries {
-        match entry {
-            GroupEntry::Needs(requirement) => push_requirement(alloc, text, requirement)?,
-            GroupEntry::Include(name) => {
-                text.push('@')?;
-                push_name(text, name)?;
-            }
+fn put_entry(told: &mut String, entry: &GroupEntry) {
+    match entry {
+        GroupEntry::Needs(requirement) => put_requirement(told, requirement),
+        GroupEntry::Include(name) => {
+            put(told, "@");
+            put_name(told, name);
         }
     }
-    Ok(())
+}
+
+fn put_group(told: &mut String, group: &Group) {
+    put(told, group.name.text());
+    put(told, "= ");
+    for entry in &group.entries {
+        put_entry(told, entry);
+    }
+}
+
+// Puts the version and the requirements of a release, and `?` where it has something that a project can't give it.
+fn put_release(alloc: Global, told: &mut String, release: &Release) {
+    if let Ok(version) = release.version.text(alloc) {
+        put(told, version.as_str());
+    }
+    put(told, " ");
+    put_requirements(told, &release.requirements);
+    if release.yanked || !release.files.is_empty() || !release.python.clauses.is_empty() {
+        put(told, "?");
+    }
 }
 
 fn mode_text(mode: Mode) -> &'static str {
@@ -73,56 +83,71 @@ fn strategy_text(strategy: Strategy) -> &'static str {
     }
 }
 
-/// A project in short: name and version, how many entries, releases and bounds it has, its requirements, extras and
-/// groups, constraints and overrides, how many environments and paths of the region, mode and strategy.
-pub fn project_text(alloc: Global, project: &Project) -> Result<String, Fail> {
-    let mut text = String::new(alloc);
-    push_name(&mut text, &project.package.name)?;
-    for release in &project.package.releases {
-        let version = release.version.text(alloc)?;
-        text.push_str(version.as_str())?;
-        text.push_str(" ")?;
-        push_requirements(alloc, &mut text, &release.requirements)?;
-        if release.yanked || !release.files.is_empty() || !release.python.clauses.is_empty() {
-            text.push_str("?")?;
-        }
-    }
-    text.push_str("| ")?;
-    for extra in &project.extras {
-        push_name(&mut text, extra)?;
-    }
-    text.push_str("| ")?;
-    for group in &project.groups {
-        push_group(alloc, &mut text, group)?;
-    }
-    text.push_str("| ")?;
-    push_requirements(alloc, &mut text, &project.constraints)?;
-    text.push_str("| ")?;
-    push_requirements(alloc, &mut text, &project.overrides)?;
+// Puts the numbers of entries, environments and paths of the region, mode and strategy.
+fn put_settings(told: &mut String, project: &Project) {
     let entries = project.package.entries;
     let environments = project.environments.len();
     let paths = paths(&project.region);
     let mode = mode_text(project.mode);
     let strategy = strategy_text(project.strategy);
-    let rest = format!(in alloc; "| {entries} {environments} {paths} {mode} {strategy}")?;
-    text.push_str(rest.as_str())?;
-    Ok(text)
+    let _ = write!(told, "| {entries} {environments} {paths} {mode} {strategy}");
 }
 
-fn fault_text(alloc: Global, kind: &str, path: &ProjectPath) -> Result<String, Fail> {
-    let path = path.text(alloc)?;
-    Ok(format!(in alloc; "{kind} {path}")?)
-}
-
-/// What bytes are read as: the project in short, or the fault.
-pub fn told(alloc: Global, bytes: &[u8]) -> Result<String, Fail> {
-    match project(alloc, bytes) {
-        Ok(project) => project_text(alloc, &project),
-        Err(ProjectFault::NotToml) => Ok(String::from_str(alloc, "not TOML")?),
-        Err(ProjectFault::Shape(path)) => fault_text(alloc, "shape", &path),
-        Err(ProjectFault::Requirement(path)) => fault_text(alloc, "requirement", &path),
-        Err(ProjectFault::Unsupported(path)) => fault_text(alloc, "unsupported", &path),
-        Err(ProjectFault::EmptyRegion) => Ok(String::from_str(alloc, "empty region")?),
-        Err(ProjectFault::NoMemory) => Ok(String::from_str(alloc, "no memory")?),
+// Puts a project in short: name and version, how many entries, releases and bounds it has, its requirements, extras and
+// groups, constraints and overrides, how many environments and paths of the region, mode and strategy.
+fn put_project(alloc: Global, told: &mut String, project: &Project) {
+    put_name(told, &project.package.name);
+    for release in &project.package.releases {
+        put_release(alloc, told, release);
     }
+    put(told, "| ");
+    for extra in &project.extras {
+        put_name(told, extra);
+    }
+    put(told, "| ");
+    for group in &project.groups {
+        put_group(told, group);
+    }
+    put(told, "| ");
+    put_requirements(told, &project.constraints);
+    put(told, "| ");
+    put_requirements(told, &project.overrides);
+    put_settings(told, project);
+}
+
+fn put_path(alloc: Global, told: &mut String, kind: &str, path: &ProjectPath) {
+    if let Ok(path) = path.text(alloc) {
+        put(told, kind);
+        put(told, path.as_str());
+    }
+}
+
+/// Puts a fault.
+pub(crate) fn put_fault(alloc: Global, told: &mut String, fault: &ProjectFault) {
+    match fault {
+        ProjectFault::NotToml => put(told, "not TOML"),
+        ProjectFault::Shape(path) => put_path(alloc, told, "shape ", path),
+        ProjectFault::Requirement(path) => put_path(alloc, told, "requirement ", path),
+        ProjectFault::Unsupported(path) => put_path(alloc, told, "unsupported ", path),
+        ProjectFault::EmptyRegion => put(told, "empty region"),
+        ProjectFault::NoMemory => put(told, "no memory"),
+    }
+}
+
+// What bytes are read as: the project in short, or the fault.
+fn told(alloc: Global, bytes: &[u8]) -> String {
+    let mut told = String::new(alloc);
+    match project(alloc, bytes) {
+        Ok(project) => {
+            put_project(alloc, &mut told, &project);
+            drop(project);
+        }
+        Err(fault) => put_fault(alloc, &mut told, &fault),
+    }
+    told
+}
+
+/// Whether bytes are read as this.
+pub(crate) fn is_read(alloc: Global, bytes: &[u8], want: &str) -> bool {
+    told(alloc, bytes).as_str() == want
 }

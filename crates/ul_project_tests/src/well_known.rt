@@ -1,9 +1,9 @@
 //! Files of the shape that well-known projects have.
 //!
 //! Before each file stands what it is read as, and `====` between two.
-use crate::told::told;
+use crate::told::is_read;
 use std::alloc::Global;
-use std::test::Fail;
+use ul_test_rows::cells;
 
 const FILES: &str =
     r#"flask 3.1.0 werkzeug:1 jinja2:1 itsdangerous:1 click:1 blinker:1 importlib-metadata:1; asgiref:1! python-dotenv! | async dotenv | | | | 1 0 1 highest fewest
@@ -331,15 +331,14 @@ version = "1"
 dependencies = ["lib", "fork @ git+https://example.org/fork.git"]
 "#;
 
-fn is_row(alloc: Global, text: &str) -> Result<bool, Fail> {
-    let (want, file) = text.split_once('\n').unwrap_or((text, ""));
-    Ok(told(alloc, file.as_bytes())?.as_str() == want)
+fn is_row(alloc: Global, text: &str) -> bool {
+    let (want, file) = cells(text, '\n');
+    is_read(alloc, file.as_bytes(), want)
 }
 
 #[test]
-fn files_of_well_known_projects(rt: HostRuntime) -> Result<(), Fail> {
+fn files_of_well_known_projects(rt: HostRuntime) {
     for text in FILES.split("====\n") {
-        assert!(rt; is_row(rt.alloc(), text)?, "{text}");
+        assert!(rt; is_row(rt.alloc(), text), "{text}");
     }
-    Ok(())
 }

@@ -1,5 +1,5 @@
 -- Laws of sets as they are made and written to.
-use Rattle.std.proofs.Common.{◌≡◌, ℕ, List, [], ◌∷◌, Bool, false, refl, ap, ◌∙◌, sym, subst, get_or, ◌*◌, ◌/◌, ◌%◌, ◌^◌, ◌<◌, ◌≤◌, length, arith, eqb, inl, inr, Option, Some, None, lit<, replicate, ◌++◌, Result, Ok, Err}
+use Rattle.std.proofs.Common.{◌≡◌, ℕ, List, [], ◌∷◌, Bool, false, refl, ap, ◌∙◌, sym, subst, get_or, ◌*◌, ◌/◌, ◌%◌, ◌^◌, ◌<◌, ◌≤◌, length, arith, eqb, inl, inr, Some, None, lit<, replicate, ◌++◌, Result, Ok, Err}
 use Rattle.std.specs.Prelude.{bit_or, map, zip, All, IfOk, ◌||◌}
 use Rattle.std.specs.List.{range_with_len, list_any}
 use Rattle.std.proofs.lemmas.Bool.{cases_lt, cases_eq, ne_eqb, eq-eqb, le-ltb}
@@ -11,9 +11,11 @@ use Rattle.std.proofs.Math.Nat.{mod-lt}
 use Rattle.ul_ranges.specs.Blocks.{flag, flag_at, block_count, IsExact}
 use Rattle.ul_ranges.specs.Marks.{HasMarked, IsMarkedWord, front_word}
 use Rattle.ul_ranges.specs.Forms.{bit_in, size_in, flag_in, IsWord, IsForm, AreForms, AreLevel, IsSealed, HasBlocks, IsMade, IsZipped, IsOpen, IsResealed, HasMembers, HasFront}
+use Rattle.ul_ranges.specs.Operations.{word_by, flag_by}
+use Rattle.ul_ranges.specs.declared.words.Operation.{Operation}
 use Rattle.ul_ranges.specs.declared.forms.Form.{Form}
 use Rattle.ul_ranges.specs.declared.forms.Form.TheVariants.{Word, Few, Many}
-use Rattle.ul_ranges.proofs.BlockLaws.{flag-zero, flag-true, IsFlagwise, zip_exact, zip_flag, word_marked, or_false, flag-first_word, front_word_fits, flag_at-front}
+use Rattle.ul_ranges.proofs.BlockLaws.{flag-zero, flag-true, IsFlagwise, by_flagwise, zip_exact, zip_flag, word_marked, or_false, flag-first_word, front_word_fits, flag_at-front}
 use Rattle.ul_ranges.proofs.WordLaws.{flag_high, flag_none}
 use Rattle.ul_ranges.proofs.FormLaws.{bit_within, bit_past, beyond, few_past, many_blocks, zipped_made}
 
@@ -22,25 +24,22 @@ ok_then (Ok x) P Q h k = k x h
 ok_then (Err e) P Q h k = tt
 
 -- ---- blocks of two sets, zipped
-pub has_blocks : (size : ℕ) (f : Form) (bs : List ℕ) → f ≡ Many size bs → IsForm f → HasBlocks size f bs
-has_blocks size f bs e h = subst (λ (g : Form). HasBlocks size g bs) (sym e) (many_blocks size bs (subst (λ (g : Form). IsForm g) e h))
+pub many_large : (size : ℕ) (f : Form) (bs : List ℕ) → f ≡ Many size bs → IsForm f → 64 < size_in f
+many_large size f bs e h = subst (λ (g : Form). 64 < size_in g) (sym e) (subst (λ (g : Form). IsForm g) e h).large
 
--- the blocks of the second of two sets of one size, by the size of the first
-pub has_others : (m n : ℕ) (f g : Form) (xs ys : List ℕ) → f ≡ Many m xs → g ≡ Many n ys → AreForms f g → HasBlocks m g ys
-has_others m n f g xs ys e q h =
-    let level : m ≡ n = ap size_in (sym e) ∙ h.same_size ∙ ap size_in q in
-    subst (λ (k : ℕ). HasBlocks k g ys) (sym level) (has_blocks n g ys q h.right)
-
--- the blocks of a second set that is kept by one member, by the size of the first
-pub few_others : (m n : ℕ) (f g : Form) (xs : List ℕ) (o : Option ℕ) (bs : List ℕ) → f ≡ Many m xs → g ≡ Few n o → AreForms f g
-    → HasBlocks m (Few m o) bs → HasBlocks m g bs
-few_others m n f g xs o bs e q h b =
-    let level : m ≡ n = ap size_in (sym e) ∙ h.same_size ∙ ap size_in q in
-    subst (λ (k : Form). HasBlocks m k bs) (ap (λ (k : ℕ). Few k o) level ∙ sym q) b
+-- the blocks by which a set is kept, as they are lent
+pub has_blocks : (size : ℕ) (f : Form) (bs xs : List ℕ) → f ≡ Many size bs → IsForm f → xs ≡ bs → HasBlocks (size_in f) f xs
+has_blocks size f bs xs e h q =
+    let whole = many_blocks size bs (subst (λ (g : Form). IsForm g) e h) in
+    subst (λ (l : List ℕ). HasBlocks (size_in f) f l) (sym q) (subst (λ (g : Form). HasBlocks (size_in g) g bs) (sym e) whole)
 
 -- the blocks of a set, by a number that is its size
 pub sized_blocks : (size : ℕ) (f : Form) (bs : List ℕ) → size ≡ size_in f → HasBlocks (size_in f) f bs → HasBlocks size f bs
 sized_blocks size f bs e h = subst (λ (k : ℕ). HasBlocks k f bs) (sym e) h
+
+-- a set's blocks in a list of their own, as they are lent
+pub lent_blocks : (size : ℕ) (f : Form) (bs xs : List ℕ) → size ≡ size_in f → HasBlocks (size_in f) f bs → xs ≡ bs → HasBlocks size f xs
+lent_blocks size f bs xs e h q = sized_blocks size f xs e (subst (λ (l : List ℕ). HasBlocks (size_in f) f l) (sym q) h)
 
 -- two sets of one size that are kept by blocks have as many
 pub are_level : (f g : Form) → AreForms f g → AreLevel f g
@@ -50,33 +49,17 @@ are_level (Many m xs) (Word n y) h = tt
 are_level (Many m xs) (Few n o) h = tt
 are_level (Many m xs) (Many n ys) h = h.left.exact.count ∙ ap block_count h.same_size ∙ sym h.right.exact.count
 
-pub same_count : (size : ℕ) (f g : Form) (xs ys x y : List ℕ) → HasBlocks size f xs → HasBlocks size g ys → x ≡ xs → y ≡ ys → length x ≡ length y
-same_count size f g xs ys x y a b e q = ap length e ∙ a.exact.count ∙ sym (ap length q ∙ b.exact.count)
+-- words of two sets' blocks are as many, what an operation makes of them is blocks of that size, and they keep what it makes of the sets
+pub same_count : (size : ℕ) (f g : Form) (xs ys : List ℕ) → HasBlocks size f xs → HasBlocks size g ys → length xs ≡ length ys
+same_count size f g xs ys a b = a.exact.count ∙ sym b.exact.count
 
--- what is known of two blocks that are zipped
-pub record AreZipped (size : ℕ) (op : ℕ → ℕ → ℕ) (mine theirs : Form) (r : List ℕ) : Type 0 where
-  pub left : List ℕ
-  pub right : List ℕ
-  pub left_blocks : HasBlocks size mine left
-  pub right_blocks : HasBlocks size theirs right
-  pub zipped : r ≡ map (λ (p : ℕ × ℕ). op p.0 p.1) (zip left right)
+pub zipped_whole : (o : Operation) (size : ℕ) (f g : Form) (xs ys r : List ℕ) → HasBlocks size f xs → HasBlocks size g ys
+    → r ≡ map (λ (p : ℕ × ℕ). word_by o p.0 p.1) (zip xs ys) → IsExact size r
+zipped_whole o size f g xs ys r a b e = subst (λ (l : List ℕ). IsExact size l) (sym e) (zip_exact size xs ys (word_by o) (flag_by o) (by_flagwise o) a.exact b.exact)
 
-pub zipped_of : (size : ℕ) (op : ℕ → ℕ → ℕ) (f g : Form) (xs ys x y r : List ℕ) → HasBlocks size f xs → HasBlocks size g ys → x ≡ xs → y ≡ ys
-    → r ≡ map (λ (p : ℕ × ℕ). op p.0 p.1) (zip x y) → AreZipped size op f g r
-zipped_of size op f g xs ys x y r a b e q h = record {
-  left = xs;
-  right = ys;
-  left_blocks = a;
-  right_blocks = b;
-  zipped = h ∙ ap (λ (l : List ℕ). map (λ (p : ℕ × ℕ). op p.0 p.1) (zip l y)) e ∙ ap (λ (l : List ℕ). map (λ (p : ℕ × ℕ). op p.0 p.1) (zip xs l)) q;
-}
-
-pub zipped_whole : (size : ℕ) (op : ℕ → ℕ → ℕ) (fb : Bool → Bool → Bool) (w : IsFlagwise op fb) (f g : Form) (r : List ℕ) → AreZipped size op f g r → IsExact size r
-zipped_whole size op fb w f g r z = subst (λ (l : List ℕ). IsExact size l) (sym z.zipped) (zip_exact size z.left z.right op fb w z.left_blocks.exact z.right_blocks.exact)
-
-pub zipped_sealed : (size : ℕ) (op : ℕ → ℕ → ℕ) (fb : Bool → Bool → Bool) (w : IsFlagwise op fb) (f g made : Form) (r : List ℕ) → AreZipped size op f g r → IsSealed size r made
-    → IsMade fb f g made
-zipped_sealed size op fb w f g made r z s = zipped_made size op fb w f g made z.left z.right r z.left_blocks z.right_blocks z.zipped s
+pub zipped_sealed : (o : Operation) (size : ℕ) (f g made : Form) (xs ys r : List ℕ) → HasBlocks size f xs → HasBlocks size g ys
+    → r ≡ map (λ (p : ℕ × ℕ). word_by o p.0 p.1) (zip xs ys) → IsSealed size r made → IsMade (flag_by o) f g made
+zipped_sealed o size f g made xs ys r a b e s = zipped_made size (word_by o) (flag_by o) (by_flagwise o) f g made xs ys r a b e s
 
 pub word_made : (m n : ℕ) (fb : Bool → Bool → Bool) (f g : Form) (x y v : ℕ) → f ≡ Word m x → g ≡ Word n y → AreForms f g
     → (IsWord m x → IsWord m y → IsMade fb (Word m x) (Word n y) (Word m v)) → IsMade fb f g (Word m v)

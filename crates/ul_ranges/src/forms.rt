@@ -9,7 +9,7 @@ ghost use Rattle.ul_ranges.specs.Forms.{AreApart, AreForms, AreLevel, AreSame, A
 ghost use Rattle.ul_ranges.specs.Operations.{flag_by, in_both, in_either, in_first, word_by};
 
 use crate::shared::{SharedList, put_shared};
-use crate::words::{Operation, are_apart, are_within, next_bit, next_flag, words_by};
+use crate::words::{Operation, next_flag, words_by};
 use std::alloc::{AllocError, Global};
 
 // How a set is kept, behind its size: up to 64 numbers by the bits of one word; more by the one member that there may be, or by
@@ -163,6 +163,24 @@ fn only_out(one: Option<u32>, other: &Form) -> Option<u32>
     }
 }
 
+// What the operation makes of two sets of more than 64 numbers that have these blocks.
+fn sealed_by(
+    alloc: Global,
+    operation: Operation,
+    mine: &Form,
+    theirs: &Form,
+    xs: &[u64],
+    ys: &[u64],
+) -> Result<Form, AllocError>
+    requires large { 64 < size_in mine.now }
+    requires left { HasBlocks (size_in mine.now) mine.now xs.now }
+    requires right { HasBlocks (size_in mine.now) theirs.now ys.now }
+    ensures { IfOk result (λ f. IsMade (flag_by operation) mine.now theirs.now f) }
+{
+    let blocks = words_by(alloc, operation, xs, ys)?;
+    sealed(alloc, size_in(mine), blocks)
+}
+
 // The members of both.
 pub fn meet(alloc: Global, mine: &Form, theirs: &Form) -> Result<Form, AllocError>
     requires { AreForms mine.now theirs.now }
@@ -172,9 +190,15 @@ pub fn meet(alloc: Global, mine: &Form, theirs: &Form) -> Result<Form, AllocErro
         (Form::Word(size, x), Form::Word(_, y)) => Ok(Form::Word(*size, *x & *y)),
         (Form::Few(size, one), _) => Ok(Form::Few(*size, only_in(*one, theirs))),
         (_, Form::Few(size, one)) => Ok(Form::Few(*size, only_in(*one, mine))),
-        (Form::Many(size, xs), Form::Many(_, ys)) => {
-            let blocks = words_by(alloc, Operation::Meet, xs.as_slice(), ys.as_slice())?;
-            sealed(alloc, *size, blocks)
+        (Form::Many(_, xs), Form::Many(_, ys)) => {
+            sealed_by(
+                alloc,
+                Operation::Meet,
+                mine,
+                theirs,
+                xs.as_slice(),
+                ys.as_slice(),
+            )
         }
         _ => unreachable!(),
     }
@@ -188,14 +212,26 @@ pub fn less(alloc: Global, mine: &Form, theirs: &Form) -> Result<Form, AllocErro
     match (mine, theirs) {
         (Form::Word(size, x), Form::Word(_, y)) => Ok(Form::Word(*size, *x & !*y)),
         (Form::Few(size, one), _) => Ok(Form::Few(*size, only_out(*one, theirs))),
-        (Form::Many(size, xs), Form::Many(_, ys)) => {
-            let blocks = words_by(alloc, Operation::Less, xs.as_slice(), ys.as_slice())?;
-            sealed(alloc, *size, blocks)
+        (Form::Many(_, xs), Form::Many(_, ys)) => {
+            sealed_by(
+                alloc,
+                Operation::Less,
+                mine,
+                theirs,
+                xs.as_slice(),
+                ys.as_slice(),
+            )
         }
-        (Form::Many(size, xs), Form::Few(_, one)) => {
-            let ys = few_blocks(alloc, *size, *one)?;
-            let blocks = words_by(alloc, Operation::Less, xs.as_slice(), ys.as_slice())?;
-            sealed(alloc, *size, blocks)
+        (Form::Many(_, xs), Form::Few(_, _)) => {
+            let ys = block_list(alloc, theirs)?;
+            sealed_by(
+                alloc,
+                Operation::Less,
+                mine,
+                theirs,
+                xs.as_slice(),
+                ys.as_slice(),
+            )
         }
         _ => unreachable!(),
     }
@@ -210,15 +246,27 @@ pub fn join(alloc: Global, mine: &Form, theirs: &Form) -> Result<Form, AllocErro
         (Form::Word(size, x), Form::Word(_, y)) => Ok(Form::Word(*size, *x | *y)),
         (Form::Few(_, None), _) => copy(alloc, theirs),
         (_, Form::Few(_, None)) => copy(alloc, mine),
-        (Form::Many(size, xs), Form::Many(_, ys)) => {
-            let blocks = words_by(alloc, Operation::Join, xs.as_slice(), ys.as_slice())?;
-            sealed(alloc, *size, blocks)
+        (Form::Many(_, xs), Form::Many(_, ys)) => {
+            sealed_by(
+                alloc,
+                Operation::Join,
+                mine,
+                theirs,
+                xs.as_slice(),
+                ys.as_slice(),
+            )
         }
         _ => {
             let xs = block_list(alloc, mine)?;
             let ys = block_list(alloc, theirs)?;
-            let blocks = words_by(alloc, Operation::Join, xs.as_slice(), ys.as_slice())?;
-            sealed(alloc, size_in(mine), blocks)
+            sealed_by(
+                alloc,
+                Operation::Join,
+                mine,
+                theirs,
+                xs.as_slice(),
+                ys.as_slice(),
+            )
         }
     }
 }
@@ -288,99 +336,6 @@ pub fn put(
     let made = made_by(alloc, operation, mine, theirs)?;
     *mine = made;
     Ok(())
-}
-
-// Whether there is no member.
-pub fn is_empty(form: &Form) -> bool
-    requires { IsForm form.now }
-    ensures { IsTrue result ↔ ((k : ℕ) → flag_in form.now k ≡ false) }
-{
-    match form {
-        Form::Word(_, word) => *word == 0,
-        Form::Few(_, one) => one.is_none(),
-        Form::Many(_, _) => false,
-    }
-}
-
-// Whether the members are the same.
-pub fn same(mine: &Form, theirs: &Form) -> bool
-    requires { AreForms mine.now theirs.now }
-    ensures { IsTrue result ↔ AreSame mine.now theirs.now }
-{
-    match (mine, theirs) {
-        (Form::Word(_, x), Form::Word(_, y)) => *x == *y,
-        (Form::Few(_, a), Form::Few(_, b)) => same_one(*a, *b),
-        (Form::Many(_, xs), Form::Many(_, ys)) => xs.as_slice() == ys.as_slice(),
-        _ => false,
-    }
-}
-
-fn same_one(one: Option<u32>, other: Option<u32>) -> bool
-    ensures { IsTrue result ↔ (one ≡ other) }
-{
-    match (one, other) {
-        (Some(member), Some(number)) => member == number,
-        (None, None) => true,
-        _ => false,
-    }
-}
-
-// Whether each member of the first is one of the second.
-pub fn is_within(mine: &Form, theirs: &Form) -> bool
-    requires { AreForms mine.now theirs.now }
-    ensures { IsTrue result ↔ AreWithin mine.now theirs.now }
-{
-    match (mine, theirs) {
-        (Form::Word(_, x), Form::Word(_, y)) => *x & !*y == 0,
-        (Form::Few(_, None), _) => true,
-        (Form::Few(_, Some(member)), _) => has_in(theirs, *member),
-        (Form::Many(_, xs), Form::Many(_, ys)) => are_within(xs.as_slice(), ys.as_slice()),
-        _ => false,
-    }
-}
-
-// Whether no member of the first is one of the second.
-pub fn is_apart(mine: &Form, theirs: &Form) -> bool
-    requires { AreForms mine.now theirs.now }
-    ensures { IsTrue result ↔ AreApart mine.now theirs.now }
-{
-    match (mine, theirs) {
-        (Form::Word(_, x), Form::Word(_, y)) => *x & *y == 0,
-        (Form::Few(_, None), _) => true,
-        (Form::Few(_, Some(member)), _) => !has_in(theirs, *member),
-        (_, Form::Few(_, None)) => true,
-        (_, Form::Few(_, Some(member))) => !has_in(mine, *member),
-        (Form::Many(_, xs), Form::Many(_, ys)) => are_apart(xs.as_slice(), ys.as_slice()),
-        _ => false,
-    }
-}
-
-// The first member from a number on.
-pub fn next_in(form: &Form, from: u32) -> Option<u32>
-    requires { IsForm form.now }
-    ensures { IsNext (λ k. flag_in form.now k) from result }
-{
-    match form {
-        Form::Word(_, word) => if from < 64 {
-            next_bit(*word, from)
-        } else {
-            None
-        },
-        Form::Few(_, Some(member)) if *member >= from => Some(*member),
-        Form::Few(_, _) => None,
-        Form::Many(size, blocks) => next_member(blocks.as_slice(), *size, from),
-    }
-}
-
-// The first member of blocks from a number on. They are those of a size, so that it fits.
-fn next_member(blocks: &[u64], size: u32, from: u32) -> Option<u32>
-    requires { IsExact size blocks.now }
-    ensures { IsNext (λ k. flag_at blocks.now k) from result }
-{
-    match next_flag(blocks, from as usize) {
-        Some(member) => Some(member as u32),
-        None => None,
-    }
 }
 
 // The set of one number below a size.
@@ -471,7 +426,9 @@ fn front_word(count: u32, place: u32) -> u64
 fn front_blocks(alloc: Global, size: u32, count: u32) -> Result<Vec<u64>, AllocError>
     ensures { IfOk result (λ v. v.items ≡ map (λ j. front_word count j) (range_with_len 0 (block_count size))) }
 {
-    (0..size.div_ceil(64))
-        .map(|place| front_word(count, place))
-        .collect(alloc)
+    let mut blocks = Vec::new(alloc);
+    for place in 0..size.div_ceil(64) {
+        blocks.push(front_word(count, place))?;
+    }
+    Ok(blocks)
 }

@@ -6,6 +6,7 @@
 
 mod cuts;
 pub mod examples;
+mod form_tests;
 mod forms;
 pub mod laws;
 mod ordinals;

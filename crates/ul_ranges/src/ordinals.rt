@@ -3,9 +3,9 @@ ghost use Rattle.std.specs.Prelude.{◌≡◌, ◌<◌, ◌≤◌, ◌↔◌, �
 ghost use Rattle.ul_ranges.specs.Flags.{has, both, either, less, is_apart, is_blank, is_within, set_of, front, first_in, IsNextMember};
 ghost use Rattle.ul_ranges.specs.Blocks.{AreBlocksOf};
 
-use crate::forms;
 use crate::forms::Form;
 use crate::words::Operation;
+use crate::{form_tests, forms};
 use std::alloc::{AllocError, Global};
 use std::marker::Model;
 
@@ -53,28 +53,33 @@ impl Ordinals {
     pub fn next_from(&self, from: u32) -> Option<u32>
         ensures { IsNextMember self.now from result }
     {
-        forms::next_in(&self.form, from)
+        form_tests::next_in(&self.form, from)
     }
 
     /// Whether the set has no member.
     pub fn is_empty(&self) -> bool
         ensures { result ≡ is_blank self.now }
     {
-        forms::is_empty(&self.form)
+        form_tests::is_empty(&self.form)
     }
 
     /// The first of `order` that is in the set; `None` exactly where none of them is.
     pub fn first_in(&self, order: &Vec<u32>) -> Option<u32>
         ensures { result ≡ first_in order.now.items self.now }
     {
-        order.iter().copied().find(|k| self.has(*k))
+        for k in order {
+            if self.has(*k) {
+                return Some(*k);
+            }
+        }
+        None
     }
 
     /// Whether the two are equal, in their sizes too.
     pub fn same(&self, other: &Ordinals) -> bool
         ensures { IsTrue result ↔ (self.now ≡ other.now) }
     {
-        self.size() == other.size() && forms::same(&self.form, &other.form)
+        self.size() == other.size() && form_tests::same(&self.form, &other.form)
     }
 
     /// Whether each member is a member of `other`.
@@ -82,7 +87,7 @@ impl Ordinals {
         requires { length self.now ≡ length other.now }
         ensures { result ≡ is_within self.now other.now }
     {
-        forms::is_within(&self.form, &other.form)
+        form_tests::is_within(&self.form, &other.form)
     }
 
     /// Whether no number is in both.
@@ -90,7 +95,7 @@ impl Ordinals {
         requires { length self.now ≡ length other.now }
         ensures { result ≡ is_apart self.now other.now }
     {
-        forms::is_apart(&self.form, &other.form)
+        form_tests::is_apart(&self.form, &other.form)
     }
 
     /// The members of both.

@@ -1,9 +1,11 @@
 //! The plain bodies: sets as lists of flags, one by one, and pieces by looking at each start. The block sets and the searches keep
 //! the same contracts; these stay for comparison.
-ghost use Rattle.std.specs.Prelude.{◌≡◌, ◌^◌, ◌<◌, length, IfOk, map, zip, cond, true, false};
+ghost use Rattle.std.specs.Prelude.{◌≡◌, ◌^◌, ◌<◌, length, IfOk, map, zip};
 ghost use Rattle.ul_ranges.specs.Flags.{has, both, either, less, is_blank, is_within, set_of, first_in};
+ghost use Rattle.ul_ranges.specs.Operations.{flag_by};
 ghost use Rattle.ul_ranges.specs.Pieces.{AreStarts, IsPiece, IsRefinement};
 
+use crate::words::Operation;
 use std::alloc::{AllocError, Global};
 
 /// The flags of the numbers of a list.
@@ -26,7 +28,7 @@ pub fn meet(alloc: Global, left: &[bool], right: &[bool]) -> Result<Vec<bool>, A
     requires { length left.now ≡ length right.now }
     ensures { IfOk result (λ v. v.items ≡ both left.now right.now) }
 {
-    meet_pairs(alloc, left, right)
+    flags_by(alloc, Operation::Meet, left, right)
 }
 
 /// The members of either.
@@ -34,7 +36,7 @@ pub fn join(alloc: Global, left: &[bool], right: &[bool]) -> Result<Vec<bool>, A
     requires { length left.now ≡ length right.now }
     ensures { IfOk result (λ v. v.items ≡ either left.now right.now) }
 {
-    join_pairs(alloc, left, right)
+    flags_by(alloc, Operation::Join, left, right)
 }
 
 /// The members that the second lacks.
@@ -42,7 +44,7 @@ pub fn less(alloc: Global, left: &[bool], right: &[bool]) -> Result<Vec<bool>, A
     requires { length left.now ≡ length right.now }
     ensures { IfOk result (λ v. v.items ≡ less left.now right.now) }
 {
-    less_pairs(alloc, left, right)
+    flags_by(alloc, Operation::Less, left, right)
 }
 
 /// Whether there is no member.
@@ -61,7 +63,12 @@ pub fn is_empty(flags: &[bool]) -> bool
 pub fn first_in(flags: &[bool], order: &[u32]) -> Option<u32>
     ensures { result ≡ first_in order.now flags.now }
 {
-    order.iter().copied().find(|k| has(flags, *k))
+    for k in order {
+        if has(flags, *k) {
+            return Some(*k);
+        }
+    }
+    None
 }
 
 /// The place of the piece that has a number, from the first start on.
@@ -92,29 +99,28 @@ pub fn refine(alloc: Global, left: &[u128], right: &[u128]) -> Result<Vec<u128>,
     Ok(starts)
 }
 
-fn meet_pairs(alloc: Global, left: &[bool], right: &[bool]) -> Result<Vec<bool>, AllocError>
-    ensures { IfOk result (λ v. v.items ≡ map (λ p. cond p.0 p.1 false) (zip left.now right.now)) }
+// What the operation makes of two flags.
+fn flag_by(operation: Operation, x: bool, y: bool) -> bool
+    ensures { result ≡ flag_by operation x y }
 {
-    left.iter()
-        .zip(right.iter())
-        .map(|(x, y)| if *x { *y } else { false })
-        .collect(alloc)
+    match operation {
+        Operation::Meet => if x { y } else { false },
+        Operation::Join => if x { true } else { y },
+        Operation::Less => if y { false } else { x },
+    }
 }
 
-fn join_pairs(alloc: Global, left: &[bool], right: &[bool]) -> Result<Vec<bool>, AllocError>
-    ensures { IfOk result (λ v. v.items ≡ map (λ p. cond p.0 true p.1) (zip left.now right.now)) }
+// What the operation makes of each flag and the other's.
+fn flags_by(
+    alloc: Global,
+    operation: Operation,
+    left: &[bool],
+    right: &[bool],
+) -> Result<Vec<bool>, AllocError>
+    ensures { IfOk result (λ v. v.items ≡ map (λ p. flag_by operation p.0 p.1) (zip left.now right.now)) }
 {
     left.iter()
         .zip(right.iter())
-        .map(|(x, y)| if *x { true } else { *y })
-        .collect(alloc)
-}
-
-fn less_pairs(alloc: Global, left: &[bool], right: &[bool]) -> Result<Vec<bool>, AllocError>
-    ensures { IfOk result (λ v. v.items ≡ map (λ p. cond p.1 false p.0) (zip left.now right.now)) }
-{
-    left.iter()
-        .zip(right.iter())
-        .map(|(x, y)| if *y { false } else { *x })
+        .map(|(x, y)| flag_by(operation, *x, *y))
         .collect(alloc)
 }

@@ -10,18 +10,6 @@ ghost use Rattle.ul_ranges.specs.Operations.{word_by};
 use std::alloc::{AllocError, Global};
 use std::simd::prelude::*;
 
-pub fn are_within(mine: &[u64], theirs: &[u64]) -> bool
-    ensures { result ≡ list_all (λ p. bit_and p.0 (bit_not w64 p.1) == 0) (zip mine.now theirs.now) }
-{
-    mine.iter().zip(theirs.iter()).all(|(x, y)| *x & !*y == 0)
-}
-
-pub fn are_apart(mine: &[u64], theirs: &[u64]) -> bool
-    ensures { result ≡ list_all (λ p. bit_and p.0 p.1 == 0) (zip mine.now theirs.now) }
-{
-    mine.iter().zip(theirs.iter()).all(|(x, y)| *x & *y == 0)
-}
-
 // An operation on two sets: the members of both, of either, or of the first alone.
 #[derive(Clone, Copy)]
 pub enum Operation {
@@ -39,6 +27,15 @@ fn word_by(operation: Operation, x: u64, y: u64) -> u64
         Operation::Join => x | y,
         Operation::Less => x & !y,
     }
+}
+
+// Whether the operation makes no bit of each word and the other's.
+pub fn are_clear(operation: Operation, mine: &[u64], theirs: &[u64]) -> bool
+    ensures { result ≡ list_all (λ p. word_by operation p.0 p.1 == 0) (zip mine.now theirs.now) }
+{
+    mine.iter()
+        .zip(theirs.iter())
+        .all(|(x, y)| word_by(operation, *x, *y) == 0)
 }
 
 // What the operation makes of four words and four others, lane by lane.

@@ -6,10 +6,8 @@ mod judged;
 #[cfg(test)]
 mod printed;
 #[cfg(test)]
+mod problems;
+#[cfg(test)]
 mod refused;
 #[cfg(test)]
 mod texts;
-#[cfg(test)]
-mod whole;
-#[cfg(test)]
-mod wrong;

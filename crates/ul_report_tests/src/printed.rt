@@ -1,162 +1,99 @@
 //! The lines of derivations.
-use std::alloc::Global;
-use std::test::Fail;
-use ul_base::{Name, Node};
-use ul_problem::{
-    Derivation, NeedRow, NeedRows, NodeFacts, Places, Problem, Step, Term, Terms, Versions,
-};
-use ul_ranges::Ordinals;
+use crate::problems::{problem_of, steps_of};
+use std::alloc::{AllocError, Global};
+use std::fmt::Write;
+use ul_problem::{Derivation, Problem};
 use ul_report::{fits, steps};
-use ul_version::Version;
 
-fn node(alloc: Global, name: &str, extra: Option<&str>) -> Result<Node, Fail> {
-    let name = Name::read(alloc, name)?;
-    let extra = match extra {
-        Some(extra) => Some(Name::read(alloc, extra)?),
-        None => None,
-    };
-    Ok(Node { name, extra })
-}
+// demo with one version, p and p[x] with three, z without versions.
+const NODES: &str = "demo 0 1 1.#+local.;p 0 3 1.#+local.;p/x 0 3 1.#+local.;z 0 0";
 
-// A node with the versions 1, 1.1, 1.2 and so on, without needs.
-fn facts(alloc: Global, node: Node, base: Option<u64>, size: u32) -> Result<NodeFacts, Fail> {
-    let mut versions = Vec::new(alloc);
-    let mut order = Vec::new(alloc);
-    let mut rows = Vec::new(alloc);
-    for k in 0..size {
-        let text = format!(in alloc; "1.{k}+local.{k}")?;
-        versions.push(Version::read(alloc, text.as_str())?)?;
-        order.push(k)?;
-        rows.push(NeedRow::of(Vec::new(alloc)))?;
-    }
-    Ok(NodeFacts {
-        node,
-        base,
-        versions: Versions::of(alloc, versions)?,
-        order: Places::of(alloc, order)?,
-        barred: Ordinals::none(alloc, size)?,
-        needs: NeedRows::of(rows),
-    })
-}
+// The same with 300 versions of p and p[x].
+const WIDE: &str = "demo 0 1 1.#+local.;p 0 300 1.#+local.;p/x 0 300 1.#+local.;z 0 0";
 
-// demo with one version, p and p[x] with so many, z without versions.
-fn problem_of(alloc: Global, size: u32) -> Result<Problem, Fail> {
-    let mut nodes = Vec::new(alloc);
-    nodes.push(facts(alloc, node(alloc, "demo", None)?, None, 1)?)?;
-    nodes.push(facts(alloc, node(alloc, "p", None)?, None, size)?)?;
-    nodes.push(facts(alloc, node(alloc, "p", Some("x"))?, Some(1), size)?)?;
-    nodes.push(facts(alloc, node(alloc, "z", None)?, None, 0)?)?;
-    let roots = vec![in alloc; 0u64]?;
-    if Problem::fits(alloc, roots.as_slice(), nodes.as_slice())? {
-        Ok(Problem::of(roots, nodes))
-    } else {
-        Err("no problem")?
-    }
-}
+// Derivations with a step of each kind, and their lines, or that there are none: of a derivation whose sets of p have
+// another size. Then one of many steps.
+const ROWS: &str = "need 0 1 0 1>1 3 1 3;python 1 3 0 1;base 2 3 0 0;\
+    cut 1 18446744073709551615 1,in 0 1 0 1,not 1 3 0 0,not 2 3 2 3,in 3 0 0 0;cut 3 10 2\n\
+    1 need demo {1.0+local.0} p {1.1+local.1,1.2+local.2}\n\
+    2 python p {1.0+local.0}\n\
+    3 base p[x] {}\n\
+    4 cut 1 18446744073709551615 on p: demo {1.0+local.0}, not p[x] {1.2+local.2}, z {}\n\
+    5 cut 3 10 on p[x]:\n\
+    #need 0 1 0 1>1 4 1 3;python 1 4 0 1;base 2 4 0 0;\
+    cut 1 18446744073709551615 1,in 0 1 0 1,not 1 4 0 0,not 2 4 2 3,in 3 0 0 0;cut 3 10 2\n\
+    none\
+    #long";
 
-// The numbers from `low` to before `high`, below a size.
-fn set(alloc: Global, size: u32, low: u32, high: u32) -> Result<Ordinals, Fail> {
-    let mut members = Vec::new(alloc);
-    for k in low..high.min(size) {
-        members.push(k)?;
-    }
-    Ok(Ordinals::of_list(alloc, size, &members)?)
-}
-
-/// The lines of a derivation; none where it can't be printed.
-pub(crate) fn lines_of(
-    alloc: Global,
-    problem: &Problem,
-    list: Vec<Step>,
-) -> Result<Option<Vec<u8>>, Fail> {
-    let derivation = Derivation::of(list);
+// The lines of a derivation; none where it can't be printed.
+fn lines_of(alloc: Global, problem: &Problem, text: &str) -> Result<Option<Vec<u8>>, AllocError> {
+    let derivation = Derivation::of(steps_of(alloc, text)?);
     if !fits(problem, &derivation) {
         return Ok(None);
     }
     Ok(Some(steps(alloc, problem, &derivation)?))
 }
 
-// One step of each kind. `size` is the size of the sets of p.
-fn each_kind(alloc: Global, size: u32) -> Result<Vec<Step>, Fail> {
-    let mut list = Vec::new(alloc);
-    list.push(Step::Need {
-        node: 0,
-        versions: set(alloc, 1, 0, 1)?,
-        target: 1,
-        permitted: set(alloc, size, 1, 3)?,
-    })?;
-    list.push(Step::Python {
-        node: 1,
-        versions: set(alloc, size, 0, 1)?,
-    })?;
-    list.push(Step::Base {
-        node: 2,
-        versions: set(alloc, size, 0, 0)?,
-    })?;
-    let mut terms = Vec::new(alloc);
-    terms.push(Term::In(0, set(alloc, 1, 0, 1)?))?;
-    terms.push(Term::NotIn(1, set(alloc, size, 0, 0)?))?;
-    terms.push(Term::NotIn(2, set(alloc, size, 2, 3)?))?;
-    terms.push(Term::In(3, set(alloc, 0, 0, 0)?))?;
-    list.push(Step::Cut {
-        left: 1,
-        right: 18_446_744_073_709_551_615,
-        node: 1,
-        terms: Terms::of(terms),
-    })?;
-    list.push(Step::Cut {
-        left: 3,
-        right: 10,
-        node: 2,
-        terms: Terms::of(Vec::new(alloc)),
-    })?;
-    Ok(list)
+/// Whether these are the lines of a derivation of a problem, or `none`.
+pub(crate) fn are_lines(alloc: Global, nodes: &str, text: &str, want: &[u8]) -> bool {
+    let Some(problem) = problem_of(alloc, nodes) else {
+        return false;
+    };
+    match lines_of(alloc, &problem, text) {
+        Ok(Some(lines)) => lines.as_slice() == want,
+        Ok(None) => want == "none".as_bytes(),
+        Err(_) => false,
+    }
+}
+
+// A derivation of 300 steps, each of the versions of p[x] from another one on.
+fn long_steps(alloc: Global) -> Result<String, AllocError> {
+    let mut text = String::new(alloc);
+    for low in 0..300 {
+        write!(text, "base 2 300 {low} 300;")?;
+    }
+    Ok(text)
+}
+
+fn count(bytes: &[u8], wanted: u8) -> usize {
+    let mut count = 0usize;
+    for byte in bytes {
+        if *byte == wanted {
+            count = count.saturating_add(1);
+        }
+    }
+    count
+}
+
+fn long_lines(alloc: Global, problem: &Problem) -> Result<Option<Vec<u8>>, AllocError> {
+    let text = long_steps(alloc)?;
+    lines_of(alloc, problem, text.as_str())
+}
+
+fn has_size(lines: &[u8]) -> bool {
+    lines.len() == 716882 && count(lines, b'\n') == 300 && count(lines, b',') == 44850
+}
+
+fn is_long(alloc: Global) -> bool {
+    let Some(problem) = problem_of(alloc, WIDE) else {
+        return false;
+    };
+    match long_lines(alloc, &problem) {
+        Ok(Some(lines)) => has_size(lines.as_slice()),
+        _ => false,
+    }
+}
+
+fn is_row(alloc: Global, row: &str) -> bool {
+    match row.split_once('\n') {
+        Some((text, want)) => are_lines(alloc, NODES, text, want.as_bytes()),
+        None => is_long(alloc),
+    }
 }
 
 #[test]
-fn steps_have_their_lines(rt: HostRuntime) -> Result<(), Fail> {
-    let alloc = rt.alloc();
-    let problem = problem_of(alloc, 3)?;
-    let lines = lines_of(alloc, &problem, each_kind(alloc, 3)?)?;
-    let none = lines_of(alloc, &problem, each_kind(alloc, 4)?)?;
-    let want = "1 need demo {1.0+local.0} p {1.1+local.1,1.2+local.2}\n\
-        2 python p {1.0+local.0}\n\
-        3 base p[x] {}\n\
-        4 cut 1 18446744073709551615 on p: demo {1.0+local.0}, not p[x] {1.2+local.2}, z {}\n\
-        5 cut 3 10 on p[x]:\n";
-    let same = match lines {
-        Some(lines) => lines.as_slice() == want.as_bytes(),
-        None => false,
-    };
-    assert_eq!(rt; (same, none.is_none()), (true, true));
-    Ok(())
-}
-
-#[test]
-fn long_derivations_are_printed(rt: HostRuntime) -> Result<(), Fail> {
-    let alloc = rt.alloc();
-    let problem = problem_of(alloc, 300)?;
-    let mut list = Vec::new(alloc);
-    for i in 0..300 {
-        list.push(Step::Base {
-            node: 2,
-            versions: set(alloc, 300, i, 300)?,
-        })?;
+fn steps_have_their_lines(rt: HostRuntime) {
+    for row in ROWS.split('#') {
+        assert!(rt; is_row(rt.alloc(), row), "{row}");
     }
-    let lines = match lines_of(alloc, &problem, list)? {
-        Some(lines) => lines,
-        None => Err("not printed")?,
-    };
-    let mut lines_count = 0usize;
-    let mut commas = 0usize;
-    for byte in lines.as_slice() {
-        if *byte == b'\n' {
-            lines_count = lines_count.saturating_add(1);
-        }
-        if *byte == b',' {
-            commas = commas.saturating_add(1);
-        }
-    }
-    assert_eq!(rt; (lines.len(), lines_count, commas), (716882, 300, 44850));
-    Ok(())
 }

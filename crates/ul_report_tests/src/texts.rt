@@ -1,5 +1,6 @@
 //! Derivation files of rows, which the tests share.
 use std::alloc::{AllocError, Global};
+use std::fmt::Write;
 
 /// The four lines of a fork of one platform.
 pub(crate) const FORK: &str =
@@ -8,29 +9,15 @@ pub(crate) const FORK: &str =
     and platform_machine == '' and platform_python_implementation == '' and platform_release == '' \
     and platform_system == '' and platform_version == '' and implementation_name == ''\n";
 
-// Writes a piece, in which `@` stands for the four lines.
-fn push_piece(out: &mut String, piece: &str) -> Result<(), AllocError> {
-    match piece.split_once('@') {
-        Some((front, back)) => {
-            out.push_str(front)?;
-            out.push_str(FORK)?;
-            out.push_str(back)?;
-        }
-        None => out.push_str(piece)?,
-    }
-    Ok(())
-}
-
-/// The text of a row, in which `|` stands for the end of a line.
+/// The text of a row, in which `@` at its front stands for the four lines, and `|` for the end of a line.
 pub(crate) fn text_of(alloc: Global, row: &str) -> Result<String, AllocError> {
-    let mut out = String::new(alloc);
+    let rest = row.strip_prefix("@");
+    let mut out = String::from_str(alloc, if rest.is_some() { FORK } else { "" })?;
     let mut first = true;
-    for piece in row.split('|') {
-        if !first {
-            out.push_str("\n")?;
-        }
+    for piece in rest.unwrap_or(row).split('|') {
+        let end = if first { "" } else { "\n" };
+        write!(out, "{end}{piece}")?;
         first = false;
-        push_piece(&mut out, piece)?;
     }
     Ok(out)
 }

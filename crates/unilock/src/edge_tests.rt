@@ -2,48 +2,32 @@
 use crate::folder::FolderFiles;
 use crate::standard::OutSink;
 use crate::words_of;
-use std::alloc::Global;
+use std::alloc::{AllocError, Global};
 use std::io::{ErrorKind, Read, Write};
 use std::process::Abort;
-use std::test::Fail;
 use std::{fs, io};
 use ul_base::{Files, ReadRefused, Sink, SinkRefused};
 use ul_edge::{read_all, write_all};
 
 const TEXT: &[u8] = b"a text of thirty bytes to move";
 
-// What a call does.
-#[derive(Clone, Copy)]
-enum Turn {
-    // It moves so many bytes, or all where that is less.
-    Move(usize),
-    // A signal interrupts it.
-    Interrupt,
-    // It fails.
-    Fail,
-}
-
-use Turn::{Fail as Failing, Interrupt, Move};
-
-// The turns of a reader or a writer, one a call; after the last of them a call moves all that it can.
+// The turns of a reader or a writer, one a call, with blanks between them: how many bytes it moves, or all where that
+// is less; `interrupt`, where a signal interrupts it; or `fail`. After the last of them a call moves all that it can.
 #[derive(Drop)]
 struct Turns<'a> {
-    turns: &'a [Turn],
+    turns: &'a str,
 }
 
 impl Turns<'_> {
     // How many bytes the next call moves at most.
     fn next(&mut self) -> io::Result<usize> {
-        match self.turns {
-            [] => Ok(usize::MAX),
-            [turn, rest @ ..] => {
-                self.turns = rest;
-                match turn {
-                    Move(count) => Ok(*count),
-                    Interrupt => Err(io::Error::from(ErrorKind::Interrupted)),
-                    Failing => Err(io::Error::from(ErrorKind::Other)),
-                }
-            }
+        let (turn, rest) = self.turns.split_once(' ').unwrap_or((self.turns, ""));
+        self.turns = rest;
+        match turn {
+            "" => Ok(usize::MAX),
+            "interrupt" => Err(io::Error::from(ErrorKind::Interrupted)),
+            "fail" => Err(io::Error::from(ErrorKind::Other)),
+            count => Ok(count.parse::<usize>().unwrap_or(0)),
         }
     }
 }
@@ -83,7 +67,7 @@ impl Write for Taking<'_> {
     }
 }
 
-fn given(alloc: Global, turns: &[Turn], limit: u64) -> Result<Vec<u8>, ReadRefused> {
+fn given(alloc: Global, turns: &str, limit: u64) -> Result<Vec<u8>, ReadRefused> {
     let mut reader = Giving {
         turns: Turns { turns },
         left: TEXT,
@@ -91,133 +75,195 @@ fn given(alloc: Global, turns: &[Turn], limit: u64) -> Result<Vec<u8>, ReadRefus
     read_all(alloc, &mut reader, limit)
 }
 
-#[test]
-fn reads_to_the_end(rt: HostRuntime) -> Result<(), Fail> {
-    let rows: [&[Turn]; 5] = [
-        &[],
-        &[Move(3), Move(1), Move(7)],
-        &[Interrupt, Move(3), Interrupt, Interrupt, Move(1)],
-        &[Move(30), Interrupt],
-        &[Move(29), Interrupt, Move(1), Interrupt],
-    ];
-    for turns in rows {
-        let bytes = given(rt.alloc(), turns, 30)?;
-        assert_eq!(rt; bytes.as_slice(), TEXT);
-        assert_eq!(rt;
-            given(rt.alloc(), turns, 29).err(),
-            Some(ReadRefused::TooLong)
-        );
-    }
-    Ok(())
+// Whether a reader of these turns gives all, or fails; and the turns.
+const READS: &str = "whole|\n\
+    whole|3 1 7\n\
+    whole|interrupt 3 interrupt interrupt 1\n\
+    whole|30 interrupt\n\
+    whole|29 interrupt 1 interrupt\n\
+    fails|fail\n\
+    fails|3 fail\n\
+    fails|3 interrupt fail\n\
+    fails|30 fail";
+
+fn is_too_long(alloc: Global, turns: &str) -> bool {
+    given(alloc, turns, 29).err() == Some(ReadRefused::TooLong)
 }
 
-#[test]
-fn never_takes_a_failed_read_for_the_end(rt: HostRuntime) {
-    let rows: [&[Turn]; 4] = [
-        &[Failing],
-        &[Move(3), Failing],
-        &[Move(3), Interrupt, Failing],
-        &[Move(30), Failing],
-    ];
-    for turns in rows {
-        assert_eq!(rt;
-            given(rt.alloc(), turns, 30).err(),
-            Some(ReadRefused::Failed)
-        );
+fn is_read(alloc: Global, turns: &str) -> bool {
+    match given(alloc, turns, 30) {
+        Ok(bytes) => bytes.as_slice() == TEXT,
+        Err(_) => false,
     }
 }
 
-// Whether the text was written, and how many bytes were taken.
-fn taken(alloc: Global, turns: &[Turn]) -> Result<(bool, usize), Fail> {
+fn is_failed(alloc: Global, turns: &str) -> bool {
+    given(alloc, turns, 30).err() == Some(ReadRefused::Failed)
+}
+
+// Whether all is read, and refused where a byte less may be; or a failed read isn't taken for the end.
+fn is_given(alloc: Global, line: &str) -> bool {
+    let (end, turns) = line.split_once('|').unwrap_or((line, ""));
+    if end == "whole" {
+        is_read(alloc, turns) && is_too_long(alloc, turns)
+    } else {
+        is_failed(alloc, turns)
+    }
+}
+
+#[test]
+fn reads_to_the_end_or_fails(rt: HostRuntime) {
+    for line in READS.split('\n') {
+        assert!(rt; is_given(rt.alloc(), line), "{line}");
+    }
+}
+
+// Whether the text is written, how many bytes are taken, and the turns of the writer.
+const WRITES: &str = "whole|30|\n\
+    whole|30|3 1 7\n\
+    whole|30|interrupt 3 interrupt interrupt\n\
+    whole|30|30 fail\n\
+    fails|0|fail\n\
+    fails|3|3 fail\n\
+    fails|29|29 interrupt fail\n\
+    fails|0|0\n\
+    fails|3|3 0";
+
+// Whether so many bytes of the text were taken.
+fn has_taken(writer: &Taking<'_>, count: usize) -> bool {
+    count <= 30 && writer.taken.as_slice() == &TEXT[..count]
+}
+
+fn is_taken(alloc: Global, turns: &str, is_whole: bool, count: usize) -> bool {
     let mut writer = Taking {
         turns: Turns { turns },
         taken: Vec::new(alloc),
     };
-    let done = write_all(&mut writer, TEXT).is_ok();
-    let count = writer.taken.len();
-    if writer.taken.as_slice() != &TEXT[..count.min(30)] {
-        return Err(Fail::from("other bytes were taken"));
-    }
-    Ok((done, count))
+    let is_done = write_all(&mut writer, TEXT).is_ok();
+    is_done == is_whole && has_taken(&writer, count)
+}
+
+fn is_row(alloc: Global, line: &str) -> bool {
+    let (end, rest) = line.split_once('|').unwrap_or((line, ""));
+    let (count, turns) = rest.split_once('|').unwrap_or((rest, ""));
+    let count = count.parse::<usize>().unwrap_or(usize::MAX);
+    is_taken(alloc, turns, end == "whole", count)
 }
 
 #[test]
-fn writes_the_whole_piece_or_fails(rt: HostRuntime) -> Result<(), Fail> {
-    let rows: [(&[Turn], bool, usize); 9] = [
-        (&[], true, 30),
-        (&[Move(3), Move(1), Move(7)], true, 30),
-        (&[Interrupt, Move(3), Interrupt, Interrupt], true, 30),
-        (&[Move(30), Failing], true, 30),
-        (&[Failing], false, 0),
-        (&[Move(3), Failing], false, 3),
-        (&[Move(29), Interrupt, Failing], false, 29),
-        (&[Move(0)], false, 0),
-        (&[Move(3), Move(0)], false, 3),
-    ];
-    for (turns, done, count) in rows {
-        assert_eq!(rt; taken(rt.alloc(), turns)?, (done, count));
+fn writes_the_whole_piece_or_fails(rt: HostRuntime) {
+    for line in WRITES.split('\n') {
+        assert!(rt; is_row(rt.alloc(), line), "{line}");
     }
-    Ok(())
+}
+
+// Whether a sink over a writer refuses the text, and then takes what is given.
+fn is_refused_once(writer: &mut Taking<'_>) -> bool {
+    let mut out = OutSink::new(writer);
+    let refused = out.write_all(TEXT).err() == Some(SinkRefused::Failed);
+    refused && out.write_all(b"more").is_ok() && out.write_all(b"").is_ok()
+}
+
+fn is_counted(alloc: Global) -> bool {
+    let mut writer = Taking {
+        turns: Turns {
+            turns: "3 0 interrupt",
+        },
+        taken: Vec::new(alloc),
+    };
+    is_refused_once(&mut writer) && writer.taken.as_slice() == b"a tmore".as_slice()
 }
 
 #[test]
 fn a_sink_over_a_writer_counts_its_failures(rt: HostRuntime) {
-    let mut writer = Taking {
-        turns: Turns {
-            turns: &[Move(3), Move(0), Interrupt],
-        },
-        taken: Vec::new(rt.alloc()),
-    };
-    let mut out = OutSink::new(&mut writer);
-    assert_eq!(rt; out.write_all(TEXT).err(), Some(SinkRefused::Failed));
-    assert!(rt; out.write_all(b"more").is_ok());
-    assert!(rt; out.write_all(b"").is_ok());
-    assert_eq!(rt; writer.taken.as_slice(), b"a tmore".as_slice());
+    assert!(rt; is_counted(rt.alloc()));
 }
 
-fn file_of<R: fs::Files>(rt: &R, alloc: Global, path: &str, length: usize) -> Result<(), Fail> {
-    let mut bytes = Vec::from_elem(alloc, b'x', length)?;
-    bytes.push(b'y')?;
-    fs::write(rt, path, bytes.as_slice())?;
-    Ok(())
+const PATH: &str = "unilock-file.txt";
+
+// Whether the file is written, with so many bytes and one more.
+fn is_made<R: fs::Files>(rt: &R, alloc: Global, length: usize) -> bool {
+    match Vec::from_elem(alloc, b'x', length) {
+        Ok(mut bytes) => {
+            bytes.push(b'y').is_ok() && fs::write(rt, PATH, bytes.as_slice()).is_ok()
+        }
+        Err(_) => false,
+    }
 }
 
-#[test]
-fn reads_real_files(rt: HostRuntime) -> Result<(), Fail> {
-    let path = "unilock-file.txt";
-    let mut files = FolderFiles::new(&rt, rt.alloc());
+// Whether the file has so many bytes and one more.
+fn is_whole<F: Files>(files: &mut F, length: usize) -> bool {
+    let size = length.saturating_add(1);
+    match files.read(PATH, size as u64) {
+        Ok(Some(bytes)) => bytes.len() == size && bytes.last() == Some(&b'y'),
+        _ => false,
+    }
+}
+
+fn is_longer<F: Files>(files: &mut F, length: usize) -> bool {
+    files.read(PATH, length as u64).err() == Some(ReadRefused::TooLong)
+}
+
+fn is_refused<F: Files>(files: &mut F, path: &str) -> bool {
+    files.read(path, 9).err() == Some(ReadRefused::Failed)
+}
+
+fn is_absent<F: Files>(files: &mut F) -> bool {
+    matches!(files.read(PATH, 9), Ok(None))
+}
+
+// Whether what lies below the file is refused, and then the file is gone, and a folder refused.
+fn is_gone<R: fs::Files, F: Files>(rt: &R, files: &mut F) -> bool {
+    is_refused(files, "unilock-file.txt/x")
+        && fs::remove_file(rt, PATH).is_ok()
+        && is_absent(files)
+        && is_refused(files, ".")
+}
+
+// Whether files of these sizes are read as they were written.
+fn are_kept<R: fs::Files, F: Files>(rt: &R, alloc: Global, files: &mut F) -> bool {
     for length in [0, 9_999, 200_000, 16_777_215] {
-        file_of(&rt, rt.alloc(), path, length)?;
-        let bytes = files.read(path, length as u64 + 1)?.ok_or("absent")?;
-        assert_eq!(rt; bytes.len(), length + 1);
-        assert_eq!(rt; bytes.last(), Some(&b'y'));
-        assert_eq!(rt;
-            files.read(path, length as u64).err(),
-            Some(ReadRefused::TooLong)
-        );
+        if !is_made(rt, alloc, length) || !is_whole(files, length) || !is_longer(files, length) {
+            return false;
+        }
     }
-    assert_eq!(rt;
-        files.read("unilock-file.txt/x", 9).err(),
-        Some(ReadRefused::Failed)
-    );
-    fs::remove_file(&rt, path)?;
-    assert!(rt; matches!(files.read(path, 9), Ok(None)));
-    assert_eq!(rt; files.read(".", 9).err(), Some(ReadRefused::Failed));
-    Ok(())
+    is_gone(rt, files)
 }
 
 #[test]
-fn words_that_are_no_text_are_no_words(rt: HostRuntime) -> Result<(), Fail> {
-    let no_text = words_of(rt.alloc(), Err(io::Error::from(ErrorKind::InvalidData)))?;
-    assert_eq!(rt; no_text.len(), 0);
-    let no_memory = words_of(rt.alloc(), Err(io::Error::from(ErrorKind::OutOfMemory)));
-    assert!(rt; no_memory.is_err());
-    let mut words = Vec::new(rt.alloc());
-    for word in ["unilock", "lock", "p.toml"] {
-        words.push(String::from_str(rt.alloc(), word)?)?;
+fn reads_real_files(rt: HostRuntime) {
+    let mut files = FolderFiles::new(&rt, rt.alloc());
+    assert!(rt; are_kept(&rt, rt.alloc(), &mut files));
+}
+
+// Whether words that are no text are no words, and want of memory is told.
+fn are_no_words(alloc: Global) -> bool {
+    let no_memory = words_of(alloc, Err(io::Error::from(ErrorKind::OutOfMemory))).is_err();
+    match words_of(alloc, Err(io::Error::from(ErrorKind::InvalidData))) {
+        Ok(words) => no_memory && words.is_empty(),
+        Err(_) => false,
     }
-    let words = words_of(rt.alloc(), Ok(words.into_iter()))?;
-    assert_eq!(rt; words.len(), 2);
-    assert_eq!(rt; words[0].as_str(), "lock");
-    Ok(())
+}
+
+fn listed(alloc: Global, line: &str) -> Result<Vec<String>, AllocError> {
+    let mut words = Vec::new(alloc);
+    for word in line.split(' ') {
+        words.push(String::from_str(alloc, word)?)?;
+    }
+    Ok(words)
+}
+
+// Whether the words are those behind the program's name.
+fn are_words(alloc: Global) -> Result<bool, AllocError> {
+    let given = listed(alloc, "unilock lock p.toml")?;
+    let words = words_of(alloc, Ok(given.into_iter()))?;
+    match words.as_slice() {
+        [first, _] => Ok(first.as_str() == "lock"),
+        _ => Ok(false),
+    }
+}
+
+#[test]
+fn words_that_are_no_text_are_no_words(rt: HostRuntime) {
+    assert!(rt; are_no_words(rt.alloc()) && matches!(are_words(rt.alloc()), Ok(true)));
 }

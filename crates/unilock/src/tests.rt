@@ -2,11 +2,17 @@
 use crate::rows::ROWS;
 use crate::top::run;
 use std::alloc::{AllocError, Global};
+use std::fmt::Write;
 use std::process::Abort;
 use std::sync::Wait;
-use std::test::Fail;
 use std::thread::Threads;
 use ul_base::{MemFiles, MemSink, Open, Sink, SinkRefused};
+
+/// Puts a piece. One that finds no memory is left out, and then what is told isn't what is wanted: so what puts pieces
+/// together has no failure to hand on.
+pub(crate) fn put(told: &mut String, piece: &str) {
+    let _ = told.push_str(piece);
+}
 
 const NONE: u64 = u64::MAX;
 
@@ -42,47 +48,79 @@ fn words_of(alloc: Global, text: &str) -> Result<Vec<String>, AllocError> {
     Ok(words)
 }
 
-// The status, in decimal, and what the sink took, behind a line end.
-fn answer<R: Threads + Wait + Sync>(
+// The status of words over these files.
+fn status_of<R: Threads + Wait + Sync>(
+    rt: &R,
+    alloc: Global,
+    words: &Vec<String>,
+    files: &mut MemFiles,
+    out: &mut MemSink,
+) -> u8 {
+    run(rt, alloc, words, files, out, &Open)
+}
+
+// Puts a status, in decimal, and what a sink took, behind a line end.
+fn put_output(told: &mut String, status: u8, out: &MemSink) {
+    let _ = write!(told, "{status}\n");
+    put(
+        told,
+        str::from_utf8(out.bytes().as_slice()).unwrap_or("no text"),
+    );
+}
+
+// What is printed for a case over these files, behind its status.
+fn printed_over<R: Threads + Wait + Sync>(
+    rt: &R,
+    alloc: Global,
+    text: &str,
+    files: &mut MemFiles,
+    out: &mut MemSink,
+) -> String {
+    let mut told = String::new(alloc);
+    if let Ok(words) = words_of(alloc, text) {
+        let status = status_of(rt, alloc, &words, files, out);
+        put_output(&mut told, status, out);
+    }
+    told
+}
+
+// What is printed for a case, of whose reads this one fails.
+fn printed_into<R: Threads + Wait + Sync>(
     rt: &R,
     alloc: Global,
     text: &str,
     read: u64,
     out: &mut MemSink,
-) -> Result<u8, AllocError> {
-    let words = words_of(alloc, text)?;
-    let mut files = files_of(alloc, text, read)?;
-    Ok(run(rt, alloc, &words, &mut files, out, &Open))
+) -> String {
+    match files_of(alloc, text, read) {
+        Ok(mut files) => {
+            let told = printed_over(rt, alloc, text, &mut files, out);
+            drop(files);
+            told
+        }
+        Err(_) => String::new(alloc),
+    }
 }
 
-// What is printed for a case, behind its status.
-pub(crate) fn printed<R: Threads + Wait + Sync>(
-    rt: &R,
-    alloc: Global,
-    given: &str,
-) -> Result<Vec<u8>, AllocError> {
+/// What is printed for a case, behind its status.
+pub(crate) fn printed<R: Threads + Wait + Sync>(rt: &R, alloc: Global, given: &str) -> String {
     let mut out = MemSink::of(alloc, Vec::new(alloc));
-    let status = answer(rt, alloc, given, NONE, &mut out)?;
-    let head = format!(in alloc; "{status}\n")?;
-    let mut text = head.into_bytes();
-    text.extend_from_slice(out.bytes().as_slice())?;
-    Ok(text)
+    printed_into(rt, alloc, given, NONE, &mut out)
 }
 
 // Whether the case is answered as it says.
-fn is_row<R: Threads + Wait + Sync>(rt: &R, alloc: Global, row: &str) -> Result<bool, AllocError> {
+fn is_row<R: Threads + Wait + Sync>(rt: &R, alloc: Global, row: &str) -> bool {
     match row.split_once("\n=") {
-        Some((given, wanted)) => Ok(printed(rt, alloc, given)?.as_slice() == wanted.as_bytes()),
-        None => Ok(false),
+        Some((given, wanted)) => printed(rt, alloc, given).as_str() == wanted,
+        None => false,
     }
 }
 
 #[test]
-fn answers_each_row(rt: HostRuntime) -> Result<(), Fail> {
+fn answers_each_row(rt: HostRuntime) {
     for row in ROWS.split("~\n") {
-        assert!(rt; is_row(&rt, rt.alloc(), row)?, "{row}");
+        assert!(rt; is_row(&rt, rt.alloc(), row), "{row}");
     }
-    Ok(())
 }
 
 const REFUSED: &str =
@@ -91,109 +129,112 @@ const REFUSED: &str =
 const FORK: &str =
     "1\nno selection serves this fork\nfork: 0\nregion: sys_platform == 'win32'\nworld: python_full_version == '0.0.0' and os_name == '' and sys_platform == 'win32' and platform_machine == '' and platform_python_implementation == '' and platform_release == '' and platform_system == '' and platform_version == '' and implementation_name == ''\n";
 
-// What `why` prints of the refused project with so many workers, as a text.
-fn reason<R: Threads + Wait + Sync>(
-    rt: &R,
-    alloc: Global,
-    workers: u64,
-) -> Result<String, AllocError> {
-    let given = format!(in alloc; "why p.toml ix {workers}\n{REFUSED}")?;
-    let text = printed(rt, alloc, given.as_str())?;
-    let mut copy = String::new(alloc);
-    for byte in text.as_slice() {
-        copy.push(char::from(*byte))?;
+// Whether `check` accepts lines as a derivation of the refused project.
+fn is_accepted<R: Threads + Wait + Sync>(rt: &R, alloc: Global, lines: &str) -> bool {
+    match format!(in alloc; "check p.toml ix d\n{REFUSED}\n@d\n{lines}") {
+        Ok(given) => printed(rt, alloc, given.as_str()).as_str() == "0\naccepted\n",
+        Err(_) => false,
     }
-    Ok(copy)
 }
 
-// Whether what `why` prints is the fork and a derivation that `check` accepts.
-fn is_reason<R: Threads + Wait + Sync>(
-    rt: &R,
-    alloc: Global,
-    workers: u64,
-) -> Result<bool, AllocError> {
-    let text = reason(rt, alloc, workers)?;
-    let (_, lines) = text.as_str().split_once('\n').unwrap_or(("", ""));
+// Whether a text is the fork and a derivation that `check` accepts.
+fn is_reason<R: Threads + Wait + Sync>(rt: &R, alloc: Global, text: &str) -> bool {
+    let (_, lines) = text.split_once('\n').unwrap_or(("", ""));
     let lines = lines.strip_suffix('\n').unwrap_or(lines);
-    let given = format!(in alloc; "check p.toml ix d\n{REFUSED}\n@d\n{lines}")?;
-    let verdict = printed(rt, alloc, given.as_str())?;
-    Ok(text.as_str().starts_with(FORK) && verdict.as_slice() == b"0\naccepted\n".as_slice())
+    text.starts_with(FORK) && is_accepted(rt, alloc, lines)
+}
+
+// Whether what `why` prints of the refused project with so many workers is that.
+fn is_explained<R: Threads + Wait + Sync>(rt: &R, alloc: Global, workers: u64) -> bool {
+    match format!(in alloc; "why p.toml ix {workers}\n{REFUSED}") {
+        Ok(given) => is_reason(rt, alloc, printed(rt, alloc, given.as_str()).as_str()),
+        Err(_) => false,
+    }
 }
 
 #[test]
-fn gives_reasons_that_are_accepted(rt: HostRuntime) -> Result<(), Fail> {
+fn gives_reasons_that_are_accepted(rt: HostRuntime) {
     for workers in [1, 2, 8] {
-        assert!(rt; is_reason(&rt, rt.alloc(), workers)?, "{workers}");
+        assert!(rt; is_explained(&rt, rt.alloc(), workers), "{workers}");
     }
-    Ok(())
 }
 
-#[test]
-fn names_the_limit_of_a_file(rt: HostRuntime) -> Result<(), Fail> {
-    let alloc = rt.alloc();
+// The project's file, of so many blanks.
+fn blanks(alloc: Global, count: usize) -> Result<MemFiles, AllocError> {
+    let bytes = Vec::from_elem(alloc, b' ', count)?;
     let mut files = Vec::new(alloc);
-    files.push((
-        String::from_str(alloc, "p.toml")?,
-        Vec::from_elem(alloc, b' ', 16_777_217)?,
-    ))?;
-    let mut given = MemFiles::of(alloc, files, Vec::new(alloc));
-    let mut out = MemSink::of(alloc, Vec::new(alloc));
-    let words = words_of(alloc, PROJECT)?;
-    assert_eq!(rt; run(&rt, alloc, &words, &mut given, &mut out, &Open), 4);
-    assert!(rt; out.bytes().as_slice() == b"limit: file-bytes 16777216\n".as_slice());
-    Ok(())
+    files.push((String::from_str(alloc, "p.toml")?, bytes))?;
+    Ok(MemFiles::of(alloc, files, Vec::new(alloc)))
 }
 
-// Whether a read that fails is named.
-fn is_fault<R: Threads + Wait + Sync>(
-    rt: &R,
-    alloc: Global,
-    read: u64,
-    line: &str,
-) -> Result<bool, AllocError> {
+// What is printed where the project's file has so many blanks.
+fn printed_of_blanks<R: Threads + Wait + Sync>(rt: &R, alloc: Global, count: u64) -> String {
     let mut out = MemSink::of(alloc, Vec::new(alloc));
-    let status = answer(rt, alloc, PROJECT, read, &mut out)?;
-    Ok(status == 5 && out.bytes().as_slice() == line.as_bytes())
-}
-
-#[test]
-fn names_the_fault_of_a_read(rt: HostRuntime) -> Result<(), Fail> {
-    for (read, line) in [
-        (0, "read fault: p.toml\n"),
-        (1, "read fault: ix/a.json\n"),
-        (2, "read fault: ix/b.json\n"),
-    ] {
-        assert!(rt; is_fault(&rt, rt.alloc(), read, line)?, "{line}");
+    match blanks(alloc, count as usize) {
+        Ok(mut files) => printed_over(rt, alloc, PROJECT, &mut files, &mut out),
+        Err(_) => String::new(alloc),
     }
-    Ok(())
 }
 
-// A sink whose call of this number fails, after so many bytes.
+fn printed_of_read<R: Threads + Wait + Sync>(rt: &R, alloc: Global, read: u64) -> String {
+    let mut out = MemSink::of(alloc, Vec::new(alloc));
+    printed_into(rt, alloc, PROJECT, read, &mut out)
+}
+
+// A sink of which one call fails, after so many bytes.
 fn failing_sink(alloc: Global, call: u64, bytes: u64) -> Result<MemSink, AllocError> {
     let mut failing = Vec::new(alloc);
     failing.push((call, bytes))?;
     Ok(MemSink::of(alloc, failing))
 }
 
-#[test]
-fn leaves_a_front_where_a_write_fails(rt: HostRuntime) -> Result<(), Fail> {
-    let mut out = failing_sink(rt.alloc(), 0, 5)?;
-    assert_eq!(rt; answer(&rt, rt.alloc(), PROJECT, NONE, &mut out)?, 6);
-    assert!(rt; out.bytes().as_slice() == b"versi".as_slice());
-    Ok(())
+fn printed_of_write<R: Threads + Wait + Sync>(rt: &R, alloc: Global, bytes: u64) -> String {
+    match failing_sink(alloc, 0, bytes) {
+        Ok(mut out) => printed_into(rt, alloc, PROJECT, NONE, &mut out),
+        Err(_) => String::new(alloc),
+    }
+}
+
+// What fails: a file of so many blanks, the read of a number, or the write after so many bytes; and what is printed.
+const FAULTS: &str = "blanks 16777217 4\nlimit: file-bytes 16777216\n|\
+    read 0 5\nread fault: p.toml\n|\
+    read 1 5\nread fault: ix/a.json\n|\
+    read 2 5\nread fault: ix/b.json\n|\
+    write 5 6\nversi";
+
+fn is_fault<R: Threads + Wait + Sync>(rt: &R, alloc: Global, row: &str) -> bool {
+    let (kind, rest) = row.split_once(' ').unwrap_or((row, ""));
+    let (number, wanted) = rest.split_once(' ').unwrap_or((rest, ""));
+    let number = number.parse::<u64>().unwrap_or(NONE);
+    let told = match kind {
+        "blanks" => printed_of_blanks(rt, alloc, number),
+        "read" => printed_of_read(rt, alloc, number),
+        _ => printed_of_write(rt, alloc, number),
+    };
+    told.as_str() == wanted
 }
 
 #[test]
-fn writes_once(rt: HostRuntime) -> Result<(), Fail> {
-    for text in [PROJECT, "lock", "lock x.toml ix 1"] {
-        let mut out = failing_sink(rt.alloc(), 1, 0)?;
-        answer(&rt, rt.alloc(), text, NONE, &mut out)?;
-        // The sink's second call, which fails, is this one.
-        assert_eq!(rt;
-            out.write_all(b"more").err(),
-            Some(SinkRefused::Failed),
-            "{text}"
-        );
+fn names_faults_and_the_limit_of_a_file(rt: HostRuntime) {
+    for row in FAULTS.split('|') {
+        assert!(rt; is_fault(&rt, rt.alloc(), row), "{row}");
     }
-    Ok(())
+}
+
+// Whether a case writes once: the sink's second call, which fails, comes behind it.
+fn is_written_once<R: Threads + Wait + Sync>(rt: &R, alloc: Global, text: &str) -> bool {
+    match failing_sink(alloc, 1, 0) {
+        Ok(mut out) => {
+            let told = printed_into(rt, alloc, text, NONE, &mut out);
+            !told.is_empty() && out.write_all(b"more").err() == Some(SinkRefused::Failed)
+        }
+        Err(_) => false,
+    }
+}
+
+#[test]
+fn writes_once(rt: HostRuntime) {
+    for text in [PROJECT, "lock", "lock x.toml ix 1"] {
+        assert!(rt; is_written_once(&rt, rt.alloc(), text), "{text}");
+    }
 }

@@ -1,11 +1,13 @@
-use Rattle.std.proofs.Common.{◌≡◌, zero, suc, List, [], ◌+◌, ◌<◌, ap, sym, ◌∙◌, arith, drop, subst, true, get_or, refl}
+use Rattle.std.proofs.Common.{◌≡◌, ℕ, zero, suc, List, [], ◌+◌, ◌<◌, ap, sym, ◌∙◌, arith, drop, subst, true, get_or, Global, Ok, Vec}
+use Rattle.std.specs.Prelude.{IfOk}
 use Rattle.std.specs.List.{All}
 use Rattle.std.proofs.lemmas.List.{drop_all}
+use Rattle.ul_base.proofs.ForCallers.{made_holds}
 use Rattle.ul_interner.specs.Known.{Known}
 use Rattle.ul_interner.proofs.ForCallers.{known_stays, knows_then}
 use Rattle.ul_nodes.specs.Plain.{Plain}
 use Rattle.ul_nodes.specs.Reduced.{IsReduced}
-use Rattle.ul_nodes.specs.Apply.{size, apply, part_at}
+use Rattle.ul_nodes.specs.Apply.{size, apply, close, part_at}
 use Rattle.ul_nodes.specs.Keys.{level_view, key_view, keys_view, has_kind}
 use Rattle.ul_nodes.specs.declared.level.Key.{Key}
 use Rattle.ul_tree.proofs.ForCallers.{applied}
@@ -13,12 +15,13 @@ use Rattle.ul_tree.proofs.ForCallers.{rests_smaller, parts_smaller}
 use Rattle.ul_nodes.proofs.ForCallers.{then_none, stands_kept}
 use Rattle.ul_tree.proofs.ForCallers.{no_key, step_kept, keys_left, applied_is, closed_reduced, rest_at_reduced, part_at_reduced}
 use Rattle.ul_algebra.specs.Spelled.{tree_of}
-use Rattle.ul_algebra.specs.Made.{diagrams_made}
-use Rattle.ul_algebra.specs.Joinings.{truth_of, at_once_tree}
+use Rattle.ul_algebra.specs.Made.{Seen, diagrams_made}
+use Rattle.ul_algebra.specs.Joinings.{truth_of, at_once_tree, IsJoin}
 use Rattle.ul_algebra.proofs.Rows.{all_more}
 use Rattle.ul_algebra.proofs.Joins.{joined_at_once, swapped}
-use Rattle.ul_algebra.proofs.Kept.{diagram_stays, part_diagram, if_share}
+use Rattle.ul_algebra.proofs.Kept.{diagram_stays, part_diagram, if_share, if_handed, made_then}
 use Rattle.ul_algebra.proofs.join.+joined.Goals as goal
+use Rattle.ul_algebra.proofs.join.+joined.Goals.{joined_anew-In_ok-rest-in-Some}
 
 -- ---- joined
 
@@ -26,12 +29,19 @@ pub joined-returns-in-Some-clause-joined : goal.joined-returns-in-Some-clause-jo
 joined-returns-in-Some-clause-joined g t c =
     let a = tree_of c.args.a.now in
     let b = tree_of c.args.b.now in
-    joined_at_once (truth_of c.args.op) a b (at_once_tree a b c.in-Some.found) (tree_of c.in_ok-made.made) c.requires.a.reduced c.requires.b.reduced c.in-Some.ensures c.in_ok-made.ensures.tree
+    let k = at_once_tree a b c.in-Some.found in
+    made_then c.taken.result (λ m. tree_of m ≡ k) (λ m. IsJoin c.args.op c.args.a.now c.args.b.now m)
+    (λ m e. joined_at_once (truth_of c.args.op) a b k (tree_of m) c.requires.a.reduced c.requires.b.reduced c.in-Some.ensures e) c.taken.ensures.tree
+
+pub joined-returns-in-Some-clause-reduced : goal.joined-returns-in-Some-clause-reduced
+joined-returns-in-Some-clause-reduced g t c =
+    let k = at_once_tree (tree_of c.args.a.now) (tree_of c.args.b.now) c.in-Some.found in
+    made_then c.taken.result (λ m. tree_of m ≡ k) (λ m. IsReduced (tree_of m)) (λ m e. subst (λ (z : Plain). IsReduced z) (sym e) c.in-Some.ensures.reduced) c.taken.ensures.tree
 
 pub joined-returns-then-is_before-clause-joined : goal.joined-returns-then-is_before-clause-joined
 joined-returns-then-is_before-clause-joined g t c =
-    swapped (truth_of c.args.op) (tree_of c.args.a.now) (tree_of c.args.b.now) (tree_of c.in_ok-made-2.made) (c.commutes.ensures c.if-commutes.true) c.requires.a.reduced c.requires.b.reduced
-    c.in_ok-made-2.ensures.reduced c.in_ok-made-2.ensures.joined
+    swapped (truth_of c.args.op) (tree_of c.args.a.now) (tree_of c.args.b.now) (tree_of c.in_ok-made.made) (c.commutes.ensures c.if-commutes.true) c.requires.a.reduced c.requires.b.reduced
+    c.in_ok-made.ensures.reduced c.in_ok-made.ensures.joined
 
 -- ---- joined_once
 
@@ -45,20 +55,17 @@ joined_once-returns-in-Some-clause-reduced g t c =
     if_share c.share.result c.in-Some.found.now (λ d. IsReduced (tree_of d)) c.share.ensures
     (subst (λ (z : Plain). IsReduced z) (sym e) (applied (truth_of c.args.op) (suc n) a b [] small c.requires.a.reduced c.requires.b.reduced).0)
 
-pub joined_once-remember-requires-clause-a : goal.joined_once-remember-requires-clause-a
-joined_once-remember-requires-clause-a g t c = known_stays c.args.algebra.now c.joined_anew.new.algebra c.in_ok-made.ensures.knows c.args.a.now c.requires.a.known
+pub joined_once-remembered-requires-clause-a : goal.joined_once-remembered-requires-clause-a
+joined_once-remembered-requires-clause-a g t c = known_stays c.args.algebra.now c.joined_anew.new.algebra c.in_ok-made.ensures.knows c.args.a.now c.requires.a.known
 
-pub joined_once-remember-requires-clause-b : goal.joined_once-remember-requires-clause-b
-joined_once-remember-requires-clause-b g t c = known_stays c.args.algebra.now c.joined_anew.new.algebra c.in_ok-made.ensures.knows c.args.b.now c.requires.b.known
+pub joined_once-remembered-requires-clause-b : goal.joined_once-remembered-requires-clause-b
+joined_once-remembered-requires-clause-b g t c = known_stays c.args.algebra.now c.joined_anew.new.algebra c.in_ok-made.ensures.knows c.args.b.now c.requires.b.known
 
-pub joined_once-remember-requires-clause-known : goal.joined_once-remember-requires-clause-known
-joined_once-remember-requires-clause-known g t c = c.in_ok-made.ensures.known
+pub joined_once-remembered-requires-clause-known : goal.joined_once-remembered-requires-clause-known
+joined_once-remembered-requires-clause-known g t c = c.in_ok-made.ensures.known
 
-pub joined_once-remember-requires-clause-answer : goal.joined_once-remember-requires-clause-answer
-joined_once-remember-requires-clause-answer g t c = c.in_ok-made.ensures.joined
-
-pub joined_once-same-made : goal.joined_once-same-made
-joined_once-same-made g t c = refl
+pub joined_once-remembered-requires-clause-answer : goal.joined_once-remembered-requires-clause-answer
+joined_once-remembered-requires-clause-answer g t c = c.in_ok-made.ensures.joined
 
 -- ---- joined_anew
 
@@ -80,8 +87,8 @@ joined_anew-joined-requires g t c =
       ),
     )
 
-pub joined_anew-branches-requires : goal.joined_anew-branches-requires
-joined_anew-branches-requires g t c =
+pub joined_anew-branches-made-requires : goal.joined_anew-branches-made-requires
+joined_anew-branches-made-requires g t c =
     let more = c.in_ok-other-in-Some.ensures.knows in
     let d = c.decreases in λ κs o. (
       omega (arith, d),
@@ -100,17 +107,25 @@ joined_anew-branches-requires g t c =
       ),
     )
 
-pub joined_anew-returns-in_err-made-in-Some-clause-knows : goal.joined_anew-returns-in_err-made-in-Some-clause-knows
-joined_anew-returns-in_err-made-in-Some-clause-knows g t c = knows_then _ _ _ c.in_ok-other-in-Some.ensures.knows c.in_err-made-in-Some.ensures.knows
+pub joined_anew-returns-in_err-rest-in-Some-clause-knows : goal.joined_anew-returns-in_err-rest-in-Some-clause-knows
+joined_anew-returns-in_err-rest-in-Some-clause-knows g t c = knows_then _ _ _ c.in_ok-other-in-Some.ensures.knows c.branches-made.ensures.knows
+
+-- what the branches told of what they made holds of what was handed on
+told : (g : _) (t : ℕ) (c : joined_anew-In_ok-rest-in-Some g t) (P : Vec (Key × Seen) Global → Type 0) → IfOk c.branches-made.result P → P c.in_ok-rest-in-Some.made
+told g t c P h =
+    let made = c.in_ok-rest-in-Some.made in
+    made_holds c.branches-made.result made P (made_holds c.made_from.result made (λ v. c.branches-made.result ≡ Ok v) c.in_ok-rest-in-Some.ensures.1 c.made_from.ensures) h
 
 pub joined_anew-closed-requires-clause-kinds : goal.joined_anew-closed-requires-clause-kinds
-joined_anew-closed-requires-clause-kinds g t c = c.in_ok-made-in-Some.ensures.kinds
+joined_anew-closed-requires-clause-kinds g t c = told g t (goal.at.joined_anew-closed-requires-clause-kinds g t c).In_ok-rest-in-Some _ c.branches-made.ensures.kinds
 
 pub joined_anew-closed-requires-clause-parts : goal.joined_anew-closed-requires-clause-parts
-joined_anew-closed-requires-clause-parts g t c = c.in_ok-made-in-Some.ensures.parts
+joined_anew-closed-requires-clause-parts g t c = told g t (goal.at.joined_anew-closed-requires-clause-parts g t c).In_ok-rest-in-Some _ c.branches-made.ensures.parts
 
 pub joined_anew-closed-requires-clause-other : goal.joined_anew-closed-requires-clause-other
-joined_anew-closed-requires-clause-other g t c = known_stays c.joined.new.algebra c.branches.new.algebra c.in_ok-made-in-Some.ensures.knows c.in_ok-other-in-Some.other c.in_ok-other-in-Some.ensures.known
+joined_anew-closed-requires-clause-other g t c =
+    let h = c.branches-made.new.algebra in
+    subst (λ z. Known h z) (sym c.in_ok-rest-in-Some.ensures.0) (known_stays c.joined.new.algebra h c.branches-made.ensures.knows c.in_ok-other-in-Some.other c.in_ok-other-in-Some.ensures.known)
 
 pub joined_anew-closed-requires-clause-reduced : goal.joined_anew-closed-requires-clause-reduced
 joined_anew-closed-requires-clause-reduced g t c =
@@ -121,39 +136,49 @@ joined_anew-closed-requires-clause-reduced g t c =
     let small : n < suc n = omega arith in
     let m : size (tree_of c.rest_at.result.now) + size (tree_of c.rest_at-in-Some.result.now) < n = rw (c.rest_at.ensures.part, c.rest_at-in-Some.ensures.part) (rests_smaller a b l c.in-Some.ensures) in
     let end = c.in_ok-other-in-Some.ensures.joined n m in
-    closed_reduced (truth_of c.args.op) n a b l (tree_of c.in_ok-other-in-Some.other) (diagrams_made c.in_ok-made-in-Some.made.items) (keys_view c.deref.result.now) small c.requires.a.reduced c.requires.b.reduced c.in-Some.ensures
+    let made = told g t (goal.at.joined_anew-closed-requires-clause-reduced g t c).In_ok-rest-in-Some _ c.branches-made.ensures.made in
+    let bs = diagrams_made c.in_ok-rest-in-Some.made.items in
+    subst (λ z. IsReduced (close l (tree_of z) bs)) (sym c.in_ok-rest-in-Some.ensures.0)
+    (closed_reduced (truth_of c.args.op) n a b l (tree_of c.in_ok-other-in-Some.other) bs (keys_view c.deref.result.now) small c.requires.a.reduced c.requires.b.reduced c.in-Some.ensures
     (rw (c.rest_at.ensures.part, c.rest_at-in-Some.ensures.part) at end)
     (ap keys_view c.deref.ensures.value ∙ c.in_ok-keys-in-Some.ensures.keys)
-    (c.in_ok-made-in-Some.ensures.made n small)
+    (made n small))
 
-pub joined_anew-returns-in_err-d-in-Some-clause-knows : goal.joined_anew-returns-in_err-d-in-Some-clause-knows
-joined_anew-returns-in_err-d-in-Some-clause-knows g t c = knows_then _ _ _ c.in_ok-other-in-Some.ensures.knows (knows_then _ _ _ c.in_ok-made-in-Some.ensures.knows c.in_err-d-in-Some.ensures.knows)
+pub joined_anew-returns-in_ok-rest-in-Some-clause-knows : goal.joined_anew-returns-in_ok-rest-in-Some-clause-knows
+joined_anew-returns-in_ok-rest-in-Some-clause-knows g t c = knows_then _ _ _ c.in_ok-other-in-Some.ensures.knows (knows_then _ _ _ c.branches-made.ensures.knows c.closed.ensures.knows)
 
-pub joined_anew-returns-in_ok-d-in-Some-clause-knows : goal.joined_anew-returns-in_ok-d-in-Some-clause-knows
-joined_anew-returns-in_ok-d-in-Some-clause-knows g t c = knows_then _ _ _ c.in_ok-other-in-Some.ensures.knows (knows_then _ _ _ c.in_ok-made-in-Some.ensures.knows c.in_ok-d-in-Some.ensures.knows)
-
-pub joined_anew-returns-in_ok-d-in-Some-clause-joined : goal.joined_anew-returns-in_ok-d-in-Some-clause-joined
-joined_anew-returns-in_ok-d-in-Some-clause-joined g t c zero h = absurd (omega arith)
-joined_anew-returns-in_ok-d-in-Some-clause-joined g t c (suc n) h =
+-- a closed level has the joined truth
+joins : (g : _) (t : ℕ) (c : joined_anew-In_ok-rest-in-Some g t) (d : Seen) → tree_of d ≡ close (level_view c.in-Some.level) (tree_of c.in_ok-rest-in-Some.rest) (diagrams_made c.in_ok-rest-in-Some.made.items) → IsJoin c.args.op c.args.a.now c.args.b.now d
+joins g t c d e zero h = absurd (omega arith)
+joins g t c d e (suc n) h =
     let a = tree_of c.args.a.now in
     let b = tree_of c.args.b.now in
     let l = level_view c.in-Some.level in
     let m : size (tree_of c.rest_at.result.now) + size (tree_of c.rest_at-in-Some.result.now) < size a + size b = rw (c.rest_at.ensures.part, c.rest_at-in-Some.ensures.part) (rests_smaller a b l c.in-Some.ensures) in
     let end = c.in_ok-other-in-Some.ensures.joined n (omega (arith, m, h)) in
-    applied_is (truth_of c.args.op) n a b l (tree_of c.in_ok-d-in-Some.d) (tree_of c.in_ok-other-in-Some.other) (diagrams_made c.in_ok-made-in-Some.made.items) (keys_view c.deref.result.now) c.in-Some.ensures
+    let bs = diagrams_made c.in_ok-rest-in-Some.made.items in
+    applied_is (truth_of c.args.op) n a b l (tree_of d) (tree_of c.in_ok-other-in-Some.other) bs (keys_view c.deref.result.now) c.in-Some.ensures
     (rw (c.rest_at.ensures.part, c.rest_at-in-Some.ensures.part) at end)
     (ap keys_view c.deref.ensures.value ∙ c.in_ok-keys-in-Some.ensures.keys)
-    (c.in_ok-made-in-Some.ensures.made n h)
-    c.in_ok-d-in-Some.ensures.tree
+    (told g t c _ c.branches-made.ensures.made n h)
+    (e ∙ ap (λ z. close l (tree_of z) bs) c.in_ok-rest-in-Some.ensures.0)
 
-pub joined_anew-returns-in_ok-d-in-Some-clause-reduced : goal.joined_anew-returns-in_ok-d-in-Some-clause-reduced
-joined_anew-returns-in_ok-d-in-Some-clause-reduced g t c =
+pub joined_anew-returns-in_ok-rest-in-Some-clause-joined : goal.joined_anew-returns-in_ok-rest-in-Some-clause-joined
+joined_anew-returns-in_ok-rest-in-Some-clause-joined g t c =
+    if_handed c.closed.result c.made_from-in-Some.result (λ d. IsJoin c.args.op c.args.a.now c.args.b.now d) c.made_from-in-Some.ensures
+    (made_then c.closed.result _ (λ d. IsJoin c.args.op c.args.a.now c.args.b.now d) (joins g t (goal.at.joined_anew-returns-in_ok-rest-in-Some-clause-joined g t c).In_ok-rest-in-Some) c.closed.ensures.tree)
+
+pub joined_anew-returns-in_ok-rest-in-Some-clause-known : goal.joined_anew-returns-in_ok-rest-in-Some-clause-known
+joined_anew-returns-in_ok-rest-in-Some-clause-known g t c = if_handed c.closed.result c.made_from-in-Some.result (λ d. Known c.closed.new.algebra d) c.made_from-in-Some.ensures c.closed.ensures.known
+
+pub joined_anew-returns-in_ok-rest-in-Some-clause-reduced : goal.joined_anew-returns-in_ok-rest-in-Some-clause-reduced
+joined_anew-returns-in_ok-rest-in-Some-clause-reduced g t c =
     let a = tree_of c.args.a.now in
     let b = tree_of c.args.b.now in
     let n = size a + size b in
     let small : n < suc n = omega arith in
-    let e = joined_anew-returns-in_ok-d-in-Some-clause-joined g t c (suc n) small in
-    subst (λ (z : Plain). IsReduced z) (sym e) (applied (truth_of c.args.op) (suc n) a b [] small c.requires.a.reduced c.requires.b.reduced).0
+    made_then c.made_from-in-Some.result (λ d. IsJoin c.args.op c.args.a.now c.args.b.now d) (λ d. IsReduced (tree_of d))
+    (λ d j. subst (λ (z : Plain). IsReduced z) (sym (j (suc n) small)) (applied (truth_of c.args.op) (suc n) a b [] small c.requires.a.reduced c.requires.b.reduced).0) (joined_anew-returns-in_ok-rest-in-Some-clause-joined g t c)
 
 -- ---- branches
 

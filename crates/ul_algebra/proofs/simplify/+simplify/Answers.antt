@@ -1,4 +1,7 @@
-use Rattle.std.proofs.Common.{◌<◌, ◌≡◌, ℕ, List, ap, sym, ◌∙◌, refl, subst, arith, get_or, false}
+use Rattle.std.proofs.Common.{◌<◌, ◌≡◌, ◌++◌, ◌∷◌, [], ℕ, List, Option, Global, Vec, ap, sym, ◌∙◌, refl, subst, arith, get_or, false}
+use Rattle.std.specs.Prelude.{IfOk}
+use Rattle.ul_base.proofs.ForCallers.{made_holds}
+use Rattle.ul_interner.specs.Known.{Known}
 use Rattle.std.specs.Option.{option_map}
 use Rattle.ul_interner.proofs.ForCallers.{known_stays, knows_then}
 use Rattle.ul_nodes.specs.Plain.{Plain, truth}
@@ -11,12 +14,12 @@ use Rattle.ul_tree.proofs.ForCallers.{no_key}
 use Rattle.ul_tree.proofs.ForCallers.{tree_part, tree_rest, region_part, region_rest, part_smaller, rest_smaller, piece_outside, piece_inside, truth_done, all_done, lowered_done, level_done, result_reduced, results_reduced, simpler_reduced}
 use Rattle.ul_nodes.specs.declared.level.Key.{Key}
 use Rattle.ul_algebra.specs.Spelled.{tree_of}
-use Rattle.ul_algebra.specs.Made.{result_diagrams, OwnKnown}
+use Rattle.ul_algebra.specs.Made.{Seen, result_diagrams, OwnKnown}
 use Rattle.ul_algebra.proofs.Rows.{all_more, all_push}
 use Rattle.ul_tree.proofs.ForCallers.{results_step, results_end, kind_step}
-use Rattle.ul_algebra.proofs.Kept.{diagram_stays, part_diagram, own_more}
+use Rattle.ul_algebra.proofs.Kept.{diagram_stays, part_diagram, own_more, if_handed, if_share, made_then}
 use Rattle.ul_algebra.proofs.simplify.+simplify.Goals as goal
-use Rattle.ul_algebra.proofs.simplify.+simplify.Goals.{simplified_at-In_ok-rest}
+use Rattle.ul_algebra.proofs.simplify.+simplify.Goals.{simplified_at-In_ok-pieces}
 
 -- ---- piece
 
@@ -28,8 +31,8 @@ piece-returns-clause-piece g t c = piece_inside (tree_of c.args.f.now) (tree_of 
 
 -- ---- results
 
-pub results-piece-requires : goal.results-piece-requires
-results-piece-requires g t c =
+pub results-piece-result-requires : goal.results-piece-result-requires
+results-piece-result-requires g t c =
     let l = level_view c.args.level in
     let f = tree_of c.args.f.now in
     let r = tree_of c.args.region.now in
@@ -47,22 +50,29 @@ results-piece-requires g t c =
       ),
     )
 
-pub results-returns-in_err-result-clause-knows : goal.results-returns-in_err-result-clause-knows
-results-returns-in_err-result-clause-knows g t c = knows_then _ _ _ c.loop-key.invariant.knows c.in_err-result.ensures.knows
-
-pub results-returns-in_err-push-clause-knows : goal.results-returns-in_err-push-clause-knows
-results-returns-in_err-push-clause-knows g t c = knows_then _ _ _ c.loop-key.invariant.knows c.in_ok-result.ensures.knows
+pub results-returns-in_err-made-clause-knows : goal.results-returns-in_err-made-clause-knows
+results-returns-in_err-made-clause-knows g t c = knows_then _ _ _ c.loop-key.invariant.knows c.piece-result.ensures.knows
 
 pub results-loop-key-preserved : goal.results-loop-key-preserved
-results-loop-key-preserved g t c = record {
-  knows = knows_then _ _ _ c.loop-key.invariant.knows c.in_ok-result.ensures.knows;
-  known = all_push (λ r. OwnKnown c.piece.new.algebra r.1) c.loop-key.made.items c.push.new.self.items (get_or c.args.keys.now c.loop-key.key-index no_key, c.in_ok-result.result) c.in_ok-push.ensures.items
-      (all_more (λ r. OwnKnown c.loop-key.algebra r.1) (λ r. OwnKnown c.piece.new.algebra r.1) c.loop-key.made.items (λ r k. own_more c.loop-key.algebra c.piece.new.algebra c.in_ok-result.ensures.knows r.1 k) c.loop-key.invariant.known)
-      c.in_ok-result.ensures.known;
-  pieces = results_step tree_of (level_view c.args.level) (tree_of c.args.f.now) (tree_of c.args.region.now) c.args.keys.now c.loop-key.key-index _ c.in_ok-result.result c.loop-key.made.items c.push.new.self.items
-      (tree_of c.part_at.result.now) (tree_of c.part_at-in-loop-key.result.now) c.loop-key-test.true c.in_ok-push.ensures.items c.part_at.ensures.part c.part_at-in-loop-key.ensures.part c.in_ok-result.ensures.piece c.loop-key.invariant.pieces;
-  kinds = kind_step (level_view c.args.level) c.args.keys.now c.loop-key.key-index _ c.in_ok-result.result c.loop-key.made.items c.push.new.self.items c.loop-key-test.true c.in_ok-push.ensures.items c.requires.kinds c.loop-key.invariant.kinds;
-}
+results-loop-key-preserved g t c =
+    let l = level_view c.args.level in
+    let h = c.piece-result.new.algebra in
+    let before = c.loop-key.made.items in
+    let after = c.in_ok-made.made.items in
+    let more = c.in_ok-made.ensures in
+    let one = more.0 in
+    let pair = made_holds c.beside.result one _ more.1 c.beside.ensures in
+    let is = more.2 ∙ ap (λ k. before ++ (k, one.1) ∷ []) pair.0 in
+    record {
+      knows = knows_then _ _ _ c.loop-key.invariant.knows c.piece-result.ensures.knows;
+      known = all_push (λ r. OwnKnown h r.1) before after one more.2
+          (all_more (λ r. OwnKnown c.loop-key.algebra r.1) (λ r. OwnKnown h r.1) before (λ r k. own_more c.loop-key.algebra h c.piece-result.ensures.knows r.1 k) c.loop-key.invariant.known)
+          (made_holds c.piece-result.result one.1 _ pair.1 c.piece-result.ensures.known);
+      pieces = results_step tree_of l (tree_of c.args.f.now) (tree_of c.args.region.now) c.args.keys.now c.loop-key.key-index _ one.1 before after
+          (tree_of c.part_at.result.now) (tree_of c.part_at-in-loop-key.result.now) c.loop-key-test.true is c.part_at.ensures.part c.part_at-in-loop-key.ensures.part
+          (made_holds c.piece-result.result one.1 _ pair.1 c.piece-result.ensures.piece) c.loop-key.invariant.pieces;
+      kinds = kind_step l c.args.keys.now c.loop-key.key-index _ one.1 before after c.loop-key-test.true is c.requires.kinds c.loop-key.invariant.kinds;
+    }
 
 pub results-returns-clause-pieces : goal.results-returns-clause-pieces
 results-returns-clause-pieces g t c =
@@ -70,16 +80,16 @@ results-returns-clause-pieces g t c =
 
 -- ---- simplified
 
-pub simplified-remember-requires-clause-a : goal.simplified-remember-requires-clause-a
-simplified-remember-requires-clause-a g t c = known_stays c.args.algebra.now c.simplified_anew.new.algebra c.in_ok-made.ensures.knows c.args.f.now c.requires.f.known
+pub simplified-remembered-requires-clause-a : goal.simplified-remembered-requires-clause-a
+simplified-remembered-requires-clause-a g t c = known_stays c.args.algebra.now c.simplified_anew.new.algebra c.in_ok-made.ensures.knows c.args.f.now c.requires.f.known
 
-pub simplified-remember-requires-clause-b : goal.simplified-remember-requires-clause-b
-simplified-remember-requires-clause-b g t c = known_stays c.args.algebra.now c.simplified_anew.new.algebra c.in_ok-made.ensures.knows c.args.c.now c.requires.c.known
+pub simplified-remembered-requires-clause-b : goal.simplified-remembered-requires-clause-b
+simplified-remembered-requires-clause-b g t c = known_stays c.args.algebra.now c.simplified_anew.new.algebra c.in_ok-made.ensures.knows c.args.c.now c.requires.c.known
 
 -- ---- simplified_anew
 
-pub simplified_anew-simplified_at-requires : goal.simplified_anew-simplified_at-requires
-simplified_anew-simplified_at-requires g t c =
+pub simplified_anew-simplified_at-d-requires : goal.simplified_anew-simplified_at-d-requires
+simplified_anew-simplified_at-d-requires g t c =
     let l = level_view c.in-Some.level in
     let h = c.args.algebra.now in
     let more = c.in_ok-made-in-Some.ensures.knows in
@@ -107,80 +117,105 @@ simplified_anew-simplified_at-requires g t c =
       ),
     )
 
-pub simplified_anew-returns-in_err-d-in-Some-clause-knows : goal.simplified_anew-returns-in_err-d-in-Some-clause-knows
-simplified_anew-returns-in_err-d-in-Some-clause-knows g t c = knows_then _ _ _ c.in_ok-made-in-Some.ensures.knows c.in_err-d-in-Some.ensures.knows
+pub simplified_anew-returns-in_ok-made-in-Some-clause-knows : goal.simplified_anew-returns-in_ok-made-in-Some-clause-knows
+simplified_anew-returns-in_ok-made-in-Some-clause-knows g t c = knows_then _ _ _ c.in_ok-made-in-Some.ensures.knows c.simplified_at-d.ensures.knows
 
-pub simplified_anew-returns-in_ok-d-in-Some-clause-knows : goal.simplified_anew-returns-in_ok-d-in-Some-clause-knows
-simplified_anew-returns-in_ok-d-in-Some-clause-knows g t c = knows_then _ _ _ c.in_ok-made-in-Some.ensures.knows c.in_ok-d-in-Some.ensures.knows
+pub simplified_anew-returns-in_ok-made-in-Some-clause-known : goal.simplified_anew-returns-in_ok-made-in-Some-clause-known
+simplified_anew-returns-in_ok-made-in-Some-clause-known g t c = if_handed c.simplified_at-d.result c.made_from.result (λ d. Known c.simplified_at-d.new.algebra d) c.made_from.ensures c.simplified_at-d.ensures.known
 
-pub simplified_anew-returns-in_ok-d-in-Some-clause-rule : goal.simplified_anew-returns-in_ok-d-in-Some-clause-rule
-simplified_anew-returns-in_ok-d-in-Some-clause-rule g t c =
+pub simplified_anew-returns-in_ok-made-in-Some-clause-rule : goal.simplified_anew-returns-in_ok-made-in-Some-clause-rule
+simplified_anew-returns-in_ok-made-in-Some-clause-rule g t c =
     let f = tree_of c.args.f.now in
-    let d = tree_of c.in_ok-d-in-Some.d in
-    lowered_done f (tree_of c.args.c.now) _ d (level_view c.in-Some.level) c.in-Some.ensures c.in_ok-made-in-Some.ensures.lowered (subst (λ (z : Plain). Simplifies f z d) c.region.ensures.part c.in_ok-d-in-Some.ensures.rule)
+    let r = tree_of c.args.c.now in
+    let w = tree_of c.region.result.now in
+    if_handed c.simplified_at-d.result c.made_from.result (λ d. Simplifies f r (tree_of d)) c.made_from.ensures
+    (made_then c.simplified_at-d.result (λ d. Simplifies f w (tree_of d)) (λ d. Simplifies f r (tree_of d))
+    (λ d s. lowered_done f r _ (tree_of d) (level_view c.in-Some.level) c.in-Some.ensures c.in_ok-made-in-Some.ensures.lowered (subst (λ (z : Plain). Simplifies f z (tree_of d)) c.region.ensures.part s))
+    c.simplified_at-d.ensures.rule)
 
-pub simplified_anew-returns-in_ok-d-in-None-clause-rule : goal.simplified_anew-returns-in_ok-d-in-None-clause-rule
-simplified_anew-returns-in_ok-d-in-None-clause-rule g t c = truth_done (tree_of c.args.f.now) (tree_of c.args.c.now) (tree_of c.in_ok-d-in-None.d) c.in-None.ensures (ap tree_of c.in_ok-d-in-None.ensures)
+pub simplified_anew-returns-in-None-clause-rule : goal.simplified_anew-returns-in-None-clause-rule
+simplified_anew-returns-in-None-clause-rule g t c =
+    let f = tree_of c.args.f.now in
+    let r = tree_of c.args.c.now in
+    if_share c.share.result c.args.f.now (λ d. Simplifies f r (tree_of d)) c.share.ensures (truth_done f r f c.in-None.ensures refl)
 
 -- ---- simplified_at
 
 pub simplified_at-returns-then-known-clause-rule : goal.simplified_at-returns-then-known-clause-rule
-simplified_at-returns-then-known-clause-rule g t c = all_done (tree_of c.args.f.now) (tree_of c.args.region.now) (tree_of c.in_ok-d.d) (sym c.known.ensures ∙ c.if-known.true) (ap tree_of c.in_ok-d.ensures)
+simplified_at-returns-then-known-clause-rule g t c =
+    let f = tree_of c.args.f.now in
+    let r = tree_of c.args.region.now in
+    if_share c.share.result c.args.f.now (λ d. Simplifies f r (tree_of d)) c.share.ensures (all_done f r f (sym c.known.ensures ∙ c.if-known.true) refl)
 
-pub simplified_at-piece-requires : goal.simplified_at-piece-requires
-simplified_at-piece-requires g t c =
+pub simplified_at-piece-rest-requires : goal.simplified_at-piece-rest-requires
+simplified_at-piece-rest-requires g t c =
     let l = level_view c.args.level in
     let f = tree_of c.args.f.now in
     let r = tree_of c.args.region.now in
     let h = c.args.algebra.now in
-    let more = c.in_ok-results.ensures.knows in
+    let more = c.results-found.ensures.knows in
     let m = rest_smaller l f (tree_of c.rest_at-other.result.now) c.requires.top c.rest_at-other.ensures.part in
     let d = c.decreases in λ κs o. (
       omega (arith, m, d),
       (
         o,
         (
-          part_diagram h c.results.new.algebra c.args.f.now c.rest_at-other.result.now (rest_at l f) more c.requires.f c.rest_at-other.ensures.below c.rest_at-other.ensures.part (tree_rest l f c.requires.top c.requires.f.reduced),
-          part_diagram h c.results.new.algebra c.args.region.now c.rest_at.result.now (rest_at l r) more c.requires.region c.rest_at.ensures.below c.rest_at.ensures.part (region_rest l r c.requires.not_above c.requires.region.reduced),
+          part_diagram h c.results-found.new.algebra c.args.f.now c.rest_at-other.result.now (rest_at l f) more c.requires.f c.rest_at-other.ensures.below c.rest_at-other.ensures.part (tree_rest l f c.requires.top c.requires.f.reduced),
+          part_diagram h c.results-found.new.algebra c.args.region.now c.rest_at.result.now (rest_at l r) more c.requires.region c.rest_at.ensures.below c.rest_at.ensures.part (region_rest l r c.requires.not_above c.requires.region.reduced),
         ),
       ),
     )
 
+-- what the calls told of the results holds of what was handed on
+told : (g : _) (t : ℕ) (c : simplified_at-In_ok-pieces g t) (P : Vec (Key × Option Seen) Global → Type 0) → IfOk c.results-found.result P → P c.in_ok-pieces.pieces
+told g t c P h = subst P (sym c.in_ok-pieces.ensures.0) (made_holds c.results-found.result c.in_ok-results.results P c.in_ok-results.ensures h)
+
+rest_told : (g : _) (t : ℕ) (c : simplified_at-In_ok-pieces g t) (P : Option Seen → Type 0) → IfOk c.piece-rest.result P → P c.in_ok-pieces.rest
+rest_told g t c P h = made_holds c.piece-rest.result c.in_ok-pieces.rest P c.in_ok-pieces.ensures.1 h
+
 -- the level put together from the results
-settles : (g : _) (t : ℕ) (c : simplified_at-In_ok-rest g t) → Simplifies (tree_of c.args.f.now) (tree_of c.args.region.now)
-    (settled_level (level_view c.args.level) (result_diagrams c.in_ok-results.results.items) (option_map tree_of c.in_ok-rest.rest) (rest_at (level_view c.args.level) (tree_of c.args.f.now)))
+settles : (g : _) (t : ℕ) (c : simplified_at-In_ok-pieces g t) → Simplifies (tree_of c.args.f.now) (tree_of c.args.region.now)
+    (settled_level (level_view c.args.level) (result_diagrams c.in_ok-pieces.pieces.items) (option_map tree_of c.in_ok-pieces.rest) (rest_at (level_view c.args.level) (tree_of c.args.f.now)))
 settles g t c =
     let l = level_view c.args.level in
     let f = tree_of c.args.f.now in
     let r = tree_of c.args.region.now in
-    let rs = result_diagrams c.in_ok-results.results.items in
-    let o = option_map tree_of c.in_ok-rest.rest in
+    let rs = result_diagrams c.in_ok-pieces.pieces.items in
+    let o = option_map tree_of c.in_ok-pieces.rest in
     level_done f r (settled_level l rs o (rest_at l f)) l (keys_view c.in_ok-keys.keys.items) rs o c.requires.top c.requires.not_above c.requires.not_false
     (sym c.known.ensures ∙ c.if-known.false) c.in_ok-keys.ensures.keys
-    (subst (λ (z : List Key). Pieces l f r (keys_view z) rs) c.deref.ensures.value c.in_ok-results.ensures.pieces)
-    (subst (λ (z : Plain). Piece z (rest_at l r) o) c.rest_at-other.ensures.part (subst (λ (z : Plain). Piece (tree_of c.rest_at-other.result.now) z o) c.rest_at.ensures.part c.in_ok-rest.ensures.piece))
+    (subst (λ (z : List Key). Pieces l f r (keys_view z) rs) c.deref.ensures.value (told g t c _ c.results-found.ensures.pieces))
+    (subst (λ (z : Plain). Piece z (rest_at l r) o) c.rest_at-other.ensures.part (subst (λ (z : Plain). Piece (tree_of c.rest_at-other.result.now) z o) c.rest_at.ensures.part (rest_told g t c _ c.piece-rest.ensures.piece)))
     refl
 
 pub simplified_at-returns-clause-rule : goal.simplified_at-returns-clause-rule
 simplified_at-returns-clause-rule g t c =
     let l = level_view c.args.level in
-    subst (λ (z : Plain). Simplifies (tree_of c.args.f.now) (tree_of c.args.region.now) z)
-    (sym (c.in_ok-d-2.ensures.tree ∙ ap (settled_level l (result_diagrams c.in_ok-results.results.items) (option_map tree_of c.in_ok-rest.rest)) c.rest_at-other.ensures.part))
-    (settles g t (goal.at.simplified_at-returns-clause-rule g t c).In_ok-rest)
+    let f = tree_of c.args.f.now in
+    let r = tree_of c.args.region.now in
+    let settled = settled_level l (result_diagrams c.in_ok-pieces.pieces.items) (option_map tree_of c.in_ok-pieces.rest) in
+    made_then c.settled.result (λ d. tree_of d ≡ settled (tree_of c.rest_at-other.result.now)) (λ d. Simplifies f r (tree_of d))
+    (λ d e. subst (λ (z : Plain). Simplifies f r z) (sym (e ∙ ap settled c.rest_at-other.ensures.part)) (settles g t (goal.at.simplified_at-returns-clause-rule g t c).In_ok-pieces)) c.settled.ensures.tree
+
+pub simplified_at-settled-requires-clause-kinds : goal.simplified_at-settled-requires-clause-kinds
+simplified_at-settled-requires-clause-kinds g t c = told g t (goal.at.simplified_at-settled-requires-clause-kinds g t c).In_ok-pieces _ c.results-found.ensures.kinds
+
+pub simplified_at-settled-requires-clause-rest_known : goal.simplified_at-settled-requires-clause-rest_known
+simplified_at-settled-requires-clause-rest_known g t c = rest_told g t (goal.at.simplified_at-settled-requires-clause-rest_known g t c).In_ok-pieces _ c.piece-rest.ensures.known
 
 pub simplified_at-settled-requires-clause-results_reduced : goal.simplified_at-settled-requires-clause-results_reduced
 simplified_at-settled-requires-clause-results_reduced g t c =
     let l = level_view c.args.level in
     let f = tree_of c.args.f.now in
     let r = tree_of c.args.region.now in
-    results_reduced c.in_ok-results.ensures.pieces (λ v. tree_part l v f c.requires.top c.requires.f.reduced) (λ v. region_part l v r c.requires.not_above c.requires.region.reduced)
+    results_reduced (told g t (goal.at.simplified_at-settled-requires-clause-results_reduced g t c).In_ok-pieces _ c.results-found.ensures.pieces) (λ v. tree_part l v f c.requires.top c.requires.f.reduced) (λ v. region_part l v r c.requires.not_above c.requires.region.reduced)
 
 pub simplified_at-settled-requires-clause-rest_reduced : goal.simplified_at-settled-requires-clause-rest_reduced
 simplified_at-settled-requires-clause-rest_reduced g t c =
     let l = level_view c.args.level in
     let f = tree_of c.args.f.now in
     let r = tree_of c.args.region.now in
-    result_reduced (tree_of c.rest_at-other.result.now) (tree_of c.rest_at.result.now) (option_map tree_of c.in_ok-rest.rest) c.in_ok-rest.ensures.piece
+    result_reduced (tree_of c.rest_at-other.result.now) (tree_of c.rest_at.result.now) (option_map tree_of c.in_ok-pieces.rest) (rest_told g t (goal.at.simplified_at-settled-requires-clause-rest_reduced g t c).In_ok-pieces _ c.piece-rest.ensures.piece)
     (subst (λ (z : Plain). IsReduced z) (sym c.rest_at-other.ensures.part) (tree_rest l f c.requires.top c.requires.f.reduced))
     (subst (λ (z : Plain). IsReduced z) (sym c.rest_at.ensures.part) (region_rest l r c.requires.not_above c.requires.region.reduced))
 
@@ -191,25 +226,23 @@ simplified_at-settled-requires-clause-otherwise_reduced g t c =
 pub simplified_at-settled-requires-clause-reduced : goal.simplified_at-settled-requires-clause-reduced
 simplified_at-settled-requires-clause-reduced g t c =
     let l = level_view c.args.level in
-    let rs = result_diagrams c.in_ok-results.results.items in
-    let o = option_map tree_of c.in_ok-rest.rest in
+    let rs = result_diagrams c.in_ok-pieces.pieces.items in
+    let o = option_map tree_of c.in_ok-pieces.rest in
     subst (λ (z : Plain). IsReduced (settled_level l rs o z)) (sym c.rest_at-other.ensures.part)
     (simpler_reduced (tree_of c.args.f.now) (tree_of c.args.region.now) (settled_level l rs o (rest_at l (tree_of c.args.f.now)))
-    (settles g t (goal.at.simplified_at-settled-requires-clause-reduced g t c).In_ok-rest) c.requires.f.reduced c.requires.region.reduced)
+    (settles g t (goal.at.simplified_at-settled-requires-clause-reduced g t c).In_ok-pieces) c.requires.f.reduced c.requires.region.reduced)
 
 pub simplified_at-settled-requires-clause-results_known : goal.simplified_at-settled-requires-clause-results_known
 simplified_at-settled-requires-clause-results_known g t c =
-    all_more (λ r. OwnKnown c.results.new.algebra r.1) (λ r. OwnKnown c.piece.new.algebra r.1) c.in_ok-results.results.items (λ r k. own_more c.results.new.algebra c.piece.new.algebra c.in_ok-rest.ensures.knows r.1 k) c.in_ok-results.ensures.known
+    all_more (λ r. OwnKnown c.results-found.new.algebra r.1) (λ r. OwnKnown c.piece-rest.new.algebra r.1) c.in_ok-pieces.pieces.items (λ r k. own_more c.results-found.new.algebra c.piece-rest.new.algebra c.piece-rest.ensures.knows r.1 k)
+    (told g t (goal.at.simplified_at-settled-requires-clause-results_known g t c).In_ok-pieces _ c.results-found.ensures.known)
 
 pub simplified_at-settled-requires-clause-otherwise_known : goal.simplified_at-settled-requires-clause-otherwise_known
 simplified_at-settled-requires-clause-otherwise_known g t c =
-    c.rest_at-other.ensures.below c.piece.new.algebra (known_stays c.args.algebra.now c.piece.new.algebra (knows_then _ _ _ c.in_ok-results.ensures.knows c.in_ok-rest.ensures.knows) c.args.f.now c.requires.f.known)
+    c.rest_at-other.ensures.below c.piece-rest.new.algebra (known_stays c.args.algebra.now c.piece-rest.new.algebra (knows_then _ _ _ c.results-found.ensures.knows c.piece-rest.ensures.knows) c.args.f.now c.requires.f.known)
 
-pub simplified_at-returns-in_err-rest-clause-knows : goal.simplified_at-returns-in_err-rest-clause-knows
-simplified_at-returns-in_err-rest-clause-knows g t c = knows_then _ _ _ c.in_ok-results.ensures.knows c.in_err-rest.ensures.knows
-
-pub simplified_at-returns-in_err-d-2-clause-knows : goal.simplified_at-returns-in_err-d-2-clause-knows
-simplified_at-returns-in_err-d-2-clause-knows g t c = knows_then _ _ _ c.in_ok-results.ensures.knows (knows_then _ _ _ c.in_ok-rest.ensures.knows c.in_err-d-2.ensures.knows)
+pub simplified_at-returns-in_err-pieces-clause-knows : goal.simplified_at-returns-in_err-pieces-clause-knows
+simplified_at-returns-in_err-pieces-clause-knows g t c = knows_then _ _ _ c.results-found.ensures.knows c.piece-rest.ensures.knows
 
 pub simplified_at-returns-clause-knows : goal.simplified_at-returns-clause-knows
-simplified_at-returns-clause-knows g t c = knows_then _ _ _ c.in_ok-results.ensures.knows (knows_then _ _ _ c.in_ok-rest.ensures.knows c.in_ok-d-2.ensures.knows)
+simplified_at-returns-clause-knows g t c = knows_then _ _ _ c.results-found.ensures.knows (knows_then _ _ _ c.piece-rest.ensures.knows c.settled.ensures.knows)

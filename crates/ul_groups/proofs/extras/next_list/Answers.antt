@@ -6,7 +6,7 @@ pub loop-turn-preserved : goal.loop-turn-preserved
 loop-turn-preserved c =
     let xs = into_iter_items c.args.rest.now in record {
       list = next_taken xs c.loop-turn._turn (into_iter_items c.loop-turn.rest) (into_iter_items c.next.new.self) c.loop-turn.list.items
-          c.push.new.self.items c.in-Some.requirement c.loop-turn.invariant.list c.loop-turn.invariant.rest c.in-Some.ensures.items c.in_ok-push.ensures.items;
+          c.in_ok-list.list.items c.in-Some.requirement c.loop-turn.invariant.list c.loop-turn.invariant.rest c.in-Some.ensures.items c.in_ok-list.ensures;
       rest = dropped_more xs c.loop-turn._turn (into_iter_items c.loop-turn.rest) c.in-Some.requirement (into_iter_items c.next.new.self)
           c.loop-turn.invariant.rest c.in-Some.ensures.items;
     }

@@ -1,8 +1,8 @@
-use Rattle.std.proofs.Common.{◌∙◌}
+use Rattle.std.proofs.Common.{refl, []}
 use Rattle.ul_index.proofs.OrderedPlaces.{indirect_places}
 use Rattle.ul_index.proofs.eligibility.eligible_indirect.Goals as goal
 
 pub returns : goal.returns
 returns c =
-    indirect_places c.args.catalog.now c.args.name.now c.releases_of-releases.result.now c.as_slice.result.now c.in_ok-order.order _
-    c.releases_of-releases.ensures.releases c.requires (c.as_slice.ensures.value ∙ c.new-directs.ensures.items) c.in_ok-order.ensures c.in_ok-places.ensures
+    indirect_places c.args.catalog.now c.args.name.now c.releases_of-releases.result.now [] c.in_ok-order.order _
+    c.releases_of-releases.ensures.releases c.requires refl c.in_ok-order.ensures c.in_ok-places.ensures

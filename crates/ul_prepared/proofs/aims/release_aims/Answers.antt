@@ -1,16 +1,18 @@
-use Rattle.std.proofs.Common.{List, sym, subst}
-use Rattle.ul_problem.specs.declared.problem.Need.{Need as PlaceNeed}
+use Rattle.std.proofs.Common.{List, subst}
+use Rattle.ul_base.proofs.ForCallers.{made_holds}
 use Rattle.ul_requirement.specs.Fields.{RequirementFields}
 use Rattle.ul_prepared.specs.Aims.{AreRequirementAims}
 use Rattle.ul_prepared.proofs.Aiming.{releases_more}
 use Rattle.ul_prepared.proofs.aims.release_aims.Goals as goal
 
 pub loop-release-preserved : goal.loop-release-preserved
-loop-release-preserved c = record {
-  sets = c.in_ok-rows.ensures.sets;
-  aims = releases_more c.args.names.now c.args.nodes.now (λ r. r.now) c.loop-release.list.items c.push.new.self.items c.args.releases.now c.loop-release.release-index c.of.result c.release-item.result
-      c.in_ok-push.ensures.items c.loop-release.invariant.aims
-      (subst (λ (z : List (List PlaceNeed)). AreRequirementAims c.args.names.now c.args.nodes.now z c.release-item.result.now.requirements) (sym c.of.ensures)
-      (subst (λ (qs : List RequirementFields). AreRequirementAims c.args.names.now c.args.nodes.now c.in_ok-rows.rows.items qs) c.requirements_in.ensures c.in_ok-rows.ensures.aims))
-      c.loop-release-test.true c.release-item.is;
-}
+loop-release-preserved c =
+    let more = c.in_ok-list-2.ensures in
+    let one = more.0 in
+    record {
+      sets = c.requirement_aims-rows.ensures.sets;
+      aims = releases_more c.args.names.now c.args.nodes.now (λ r. r.now) c.loop-release.list.items c.in_ok-list-2.list.items c.args.releases.now c.loop-release.release-index one c.release-item.result
+          more.2 c.loop-release.invariant.aims
+          (subst (λ (qs : List RequirementFields). AreRequirementAims c.args.names.now c.args.nodes.now one qs) c.requirements_in.ensures (made_holds c.requirement_aims-rows.result one _ more.1 c.requirement_aims-rows.ensures.aims))
+          c.loop-release-test.true c.release-item.is;
+    }

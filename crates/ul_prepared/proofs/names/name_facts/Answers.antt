@@ -1,21 +1,27 @@
-use Rattle.std.proofs.Common.{◌<◌, ◌^◌, ℕ, List, map, filter, reverse, length, sym, ap, subst, ◌∙◌}
-use Rattle.std.specs.List.{list_any}
-use Rattle.std.specs.Ordering.{is_eq}
+use Rattle.std.proofs.Common.{◌<◌, ◌^◌, ℕ, List, length, sym, ap, subst, ◌∙◌}
 use Rattle.std.proofs.lemmas.List.{length-map}
+use Rattle.ul_base.proofs.ForCallers.{made_holds}
 use Rattle.ul_version.specs.Fields.{Fields}
-use Rattle.ul_version.specs.Order.{version_cmp}
-use Rattle.ul_requirement.specs.Fields.{WishFields}
-use Rattle.ul_prepared.specs.KeptPlaces.{is_on}
-use Rattle.ul_prepared.specs.Orders.{tried_places}
+use Rattle.ul_prepared.specs.Orders.{order_in}
 use Rattle.ul_prepared.proofs.NameOrders.{name_is}
 use Rattle.ul_prepared.proofs.names.name_facts.Goals as goal
 
+pub returns-clause-name : goal.returns-clause-name
+returns-clause-name c = made_holds c.copy.result c.in_ok-facts.name _ c.in_ok-facts.ensures.1 c.copy.ensures
+
+pub order_of-order-requires : goal.order_of-order-requires
+order_of-order-requires c = subst (λ (m : ℕ). m < 2 ^ 32) (sym (ap (λ (z : List Fields). length z) (c.as_slice.ensures.value ∙ c.in_ok-list.ensures) ∙ length-map c.args.releases.now (λ r. r.now.version))) c.requires.few
+
 pub returns-clause-facts : goal.returns-clause-facts
-returns-clause-facts c = name_is (λ k. k.now) c.args.sources.now.0 c.args.sources.now.1 c.args.name.now c.in_ok-versions.versions.items c.in_ok-kept.kept.items c.in_ok-flags.flags.items c.is_oldest_first-oldest.result c.in_ok-order.order.items
-    (record { name = c.in_ok-name.name; versions = c.in_ok-versions-2.versions; order = c.in_ok-order-2.order })
-    c.in_ok-name.ensures c.in_ok-versions-2.ensures c.in_ok-order-2.ensures (c.in_ok-versions.ensures ∙ c.requires.versions) c.requires.rising
-    (subst (λ (m : ℕ). m < 2 ^ 32) (sym (ap (λ (z : List Fields). length z) c.in_ok-versions.ensures ∙ length-map c.args.releases.now (λ r. r.now.version))) c.requires.few)
-    (c.in_ok-kept.ensures ∙ ap (λ (w : WishFields). reverse (map (λ (k : List ℕ × Fields). k.1) (filter (is_on c.args.name.now) w.kept))) c.wish.ensures)
-    (c.in_ok-flags.ensures ∙ (ap (λ ks. map (λ (x : Fields). list_any (λ k. is_eq (version_cmp k.now x)) ks) c.as_slice-2.result.now) c.as_slice.ensures.value
-    ∙ ap (λ (zs : List Fields). map (λ (x : Fields). list_any (λ k. is_eq (version_cmp k.now x)) c.in_ok-kept.kept.items) zs) c.as_slice-2.ensures.value))
-    c.is_oldest_first-oldest.ensures (c.in_ok-order.ensures ∙ ap (λ z. tried_places z c.is_oldest_first-oldest.result) c.as_slice-3.ensures.value)
+returns-clause-facts c =
+    let packages = c.args.sources.now.0 in
+    let wish = c.args.sources.now.1 in
+    let name = c.args.name.now in
+    let list = c.in_ok-list.list.items in
+    let order = made_holds c.order_of-order.result c.in_ok-list-2.order _ c.in_ok-list-2.ensures.1 c.order_of-order.ensures in
+    let versions = made_holds c.of.result c.in_ok-order.versions _ c.in_ok-order.ensures.1 c.of.ensures in
+    name_is packages wish name list c.in_ok-list-2.order (record { name = c.in_ok-facts.name; versions = c.in_ok-facts.facts.0; order = c.in_ok-facts.facts.1 })
+    (returns-clause-name c) (ap (λ z. z.0) c.in_ok-facts.ensures.0 ∙ versions ∙ ap (λ z. z.items) c.in_ok-list-2.ensures.0) (ap (λ z. z.1) c.in_ok-facts.ensures.0 ∙ c.in_ok-order.ensures.0)
+    (c.in_ok-list.ensures ∙ c.requires.versions) c.requires.rising
+    (subst (λ (m : ℕ). m < 2 ^ 32) (sym (ap (λ (z : List Fields). length z) c.in_ok-list.ensures ∙ length-map c.args.releases.now (λ r. r.now.version))) c.requires.few)
+    (order ∙ ap (order_in packages wish name) c.as_slice.ensures.value)

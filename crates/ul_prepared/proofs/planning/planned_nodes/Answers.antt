@@ -4,24 +4,27 @@ use Rattle.ul_region.proofs.ForCallers.{grown_then}
 use Rattle.ul_prepared.specs.Gathered.{IsNamed, node_in}
 use Rattle.ul_prepared.proofs.Loops.{images_more}
 use Rattle.ul_prepared.proofs.NodeRows.{planned_more}
+use Rattle.ul_base.proofs.ForCallers.{made_holds}
 use Rattle.ul_prepared.proofs.planning.planned_nodes.Goals as goal
 
-pub returns-in_err-made-clause-grown : goal.returns-in_err-made-clause-grown
-returns-in_err-made-clause-grown g c = grown_then _ _ _ _ _ _ c.loop-one.invariant.grown c.in_err-made.ensures.grown
-
-pub returns-in_err-push-clause-grown : goal.returns-in_err-push-clause-grown
-returns-in_err-push-clause-grown g c = grown_then _ _ _ _ _ _ c.loop-one.invariant.grown c.in_ok-made.ensures.grown
+pub returns-in_err-nodes-2-clause-grown : goal.returns-in_err-nodes-2-clause-grown
+returns-in_err-nodes-2-clause-grown g c = grown_then _ _ _ _ _ _ c.loop-one.invariant.grown c.own_rows-made.ensures.grown
 
 pub loop-one-preserved : goal.loop-one-preserved
-loop-one-preserved g c = record {
-  grown = grown_then _ _ _ _ _ _ c.loop-one.invariant.grown c.in_ok-made.ensures.grown;
-  sets = c.in_ok-made.ensures.sets;
-  same = images_more node_in node_in c.loop-one.nodes.items c.push.new.self.items c.args.bare.now c.loop-one.one-index c.in_ok-made.made c.one-item.result
-      c.in_ok-push.ensures.items c.loop-one.invariant.same c.in_ok-made.ensures.node c.loop-one-test.true c.one-item.is;
-  rows = planned_more c.args.names.now c.args.bare.now c.args.releases.now c.loop-one.algebra c.own_rows.new.algebra c.loop-one.truths.marks.items c.own_rows.new.truths.marks.items
-      c.loop-one.nodes.items c.push.new.self.items c.in_ok-made.made c.in_ok-push.ensures.items c.in_ok-made.ensures.grown c.loop-one.invariant.rows c.in_ok-made.ensures.rows;
-}
+loop-one-preserved g c =
+    let before = c.loop-one.nodes.items in
+    let after = c.in_ok-nodes-2.nodes.items in
+    let more = c.in_ok-nodes-2.ensures in
+    let one = more.0 in
+    record {
+      grown = grown_then _ _ _ _ _ _ c.loop-one.invariant.grown c.own_rows-made.ensures.grown;
+      sets = c.own_rows-made.ensures.sets;
+      same = images_more node_in node_in before after c.args.bare.now c.loop-one.one-index one c.one-item.result
+          more.2 c.loop-one.invariant.same (made_holds c.own_rows-made.result one _ more.1 c.own_rows-made.ensures.node) c.loop-one-test.true c.one-item.is;
+      rows = planned_more c.args.names.now c.args.bare.now c.args.releases.now c.loop-one.algebra c.own_rows-made.new.algebra c.loop-one.truths.marks.items c.own_rows-made.new.truths.marks.items
+          before after one more.2 c.own_rows-made.ensures.grown c.loop-one.invariant.rows (made_holds c.own_rows-made.result one _ more.1 c.own_rows-made.ensures.rows);
+    }
 
-pub own_rows-requires-clause-named : goal.own_rows-requires-clause-named
-own_rows-requires-clause-named g c =
+pub own_rows-made-requires-clause-named : goal.own_rows-made-requires-clause-named
+own_rows-made-requires-clause-named g c =
     subst (IsNamed c.args.names.now) (sym c.one-item.is) (All-get_or (IsNamed c.args.names.now) c.args.bare.now c.loop-one.one-index c.one-item.result c.loop-one-test.true c.requires.named)

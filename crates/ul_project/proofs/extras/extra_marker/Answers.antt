@@ -1,4 +1,4 @@
-use Rattle.std.proofs.Common.{◌≡◌, rules, string_bytes, ◌∙◌}
+use Rattle.std.proofs.Common.{◌≡◌, rules, string_bytes}
 use Rattle.ul_project.proofs.ExtraMarkers.{marker_valid}
 use Rattle.ul_project.proofs.extras.extra_marker.Goals as goal
 

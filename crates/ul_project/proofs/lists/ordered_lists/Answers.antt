@@ -1,4 +1,4 @@
-use Rattle.std.proofs.Common.{◌≡◌, BTreeMap, List, ap, ◌∙◌, string_bytes}
+use Rattle.std.proofs.Common.{BTreeMap, List, ap, ◌∙◌, string_bytes}
 use Rattle.std.proofs.lemmas.Result.{err_from_is_err_and}
 use Rattle.toml.specs.View.{members_view, view}
 use Rattle.ul_project.specs.Lists.{lists_in}

@@ -8,5 +8,6 @@ returns-then-is_empty c =
 
 pub returns : goal.returns
 returns c =
-    region_of_both c.args.python.now c.args.environments.now c.in_ok-python.python c.in_ok-some.some c.in_ok-region.region (sym c.is_empty.ensures ∙ c.if-is_empty.false)
-    c.in_ok-region.ensures.reduced c.in_ok-python.ensures.truth c.in_ok-some.ensures.truth c.in_ok-region.ensures.truth
+    region_of_both c.args.python.now c.args.environments.now c.in_ok-python-2.python c.in_ok-python-2.some c.in_ok-region.region (sym c.is_empty.ensures ∙ c.if-is_empty.false)
+    (rw c.in_ok-region.ensures at c.plain_and-region.ensures.reduced) (rw c.in_ok-python-2.ensures.0 c.in_ok-python.ensures.truth)
+    (rw c.in_ok-python-2.ensures.1 at c.some_environment.ensures.truth) (rw c.in_ok-region.ensures at c.plain_and-region.ensures.truth)

@@ -1,33 +1,18 @@
-use Rattle.std.specs.Prelude.{bit_and}
 use Rattle.ul_ranges.specs.Operations.{in_both}
-use Rattle.ul_ranges.proofs.BlockLaws.{and_flagwise}
 use Rattle.ul_ranges.proofs.FormLaws.{word_meets}
-use Rattle.ul_ranges.proofs.FormMaking.{ok_then, has_blocks, has_others, same_count, zipped_of, zipped_whole, zipped_sealed, word_made}
+use Rattle.ul_ranges.proofs.FormMaking.{many_large, has_blocks, sized_blocks, word_made}
 use Rattle.ul_ranges.proofs.forms.meet.Goals as goal
 
-pub words_by-requires : goal.words_by-requires
-words_by-requires c =
-    same_count c.in-Many-Many.size c.args.mine.now c.args.theirs.now c.in-Many-Many.xs c.in-Many-Many.ys _ _
-    (has_blocks c.in-Many-Many.size c.args.mine.now c.in-Many-Many.xs c.in-Many-Many.is-0 c.requires.left)
-    (has_others _ _ c.args.mine.now c.args.theirs.now _ _ c.in-Many-Many.is-0 c.in-Many-Many.is-1 c.requires)
-    c.as_slice.ensures c.as_slice-in-Many-Many.ensures
+pub sealed_by-requires-clause-large : goal.sealed_by-requires-clause-large
+sealed_by-requires-clause-large c = many_large _ c.args.mine.now _ c.in-Many-Many.is-0 c.requires.left
 
-pub sealed-requires-clause-exact : goal.sealed-requires-clause-exact
-sealed-requires-clause-exact c =
-    zipped_whole c.in-Many-Many.size bit_and in_both and_flagwise c.args.mine.now c.args.theirs.now c.in_ok-blocks-in-Many-Many.blocks.items
-    (zipped_of c.in-Many-Many.size bit_and c.args.mine.now c.args.theirs.now c.in-Many-Many.xs c.in-Many-Many.ys _ _ c.in_ok-blocks-in-Many-Many.blocks.items
-    (has_blocks c.in-Many-Many.size c.args.mine.now c.in-Many-Many.xs c.in-Many-Many.is-0 c.requires.left)
-    (has_others _ _ c.args.mine.now c.args.theirs.now _ _ c.in-Many-Many.is-0 c.in-Many-Many.is-1 c.requires)
-    c.as_slice.ensures c.as_slice-in-Many-Many.ensures c.in_ok-blocks-in-Many-Many.ensures)
+pub sealed_by-requires-clause-left : goal.sealed_by-requires-clause-left
+sealed_by-requires-clause-left c = has_blocks _ c.args.mine.now _ _ c.in-Many-Many.is-0 c.requires.left c.as_slice.ensures
 
-pub returns-in_ok-blocks-in-Many-Many : goal.returns-in_ok-blocks-in-Many-Many
-returns-in_ok-blocks-in-Many-Many c =
-    ok_then c.sealed.result _ _ c.sealed.ensures
-    (λ f s. zipped_sealed c.in-Many-Many.size bit_and in_both and_flagwise c.args.mine.now c.args.theirs.now f c.in_ok-blocks-in-Many-Many.blocks.items
-    (zipped_of c.in-Many-Many.size bit_and c.args.mine.now c.args.theirs.now c.in-Many-Many.xs c.in-Many-Many.ys _ _ c.in_ok-blocks-in-Many-Many.blocks.items
-    (has_blocks c.in-Many-Many.size c.args.mine.now c.in-Many-Many.xs c.in-Many-Many.is-0 c.requires.left)
-    (has_others _ _ c.args.mine.now c.args.theirs.now _ _ c.in-Many-Many.is-0 c.in-Many-Many.is-1 c.requires)
-    c.as_slice.ensures c.as_slice-in-Many-Many.ensures c.in_ok-blocks-in-Many-Many.ensures) s)
+pub sealed_by-requires-clause-right : goal.sealed_by-requires-clause-right
+sealed_by-requires-clause-right c =
+    sized_blocks _ c.args.theirs.now _ c.requires.same_size
+    (has_blocks _ c.args.theirs.now _ _ c.in-Many-Many.is-1 c.requires.right c.as_slice-in-Many-Many.ensures)
 
 pub returns-in-Word-Word : goal.returns-in-Word-Word
 returns-in-Word-Word c =

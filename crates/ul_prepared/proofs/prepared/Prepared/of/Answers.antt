@@ -1,25 +1,53 @@
-use Rattle.std.specs.Prelude.{All}
-use Rattle.std.proofs.Common.{◌≡◌, List, sym, subst}
-use Rattle.ul_prepared.specs.Gathered.{IsNamed}
+use Rattle.std.specs.Prelude.{All, IfOk}
+use Rattle.std.proofs.Common.{◌≡◌, ℕ, List, Global, Ok, Vec, ap, sym, subst, ◌∙◌, refl}
+use Rattle.ul_algebra.specs.Answers.{IsDiagram}
+use Rattle.ul_base.proofs.ForCallers.{made_holds}
+use Rattle.ul_region.specs.declared.rows.Truths.{Truths}
+use Rattle.ul_prepared.specs.Gathered.{AreKnown, HasOwnRows, IsNamed}
 use Rattle.ul_prepared.specs.Permitted.{IsRising}
 use Rattle.ul_prepared.specs.declared.prepared.NameFacts.{NameFacts}
+use Rattle.ul_prepared.specs.declared.prepared.Planned.{Planned}
 use Rattle.ul_prepared.proofs.KnownNames.{known_rising}
 use Rattle.ul_prepared.proofs.NodeRows.{prepared_is}
 use Rattle.ul_prepared.proofs.prepared.Prepared.of.Goals as goal
+use Rattle.ul_prepared.proofs.prepared.Prepared.of.Goals.{In_ok-known, In_ok-shared}
 
-pub planned_nodes-requires-clause-rising : goal.planned_nodes-requires-clause-rising
-planned_nodes-requires-clause-rising g c =
-    let e : c.as_slice-3.result.now ≡ c.in_ok-names.field-0.names.items = cc (c.as_slice-3.ensures.value, c.in_ok-names.names-is) in
+-- what was told of the bare nodes holds of those that were handed on
+bare_told : (g : _) (c : In_ok-known g) (P : Vec Planned Global → Type 0) → IfOk c.bare_nodes-bare.result P → P c.in_ok-known.bare
+bare_told g c P h =
+    let bare = c.in_ok-known.bare in
+    made_holds c.bare_nodes-bare.result bare P (made_holds c.made_from.result bare (λ v. c.bare_nodes-bare.result ≡ Ok v) c.in_ok-known.ensures.1 c.made_from.ensures) h
+
+-- and of the nodes with their rows, and their places
+placed_told : (g : _) (c : In_ok-shared g) (P : Vec Planned Global × Vec ℕ Global → Type 0) → IfOk c.placed_nodes-placed.result P → P c.in_ok-shared.placed
+placed_told g c P h =
+    let placed = c.in_ok-shared.placed in
+    made_holds c.placed_nodes-placed.result placed P (made_holds c.made_from-2.result placed (λ v. c.placed_nodes-placed.result ≡ Ok v) c.in_ok-shared.ensures.1 c.made_from-2.ensures) h
+
+pub placed_nodes-placed-requires-clause-rising : goal.placed_nodes-placed-requires-clause-rising
+placed_nodes-placed-requires-clause-rising g c =
+    let e : c.as_slice-2.result.now ≡ c.in_ok-names.field-0.names.items = c.as_slice-2.ensures.value ∙ ap (λ z. z.0.items) c.in_ok-known.ensures.0 in
     subst (All IsRising) (sym e) (known_rising c.args.catalog.now c.args.wish.now c.in_ok-names.field-0.names.items c.in_ok-names.field-0.releases.items c.in_ok-names.ensures)
 
-pub planned_nodes-requires-clause-named : goal.planned_nodes-requires-clause-named
-planned_nodes-requires-clause-named g c =
-    let e : c.as_slice.result.now ≡ c.as_slice-3.result.now = cc (c.as_slice.ensures.value, c.as_slice-3.ensures.value) in
-    subst (λ (ns : List NameFacts). All (IsNamed ns) c.as_slice-5.result.now) e (subst (All (IsNamed c.as_slice.result.now)) (sym c.as_slice-5.ensures.value) c.in_ok-bare.ensures.named)
+pub placed_nodes-placed-requires-clause-named : goal.placed_nodes-placed-requires-clause-named
+placed_nodes-placed-requires-clause-named g c =
+    let e : c.as_slice.result.now ≡ c.as_slice-2.result.now = c.as_slice.ensures.value ∙ (sym (ap (λ z. z.0.items) c.in_ok-known.ensures.0) ∙ sym c.as_slice-2.ensures.value) in
+    let named = bare_told g (goal.at.placed_nodes-placed-requires-clause-named g c).In_ok-known (λ v. All (IsNamed c.as_slice.result.now) v.items) c.bare_nodes-bare.ensures.named in
+    subst (λ (ns : List NameFacts). All (IsNamed ns) c.as_slice-4.result.now) e (subst (All (IsNamed c.as_slice.result.now)) (sym c.as_slice-4.ensures.value) named)
 
 pub returns-clause-prepared : goal.returns-clause-prepared
 returns-clause-prepared g c =
-    let names : c.as_slice-3.result.now ≡ c.in_ok-names.field-0.names.items = cc (c.as_slice-3.ensures.value, c.in_ok-names.names-is) in
-    let own : c.as_slice-4.result.now ≡ c.in_ok-names.field-0.releases.items = cc (c.as_slice-4.ensures.value, c.in_ok-names.releases-is) in
-    prepared_is c.planned_nodes.new.algebra _ c.as_slice-3.result.now c.in_ok-bare.bare.items c.as_slice-5.result.now c.as_slice-7.result.now c.as_slice-4.result.now c.in_ok-names.field-0.releases.items
-    names c.as_slice-5.ensures.value own c.as_slice-7.ensures.value c.in_ok-names.ensures c.in_ok-bare.ensures.increasing c.in_ok-nodes.ensures.same c.in_ok-nodes.ensures.rows c.in_ok-roots.ensures c.in_ok-nodes.ensures.grown.known
+    let at = goal.at.returns-clause-prepared g c in
+    let of_known : c.in_ok-known.known.0.items ≡ c.in_ok-names.field-0.names.items = ap (λ z. z.0.items) c.in_ok-known.ensures.0 in
+    let shared = c.in_ok-shared.ensures.0 in
+    let placed = c.in_ok-shared.placed in
+    let names : c.as_slice-2.result.now ≡ c.in_ok-shared.shared.0.items = c.as_slice-2.ensures.value ∙ sym (ap (λ z. z.0.items) shared) in
+    let own : c.as_slice-3.result.now ≡ c.in_ok-names.field-0.releases.items = c.as_slice-3.ensures.value ∙ ap (λ z. z.1.items) c.in_ok-known.ensures.0 in
+    let h = c.placed_nodes-placed.new.algebra in
+    let known = subst (λ (z : List NameFacts). AreKnown c.args.catalog.now c.args.wish.now z c.in_ok-names.field-0.releases.items) (sym (ap (λ z. z.0.items) shared ∙ of_known)) c.in_ok-names.ensures in
+    let rows = placed_told g at.In_ok-shared _ c.placed_nodes-placed.ensures.rows in
+    prepared_is h _ c.as_slice-2.result.now c.in_ok-known.bare.items c.as_slice-4.result.now placed.0.items c.as_slice-3.result.now c.in_ok-names.field-0.releases.items
+    names c.as_slice-4.ensures.value own refl known (bare_told g at.In_ok-known _ c.bare_nodes-bare.ensures.increasing) (placed_told g at.In_ok-shared _ c.placed_nodes-placed.ensures.same)
+    (subst (λ (z : Truths). All (HasOwnRows h c.as_slice-2.result.now c.as_slice-4.result.now z.marks.items c.as_slice-3.result.now) placed.0.items) (sym (ap (λ z. z.1) shared)) rows)
+    (placed_told g at.In_ok-shared _ c.placed_nodes-placed.ensures.roots)
+    (subst (λ (z : Truths). All (IsDiagram h) z.marks.items) (sym (ap (λ z. z.1) shared)) c.placed_nodes-placed.ensures.grown.known)

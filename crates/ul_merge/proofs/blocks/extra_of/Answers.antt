@@ -1,0 +1,29 @@
+use Rattle.std.proofs.Common.{◌≡◌, ℕ, List, ap, sym, subst, ◌∙◌}
+use Rattle.ul_base.specs.declared.node.Node.{Node}
+use Rattle.ul_base.proofs.ForCallers.{made_holds}
+use Rattle.ul_requirement.specs.Truth.{with_extra}
+use Rattle.ul_sound.specs.Merged.{AreEdgesOf}
+use Rattle.ul_merge.specs.Blocks.{AreUsers, catalog_in, leaves_in, supported_in}
+use Rattle.ul_merge.proofs.blocks.extra_of.Goals as goal
+
+same_node : (n m x y : List ℕ) → n ≡ m → x ≡ y → with_extra n x ≡ with_extra m y
+same_node n m x y e f = ap (λ (z : List ℕ). with_extra z x) e ∙ ap (with_extra m) f
+
+pub edges_of-edges-requires-clause-users : goal.edges_of-edges-requires-clause-users
+edges_of-edges-requires-clause-users g c =
+    let version = c.args.pair.now.version.now in
+    let same = same_node c.in_ok-name.name c.args.pair.now.name.now c.in_ok-extra.extra c.args.group.now.key.name.now c.in_ok-name.ensures c.in_ok-extra.ensures in
+    subst (λ (us : List ℕ). AreUsers c.args.sources.now.choices.now (with_extra c.in_ok-name.name c.in_ok-extra.extra, version) us) (sym c.as_slice.ensures.value)
+    (subst (λ (n : Node). AreUsers c.args.sources.now.choices.now (n, version) c.args.group.now.values.items) (sym same) c.requires.users)
+
+pub returns-clause-extra : goal.returns-clause-extra
+returns-clause-extra g c =
+    let s = c.args.sources.now in
+    let version = c.args.pair.now.version.now in
+    let same = same_node c.in_ok-name.name c.args.pair.now.name.now c.in_ok-extra.extra c.args.group.now.key.name.now c.in_ok-name.ensures c.in_ok-extra.ensures in
+    let edges = made_holds c.edges_of-edges.result c.in_ok-edges.edges _ c.in_ok-edges.ensures c.edges_of-edges.ensures.edges in
+    record {
+      named = made_holds c.copy-3.result c.in_ok-out.name _ c.in_ok-out.ensures.1 c.copy-3.ensures;
+      edges = subst (λ z. AreEdgesOf (catalog_in s) (leaves_in s) (supported_in s) (with_extra c.args.pair.now.name.now c.args.group.now.key.name.now, version) z) (sym c.in_ok-out.ensures.0)
+          (subst (λ (n : Node). AreEdgesOf (catalog_in s) (leaves_in s) (supported_in s) (n, version) c.in_ok-edges.edges) same edges);
+    }

@@ -1,0 +1,22 @@
+use Rattle.std.proofs.Common.{Some}
+use Rattle.ul_interner.proofs.ForCallers.{knows_then}
+use Rattle.ul_merge.specs.Blocks.{MakesBlock, catalog_in, leaves_in, supported_in}
+use Rattle.ul_base.proofs.ForCallers.{made_holds}
+use Rattle.ul_merge.proofs.BlockFacts.{sources_still}
+use Rattle.ul_merge.proofs.Makes.{made_more}
+use Rattle.ul_merge.proofs.blocks.made_blocks.Goals as goal
+
+pub block_of-block-requires-clause-sources : goal.block_of-block-requires-clause-sources
+block_of-block-requires-clause-sources g c = sources_still _ _ _ c.loop-group.invariant.knows c.requires.sources
+
+pub returns-in_err-blocks-2-clause-knows : goal.returns-in_err-blocks-2-clause-knows
+returns-in_err-blocks-2-clause-knows g c = knows_then _ _ _ c.loop-group.invariant.knows c.block_of-block.ensures.knows
+
+pub loop-group-preserved : goal.loop-group-preserved
+loop-group-preserved g c =
+    let more = c.in_ok-blocks-2.ensures in
+    record {
+      knows = knows_then _ _ _ c.loop-group.invariant.knows c.block_of-block.ensures.knows;
+      made = made_more (MakesBlock (catalog_in c.args.sources.now) (leaves_in c.args.sources.now) (supported_in c.args.sources.now)) _ _ _ _ _ (Some more.0)
+          c.loop-group-test.true c.group-item.is c.loop-group.invariant.made (made_holds c.block_of-block.result more.0 _ more.1 c.block_of-block.ensures.block) more.2;
+    }

@@ -1,0 +1,13 @@
+use Rattle.ul_ranges.proofs.FormTests.{words_apart, many_apart}
+use Rattle.ul_ranges.proofs.form_tests.is_apart.Goals as goal
+
+pub returns-in-Word-Word : goal.returns-in-Word-Word
+returns-in-Word-Word c =
+    rw (c.in-Word-Word.is-0, c.in-Word-Word.is-1)
+    (words_apart _ _ c.in-Word-Word.x c.in-Word-Word.y (rw c.in-Word-Word.is-0 at c.requires.left) (rw c.in-Word-Word.is-1 at c.requires.right))
+
+pub returns-in-Many-Many : goal.returns-in-Many-Many
+returns-in-Many-Many c =
+    rw (c.in-Many-Many.is-0, c.in-Many-Many.is-1)
+    (many_apart _ _ c.in-Many-Many.xs c.in-Many-Many.ys c.are_clear.result (rw (c.in-Many-Many.is-0, c.in-Many-Many.is-1) at c.requires)
+    (rw (c.as_slice.ensures, c.as_slice-in-Many-Many.ensures) at c.are_clear.ensures))
