@@ -6,9 +6,9 @@ ghost use Rattle.ul_forks.specs.Forked.{project_name};
 
 use std::alloc::{AllocError, Global};
 use std::sync::Wait;
+use std::test::Fail;
 use std::thread::Threads;
 use ul_algebra::{Algebra, DiagramLabel, DiagramPass};
-use ul_base::owned::refused;
 use ul_base::{Gate, SureFiles};
 use ul_forks::{ForkAnswer, ForkFault, fork_all};
 use ul_index::Catalog;
@@ -26,11 +26,11 @@ pub struct Input {
 }
 
 // The project of a file with these requirements, and these lines behind them.
-fn project_of(alloc: Global, requirements: &str, settings: &str) -> Option<Project> {
+fn project_of(alloc: Global, requirements: &str, settings: &str) -> Result<Project, Fail> {
     let file = format!(in alloc;
         "[project]\nname = 'demo'\nversion = '0.1'\ndependencies = [{requirements}]\n{settings}\n"
-    );
-    project(alloc, file.ok()?.as_bytes()).ok()
+    )?;
+    Ok(project(alloc, file.as_bytes())?)
 }
 
 // The path and the document of a package that has these releases.
@@ -50,25 +50,30 @@ fn folder(alloc: Global, names: &str, releases: &str) -> Result<SureFiles, Alloc
 }
 
 // The catalog of a project and of such a folder.
-fn catalog_of(alloc: Global, project: &Project, names: &str, releases: &str) -> Option<Catalog> {
-    let mut files = folder(alloc, names, releases).ok()?;
-    load_project(alloc, &mut files, "ix", project).ok()
+fn catalog_of(
+    alloc: Global,
+    project: &Project,
+    names: &str,
+    releases: &str,
+) -> Result<Catalog, Fail> {
+    let mut files = folder(alloc, names, releases)?;
+    match load_project(alloc, &mut files, "ix", project) {
+        Ok(catalog) => Ok(catalog),
+        Err(_) => Err(Fail::from("not loaded")),
+    }
 }
 
-/// The project of these requirements and settings, with packages, between commas, that each have these releases; none
-/// where they aren't read.
+/// The project of these requirements and settings, with packages, between commas, that each have these releases.
 pub fn input_of(
     alloc: Global,
     requirements: &str,
     settings: &str,
     names: &str,
     releases: &str,
-) -> Option<Input> {
+) -> Result<Input, Fail> {
     let project = project_of(alloc, requirements, settings)?;
-    match catalog_of(alloc, &project, names, releases) {
-        Some(catalog) => Some(Input { project, catalog }),
-        None => refused(project),
-    }
+    let catalog = catalog_of(alloc, &project, names, releases)?;
+    Ok(Input { project, catalog })
 }
 
 // What a project wishes, without an old lock.
