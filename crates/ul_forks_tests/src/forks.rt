@@ -6,9 +6,9 @@ ghost use Rattle.ul_forks.specs.Forked.{project_name};
 
 use std::alloc::{AllocError, Global};
 use std::sync::Wait;
-use std::test::Fail;
 use std::thread::Threads;
 use ul_algebra::{Algebra, DiagramLabel, DiagramPass};
+use ul_base::owned::refused;
 use ul_base::{Gate, SureFiles};
 use ul_forks::{ForkAnswer, ForkFault, fork_all};
 use ul_index::Catalog;
@@ -26,11 +26,11 @@ pub struct Input {
 }
 
 // The project of a file with these requirements, and these lines behind them.
-fn project_of(alloc: Global, requirements: &str, settings: &str) -> Result<Project, Fail> {
+fn project_of(alloc: Global, requirements: &str, settings: &str) -> Option<Project> {
     let file = format!(in alloc;
         "[project]\nname = 'demo'\nversion = '0.1'\ndependencies = [{requirements}]\n{settings}\n"
-    )?;
-    Ok(project(alloc, file.as_bytes())?)
+    );
+    project(alloc, file.ok()?.as_bytes()).ok()
 }
 
 // The path and the document of a package that has these releases.
@@ -50,30 +50,25 @@ fn folder(alloc: Global, names: &str, releases: &str) -> Result<SureFiles, Alloc
 }
 
 // The catalog of a project and of such a folder.
-fn catalog_of(
-    alloc: Global,
-    project: &Project,
-    names: &str,
-    releases: &str,
-) -> Result<Catalog, Fail> {
-    let mut files = folder(alloc, names, releases)?;
-    match load_project(alloc, &mut files, "ix", project) {
-        Ok(catalog) => Ok(catalog),
-        Err(_) => Err(Fail::from("not loaded")),
-    }
+fn catalog_of(alloc: Global, project: &Project, names: &str, releases: &str) -> Option<Catalog> {
+    let mut files = folder(alloc, names, releases).ok()?;
+    load_project(alloc, &mut files, "ix", project).ok()
 }
 
-/// The project of these requirements and settings, with packages, between commas, that each have these releases.
+/// The project of these requirements and settings, with packages, between commas, that each have these releases; none
+/// where they aren't read.
 pub fn input_of(
     alloc: Global,
     requirements: &str,
     settings: &str,
     names: &str,
     releases: &str,
-) -> Result<Input, Fail> {
+) -> Option<Input> {
     let project = project_of(alloc, requirements, settings)?;
-    let catalog = catalog_of(alloc, &project, names, releases)?;
-    Ok(Input { project, catalog })
+    match catalog_of(alloc, &project, names, releases) {
+        Some(catalog) => Some(Input { project, catalog }),
+        None => refused(project),
+    }
 }
 
 // What a project wishes, without an old lock.

@@ -3,7 +3,6 @@ use crate::forks::{forked, input_of};
 use std::alloc::Global;
 use std::sync::Wait;
 use std::sync::atomic::{AtomicU64, Ordering};
-use std::test::Fail;
 use std::thread::Threads;
 use ul_base::Gate;
 
@@ -33,27 +32,27 @@ const REQUIREMENTS: &str = "'q>=1', \"q<2; sys_platform == 'win32'\"";
 const RELEASES: &str = "{\"version\": \"1\"}, {\"version\": \"2\"}";
 
 // Whether there is an answer where the first region, and then its two parts, pass a gate.
-fn is_answered<R: Threads + Wait + Sync>(
-    rt: &R,
-    alloc: Global,
-    gate: &Meeting,
-) -> Result<bool, Fail> {
-    let input = input_of(alloc, REQUIREMENTS, "", "q", RELEASES)?;
-    let answer = forked(rt, alloc, 2, &input, gate);
-    Ok(answer.is_ok())
+fn is_answered<R: Threads + Wait + Sync>(rt: &R, alloc: Global, gate: &Meeting) -> bool {
+    match input_of(alloc, REQUIREMENTS, "", "q", RELEASES) {
+        Some(input) => forked(rt, alloc, 2, &input, gate).is_ok(),
+        None => false,
+    }
 }
 
-#[test]
-fn two_workers_run_side_by_side(rt: HostRuntime) -> Result<(), Fail> {
+// Whether three entered a gate, and the second met the third.
+fn have_met(gate: &Meeting) -> bool {
+    gate.entries.load(Ordering::SeqCst) == 3 && gate.met.load(Ordering::SeqCst) == 1
+}
+
+fn are_side_by_side<R: Threads + Wait + Sync>(rt: &R, alloc: Global) -> bool {
     let gate = Meeting {
         entries: AtomicU64::new(0),
         met: AtomicU64::new(0),
     };
-    let answered = is_answered(&rt, rt.alloc(), &gate)?;
-    let (entries, met) = (
-        gate.entries.load(Ordering::SeqCst),
-        gate.met.load(Ordering::SeqCst),
-    );
-    assert!(rt; answered && entries == 3 && met == 1);
-    Ok(())
+    is_answered(rt, alloc, &gate) && have_met(&gate)
+}
+
+#[test]
+fn two_workers_run_side_by_side(rt: HostRuntime) {
+    assert!(rt; are_side_by_side(&rt, rt.alloc()));
 }

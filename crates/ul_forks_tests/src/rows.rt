@@ -5,13 +5,13 @@ ghost use Rattle.ul_tree.specs.TreeFacts.{IsTree};
 use crate::forks::{Input, forks, input_of};
 use std::alloc::{AllocError, Global};
 use std::sync::Wait;
-use std::test::Fail;
 use std::thread::Threads;
 use ul_algebra::{Algebra, Diagram, DiagramLabel};
 use ul_base::{Node, Open};
-use ul_forks::{ForkAnswer, ForkLeaf, Forked, Path};
+use ul_forks::{ForkAnswer, ForkFault, ForkLeaf, Forked, Path};
 use ul_interner::Interner;
 use ul_marker::Marker;
+use ul_test_rows::put;
 use ul_tree::{Tree, of_marker};
 use ul_version::Version;
 use ul_workers::Round;
@@ -81,45 +81,42 @@ fork-strategy = 'fewest'
 [0] refused in sys_platform == 'win32'
 "#;
 
-// The digits of a path.
-fn path_text(alloc: Global, path: &Path) -> Result<String, AllocError> {
-    let mut text = String::from_str(alloc, "[")?;
+// Puts the digits of a path.
+fn put_path(told: &mut String, path: &Path) {
+    put(told, "[");
     for digit in path.digits() {
-        text.push(if *digit { '1' } else { '0' })?;
+        put(told, if *digit { "1" } else { "0" });
     }
-    text.push(']')?;
-    Ok(text)
+    put(told, "]");
 }
 
-fn push_decision(
-    alloc: Global,
-    text: &mut String,
-    node: &Node,
-    version: &Version,
-) -> Result<(), AllocError> {
-    let version = version.text(alloc)?;
-    text.push(' ')?;
-    text.push_str(node.name.text())?;
-    text.push('-')?;
-    text.push_str(version.as_str())
+fn put_decision(alloc: Global, told: &mut String, node: &Node, version: &Version) {
+    put(told, " ");
+    put(told, node.name.text());
+    put(told, "-");
+    if let Ok(version) = version.text(alloc) {
+        put(told, version.as_str());
+    }
 }
 
 // The path and the decisions of a leaf.
-fn leaf_text(alloc: Global, leaf: &ForkLeaf) -> Result<String, AllocError> {
-    let mut text = path_text(alloc, &leaf.path)?;
+fn leaf_told(alloc: Global, leaf: &ForkLeaf) -> String {
+    let mut told = String::new(alloc);
+    put_path(&mut told, &leaf.path);
     for (node, version) in leaf.done.as_slice() {
-        push_decision(alloc, &mut text, node, version)?;
+        put_decision(alloc, &mut told, node, version);
     }
-    Ok(text)
+    told
 }
 
 // The tree of a marker.
-fn tree_in(alloc: Global, marker: &str) -> Result<Tree, Fail>
+fn tree_in(alloc: Global, marker: &str) -> Result<Tree, AllocError>
     ensures { IfOk result IsTree }
 {
-    let marker = Marker::read(alloc, marker)?;
-    let tree = of_marker(alloc, &marker)?;
-    Ok(tree)
+    match Marker::read(alloc, marker) {
+        Ok(marker) => of_marker(alloc, &marker),
+        Err(_) => Err(AllocError),
+    }
 }
 
 // The diagram of a marker.
@@ -128,10 +125,9 @@ fn region_of<R: Wait>(
     alloc: Global,
     algebra: &mut Algebra<'_>,
     marker: &str,
-) -> Result<Diagram, Fail> {
+) -> Result<Diagram, AllocError> {
     let tree = tree_in(alloc, marker)?;
-    let region = algebra.of_tree(rt, alloc, &tree)?;
-    Ok(region)
+    algebra.of_tree(rt, alloc, &tree)
 }
 
 // Whether a line has this text and this region. Diagrams of one interner are one where their truth is one.
@@ -139,16 +135,15 @@ fn is_line<R: Wait>(
     rt: &R,
     alloc: Global,
     algebra: &mut Algebra<'_>,
-    text: &str,
+    told: &str,
     region: &Diagram,
     line: &str,
-) -> Result<bool, Fail> {
+) -> bool {
     let (wanted, marker) = line.split_once(" in ").unwrap_or((line, ""));
-    if text != wanted {
-        return Ok(false);
+    match region_of(rt, alloc, algebra, marker) {
+        Ok(there) => told == wanted && region.id() == there.id(),
+        Err(_) => false,
     }
-    let there = region_of(rt, alloc, algebra, marker)?;
-    Ok(region.id() == there.id())
 }
 
 // Whether a line has this leaf.
@@ -158,9 +153,9 @@ fn is_leaf<R: Wait>(
     algebra: &mut Algebra<'_>,
     leaf: &ForkLeaf,
     line: &str,
-) -> Result<bool, Fail> {
-    let text = leaf_text(alloc, leaf)?;
-    is_line(rt, alloc, algebra, text.as_str(), &leaf.region, line)
+) -> bool {
+    let told = leaf_told(alloc, leaf);
+    is_line(rt, alloc, algebra, told.as_str(), &leaf.region, line)
 }
 
 // Whether the lines have these leaves.
@@ -170,15 +165,15 @@ fn are_leaves<R: Wait>(
     algebra: &mut Algebra<'_>,
     leaves: &[ForkLeaf],
     lines: &str,
-) -> Result<bool, Fail> {
+) -> bool {
     let mut lines = lines.lines();
     for leaf in leaves {
         let line = lines.next().unwrap_or("");
-        if !is_leaf(rt, alloc, algebra, leaf, line)? {
-            return Ok(false);
+        if !is_leaf(rt, alloc, algebra, leaf, line) {
+            return false;
         }
     }
-    Ok(lines.next().is_none())
+    lines.next().is_none()
 }
 
 // Whether the lines have this refused region.
@@ -189,10 +184,11 @@ fn is_refused<R: Wait>(
     path: &Path,
     region: &Diagram,
     lines: &str,
-) -> Result<bool, Fail> {
-    let mut text = path_text(alloc, path)?;
-    text.push_str(" refused")?;
-    is_line(rt, alloc, algebra, text.as_str(), region, lines.trim())
+) -> bool {
+    let mut told = String::new(alloc);
+    put_path(&mut told, path);
+    put(&mut told, " refused");
+    is_line(rt, alloc, algebra, told.as_str(), region, lines.trim())
 }
 
 // Whether the lines have this answer.
@@ -202,7 +198,7 @@ fn is_answer<R: Wait>(
     algebra: &mut Algebra<'_>,
     forked: &ForkAnswer,
     lines: &str,
-) -> Result<bool, Fail> {
+) -> bool {
     match forked {
         Forked::Leaves(leaves) => are_leaves(rt, alloc, algebra, leaves.as_slice(), lines),
         Forked::Refused {
@@ -225,21 +221,6 @@ fn are_rounds(rounds: &[Round], workers: u64, counts: &str) -> bool {
     counts.next().is_none()
 }
 
-// Whether these are the counts and the answer.
-fn is_right<R: Wait>(
-    rt: &R,
-    alloc: Global,
-    workers: u64,
-    algebra: &mut Algebra<'_>,
-    forked: &ForkAnswer,
-    rounds: &[Round],
-    wanted: &str,
-) -> Result<bool, Fail> {
-    let (counts, lines) = wanted.split_once('\n').unwrap_or((wanted, ""));
-    let right = is_answer(rt, alloc, algebra, forked, lines)?;
-    Ok(right && are_rounds(rounds, workers, counts))
-}
-
 // Whether a project has these counts and this answer with so many workers.
 fn is_answered<R: Threads + Wait + Sync>(
     rt: &R,
@@ -247,20 +228,14 @@ fn is_answered<R: Threads + Wait + Sync>(
     workers: u64,
     input: &Input,
     wanted: &str,
-) -> Result<bool, Fail>
+) -> Result<bool, ForkFault>
     requires { (1 ≤ workers) × (workers ≤ 64) }
 {
+    let (counts, lines) = wanted.split_once('\n').unwrap_or((wanted, ""));
     let (interner, pass) = Interner::<DiagramLabel>::begin(alloc)?;
     let (forked, rounds, mut algebra) = forks(rt, alloc, workers, &interner, pass, input, &Open)?;
-    is_right(
-        rt,
-        alloc,
-        workers,
-        &mut algebra,
-        &forked,
-        rounds.as_slice(),
-        wanted,
-    )
+    let right = is_answer(rt, alloc, &mut algebra, &forked, lines);
+    Ok(right && are_rounds(rounds.as_slice(), workers, counts))
 }
 
 // The first cell, and the rest.
@@ -270,7 +245,7 @@ fn cut(text: &str) -> (&str, &str) {
 }
 
 // The project of a row.
-fn input_in(alloc: Global, text: &str) -> Result<Input, Fail> {
+fn input_in(alloc: Global, text: &str) -> Option<Input> {
     let (requirements, rest) = cut(text);
     let (settings, rest) = cut(rest);
     let (names, releases) = cut(rest);
@@ -283,26 +258,27 @@ fn are_answered<R: Threads + Wait + Sync>(
     alloc: Global,
     input: &Input,
     wanted: &str,
-) -> Result<bool, Fail> {
+) -> bool {
     for workers in [1u64, 2, 8, 64] {
-        if !is_answered(rt, alloc, workers, input, wanted)? {
-            return Ok(false);
+        if !matches!(is_answered(rt, alloc, workers, input, wanted), Ok(true)) {
+            return false;
         }
     }
-    Ok(true)
+    true
 }
 
 // Whether a row's project has its counts and its answer.
-fn is_row<R: Threads + Wait + Sync>(rt: &R, alloc: Global, row: &str) -> Result<bool, Fail> {
+fn is_row<R: Threads + Wait + Sync>(rt: &R, alloc: Global, row: &str) -> bool {
     let (text, wanted) = row.split_once("----\n").unwrap_or((row, ""));
-    let input = input_in(alloc, text)?;
-    are_answered(rt, alloc, &input, wanted)
+    match input_in(alloc, text) {
+        Some(input) => are_answered(rt, alloc, &input, wanted),
+        None => false,
+    }
 }
 
 #[test]
-fn small_projects_with_each_number_of_workers(rt: HostRuntime) -> Result<(), Fail> {
+fn small_projects_with_each_number_of_workers(rt: HostRuntime) {
     for row in ROWS.split("====\n") {
-        assert!(rt; is_row(&rt, rt.alloc(), row)?, "{row}");
+        assert!(rt; is_row(&rt, rt.alloc(), row), "{row}");
     }
-    Ok(())
 }
