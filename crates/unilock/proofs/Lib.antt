@@ -1,3 +1,0 @@
-pub mod Headlines
-pub mod Numbers
-pub mod Outputs

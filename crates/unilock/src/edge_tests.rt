@@ -1,6 +1,4 @@
 // The edge: real files, and readers and writers that give and take a little, are interrupted or fail.
-use crate::folder::FolderFiles;
-use crate::standard::OutSink;
 use crate::words_of;
 use std::alloc::{AllocError, Global};
 use std::io::{ErrorKind, Read, Write};
@@ -8,6 +6,7 @@ use std::process::Abort;
 use std::{fs, io};
 use ul_base::{Files, ReadRefused, Sink, SinkRefused};
 use ul_edge::{read_all, write_all};
+use ul_program::{FolderFiles, OutSink};
 
 const TEXT: &[u8] = b"a text of thirty bytes to move";
 

@@ -1,7 +1,7 @@
 //! unilock: one lock for a Python project, valid for all platforms and interpreters that it supports.
 //!
-//! `top::run` is the program: it answers the words of the command line. `main` gives it the real files, standard output
-//! and a gate that does nothing, and ends with its status.
+//! `ul_program::run` is the program: it answers the words of the command line. `main` gives it the real files, standard
+//! output and a gate that does nothing, and ends with its status.
 #![tactic(auto)]
 
 ghost use Rattle.std.specs.Prelude.{◌≡◌, [], IfOk, MatchResult, drop};
@@ -9,27 +9,20 @@ ghost use Rattle.std.specs.Vec.Iter.{into_iter_items};
 
 #[cfg(test)]
 mod edge_tests;
-mod folder;
-pub mod laws;
 #[cfg(test)]
 mod limits;
 #[cfg(test)]
 mod rows;
-mod standard;
 #[cfg(test)]
 mod tests;
-pub mod top;
-mod words;
 
-use folder::FolderFiles;
-use standard::OutSink;
 use std::alloc::{AllocError, Global};
 use std::env::Args;
 use std::io::ErrorKind;
 use std::process::ExitCode;
 use std::{env, io};
-use top::run;
 use ul_base::Open;
+use ul_program::{FolderFiles, OutSink, run};
 
 // The status where memory runs out.
 const NO_MEMORY: u8 = 7;

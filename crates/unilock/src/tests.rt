@@ -1,12 +1,12 @@
 // What no clause says: that the call succeeds, and that the printed bytes are those of the formats.
 use crate::rows::ROWS;
-use crate::top::run;
 use std::alloc::{AllocError, Global};
 use std::fmt::Write;
 use std::process::Abort;
 use std::sync::Wait;
 use std::thread::Threads;
 use ul_base::{MemFiles, MemSink, Open, Sink, SinkRefused};
+use ul_program::run;
 
 /// Puts a piece. One that finds no memory is left out, and then what is told isn't what is wanted: so what puts pieces
 /// together has no failure to hand on.

@@ -6,7 +6,7 @@ use Rattle.ul_answers.specs.Answer as answer
 use Rattle.ul_answers.specs.Printed.{Output, printed}
 use Rattle.ul_commands.specs.Asked.{Asked, usage, unbuilt, lock, why, gen, env, check}
 use Rattle.ul_commands.specs.Commands.{command}
-use Rattle.unilock.specs.Words.{question}
+use Rattle.ul_program.specs.Words.{question}
 
 -- these are the status and the bytes of an output
 abbrev pub Prints : Output → ℕ → List ℕ → Type 0

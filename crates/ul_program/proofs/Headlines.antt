@@ -1,8 +1,8 @@
 -- The promise of a call, from what its parts promise.
 use Rattle.std.proofs.Common.{◌≡◌, ◌<◌, ◌≤◌, ◌++◌, ◌⊎◌, inl, inr, take, ℕ, List, Some, refl, sym, ◌∙◌, subst, arith}
 use Rattle.ul_base.specs.Causes.{Rose}
-use Rattle.unilock.specs.Answer.{Answered}
-use Rattle.unilock.specs.Headline.{FilesSeen, SinkSeen, BytesTold, IsOutput, HasOutput, Headline, IsOwn, ToldAnswer}
+use Rattle.ul_program.specs.Answer.{Answered}
+use Rattle.ul_program.specs.Headline.{FilesSeen, SinkSeen, BytesTold, IsOutput, HasOutput, Headline, IsOwn, ToldAnswer}
 
 -- the status is that of the output, or 6, or 7
 ending_of : (words : List (List ℕ)) (before now : FilesSeen) (meant status : ℕ) (text : List ℕ) → IsOutput words before now meant text

@@ -1,7 +1,7 @@
 use Rattle.std.proofs.Common.{◌≡◌, ◌∙◌, sym, true, arith}
-use Rattle.unilock.specs.Words.{is_number_in}
-use Rattle.unilock.proofs.Numbers.{number_parsed, number_unparsed}
-use Rattle.unilock.proofs.words.number_in.Goals as goal
+use Rattle.ul_program.specs.Words.{is_number_in}
+use Rattle.ul_program.proofs.Numbers.{number_parsed, number_unparsed}
+use Rattle.ul_program.proofs.words.number_in.Goals as goal
 
 pub returns-in-Ok-clause-value : goal.returns-in-Ok-clause-value
 returns-in-Ok-clause-value c =

@@ -1,8 +1,8 @@
 use Rattle.std.proofs.Common.{◌≡◌, ◌∙◌, sym, true, ap, arith}
 use Rattle.std.proofs.lemmas.Bool.{lt-leb, le-leb}
-use Rattle.unilock.specs.Words.{is_decimal}
-use Rattle.unilock.proofs.Numbers.{parsed, unparsed}
-use Rattle.unilock.proofs.words.is_number_in.Goals as goal
+use Rattle.ul_program.specs.Words.{is_decimal}
+use Rattle.ul_program.proofs.Numbers.{parsed, unparsed}
+use Rattle.ul_program.proofs.words.is_number_in.Goals as goal
 
 pub returns-then-low-number : goal.returns-then-low-number
 returns-then-low-number c =

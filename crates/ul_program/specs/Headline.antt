@@ -8,8 +8,8 @@ use Rattle.std.specs.declared.alloc.Global.{Global}
 use Rattle.ul_base.specs.Files.{FileMap, Told}
 use Rattle.ul_base.specs.Causes.{Rose}
 use Rattle.ul_answers.specs.Refusals.{read_fault_text}
-use Rattle.unilock.specs.Answer.{IsAnswer, IsRead, IsUsage, NeedsNoFile, Answered}
-use Rattle.unilock.specs.Words.{question}
+use Rattle.ul_program.specs.Answer.{IsAnswer, IsRead, IsUsage, NeedsNoFile, Answered}
+use Rattle.ul_program.specs.Words.{question}
 
 -- what files tell: their contents, where they tell them; how often a read failed; and the path of the last that did,
 -- where they tell it

@@ -1,7 +1,7 @@
 //! The top call.
 ghost use Rattle.std.specs.Prelude.{◌≡◌, ℕ, ◌<◌, ◌≤◌, ◌++◌, take, ◌⊎◌, map, string_bytes, Some, IfOk};
 ghost use Rattle.ul_base.specs.Causes.{Rose};
-ghost use Rattle.unilock.specs.Headline.{Headline, IsOutput, IsOwn, BytesTold, files_seen, sink_seen, texts_of};
+ghost use Rattle.ul_program.specs.Headline.{Headline, IsOutput, IsOwn, BytesTold, files_seen, sink_seen, texts_of};
 
 use crate::words::ask;
 use std::alloc::{AllocError, Global};

@@ -1,5 +1,5 @@
-use Rattle.unilock.proofs.Headlines.{output_printed, nothing_printed}
-use Rattle.unilock.proofs.top.run.Goals as goal
+use Rattle.ul_program.proofs.Headlines.{output_printed, nothing_printed}
+use Rattle.ul_program.proofs.top.run.Goals as goal
 
 pub returns-in-Ok : goal.returns-in-Ok
 returns-in-Ok g c =

@@ -1,5 +1,5 @@
 //! Laws of what the program answers.
-ghost use Rattle.unilock.specs.Headline.{ToldAnswer};
+ghost use Rattle.ul_program.specs.Headline.{ToldAnswer};
 
 /// Where the files tell their contents, the sink tells its bytes and neither count of faults rises, the answer was appended,
 /// or the status is 7 and nothing was appended.

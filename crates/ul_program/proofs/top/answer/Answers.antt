@@ -1,5 +1,5 @@
-use Rattle.unilock.proofs.Outputs.{answered, refused}
-use Rattle.unilock.proofs.top.answer.Goals as goal
+use Rattle.ul_program.proofs.Outputs.{answered, refused}
+use Rattle.ul_program.proofs.top.answer.Goals as goal
 
 pub returns-in-Ok-clause-output : goal.returns-in-Ok-clause-output
 returns-in-Ok-clause-output g c =

@@ -24,9 +24,9 @@ use Rattle.ul_commands.specs.Commands.{command}
 use Rattle.ul_commands.specs.Views.{IsAnswering, IsByWords, view}
 use Rattle.ul_commands.specs.declared.asked.Asked.{Asked}
 use Rattle.ul_commands.specs.declared.asked.Asked.TheVariants.{Usage, Unbuilt, Lock, Why, Gen, Env, Check}
-use Rattle.unilock.specs.Answer.{IsAnswer, IsRead, NeedsNoFile, Prints}
-use Rattle.unilock.specs.Headline.{FilesSeen, IsOutput, IsOwn}
-use Rattle.unilock.specs.Words.{question}
+use Rattle.ul_program.specs.Answer.{IsAnswer, IsRead, NeedsNoFile, Prints}
+use Rattle.ul_program.specs.Headline.{FilesSeen, IsOutput, IsOwn}
+use Rattle.ul_program.specs.Words.{question}
 
 -- a fact on a result, from another
 if_ok : {T E : Type 0} (r : Result T E) (P Q : T → Type 0) → ((x : T) → P x → Q x) → IfOk r P → IfOk r Q

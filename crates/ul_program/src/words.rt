@@ -4,7 +4,7 @@ ghost use Rattle.std.specs.Char.{is_ascii_digit};
 ghost use Rattle.std.specs.List.{list_all};
 ghost use Rattle.ul_commands.specs.Asked.{lock, why};
 ghost use Rattle.ul_commands.specs.Views.{HasWorkers, view};
-ghost use Rattle.unilock.specs.Words.{question, asked_command, asked_lock, asked_why, asked_env, asked_check, asked_gen, asked_export, asked_verify, generated, leads_well, is_decimal, is_number_in, number_in, seed_of, size_of, with_workers, workers_of};
+ghost use Rattle.ul_program.specs.Words.{question, asked_command, asked_lock, asked_why, asked_env, asked_check, asked_gen, asked_export, asked_verify, generated, leads_well, is_decimal, is_number_in, number_in, seed_of, size_of, with_workers, workers_of};
 
 use ul_commands::Asked;
 

@@ -1,0 +1,3 @@
+pub mod Headlines
+pub mod Numbers
+pub mod Outputs
