@@ -120,17 +120,6 @@ impl ProjectKey {
 }
 
 impl Place {
-    /// An equal place.
-    pub fn copy(&self, alloc: Global) -> Result<Place, AllocError>
-        ensures { IfOk result (λ p. p ≡ self.now) }
-    {
-        match self {
-            Place::Key(key) => Ok(Place::Key(*key)),
-            Place::Extra(name) => Ok(Place::Extra(name.copy(alloc)?)),
-            Place::Group(name) => Ok(Place::Group(name.copy(alloc)?)),
-        }
-    }
-
     /// The path of the place.
     pub fn text(&self, alloc: Global) -> Result<String, AllocError>
         ensures { IfOk result (λ t. string_bytes t ≡ place_text self.now) }
