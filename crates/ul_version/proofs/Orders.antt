@@ -1,5 +1,5 @@
 -- Lemmas on the order of versions.
-use Rattle.std.proofs.Common.{◌≡◌, ◌≢◌, ℕ, ◌+◌, ◌-◌, ◌<◌, ◌≤◌, List, [], length, drop, get_or, replicate, max, refl, sym, ◌∙◌, arith, true, false, true≢false, inl, inr}
+use Rattle.std.proofs.Common.{◌≡◌, ◌≢◌, ℕ, ◌+◌, ◌-◌, ◌<◌, ◌≤◌, List, length, drop, get_or, replicate, max, refl, sym, ◌∙◌, arith, true, false, true≢false, inl, inr}
 use Rattle.std.proofs.lemmas.List.{drop_more, drop_all, get_or_append_left, get_or-append_right, get_or-replicate, get_or_past, length-append, length-replicate}
 use Rattle.std.proofs.lemmas.Bool.{cases_lt}
 use Rattle.std.specs.Ordering.{nat_cmp, ordering_then, is_ne, MatchOrdering}
@@ -136,25 +136,3 @@ pub local-decides : (f g : Fields) (p : Ordering) → p ≡ version_cmp (without
     local_cmp f.local g.local ≡ version_cmp f g
 local-decides f g p is tied =
     sym (version_cmp-public f g ∙ then_tied (version_cmp (without_local f) (without_local g)) _ (rw is at tied))
-
--- the pre parts decide
-pub suffix_cmp-pre : (f g : Fields) (p : Ordering) → p ≡ place_cmp (pre_place f) (pre_place g) → is_ne p ≡ true → p ≡ suffix_cmp f g
-suffix_cmp-pre f g p is differ = rw is (sym (then_decided (place_cmp (pre_place f) (pre_place g)) _ (rw is at differ)))
-
--- the post parts decide
-pub suffix_cmp-post : (f g : Fields) (p q : Ordering) → p ≡ place_cmp (pre_place f) (pre_place g) → is_ne p ≡ false
-    → q ≡ place_cmp (post_place f.post) (post_place g.post) → is_ne q ≡ true → q ≡ suffix_cmp f g
-suffix_cmp-post f g p q is tied post differ =
-    rw post (sym (then_tied (place_cmp (pre_place f) (pre_place g)) _ (rw is at tied) ∙ then_decided (place_cmp (post_place f.post) (post_place g.post)) _ (rw post at differ)))
-
-then_equal : (o : Ordering) → ordering_then o Equal ≡ o
-then_equal Less = refl
-then_equal Equal = refl
-then_equal Greater = refl
-
--- the dev parts decide, where there is no local part
-pub suffix_cmp-dev : (f g : Fields) (p q d : Ordering) → f.local ≡ [] → g.local ≡ [] → p ≡ place_cmp (pre_place f) (pre_place g) → is_ne p ≡ false
-    → q ≡ place_cmp (post_place f.post) (post_place g.post) → is_ne q ≡ false → d ≡ place_cmp (dev_place f.dev) (dev_place g.dev) → d ≡ suffix_cmp f g
-suffix_cmp-dev f g p q d none_f none_g is tied post level dev =
-    dev ∙ sym (then_tied (place_cmp (pre_place f) (pre_place g)) _ (rw is at tied) ∙ (then_tied (place_cmp (post_place f.post) (post_place g.post)) _ (rw post at level)
-    ∙ (rw (none_f, none_g) (then_equal (place_cmp (dev_place f.dev) (dev_place g.dev))))))

@@ -8,28 +8,12 @@ impl Version {
     pub fn same(&self, other: &Version) -> bool
         ensures { IsTrue result ↔ (self.now ≡ other.now) }
     {
-        same_numbers(self.release.as_slice(), other.release.as_slice())
+        self.release.as_slice() == other.release.as_slice()
             && self.epoch == other.epoch
             && same_pre(self.pre, other.pre)
-            && same_number(self.post, other.post)
-            && same_number(self.dev, other.dev)
+            && self.post == other.post
+            && self.dev == other.dev
             && same_segments(self.local.as_slice(), other.local.as_slice())
-    }
-}
-
-fn same_numbers(numbers: &[u64], others: &[u64]) -> bool
-    ensures { IsTrue result ↔ (numbers.now ≡ others.now) }
-{
-    numbers == others
-}
-
-fn same_number(number: Option<u64>, other: Option<u64>) -> bool
-    ensures { IsTrue result ↔ (number ≡ other) }
-{
-    match (number, other) {
-        (Some(number), Some(other)) => number == other,
-        (None, None) => true,
-        _ => false,
     }
 }
 

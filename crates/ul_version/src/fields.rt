@@ -6,7 +6,7 @@ use std::alloc::{AllocError, Global};
 use std::marker::Model;
 
 /// The kind of a pre-release, in the order of the kinds: alpha, beta, release candidate.
-#[derive(Clone, Copy, PartialEq, Eq, Debug)]
+#[derive(Clone, Copy, PartialEq, Eq)]
 pub enum PreKind {
     A,
     B,
@@ -14,7 +14,7 @@ pub enum PreKind {
 }
 
 /// The pre part of a version, as `a1` or `rc2`.
-#[derive(Clone, Copy, PartialEq, Eq, Debug)]
+#[derive(Clone, Copy, PartialEq, Eq)]
 pub struct Pre {
     pub kind: PreKind,
     pub number: u64,

@@ -1,7 +1,7 @@
 //! The public part of a version, which is the version without its local part.
 ghost use Rattle.std.specs.Prelude.{◌≡◌, slice_index};
 ghost use Rattle.ul_version.specs.Fields.{is_post_of, is_pre_of, plain, without_local};
-ghost use Rattle.ul_version.specs.Order.{dev_place, has_release_front, place_cmp, post_place, pre_place, release_cmp, suffix_cmp, version_cmp};
+ghost use Rattle.ul_version.specs.Order.{dev_place, has_release_front, post_place, pre_place, release_cmp, suffix_cmp, version_cmp};
 
 use crate::{Pre, PreKind, Version};
 use std::cmp::Ordering;
@@ -121,21 +121,15 @@ fn number_at(release: &[u64], i: usize) -> u64
 fn cmp_suffixes(version: &Public, other: &Public) -> Ordering
     ensures { result ≡ suffix_cmp version.now other.now }
 {
-    let pres = cmp_places(pre_place(version), pre_place(other));
+    let pres = pre_place(version).cmp(&pre_place(other));
     if pres.is_ne() {
         return pres;
     }
-    let posts = cmp_places(post_place(version.post), post_place(other.post));
+    let posts = post_place(version.post).cmp(&post_place(other.post));
     if posts.is_ne() {
         return posts;
     }
-    cmp_places(dev_place(version.dev), dev_place(other.dev))
-}
-
-fn cmp_places(a: (u8, u64), b: (u8, u64)) -> Ordering
-    ensures { result ≡ place_cmp a b }
-{
-    a.0.cmp(&b.0).then(a.1.cmp(&b.1))
+    dev_place(version.dev).cmp(&dev_place(other.dev))
 }
 
 fn pre_place(version: &Public) -> (u8, u64)

@@ -11,7 +11,7 @@ ghost use Rattle.ul_version.specs.Ascii.{letter_v};
 ghost use Rattle.ul_version.specs.Reading.{begins, lowercase_text, pieces_of};
 ghost use Rattle.ul_version.specs.Views.{cut_view, rest_view, Reads, release_view, segments_view};
 
-use crate::ascii::{ByteClass, Digit, Separator, White, is_run, piece_len, trimmed};
+use crate::ascii::{Alphanumeric, ByteClass, Digit, Separator, White, is_run, piece_len, trimmed};
 use crate::{Pre, PreKind, Segment, Text, Version, VersionFault, ascii};
 use std::alloc::{AllocError, Global};
 
@@ -235,13 +235,13 @@ fn release(alloc: Global, input: &[u8]) -> Result<(Vec<u64>, &[u8]), VersionFaul
 fn is_alphanumeric(piece: &[u8]) -> bool
     ensures { result ≡ list_all is_word_byte (lowercase_text piece.now) }
 {
-    piece.iter().all(|byte| byte.is_ascii_alphanumeric())
+    is_run(&Alphanumeric, piece)
 }
 
 fn is_numeric(piece: &[u8]) -> bool
     ensures { result ≡ list_all is_ascii_digit (lowercase_text piece.now) }
 {
-    piece.iter().all(|byte| byte.is_ascii_digit())
+    is_run(&Digit, piece)
 }
 
 // The text in which letters are lower case.

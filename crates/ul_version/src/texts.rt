@@ -31,10 +31,11 @@ impl Version {
     }
 }
 
-fn push_number(text: &mut String, number: u64) -> Result<(), AllocError>
-    ensures { OnOk result (string_bytes text.new ≡ string_bytes text.old ++ decimal number) }
+// A mark and a number.
+fn push_number(text: &mut String, mark: &str, number: u64) -> Result<(), AllocError>
+    ensures { OnOk result (string_bytes text.new ≡ string_bytes text.old ++ (mark.now ++ decimal number)) }
 {
-    match write!(text, "{number}") {
+    match write!(text, "{mark}{number}") {
         Ok(()) => Ok(()),
         Err(_) => Err(AllocError),
     }
@@ -46,9 +47,8 @@ fn push_epoch(text: &mut String, epoch: u64) -> Result<(), AllocError>
     if epoch == 0 {
         return Ok(());
     }
-    push_number(text, epoch)?;
-    text.push_str("!")?;
-    Ok(())
+    push_number(text, "", epoch)?;
+    text.push_str("!")
 }
 
 fn push_release(text: &mut String, release: &[u64]) -> Result<(), AllocError>
@@ -57,10 +57,9 @@ fn push_release(text: &mut String, release: &[u64]) -> Result<(), AllocError>
     let [first, others @ ..] = release else {
         return Ok(());
     };
-    push_number(text, *first)?;
+    push_number(text, "", *first)?;
     for number in others {
-        text.push_str(".")?;
-        push_number(text, *number)?;
+        push_number(text, ".", *number)?;
     }
     Ok(())
 }
@@ -76,29 +75,29 @@ fn push_pre(text: &mut String, pre: Option<Pre>) -> Result<(), AllocError>
         PreKind::B => "b",
         PreKind::Rc => "rc",
     };
-    text.push_str(kind)?;
-    push_number(text, pre.number)?;
-    Ok(())
+    push_number(text, kind, pre.number)
 }
 
 // A word and its number, where there is one.
 fn push_numbered(text: &mut String, word: &str, number: Option<u64>) -> Result<(), AllocError>
     ensures { OnOk result (string_bytes text.new ≡ string_bytes text.old ++ numbered_text word.now number) }
 {
-    let Some(number) = number else {
-        return Ok(());
-    };
-    text.push_str(word)?;
-    push_number(text, number)?;
-    Ok(())
+    match number {
+        Some(number) => push_number(text, word, number),
+        None => Ok(()),
+    }
 }
 
-fn push_segment(text: &mut String, segment: &Segment) -> Result<(), AllocError>
-    ensures { OnOk result (string_bytes text.new ≡ string_bytes text.old ++ segment_text segment.now) }
+// A mark and a segment.
+fn push_segment(text: &mut String, mark: &str, segment: &Segment) -> Result<(), AllocError>
+    ensures { OnOk result (string_bytes text.new ≡ string_bytes text.old ++ (mark.now ++ segment_text segment.now)) }
 {
     match segment {
-        Segment::Number(number) => push_number(text, *number),
-        Segment::Word(word) => text.push_str(word.as_str()),
+        Segment::Number(number) => push_number(text, mark, *number),
+        Segment::Word(word) => {
+            text.push_str(mark)?;
+            text.push_str(word.as_str())
+        }
     }
 }
 
@@ -108,11 +107,9 @@ fn push_local(text: &mut String, local: &[Segment]) -> Result<(), AllocError>
     let [first, others @ ..] = local else {
         return Ok(());
     };
-    text.push_str("+")?;
-    push_segment(text, first)?;
+    push_segment(text, "+", first)?;
     for segment in others {
-        text.push_str(".")?;
-        push_segment(text, segment)?;
+        push_segment(text, ".", segment)?;
     }
     Ok(())
 }
