@@ -4,6 +4,7 @@ ghost use Rattle.std.specs.Option.{option_copied, option_to_list};
 ghost use Rattle.ul_problem.specs.Terms.{node_of, set_of, IsOrdered};
 ghost use Rattle.ul_problem.specs.Plain.{Plain};
 ghost use Rattle.ul_problem.specs.Steps.{AreOfOne, AreTermsOf, IsResolvent, resolvent_term};
+ghost use Rattle.ul_problem.specs.declared.term.Term.{Term};
 ghost use Rattle.ul_problem.specs.Turns.{turn_of, lone_of, AreLevel, IsPassed};
 
 use crate::incompat::Incompat;
@@ -136,44 +137,34 @@ fn next_turn(
     ensures { IfOk result (λ t. t ≡ turn_of node (option_copied left.entry) (option_copied right.entry)) }
 {
     match (left, right) {
-        (Some(a), Some(b)) if a.node() == b.node() => {
-            let term = both_terms(alloc, node, a, b)?;
-            Ok(Turn {
-                left: 1,
-                right: 1,
-                term,
-            })
-        }
-        (Some(a), Some(b)) if b.node() < a.node() => {
-            let term = lone_term(alloc, node, b)?;
-            Ok(Turn {
-                left: 0,
-                right: 1,
-                term,
-            })
-        }
-        (Some(a), _) => {
-            let term = lone_term(alloc, node, a)?;
-            Ok(Turn {
-                left: 1,
-                right: 0,
-                term,
-            })
-        }
-        (None, Some(b)) => {
-            let term = lone_term(alloc, node, b)?;
-            Ok(Turn {
-                left: 0,
-                right: 1,
-                term,
-            })
-        }
+        (Some(a), Some(b)) if a.node() == b.node() => turn_with(
+            1,
+            1,
+            both_terms(alloc, node, a, b),
+        ),
+        (Some(a), Some(b)) if b.node() < a.node() => turn_with(0, 1, lone_term(alloc, node, b)),
+        (Some(a), Some(_)) => turn_with(1, 0, lone_term(alloc, node, a)),
+        (Some(a), None) => turn_with(1, 0, lone_term(alloc, node, a)),
+        (None, Some(b)) => turn_with(0, 1, lone_term(alloc, node, b)),
         (None, None) => Ok(Turn {
             left: 0,
             right: 0,
             term: None,
         }),
     }
+}
+
+// A turn that takes so many terms of each side, with the term that was made.
+fn turn_with(
+    left: usize,
+    right: usize,
+    made: Result<Option<Term>, AllocError>,
+) -> Result<Turn, AllocError>
+    ensures { (term : Option Term) → IfOk made (λ t. t ≡ term)
+        → IfOk result (λ t. t ≡ record { left = left; right = right; term = term }) }
+{
+    let term = made?;
+    Ok(Turn { left, right, term })
 }
 
 // The resolvent's term on the node of a term that one side alone has.
