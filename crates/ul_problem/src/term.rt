@@ -61,20 +61,12 @@ impl Terms {
     pub fn copied(alloc: Global, terms: &[Term]) -> Result<Terms, AllocError>
         ensures { IfOk result (λ ts. ts ≡ terms.now) }
     {
-        let list = copied(alloc, terms)?;
+        let mut list = Vec::with_capacity(alloc, terms.len())?;
+        for term in terms {
+            list = with_made(list, term.copy(alloc))?;
+        }
         Ok(Terms { list })
     }
-}
-
-// Equal terms.
-fn copied(alloc: Global, terms: &[Term]) -> Result<Vec<Term>, AllocError>
-    ensures { IfOk result (λ v. v.items ≡ terms.now) }
-{
-    let mut copies = Vec::with_capacity(alloc, terms.len())?;
-    for term in terms {
-        copies = with_made(copies, term.copy(alloc))?;
-    }
-    Ok(copies)
 }
 
 /// The first term of a list on a node.
@@ -105,7 +97,7 @@ pub fn same_terms(terms: &[Term], others: &[Term]) -> bool
 }
 
 /// What a term that is known tells of another.
-#[derive(Clone, Copy, Debug, PartialEq, Eq)]
+#[derive(Clone, Copy)]
 pub enum Relation {
     Holds,
     Fails,
