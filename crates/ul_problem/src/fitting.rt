@@ -7,6 +7,7 @@ ghost use Rattle.ul_problem.specs.Problems.{AllAre, AreNeeds, AreOneBase, HasBas
 use crate::problem::{Need, NeedRow, NodeFacts, Problem};
 use std::alloc::{AllocError, Global};
 use std::cmp::Ordering;
+use ul_base::owned::beside;
 use ul_ranges::Ordinals;
 use ul_version::Version;
 
@@ -70,7 +71,8 @@ fn size_at(nodes: &[NodeFacts], node: u64) -> usize
     }
 }
 
-fn base_at(nodes: &[NodeFacts], node: u64) -> Option<u64>
+/// The base of the node at a place, where there is one.
+pub(crate) fn base_at(nodes: &[NodeFacts], node: u64) -> Option<u64>
     ensures { result ≡ base_in (slice_get nodes.now node) }
 {
     match nodes.get(node as usize) {
@@ -164,8 +166,10 @@ fn is_order_of(alloc: Global, size: u32, order: &Vec<u32>) -> Result<bool, Alloc
         return Ok(false);
     }
     let listed = Ordinals::of_list(alloc, size, order)?;
-    let all = Ordinals::all(alloc, size)?;
-    Ok(listed.same(&all))
+    let both = beside(listed, Ordinals::all(alloc, size))?;
+    let fits = both.0.same(&both.1);
+    drop(both);
+    Ok(fits)
 }
 
 // Whether a target is marked.

@@ -6,12 +6,13 @@ ghost use Rattle.ul_problem.specs.Terms.{meet_of, node_of, set_of};
 ghost use Rattle.ul_problem.specs.declared.term.Term.TheVariants.{In, NotIn};
 ghost use Rattle.ul_problem.specs.Steps.{AreTermsOf, IsStepWithin, base_or, says, pair_of, with_term, term_to_say};
 
+use crate::fitting::base_at;
 use crate::incompat::{Incompat, Saying};
 use crate::problem::{NodeFacts, Problem};
 use crate::step::Step;
 use crate::term::{Term, Terms};
 use std::alloc::{AllocError, Global};
-use ul_base::owned::{beside, made_from};
+use ul_base::owned::{beside, made_from, refused};
 use ul_ranges::Ordinals;
 
 impl Step {
@@ -73,8 +74,8 @@ fn implied(
 fn base_or_node(nodes: &[NodeFacts], node: u64) -> u64
     ensures { result ≡ base_or (base_in (slice_get nodes.now node)) node }
 {
-    match nodes.get(node as usize) {
-        Some(facts) => facts.base.unwrap_or(node),
+    match base_at(nodes, node) {
+        Some(base) => base,
         None => node,
     }
 }
@@ -84,7 +85,7 @@ pub(crate) fn written(term: Term) -> Option<Term>
     ensures { result ≡ term_to_say term }
 {
     if term.always_holds() {
-        None
+        refused(term)
     } else {
         Some(term)
     }

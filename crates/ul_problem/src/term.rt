@@ -1,7 +1,8 @@
 //! Terms on a node.
-ghost use Rattle.std.specs.Prelude.{◌≡◌, length, option_map, IfOk, IsTrue, ◌↔◌};
+ghost use Rattle.std.specs.Prelude.{◌≡◌, List, Bool, length, option_map, IfOk, IsTrue, ◌↔◌};
 ghost use Rattle.ul_problem.specs.Steps.{term_to_say};
 ghost use Rattle.ul_problem.specs.Terms.{node_of, set_of, meet_of, join_of, negation, relation_of, relation_from_of, term_on};
+ghost use Rattle.ul_problem.specs.declared.term.Term.TheVariants.{In, NotIn};
 
 use std::alloc::{AllocError, Global};
 use std::marker::Model;
@@ -60,20 +61,12 @@ impl Terms {
     pub fn copied(alloc: Global, terms: &[Term]) -> Result<Terms, AllocError>
         ensures { IfOk result (λ ts. ts ≡ terms.now) }
     {
-        let list = copied(alloc, terms)?;
+        let mut list = Vec::with_capacity(alloc, terms.len())?;
+        for term in terms {
+            list = with_made(list, term.copy(alloc))?;
+        }
         Ok(Terms { list })
     }
-}
-
-// Equal terms.
-fn copied(alloc: Global, terms: &[Term]) -> Result<Vec<Term>, AllocError>
-    ensures { IfOk result (λ v. v.items ≡ terms.now) }
-{
-    let mut copies = Vec::with_capacity(alloc, terms.len())?;
-    for term in terms {
-        copies = with_made(copies, term.copy(alloc))?;
-    }
-    Ok(copies)
 }
 
 /// The first term of a list on a node.
@@ -104,7 +97,7 @@ pub fn same_terms(terms: &[Term], others: &[Term]) -> bool
 }
 
 /// What a term that is known tells of another.
-#[derive(Clone, Copy, Debug, PartialEq, Eq)]
+#[derive(Clone, Copy)]
 pub enum Relation {
     Holds,
     Fails,
@@ -147,8 +140,8 @@ impl Term {
         ensures { IfOk result (λ t. t ≡ self.now) }
     {
         match self {
-            Term::In(node, set) => Ok(Term::In(*node, set.copy(alloc)?)),
-            Term::NotIn(node, set) => Ok(Term::NotIn(*node, set.copy(alloc)?)),
+            Term::In(node, set) => term_in(*node, set.copy(alloc)),
+            Term::NotIn(node, set) => term_not_in(*node, set.copy(alloc)),
         }
     }
 
@@ -170,27 +163,20 @@ impl Term {
         requires nodes { node_of self.now ≡ node_of other.now }
         ensures { IfOk result (λ t. t ≡ meet_of self.now other.now) }
     {
-        match self {
-            Term::In(node, mine) => match other {
-                Term::In(_, theirs) => {
-                    let set = mine.meet(alloc, theirs)?;
-                    Ok(Term::In(*node, set))
-                }
-                Term::NotIn(_, theirs) => {
-                    let set = mine.less(alloc, theirs)?;
-                    Ok(Term::In(*node, set))
-                }
-            },
-            Term::NotIn(node, mine) => match other {
-                Term::In(_, theirs) => {
-                    let set = theirs.less(alloc, mine)?;
-                    Ok(Term::In(*node, set))
-                }
-                Term::NotIn(_, theirs) => {
-                    let union = mine.join(alloc, theirs)?;
-                    Ok(Term::NotIn(*node, union))
-                }
-            },
+        match (self, other) {
+            (Term::In(node, mine), Term::In(_, theirs)) => term_in(*node, mine.meet(alloc, theirs)),
+            (Term::In(node, mine), Term::NotIn(_, theirs)) => term_in(
+                *node,
+                mine.less(alloc, theirs),
+            ),
+            (Term::NotIn(node, mine), Term::In(_, theirs)) => term_in(
+                *node,
+                theirs.less(alloc, mine),
+            ),
+            (Term::NotIn(node, mine), Term::NotIn(_, theirs)) => term_not_in(
+                *node,
+                mine.join(alloc, theirs),
+            ),
         }
     }
 
@@ -200,27 +186,20 @@ impl Term {
         requires nodes { node_of self.now ≡ node_of other.now }
         ensures { IfOk result (λ t. t ≡ join_of self.now other.now) }
     {
-        match self {
-            Term::In(node, mine) => match other {
-                Term::In(_, theirs) => {
-                    let set = mine.join(alloc, theirs)?;
-                    Ok(Term::In(*node, set))
-                }
-                Term::NotIn(_, theirs) => {
-                    let set = theirs.less(alloc, mine)?;
-                    Ok(Term::NotIn(*node, set))
-                }
-            },
-            Term::NotIn(node, mine) => match other {
-                Term::In(_, theirs) => {
-                    let set = mine.less(alloc, theirs)?;
-                    Ok(Term::NotIn(*node, set))
-                }
-                Term::NotIn(_, theirs) => {
-                    let set = mine.meet(alloc, theirs)?;
-                    Ok(Term::NotIn(*node, set))
-                }
-            },
+        match (self, other) {
+            (Term::In(node, mine), Term::In(_, theirs)) => term_in(*node, mine.join(alloc, theirs)),
+            (Term::In(node, mine), Term::NotIn(_, theirs)) => term_not_in(
+                *node,
+                theirs.less(alloc, mine),
+            ),
+            (Term::NotIn(node, mine), Term::In(_, theirs)) => term_not_in(
+                *node,
+                mine.less(alloc, theirs),
+            ),
+            (Term::NotIn(node, mine), Term::NotIn(_, theirs)) => term_not_in(
+                *node,
+                mine.meet(alloc, theirs),
+            ),
         }
     }
 
@@ -229,14 +208,8 @@ impl Term {
         ensures { IfOk result (λ t. t ≡ negation self.now) }
     {
         match self {
-            Term::In(node, set) => {
-                let set = set.copy(alloc)?;
-                Ok(Term::NotIn(*node, set))
-            }
-            Term::NotIn(node, set) => {
-                let set = set.copy(alloc)?;
-                Ok(Term::In(*node, set))
-            }
+            Term::In(node, set) => term_not_in(*node, set.copy(alloc)),
+            Term::NotIn(node, set) => term_in(*node, set.copy(alloc)),
         }
     }
 
@@ -262,6 +235,22 @@ impl Term {
             },
         }
     }
+}
+
+// `In` of a node, with the set that was made.
+fn term_in(node: u64, made: Result<Ordinals, AllocError>) -> Result<Term, AllocError>
+    ensures { (set : List Bool) → IfOk made (λ s. s ≡ set) → IfOk result (λ t. t ≡ In node set) }
+{
+    let set = made?;
+    Ok(Term::In(node, set))
+}
+
+// `NotIn` of a node, with the set that was made.
+fn term_not_in(node: u64, made: Result<Ordinals, AllocError>) -> Result<Term, AllocError>
+    ensures { (set : List Bool) → IfOk made (λ s. s ≡ set) → IfOk result (λ t. t ≡ NotIn node set) }
+{
+    let set = made?;
+    Ok(Term::NotIn(node, set))
 }
 
 fn relation_from(holds: bool, fails: bool) -> Relation

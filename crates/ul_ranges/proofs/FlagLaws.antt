@@ -1,11 +1,11 @@
 -- Laws of sets as lists of flags.
-use Rattle.std.proofs.Common.{◌≡◌, ℕ, zero, suc, List, [], ◌∷◌, ◌++◌, Bool, true, false, cond, refl, ap, ◌∙◌, sym, get_or, ◌<◌, length, arith, eqb, inl, inr, None, Some, zero-add, nat_lt}
+use Rattle.std.proofs.Common.{◌≡◌, ℕ, zero, suc, List, [], ◌∷◌, ◌++◌, Bool, true, false, cond, refl, ap, ◌∙◌, sym, get_or, ◌+◌, ◌<◌, length, arith, eqb, inl, inr, None, Some, zero-add, nat_lt}
 use Rattle.std.specs.Prelude.{IsTrue, ◌↔◌, Contains, All, find}
 use Rattle.std.specs.List.{list_any}
 use Rattle.std.proofs.lemmas.Bool.{cases_lt, cases_Bool, or_cases, eqb-true, eq-eqb, ltb-true, lt-ltb, both_ways, cond-true, cond-false}
 use Rattle.std.proofs.lemmas.List.Elements.{All-nil, All-cons, All-head, All-tail}
 use Rattle.std.proofs.lemmas.List.{ext_get_or, get_or_past}
-use Rattle.std.proofs.lemmas.List.FromFn.{length-map-range_with_len, get_or-map-range_with_len}
+use Rattle.std.proofs.lemmas.List.FromFn.{length-map-range_with_len, get_or-map-range_with_len, map-range_with_len_more}
 use Rattle.std.proofs.lemmas.List.Folds.{list_any_at}
 use Rattle.ul_ranges.specs.Flags.{has, both, either, less, is_apart, is_blank, is_within, set_of, front}
 
@@ -109,6 +109,11 @@ pub has-set_of : (k size : ℕ) (members : List ℕ) → k < size → has k (set
 unfolding set_of
 has-set_of k size members h =
     get_or-map-range_with_len (λ k. list_any (λ m. eqb m k) members) 0 size k k false h (zero-add k)
+
+-- the next number's flag at the end
+pub set_more : (n : ℕ) (members : List ℕ) → set_of n members ++ list_any (λ m. eqb m n) members ∷ [] ≡ set_of (n + 1) members
+unfolding set_of
+set_more n members = sym (map-range_with_len_more (λ k. list_any (λ m. eqb m k) members) 0 n n (zero-add n))
 
 pub any_in : (k : ℕ) (ms : List ℕ) → list_any (λ m. eqb m k) ms ≡ true → Contains ms k
 any_in k [] e = cc

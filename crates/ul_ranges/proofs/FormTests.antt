@@ -1,7 +1,7 @@
 -- Laws of the tests on sets as they are kept, and of how they are kept.
 use Rattle.std.proofs.Common.{◌≡◌, ℕ, List, Bool, true, false, cond, refl, ap, ◌∙◌, sym, subst, get_or, ◌+◌, ◌*◌, ◌<◌, ◌≤◌, arith, eqb, inl, inr, w64, Option, Some, None, nat_eq, lit<, ◌⊎◌}
 use Rattle.std.specs.Prelude.{bit_and, map, zip, ◌↔◌, IsTrue, not}
-use Rattle.std.specs.Option.{is_some}
+use Rattle.std.specs.Option.{is_some, option_eq}
 use Rattle.std.specs.Int.{bit_not}
 use Rattle.std.specs.List.{list_all}
 use Rattle.std.specs.Cmp.Lexicographic.{pointwise}
@@ -66,8 +66,21 @@ few_equal None (Some m) h = absurd (false≢true (h m ∙ eq-eqb m m refl))
 few_equal (Some m) None h = absurd (true≢false (sym (eq-eqb m m refl) ∙ h m))
 few_equal (Some m) (Some n) h = ap Some (sym (eqb-true n m (sym (h m) ∙ eq-eqb m m refl)))
 
-pub few_same : (a b : Option ℕ) (r : Bool) → IsTrue r ↔ (a ≡ b) → IsTrue r ↔ ((k : ℕ) → is_one a k ≡ is_one b k)
-few_same a b r h = (λ e k. ap (λ (o : Option ℕ). is_one o k) (h.0 e), λ s. h.1 (few_equal a b s))
+one_equal : (a b : Option ℕ) → option_eq eqb a b ≡ true → a ≡ b
+one_equal None None e = refl
+one_equal None (Some n) e = cc
+one_equal (Some m) None e = cc
+one_equal (Some m) (Some n) e = ap Some (eqb-true m n e)
+
+one_same : (a : Option ℕ) → option_eq eqb a a ≡ true
+one_same None = refl
+one_same (Some m) = eq-eqb m m refl
+
+pub few_same : (a b : Option ℕ) (r : Bool) → r ≡ option_eq eqb a b → IsTrue r ↔ ((k : ℕ) → is_one a k ≡ is_one b k)
+few_same a b r h = (
+  λ e k. ap (λ (o : Option ℕ). is_one o k) (one_equal a b (sym h ∙ e)),
+  λ s. h ∙ subst (λ (o : Option ℕ). option_eq eqb a o ≡ true) (few_equal a b s) (one_same a),
+)
 
 many_equal : (size : ℕ) (xs ys : List ℕ) → IsExact size xs → IsExact size ys → ((k : ℕ) → flag_at xs k ≡ flag_at ys k) → xs ≡ ys
 many_equal size xs ys a b h =

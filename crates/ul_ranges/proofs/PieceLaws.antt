@@ -1,9 +1,10 @@
 -- Laws of pieces.
-use Rattle.std.proofs.Common.{◌≡◌, ℕ, zero, suc, List, [], ◌∷◌, true, false, ◌∙◌, get_or, ◌+◌, ◌-◌, ◌^◌, ◌<◌, ◌≤◌, length, arith, inl, inr, leb, Some}
-use Rattle.std.specs.Prelude.{slice_get, Contains}
-use Rattle.std.specs.List.Sorted.{IsStrictlyIncreasing, IsPartitionPoint, IsPartitionedBy}
-use Rattle.std.proofs.lemmas.Bool.{cases_lt, cases_order, leb-true, leb-false, le-leb}
+use Rattle.std.proofs.Common.{◌≡◌, ℕ, zero, suc, List, [], ◌∷◌, ◌∙◌, get_or, ◌+◌, ◌-◌, ◌^◌, ◌<◌, ◌≤◌, length, arith, inl, inr, ap, Some, Result, Ok, Err, nat_cmp}
+use Rattle.std.specs.Prelude.{slice_get, Contains, MatchResult}
+use Rattle.std.specs.List.Sorted.{IsBinarySearchResult, IsStrictlyIncreasing}
+use Rattle.std.proofs.lemmas.Bool.{cases_lt, cases_order}
 use Rattle.std.proofs.lemmas.List.{get_or_past, get_or_default}
+use Rattle.std.proofs.lemmas.List.Sorted.{searched}
 use Rattle.ul_ranges.specs.Pieces.{AreStarts, IsPiece, IsRefinement}
 
 -- each start is below each later one
@@ -22,35 +23,44 @@ pub first_is_zero : (xs : List ℕ) → slice_get xs 0 ≡ Some 0 → (0 < lengt
 first_is_zero [] e = cc
 first_is_zero (x ∷ xs) e = let s : x ≡ 0 = cc in (omega arith, s)
 
--- the starts at or before x stand in front of the others
-pub starts_part : (xs : List ℕ) (x : ℕ) → IsStrictlyIncreasing xs → IsPartitionedBy (λ s. leb s x) xs
-starts_part xs x inc i j d le l h =
+-- no start is below an earlier one
+no_lower : (xs : List ℕ) → IsStrictlyIncreasing xs → (i j : ℕ) → i ≤ j → j < length xs → get_or xs i 0 ≤ get_or xs j 0
+no_lower xs inc i j le l =
     elim (cases_lt i j) [
-      | inl lt ↦
-          let g = rises xs inc i j lt l in
-          let a = leb-true (get_or xs j d) x h in
-          let e = get_or_default xs j d 0 l in
-          let f = get_or_default xs i d 0 (omega arith) in
-          le-leb (get_or xs i d) x (omega arith)
-      | inr ge ↦ let e : i ≡ j = omega arith in rw e h
+      | inl lt ↦ let g = rises xs inc i j lt l in omega arith
+      | inr ge ↦ let e : i ≡ j = omega arith in omega (arith, ap (λ (k : ℕ). get_or xs k 0) e)
     ]
 
-pub found : (xs : List ℕ) (x n : ℕ) → AreStarts xs → x < 2 ^ 96 → n ≤ length xs → IsPartitionPoint (λ s. leb s x ≡ true) (λ s. leb s x ≡ false) xs n
-    → (1 ≤ n) × IsPiece xs (n - 1) x
-found xs x n starts small within parted =
+-- the piece of a number is the one that starts there, or the one before the place where the number would be inserted
+pub searched_piece : (xs : List ℕ) (x : ℕ) (r : Result ℕ ℕ) → AreStarts xs → x < 2 ^ 96 → IsBinarySearchResult (λ y. nat_cmp y x) xs r
+    → MatchResult r (λ i. IsPiece xs i x) (λ i. (1 ≤ i) × IsPiece xs (i - 1) x)
+searched_piece xs x (Ok i) starts small h =
+    let s = searched xs x (Ok i) h (no_lower xs starts.rising) in
+    record {
+      piece = s.0;
+      from = omega (arith, s.1);
+      to = elim (cases_lt (i + 1) (length xs)) [
+        | inl l ↦
+            let e = get_or_default xs (i + 1) (2 ^ 96) 0 l in
+            let g = rises xs starts.rising i (i + 1) (omega arith) l in omega (arith, s.1)
+        | inr l ↦ rw (get_or_past xs (i + 1) (2 ^ 96) l) small
+      ];
+    }
+searched_piece xs x (Err i) starts small h =
+    let s = searched xs x (Err i) h (no_lower xs starts.rising) in
     let first = first_is_zero xs starts.first in
-    let some : 1 ≤ n = elim (cases_lt 0 n) [
-      | inl h ↦ omega arith
-      | inr h ↦ let g = leb-false (get_or xs 0 0) x (parted.1 0 0 h first.0) in absurd (omega arith)
+    let some : 1 ≤ i = elim (cases_lt 0 i) [
+      | inl l ↦ omega arith
+      | inr l ↦ absurd (omega (arith, s.2 0 l first.0, first.1))
     ] in
-    let at : n - 1 + 1 ≡ n = omega arith in (
+    let at : i - 1 + 1 ≡ i = omega arith in (
       some,
       record {
-        piece = omega arith;
-        from = leb-true (get_or xs (n - 1) 0) x (parted.0 (n - 1) 0 (omega arith) (omega arith));
-        to = rw at (elim (cases_lt n (length xs)) [
-          | inl h ↦ leb-false (get_or xs n (2 ^ 96)) x (parted.1 n (2 ^ 96) (omega arith) h)
-          | inr h ↦ rw (get_or_past xs n (2 ^ 96) h) small
+        piece = omega (arith, s.0);
+        from = omega (arith, s.1 (i - 1) (omega arith));
+        to = rw at (elim (cases_lt i (length xs)) [
+          | inl l ↦ omega (arith, get_or_default xs i (2 ^ 96) 0 l, s.2 i (omega arith) l)
+          | inr l ↦ rw (get_or_past xs i (2 ^ 96) l) small
         ]);
       },
     )

@@ -1,9 +1,10 @@
 -- Laws of the loops over blocks of bits.
-use Rattle.std.proofs.Common.{◌≡◌, ℕ, List, [], ◌∷◌, Bool, true, false, cond, refl, ap, ◌∙◌, sym, subst, get_or, ◌+◌, ◌-◌, ◌*◌, ◌/◌, ◌%◌, ◌^◌, ◌<◌, ◌≤◌, length, arith, eqb, inl, inr, w64, Some, None, set}
-use Rattle.std.specs.Prelude.{bit_and, map, zip}
+use Rattle.std.proofs.Common.{◌≡◌, ℕ, List, [], ◌∷◌, Bool, true, false, cond, refl, ap, ◌∙◌, sym, subst, get_or, add-one, append_assoc, drop, drop-cons, ◌++◌, ◌+◌, ◌-◌, ◌*◌, ◌/◌, ◌%◌, ◌^◌, ◌<◌, ◌≤◌, length, arith, eqb, inl, inr, w64, Some, None, set}
+use Rattle.std.specs.Prelude.{bit_and, map, zip, ◌&&◌}
+use Rattle.std.specs.List.{list_all}
 use Rattle.std.specs.Int.{bit_at, bit_not, trailing_zeros}
-use Rattle.std.proofs.lemmas.Bool.{cases_lt, cases_eq, true≢false}
-use Rattle.std.proofs.lemmas.List.{ext_get_or, get_or_past, get_or-set_same, get_or-set_other, get_or_default, length-set}
+use Rattle.std.proofs.lemmas.Bool.{cases_lt, cases_eq, true≢false, eq-eqb, ne_eqb}
+use Rattle.std.proofs.lemmas.List.{append-nil, drop_all, ext_get_or, get_or_past, get_or-set_same, get_or-set_other, get_or_default, length-set}
 use Rattle.std.proofs.lemmas.Nat.{and_le_l}
 use Rattle.std.proofs.lemmas.Nat.Bits.{bit_at_above, bit_at-trailing_zeros}
 use Rattle.std.specs.Simd.Lanes.{chunk, put_chunk, zip2}
@@ -11,6 +12,44 @@ use Rattle.std.proofs.lemmas.Simd.{length-chunk, length-zip2, length-put_chunk, 
 use Rattle.ul_ranges.specs.Flags.{IsNext}
 use Rattle.ul_ranges.specs.Blocks.{flag, flag_at}
 use Rattle.ul_ranges.proofs.BlockLaws.{flag-zero, flag-true, flag-and_not, flag_at-place, ones_below, ones_above, low_mask, word_at, word_count}
+
+-- ---- pairs of two lists, one place after another
+pair_first : {X Y : Type 0} (xs : List X) (ys : List Y) (k : ℕ) (d : X) (e : Y) → k < length xs → length xs ≡ length ys
+    → zip (drop k xs) (drop k ys) ≡ (get_or xs k d, get_or ys k e) ∷ zip (drop (k + 1) xs) (drop (k + 1) ys)
+pair_first xs ys k d e l s = rw (add-one k, drop-cons xs k d l, drop-cons ys k e (omega (arith, s, l))) refl
+
+pub pairs_start : {X Y Z : Type 0} (f : X × Y → Z) (whole made : List Z) (xs : List X) (ys : List Y) (k : ℕ) (d : X) (e : Y)
+    → k < length xs → length xs ≡ length ys → made ++ map f (zip (drop k xs) (drop k ys)) ≡ whole
+    → (made ++ f (get_or xs k d, get_or ys k e) ∷ []) ++ map f (zip (drop (k + 1) xs) (drop (k + 1) ys)) ≡ whole
+pairs_start f whole made xs ys k d e l s h =
+    append_assoc made (f (get_or xs k d, get_or ys k e) ∷ []) (map f (zip (drop (k + 1) xs) (drop (k + 1) ys)))
+    ∙ ap (λ ps. made ++ map f ps) (sym (pair_first xs ys k d e l s)) ∙ h
+
+pub pairs_end : {X Y Z : Type 0} (f : X × Y → Z) (whole made : List Z) (xs : List X) (ys : List Y) (k : ℕ)
+    → length xs ≤ k → made ++ map f (zip (drop k xs) (drop k ys)) ≡ whole → made ≡ whole
+pairs_end f whole made xs ys k l h = sym (append-nil made) ∙ ap (λ rest. made ++ map f (zip rest (drop k ys))) (sym (drop_all k xs l)) ∙ h
+
+-- whether an operation makes no bit of the words from a place on
+abbrev pub is_clear_from : (ℕ → ℕ → ℕ) → List ℕ → List ℕ → ℕ → Bool
+is_clear_from op xs ys k = list_all (λ (p : ℕ × ℕ). eqb (op p.0 p.1) 0) (zip (drop k xs) (drop k ys))
+
+clear_first : (op : ℕ → ℕ → ℕ) (xs ys : List ℕ) (k : ℕ) → k < length xs → length xs ≡ length ys
+    → is_clear_from op xs ys k ≡ (eqb (op (get_or xs k 0) (get_or ys k 0)) 0 && is_clear_from op xs ys (k + 1))
+clear_first op xs ys k l s = ap (λ (ps : List (ℕ × ℕ)). list_all (λ (p : ℕ × ℕ). eqb (op p.0 p.1) 0) ps) (pair_first xs ys k 0 0 l s)
+
+pub clear_more : (op : ℕ → ℕ → ℕ) (xs ys : List ℕ) (k : ℕ) (whole : Bool) → k < length xs → length xs ≡ length ys
+    → op (get_or xs k 0) (get_or ys k 0) ≡ 0 → is_clear_from op xs ys k ≡ whole → is_clear_from op xs ys (k + 1) ≡ whole
+clear_more op xs ys k whole l s z h =
+    sym (clear_first op xs ys k l s ∙ ap (λ (b : Bool). b && is_clear_from op xs ys (k + 1)) (eq-eqb (op (get_or xs k 0) (get_or ys k 0)) 0 z)) ∙ h
+
+pub clear_ends : (op : ℕ → ℕ → ℕ) (xs ys : List ℕ) (k : ℕ) (whole : Bool) → k < length xs → length xs ≡ length ys
+    → (op (get_or xs k 0) (get_or ys k 0) ≡ 0 → ⊥) → is_clear_from op xs ys k ≡ whole → false ≡ whole
+clear_ends op xs ys k whole l s z h =
+    sym (clear_first op xs ys k l s ∙ ap (λ (b : Bool). b && is_clear_from op xs ys (k + 1)) (ne_eqb (op (get_or xs k 0) (get_or ys k 0)) 0 z)) ∙ h
+
+pub clear_all_along : (op : ℕ → ℕ → ℕ) (xs ys : List ℕ) (k : ℕ) (whole : Bool) → length xs ≤ k → is_clear_from op xs ys k ≡ whole → true ≡ whole
+clear_all_along op xs ys k whole l h =
+    sym (ap (λ (rest : List ℕ). list_all (λ (p : ℕ × ℕ). eqb (op p.0 p.1) 0) (zip rest (drop k ys))) (drop_all k xs l)) ∙ h
 
 -- ---- words that are written one after another
 pub record IsPut (op : ℕ → ℕ → ℕ) (before others now : List ℕ) (j : ℕ) : Type 0 where

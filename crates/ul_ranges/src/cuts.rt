@@ -6,7 +6,7 @@ use std::alloc::{AllocError, Global};
 use std::marker::Model;
 
 /// The numbers below 2^96, cut into half-open pieces: each goes from its start up to the next one's, the last up to 2^96.
-#[derive(Debug, Drop)]
+#[derive(Drop)]
 pub struct Cuts {
     starts: Vec<u128>,
 }
@@ -61,10 +61,10 @@ impl Cuts {
         requires { number < 2 ^ 96 }
         ensures { IsPiece self.now result number }
     {
-        self.starts
-            .as_slice()
-            .partition_point(|start| *start <= number)
-            - 1
+        match self.starts.as_slice().binary_search(&number) {
+            Ok(piece) => piece,
+            Err(next) => next - 1,
+        }
     }
 
     /// The pieces cut by both.

@@ -26,18 +26,8 @@ pub fn same(mine: &Form, theirs: &Form) -> bool
 {
     match (mine, theirs) {
         (Form::Word(_, x), Form::Word(_, y)) => *x == *y,
-        (Form::Few(_, a), Form::Few(_, b)) => same_one(*a, *b),
+        (Form::Few(_, a), Form::Few(_, b)) => *a == *b,
         (Form::Many(_, xs), Form::Many(_, ys)) => xs.as_slice() == ys.as_slice(),
-        _ => false,
-    }
-}
-
-fn same_one(one: Option<u32>, other: Option<u32>) -> bool
-    ensures { IsTrue result ↔ (one ≡ other) }
-{
-    match (one, other) {
-        (Some(member), Some(number)) => member == number,
-        (None, None) => true,
         _ => false,
     }
 }

@@ -14,7 +14,7 @@ use std::alloc::{AllocError, Global};
 
 // How a set is kept, behind its size: up to 64 numbers by the bits of one word; more by the one member that there may be, or by
 // blocks of bits where there are two members at least. The size shares a word with the tag, so that a set takes 16 bytes.
-#[derive(Debug, Drop)]
+#[derive(Drop)]
 pub enum Form {
     Word(u32, u64),
     Few(u32, Option<u32>),
@@ -128,11 +128,10 @@ fn few_blocks(alloc: Global, size: u32, one: Option<u32>) -> Result<Vec<u64>, Al
     requires { IsFew size one }
     ensures { IfOk result (λ v. HasBlocks size (Form.Few size one) v.items) }
 {
-    let mut blocks = vec![in alloc; 0u64; size.div_ceil(64) as usize]?;
-    if let Some(member) = one {
-        blocks[member as usize / 64] |= 1u64 << (member % 64);
+    match one {
+        Some(member) => blocks_of(alloc, size, &[member]),
+        None => blocks_of(alloc, size, &[]),
     }
-    Ok(blocks)
 }
 
 // The member where it is in the other set.
@@ -369,7 +368,7 @@ pub fn of_list(alloc: Global, size: u32, members: &Vec<u32>) -> Result<Form, All
     if size <= 64 {
         Ok(Form::Word(size, word_of(size, members)))
     } else {
-        let blocks = blocks_of(alloc, size, members)?;
+        let blocks = blocks_of(alloc, size, members.as_slice())?;
         sealed(alloc, size, blocks)
     }
 }
@@ -386,9 +385,9 @@ fn word_of(size: u32, members: &Vec<u32>) -> u64
     word
 }
 
-fn blocks_of(alloc: Global, size: u32, members: &Vec<u32>) -> Result<Vec<u64>, AllocError>
-    requires { All (λ m. m < size) members.now.items }
-    ensures { IfOk result (λ v. HasMarked size v.items members.now.items) }
+fn blocks_of(alloc: Global, size: u32, members: &[u32]) -> Result<Vec<u64>, AllocError>
+    requires { All (λ m. m < size) members.now }
+    ensures { IfOk result (λ v. HasMarked size v.items members.now) }
 {
     let mut blocks = vec![in alloc; 0u64; size.div_ceil(64) as usize]?;
     for member in members {

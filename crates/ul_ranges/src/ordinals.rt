@@ -11,7 +11,7 @@ use std::marker::Model;
 
 /// A set of numbers below its size. A set of at most 64 numbers takes no memory, nor does one of a single member; larger ones share
 /// their blocks, so that a copy is a count.
-#[derive(Debug, Drop)]
+#[derive(Drop)]
 pub struct Ordinals {
     form: Form,
 }

@@ -13,7 +13,11 @@ use std::alloc::{AllocError, Global};
 pub fn of_list(alloc: Global, size: u32, members: &[u32]) -> Result<Vec<bool>, AllocError>
     ensures { IfOk result (λ v. v.items ≡ set_of size members.now) }
 {
-    (0..size).map(|k| members.contains(&k)).collect(alloc)
+    let mut flags = Vec::new(alloc);
+    for number in 0..size {
+        flags.push(members.contains(&number))?;
+    }
+    Ok(flags)
 }
 
 /// Whether the set has a number.
@@ -117,10 +121,12 @@ fn flags_by(
     left: &[bool],
     right: &[bool],
 ) -> Result<Vec<bool>, AllocError>
+    requires { length left.now ≡ length right.now }
     ensures { IfOk result (λ v. v.items ≡ map (λ p. flag_by operation p.0 p.1) (zip left.now right.now)) }
 {
-    left.iter()
-        .zip(right.iter())
-        .map(|(x, y)| flag_by(operation, *x, *y))
-        .collect(alloc)
+    let mut flags = Vec::new(alloc);
+    for k in 0..left.len() {
+        flags.push(flag_by(operation, left[k], right[k]))?;
+    }
+    Ok(flags)
 }

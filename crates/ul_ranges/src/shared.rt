@@ -2,13 +2,13 @@
 ghost use Rattle.std.specs.Prelude.{◌≡◌, IfOk, IsTrue, IsFalse, length, map, zip};
 ghost use Rattle.ul_ranges.specs.Operations.{word_by};
 
-use crate::words::{Operation, put};
+use crate::words::{Operation, put_words};
 use std::alloc::{AllocError, Global};
 use std::marker::Model;
 use std::sync::Arc;
 
 /// A list that several owners may share. It is written to only while it has one owner.
-#[derive(Debug, Drop)]
+#[derive(Drop)]
 pub struct SharedList<T> {
     items: Arc<Vec<T>, Global>,
 }
@@ -62,7 +62,7 @@ pub fn put_shared(operation: Operation, mine: &mut SharedList<u64>, theirs: &[u6
 {
     match Arc::get_mut(&mut mine.items) {
         Some(words) => {
-            put(operation, words, theirs);
+            put_words(operation, words.as_mut_slice(), theirs);
             true
         }
         None => false,

@@ -31,11 +31,16 @@ fn word_by(operation: Operation, x: u64, y: u64) -> u64
 
 // Whether the operation makes no bit of each word and the other's.
 pub fn are_clear(operation: Operation, mine: &[u64], theirs: &[u64]) -> bool
+    requires { length mine.now ≡ length theirs.now }
     ensures { result ≡ list_all (λ p. word_by operation p.0 p.1 == 0) (zip mine.now theirs.now) }
 {
-    mine.iter()
-        .zip(theirs.iter())
-        .all(|(x, y)| word_by(operation, *x, *y) == 0)
+    for k in 0..mine.len() {
+        let made = word_by(operation, mine[k], theirs[k]);
+        if made != 0 {
+            return false;
+        }
+    }
+    true
 }
 
 // What the operation makes of four words and four others, lane by lane.
@@ -62,7 +67,7 @@ fn put_lanes(operation: Operation, mine: &mut [u64], theirs: &[u64], place: usiz
 }
 
 // Writes what the operation makes of each word and the other's: four at a time, and the last few one by one.
-fn put_words(operation: Operation, mine: &mut [u64], theirs: &[u64])
+pub fn put_words(operation: Operation, mine: &mut [u64], theirs: &[u64])
     requires { length mine.old ≡ length theirs.now }
     ensures { mine.new ≡ map (λ p. word_by operation p.0 p.1) (zip mine.old theirs.now) }
 {
@@ -74,14 +79,6 @@ fn put_words(operation: Operation, mine: &mut [u64], theirs: &[u64])
     for j in done..theirs.len() {
         mine[j] = word_by(operation, mine[j], theirs[j]);
     }
-}
-
-// Writes what the operation makes of each word and the other's.
-pub fn put(operation: Operation, mine: &mut Vec<u64>, theirs: &[u64])
-    requires { length mine.old.items ≡ length theirs.now }
-    ensures { mine.new.items ≡ map (λ p. word_by operation p.0 p.1) (zip mine.old.items theirs.now) }
-{
-    put_words(operation, mine.as_mut_slice(), theirs);
 }
 
 // What the operation makes of each word and the other's.

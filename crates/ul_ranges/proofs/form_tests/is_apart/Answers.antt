@@ -1,5 +1,12 @@
+use Rattle.ul_ranges.specs.declared.forms.Form.TheVariants.{Many}
+use Rattle.ul_ranges.proofs.FormMaking.{are_level}
 use Rattle.ul_ranges.proofs.FormTests.{words_apart, many_apart}
 use Rattle.ul_ranges.proofs.form_tests.is_apart.Goals as goal
+
+pub are_clear-requires : goal.are_clear-requires
+are_clear-requires c =
+    rw (c.as_slice.ensures, c.as_slice-in-Many-Many.ensures)
+    (are_level (Many _ c.in-Many-Many.xs) (Many _ c.in-Many-Many.ys) (rw (c.in-Many-Many.is-0, c.in-Many-Many.is-1) at c.requires))
 
 pub returns-in-Word-Word : goal.returns-in-Word-Word
 returns-in-Word-Word c =

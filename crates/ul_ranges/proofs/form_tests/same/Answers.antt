@@ -12,13 +12,13 @@ returns-in-Word-Word c =
 
 pub returns-in-Few-Few : goal.returns-in-Few-Few
 returns-in-Few-Few c =
-    rw (c.in-Few-Few.is-0, c.in-Few-Few.is-1) (few_same c.in-Few-Few.a c.in-Few-Few.b c.same_one.result c.same_one.ensures)
+    rw (c.in-Few-Few.is-0, c.in-Few-Few.is-1) (few_same c.in-Few-Few.a c.in-Few-Few.b c.eq.result c.eq.ensures)
 
 pub returns-in-Many-Many : goal.returns-in-Many-Many
 returns-in-Many-Many c =
     rw (c.in-Many-Many.is-0, c.in-Many-Many.is-1)
-    (many_same _ _ c.in-Many-Many.xs c.in-Many-Many.ys c.eq.result (rw (c.in-Many-Many.is-0, c.in-Many-Many.is-1) at c.requires)
-    (rw (c.as_slice.ensures, c.as_slice-in-Many-Many.ensures) at c.eq.ensures))
+    (many_same _ _ c.in-Many-Many.xs c.in-Many-Many.ys c.eq-in-Many-Many.result (rw (c.in-Many-Many.is-0, c.in-Many-Many.is-1) at c.requires)
+    (rw (c.as_slice.ensures, c.as_slice-in-Many-Many.ensures) at c.eq-in-Many-Many.ensures))
 
 pub returns-in_default-2 : goal.returns-in_default-2
 returns-in_default-2 c = (

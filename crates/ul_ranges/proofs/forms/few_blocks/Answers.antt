@@ -1,21 +1,15 @@
-use Rattle.std.proofs.Common.{[], ◌∷◌, ◌<◌, List, arith, Vec, ℕ, Global, ap, subst, sym}
-use Rattle.ul_ranges.specs.Marks.{HasMarked}
-use Rattle.ul_ranges.proofs.BlockLaws.{unmarked, marked}
-use Rattle.ul_ranges.proofs.FormMaking.{some_blocks, no_blocks}
+use Rattle.std.proofs.Common.{[], ◌<◌}
+use Rattle.std.proofs.lemmas.List.Elements.{All-nil, All-cons}
+use Rattle.ul_ranges.proofs.FormMaking.{ok_then, some_blocks, no_blocks}
 use Rattle.ul_ranges.proofs.forms.few_blocks.Goals as goal
-use Rattle.ul_ranges.proofs.forms.few_blocks.Goals.{in-Some, in_default}
 
-pub returns : goal.returns
-returns c =
-    let start : HasMarked c.args.size c.in_ok-blocks.blocks.items [] =
-    unmarked c.args.size _ c.div_ceil.result (omega (arith, c.div_ceil.ensures)) (c.in_ok-blocks.ensures.items_if_clones_equal (λ y e. e)) in
-    elim c.match-one.branch [
-      | in-Some w ↦
-          let below : w.in-Some.member < c.args.size = rw w.in-Some.is at c.requires.below in
-          rw w.in-Some.is (some_blocks c.args.size w.in-Some.member c.match-one.blocks.items below
-          (subst (λ (l : List ℕ). HasMarked c.args.size l (w.in-Some.member ∷ [])) (sym (ap (λ (v : Vec ℕ Global). v.items) w.blocks-is))
-          (marked c.args.size _ [] w.in-Some.member w.index_mut.result.now below start w.index_mut.ensures.value)))
-      | in_default w ↦
-          rw w.in_default.is (no_blocks c.args.size c.match-one.blocks.items
-          (subst (λ (l : List ℕ). HasMarked c.args.size l []) (sym (ap (λ (v : Vec ℕ Global). v.items) w.blocks-is)) start))
-    ]
+pub blocks_of-requires : goal.blocks_of-requires
+blocks_of-requires c = All-cons (λ m. m < c.args.size) c.in-Some.member [] (rw c.in-Some.is at c.requires.below) (All-nil (λ m. m < c.args.size))
+
+pub returns-in-Some : goal.returns-in-Some
+returns-in-Some c =
+    ok_then c.blocks_of.result _ _ c.blocks_of.ensures (λ v h. rw c.in-Some.is
+    (some_blocks c.args.size c.in-Some.member v.items (rw c.in-Some.is at c.requires.below) h))
+
+pub returns-in-None : goal.returns-in-None
+returns-in-None c = ok_then c.blocks_of-in-None.result _ _ c.blocks_of-in-None.ensures (λ v h. rw c.in-None.is (no_blocks c.args.size v.items h))
