@@ -1,6 +1,6 @@
 -- One log of the list of logs is changed.
-use Rattle.std.proofs.Common.{◌≡◌, ℕ, ◌<◌, List, [], ◌∷◌, ◌++◌, length, set, get_or, ap, sym, ◌∙◌, refl, zero, suc, arith}
-use Rattle.std.proofs.lemmas.List.{map-set, get_or-map, length-map}
+use Rattle.std.proofs.Common.{◌≡◌, ℕ, ◌<◌, List, [], ◌∷◌, ◌++◌, ◌+◌, length, map, replicate, set, get_or, ap, sym, ◌∙◌, refl, zero, suc, arith}
+use Rattle.std.proofs.lemmas.List.{map-set, get_or-map, length-map, map_push, replicate_more}
 use Rattle.std.proofs.Math.Seq.{map-set_same}
 use Rattle.std.specs.Global.{Vec}
 use Rattle.ul_core.specs.declared.trees.Tree.{Tree}
@@ -21,6 +21,17 @@ module _ {L : Type 0} where
       → core_of logs claims ≡ s → v ≡ get_or logs k v → w.items ≡ v.items → core_of (set logs k w) claims ≡ s
   log_same logs claims k v w s is at_k same =
       ap (λ z. record { logs = z; claims = claims }) (map-set_same (λ (z : Vec (Tree L)). z.items) logs k w v (same ∙ ap (λ z. z.items) at_k)) ∙ is
+
+  -- one more empty log
+  pub first_more : (logs all : List (Vec (Tree L))) (v : Vec (Tree L)) (n : ℕ) → core_of logs 0 ≡ first_core n → v.items ≡ [] → all ≡ logs ++ v ∷ [] → core_of all 0 ≡ first_core (n + 1)
+  first_more logs all v n is empty more =
+      let items : Vec (Tree L) → List (Tree L) = λ z. z.items in
+      let rows : map items all ≡ replicate (n + 1) [] = ap (map items) more ∙ map_push items logs v ∙ (λ i. (is i).logs ++ empty i ∷ []) ∙ replicate_more n [] in
+      ap (λ z. record { logs = z; claims = 0 }) rows
+
+  -- there are as many logs as the core has
+  pub length_logs : (logs : List (Vec (Tree L))) (claims : ℕ) (s : Core L) → core_of logs claims ≡ s → length logs ≡ length s.logs
+  length_logs logs claims s is = sym (length-map logs (λ (z : Vec (Tree L)). z.items)) ∙ ap (λ z. length z.logs) is
 
   -- a fresh core has as many logs as shards
   pub length_first : (logs : List (Vec (Tree L))) (n : ℕ) → core_of logs 0 ≡ first_core n → length logs ≡ n

@@ -12,7 +12,7 @@ pub enum Event<L: Label> {
 }
 
 /// Why an event is refused.
-#[derive(Clone, Copy, PartialEq, Eq, Debug)]
+#[derive(Clone, Copy, PartialEq, Eq)]
 pub enum EventFault {
     /// The event's shard isn't the tree's own.
     Shard,

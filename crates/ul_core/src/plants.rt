@@ -60,10 +60,14 @@ pub fn hash_step(hash: u64, part: u64) -> u64
 pub fn is_same<L: Label>(one: &Plant<L>, other: &Plant<L>) -> bool
     ensures { IsTrue result ↔ (one.now ≡ other.now) }
 {
-    if !one.label.same(&other.label) || one.parts.len() != other.parts.len() {
+    if one.parts.len() != other.parts.len() {
         return false;
     }
-    let (mine, theirs) = (one.parts.as_slice(), other.parts.as_slice());
+    if !one.label.same(&other.label) {
+        return false;
+    }
+    let mine = one.parts.as_slice();
+    let theirs = other.parts.as_slice();
     for i in 0..mine.len() {
         if !is_same(&mine[i], &theirs[i]) {
             return false;
@@ -76,5 +80,10 @@ pub fn is_same<L: Label>(one: &Plant<L>, other: &Plant<L>) -> bool
 pub(crate) fn has<L: Label>(log: &[Plant<L>], plant: &Plant<L>) -> bool
     ensures { IsTrue result ↔ Has log.now plant.now }
 {
-    log.iter().any(|p| is_same(p, plant))
+    for listed in log {
+        if is_same(listed, plant) {
+            return true;
+        }
+    }
+    false
 }

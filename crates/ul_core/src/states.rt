@@ -59,11 +59,8 @@ impl<L: Label> CoreState<L> {
         ensures same { OnErr result (self.new ≡ self.old) }
     {
         match event {
-            Event::Publish { shard, plant } => {
-                self.publish(shard, plant)?;
-                Ok(None)
-            }
-            Event::Claim => Ok(Some(self.claim()?)),
+            Event::Publish { shard, plant } => self.publish(shard, plant),
+            Event::Claim => self.claim(),
         }
     }
 
@@ -88,15 +85,20 @@ impl<L: Label> CoreState<L> {
     }
 
     // Appends the tree to the log of its own shard.
-    fn publish(&mut self, shard: u8, plant: Plant<L>) -> Result<(), EventFault>
-        ensures may { OnOk result (MayPublish L.hash_of self.old shard plant) }
-        ensures taken { OnOk result (self.new ≡ after_tree self.old shard plant) }
+    fn publish(&mut self, shard: u8, plant: Plant<L>) -> Result<Option<u64>, EventFault>
+        ensures taken { IfOk result (λ answer. Takes L.hash_of self.old (Publish shard plant) answer self.new) }
         ensures refused { IfErr result (λ fault. Refuses L.hash_of self.old (Publish shard plant) fault) }
         ensures same { OnErr result (self.new ≡ self.old) }
     {
-        self.check(shard, &plant)?;
-        self.append(shard, plant)?;
-        Ok(())
+        if let Err(fault) = self.check(shard, &plant) {
+            drop(plant);
+            return Err(fault);
+        }
+        if let Err(failed) = self.logs[shard as usize].push(plant) {
+            drop(failed);
+            return Err(EventFault::NoMemory);
+        }
+        Ok(None)
     }
 
     // Whether the tree may be published, or why not: the first cause. Each node is hashed once.
@@ -118,19 +120,9 @@ impl<L: Label> CoreState<L> {
         Ok(())
     }
 
-    // The tree at the end of the shard's log.
-    fn append(&mut self, shard: u8, plant: Plant<L>) -> Result<(), AllocError>
-        requires { shard < length self.old.logs }
-        ensures taken { OnOk result (self.new ≡ after_tree self.old shard plant) }
-        ensures same { OnErr result (self.new ≡ self.old) }
-    {
-        self.logs[shard as usize].push(plant)?;
-        Ok(())
-    }
-
     // Draws the claim number.
-    fn claim(&mut self) -> Result<u64, EventFault>
-        ensures taken { IfOk result (λ number. Takes L.hash_of self.old Claim (Some number) self.new) }
+    fn claim(&mut self) -> Result<Option<u64>, EventFault>
+        ensures taken { IfOk result (λ answer. Takes L.hash_of self.old Claim answer self.new) }
         ensures refused { IfErr result (λ fault. Refuses L.hash_of self.old Claim fault) }
         ensures same { OnErr result (self.new ≡ self.old) }
     {
@@ -139,7 +131,7 @@ impl<L: Label> CoreState<L> {
         }
         let number = self.claims;
         self.claims += 1;
-        Ok(number)
+        Ok(Some(number))
     }
 
     // The shard of a tree with this hash.
@@ -165,22 +157,12 @@ impl<L: Label> CoreState<L> {
         ensures all { OnTrue result.1 ((t : _) → IsPart t plant.now → Stands L.hash_of self.now t) }
         ensures some { OnFalse result.1 ((t : _) × IsPart t plant.now × ¬ Stands L.hash_of self.now t) }
     {
-        self.look_at(plant.label.hash(), plant.parts.as_slice())
-    }
-
-    // The hash of the tree with these parts and a label of this hash, and whether each part stands in the log of
-    // its own shard.
-    fn look_at(&self, label_hash: u64, parts: &[Plant<L>]) -> (u64, bool)
-        ensures hash { result.0 ≡ fold next_hash label_hash (map (tree_hash L.hash_of) parts.now) }
-        ensures all { OnTrue result.1 ((t : _) → Has parts.now t → Stands L.hash_of self.now t) }
-        ensures some { OnFalse result.1 ((t : _) × Has parts.now t × ¬ Stands L.hash_of self.now t) }
-    {
-        let mut hash = label_hash;
+        let mut hash = plant.label.hash();
         let mut all_stand = true;
-        for part in parts {
+        for part in &plant.parts {
             let part_hash = structural_hash(part);
             hash = hash_step(hash, part_hash);
-            all_stand = self.stands(part_hash, part) && all_stand;
+            all_stand &= self.stands(part_hash, part);
         }
         (hash, all_stand)
     }
