@@ -2,13 +2,16 @@
 //!
 //! The nodes of a problem stand between semicolons: `NAME SIZE`, an extra as `NAME/EXTRA SIZE`, and after commas what
 //! each of its versions needs, `TARGET SIZE LOW HIGH`: the versions of the target from `LOW` to before `HIGH`.
+//!
+//! What finds no memory is left out.
 ghost use Rattle.std.specs.Prelude.{◌<◌, All};
 
 use std::alloc::{AllocError, Global};
-use ul_base::owned::{with_made, with_one};
-use ul_base::{Name, NameFault, Node};
-use ul_problem::{Need, NeedRow, NeedRows, NodeFacts, Places, Problem, Versions};
+use ul_base::owned::{beside, refused};
+use ul_base::{Name, Node};
+use ul_problem::{Need, NeedRow, NeedRows, NodeFacts, Places, Problem, Term, Versions};
 use ul_ranges::Ordinals;
+use ul_test_rows::cells;
 use ul_version::Version;
 
 /// The number that a word is, or 0.
@@ -16,25 +19,16 @@ pub(crate) fn number(word: &str) -> u32 {
     word.parse::<u32>().unwrap_or(0)
 }
 
-/// The numbers of a text between blanks.
-pub(crate) fn numbers(alloc: Global, text: &str) -> Result<Vec<u32>, AllocError> {
-    let mut numbers = Vec::new(alloc);
-    for word in text.split(' ') {
-        numbers.push(number(word))?;
-    }
-    Ok(numbers)
-}
-
-/// The number at a place of a row, or 0.
-pub(crate) fn at(row: &[u32], place: usize) -> u32 {
-    match row.get(place) {
-        Some(number) => *number,
+/// The first letter of a word, or 0.
+pub(crate) fn letter(word: &str) -> u8 {
+    match word.as_bytes().first() {
+        Some(letter) => *letter,
         None => 0,
     }
 }
 
-/// The numbers from `low` to before `high`, below a size.
-pub(crate) fn set(alloc: Global, size: u32, low: u32, high: u32) -> Result<Ordinals, AllocError> {
+// The numbers from `low` to before `high`, below a size.
+fn set(alloc: Global, size: u32, low: u32, high: u32) -> Result<Ordinals, AllocError> {
     let mut members = Vec::new(alloc);
     for k in low..high.min(size) {
         members.push(k)?;
@@ -42,30 +36,46 @@ pub(crate) fn set(alloc: Global, size: u32, low: u32, high: u32) -> Result<Ordin
     Ordinals::of_list(alloc, size, &members)
 }
 
-/// The set whose size and ends are the second, third and fourth number of a row.
-pub(crate) fn set_of(alloc: Global, row: &[u32]) -> Result<Ordinals, AllocError> {
-    set(alloc, at(row, 1), at(row, 2), at(row, 3))
+/// The set of a text `SIZE LOW HIGH`.
+pub(crate) fn set_of(alloc: Global, text: &str) -> Result<Ordinals, AllocError> {
+    let (size, rest) = cells(text, ' ');
+    let (low, high) = cells(rest, ' ');
+    set(alloc, number(size), number(low), number(high))
+}
+
+/// The term of a text, `in` or `not`, `NODE SIZE LOW HIGH`.
+pub(crate) fn term(alloc: Global, text: &str) -> Result<Term, AllocError> {
+    let (sign, rest) = cells(text, ' ');
+    let (node, rest) = cells(rest, ' ');
+    let node = number(node) as u64;
+    let set = set_of(alloc, rest)?;
+    Ok(if sign == "in" {
+        Term::In(node, set)
+    } else {
+        Term::NotIn(node, set)
+    })
 }
 
 /// A node, `NAME` or `NAME/EXTRA`.
-pub(crate) fn node(alloc: Global, text: &str) -> Result<Node, NameFault> {
-    let (name, extra) = text.split_once('/').unwrap_or((text, ""));
-    let name = Name::read(alloc, name)?;
+pub(crate) fn node(alloc: Global, text: &str) -> Option<Node> {
+    let (name, extra) = cells(text, '/');
+    let name = Name::read(alloc, name).ok()?;
     let extra = Name::read(alloc, extra).ok();
-    Ok(Node { name, extra })
+    Some(Node { name, extra })
 }
 
-// The version whose release is one number, the next one.
-fn version(alloc: Global, number: u32) -> Result<Version, AllocError> {
-    let release = vec![in alloc; number as u64 + 1]?;
-    Ok(Version::plain_of(alloc, release))
+// Pushes the version whose release is one number.
+fn push_version(alloc: Global, versions: &mut Vec<Version>, number: u64) {
+    if let Ok(release) = vec![in alloc; number] {
+        let _ = versions.push(Version::plain_of(alloc, release));
+    }
 }
 
 // The versions 1, 2 and so on.
 fn versions(alloc: Global, size: u32) -> Result<Versions, AllocError> {
     let mut versions = Vec::new(alloc);
     for k in 0..size {
-        versions = with_made(versions, version(alloc, k))?;
+        push_version(alloc, &mut versions, k as u64 + 1);
     }
     Versions::of(alloc, versions)
 }
@@ -74,43 +84,54 @@ fn versions(alloc: Global, size: u32) -> Result<Versions, AllocError> {
 fn places(alloc: Global, size: u32) -> Result<Places, AllocError> {
     let mut places = Vec::new(alloc);
     for k in 0..size {
-        places.push(size - 1 - k)?;
+        let _ = places.push(size - 1 - k);
     }
     Places::of(alloc, places)
 }
 
-fn need(alloc: Global, text: &str) -> Result<Need, AllocError> {
-    let row = numbers(alloc, text)?;
-    let node = at(row.as_slice(), 0) as u64;
-    let permitted = set_of(alloc, row.as_slice())?;
-    Ok(Need { node, permitted })
+fn push_need(alloc: Global, needs: &mut Vec<Need>, text: &str) {
+    let (node, rest) = cells(text, ' ');
+    let node = number(node) as u64;
+    if let Ok(permitted) = set_of(alloc, rest) {
+        let _ = needs.push(Need { node, permitted });
+    }
 }
 
-fn need_row(alloc: Global, text: &str) -> Result<NeedRow, AllocError> {
+fn need_row(alloc: Global, text: &str) -> NeedRow {
     let mut needs = Vec::new(alloc);
     for part in text.split(',') {
         if !part.is_empty() {
-            needs = with_made(needs, need(alloc, part))?;
+            push_need(alloc, &mut needs, part);
         }
     }
-    Ok(NeedRow::of(needs))
+    NeedRow::of(needs)
 }
 
-fn need_rows(alloc: Global, text: &str, size: u32) -> Result<NeedRows, AllocError> {
+fn need_rows(alloc: Global, text: &str, size: u32) -> NeedRows {
     let mut rows = Vec::new(alloc);
     for _ in 0..size {
-        rows = with_made(rows, need_row(alloc, text))?;
+        let _ = rows.push(need_row(alloc, text));
     }
-    Ok(NeedRows::of(rows))
+    NeedRows::of(rows)
+}
+
+// The versions of a node, their order, and that none of them is barred.
+fn sized(alloc: Global, size: u32) -> Result<((Versions, Places), Ordinals), AllocError> {
+    let lists = beside(versions(alloc, size)?, places(alloc, size))?;
+    beside(lists, Ordinals::none(alloc, size))
 }
 
 // The facts of a node of a text; the base of an extra is node 1.
-fn facts(alloc: Global, node: Node, size: u32, needs: NeedRows) -> Result<NodeFacts, AllocError> {
+fn facts(alloc: Global, text: &str) -> Option<NodeFacts> {
+    let (head, needs) = cells(text, ',');
+    let (name, size) = cells(head, ' ');
+    let size = number(size);
+    let (lists, barred) = sized(alloc, size).ok()?;
+    let (versions, order) = lists;
+    let node = node(alloc, name)?;
     let base = if node.extra.is_some() { Some(1) } else { None };
-    let versions = versions(alloc, size)?;
-    let order = places(alloc, size)?;
-    let barred = Ordinals::none(alloc, size)?;
-    Ok(NodeFacts {
+    let needs = need_rows(alloc, needs, size);
+    Some(NodeFacts {
         node,
         base,
         versions,
@@ -120,42 +141,29 @@ fn facts(alloc: Global, node: Node, size: u32, needs: NeedRows) -> Result<NodeFa
     })
 }
 
-fn read_facts(alloc: Global, text: &str) -> Option<NodeFacts> {
-    let (head, needs) = text.split_once(',').unwrap_or((text, ""));
-    let (name, size) = head.split_once(' ').unwrap_or((head, ""));
-    let size = number(size);
-    let node = node(alloc, name).ok()?;
-    let needs = need_rows(alloc, needs, size).ok()?;
-    facts(alloc, node, size, needs).ok()
+fn push_facts(alloc: Global, nodes: &mut Vec<NodeFacts>, text: &str) {
+    if let Some(facts) = facts(alloc, text) {
+        let _ = nodes.push(facts);
+    }
 }
 
-fn read_nodes(alloc: Global, text: &str) -> Option<Vec<NodeFacts>> {
+/// The nodes of a text.
+pub(crate) fn read_nodes(alloc: Global, text: &str) -> Vec<NodeFacts> {
     let mut nodes = Vec::new(alloc);
     for part in text.split(';') {
-        let facts = read_facts(alloc, part)?;
-        nodes = with_one(nodes, facts).ok()?;
+        push_facts(alloc, &mut nodes, part);
     }
-    Some(nodes)
+    nodes
 }
 
 /// The problem of a root and of nodes; nothing where they are none.
-pub(crate) fn read_problem(
-    alloc: Global,
-    root: u32,
-    text: &str,
-) -> Result<Option<Problem>, AllocError> {
-    let Some(nodes) = read_nodes(alloc, text) else {
-        return Err(AllocError);
-    };
-    let roots = vec![in alloc; root as u64]?;
-    if Problem::fits(alloc, roots.as_slice(), nodes.as_slice())? {
-        Ok(Some(Problem::of(roots, nodes)))
+pub(crate) fn problem_of(alloc: Global, root: u32, text: &str) -> Option<Problem> {
+    let nodes = read_nodes(alloc, text);
+    let mut roots = Vec::new(alloc);
+    let _ = roots.push(root as u64);
+    if Problem::fits(alloc, roots.as_slice(), nodes.as_slice()) == Ok(true) {
+        Some(Problem::of(roots, nodes))
     } else {
-        Ok(None)
+        refused((roots, nodes))
     }
-}
-
-/// The problem of nodes whose root is the first.
-pub(crate) fn problem_of(alloc: Global, text: &str) -> Option<Problem> {
-    read_problem(alloc, 0, text).ok()?
 }

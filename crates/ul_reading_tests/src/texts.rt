@@ -1,16 +1,27 @@
-//! Long texts, which the tests share.
-use std::alloc::{AllocError, Global};
+//! Long texts, and what the words of rows say, which the tests share.
+
+use std::alloc::Global;
+use ul_test_rows::put;
 
 /// A text that has `piece` so many times behind its start.
-pub(crate) fn repeated(
-    alloc: Global,
-    start: &str,
-    piece: &str,
-    count: usize,
-) -> Result<String, AllocError> {
-    let mut text = String::from_str(alloc, start)?;
+pub(crate) fn repeated(alloc: Global, start: &str, piece: &str, count: usize) -> String {
+    let mut text = String::new(alloc);
+    put(&mut text, start);
     for _ in 0..count {
-        text.push_str(piece)?;
+        put(&mut text, piece);
     }
-    Ok(text)
+    text
+}
+
+/// The number that a word is, or 0.
+pub(crate) fn number(word: &str) -> u64 {
+    word.parse::<u64>().unwrap_or(0)
+}
+
+/// The first letter of a word, or 0.
+pub(crate) fn letter(word: &str) -> u8 {
+    match word.as_bytes().first() {
+        Some(letter) => *letter,
+        None => 0,
+    }
 }

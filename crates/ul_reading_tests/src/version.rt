@@ -1,30 +1,34 @@
 //! Readings, texts and orders of PEP 440, and texts that are cut.
-use crate::texts::repeated;
-use std::alloc::{AllocError, Global};
+use crate::texts::{letter, number, repeated};
+use std::alloc::Global;
 use std::cmp::Ordering;
+use ul_test_rows::cells;
 use ul_version::ascii::{
     Alphanumeric, Blank, ByteClass, Digit, Letter, Only, Separator, White, after_run, after_word,
     before_run, before_word, begins, front_run, is_run, piece_len, run_len, trimmed,
 };
 use ul_version::{Pre, PreKind, Public, Segment, Version, VersionFault, cmp_releases, has_front};
 
-// What is tried, a case a row. The first word says what the others are:
+// What is tried, a case a row. The first word, by its letter, says what the others are:
 //
 // spelled TEXT|NORMAL: a spelling of a version, and its normal text.
-// refused TEXT, refused_bytes: what is no version; the bytes are no text.
-// long_refused PIECE, long_read PIECE: whether 1 with 100,000 such pieces behind it is a version.
-// long_release, long_local: a release of 50,001 numbers, and a local part of as many segments.
-// increasing VERSION: greater than those of the rows before it.
-// quick: the comparisons of all increasing versions, 2,800 times.
-// plain_version: the version that is made of the release 1, 0.
-// different VERSION: not the same as another row's, though it may be equal.
-// public VERSION SIGN VERSION, release VERSION SIGN VERSION: how public parts and releases come to each other.
+// refused TEXT, invalid_bytes: what is no version; the bytes are no text.
+// long_refused PIECE, accepted PIECE: whether 1 with 100,000 such pieces behind it is a version.
+// huge START PIECE SIGN RELEASE LOCAL: a version of 50,000 pieces, how it comes to 1, and how many numbers and segments
+// it has.
+// ordered VERSION..: each is greater than those before it. They are compared 2,800 times.
+// made VERSION: equal to the version that is made of the release 1, 0; and public parts are made of releases.
+// different VERSION..: each is the same as itself alone, though it may be equal to others.
+// public VERSION SIGN VERSION, numbers VERSION SIGN VERSION: how public parts and releases come to each other.
 // front VERSION has VERSION, front VERSION lacks VERSION: whether a release begins with another, padded by zeros.
-// plain_public: the public part that is made of a release.
-// pre_and_post VERSION, neither VERSION: whether a version is both a pre-release and a post-release.
-// parts: the parts of one version.
-// class BYTE..: a byte, and whether it is white, a blank, a digit, a letter, alphanumeric, a separator.
-// Each other word: a cut of a text, and behind the bar what it gives.
+// both VERSION, unmarked VERSION: whether a version is both a pre-release and a post-release.
+// told VERSION: the parts of this one version.
+// kind BYTE..: a byte, and whether it is white, a blank, a digit, a letter, alphanumeric, a separator.
+// cut WORD TEXT|WANT: what a cut of a text gives: the run of white at its front, what comes after it, what comes before
+// the one at the end, and the text without both; what comes before a comma, and before a digit; the word at its front,
+// and what comes past it; whether it begins with a letter, and whether it is a number; what comes after a sign, and
+// before an ending.
+// gap: cuts of a text of 10,000 blanks behind a digit.
 const ROWS: &str = "spelled v1.0|1.0;\
     spelled  1!2.0-ALPHA_3 |1!2.0a3;\
     spelled 1.0-1|1.0.post1;\
@@ -68,54 +72,21 @@ const ROWS: &str = "spelled v1.0|1.0;\
     refused 1.0.x;\
     refused 1.0post1a1;\
     refused 1.0--1;\
-    refused_bytes;\
+    invalid_bytes;\
     long_refused 9;\
     long_refused .;\
     long_refused a;\
     long_refused +;\
     long_refused !;\
     long_refused -1;\
-    long_read  ;\
-    long_release;\
-    long_local;\
-    increasing 1.0.dev456;\
-    increasing 1.0a1;\
-    increasing 1.0a2.dev456;\
-    increasing 1.0a12.dev456;\
-    increasing 1.0a12;\
-    increasing 1.0b1.dev456;\
-    increasing 1.0b2;\
-    increasing 1.0b2.post345.dev456;\
-    increasing 1.0b2.post345;\
-    increasing 1.0rc1.dev456;\
-    increasing 1.0rc1;\
-    increasing 1.0;\
-    increasing 1.0+ab;\
-    increasing 1.0+abc;\
-    increasing 1.0+abc.5;\
-    increasing 1.0+abc.7;\
-    increasing 1.0+abc.10;\
-    increasing 1.0+5;\
-    increasing 1.0+10;\
-    increasing 1.0.post456.dev34;\
-    increasing 1.0.post456;\
-    increasing 1.0.15;\
-    increasing 1.1.dev1;\
-    increasing 1.1.2.3.4.5.6.7.8.9;\
-    quick;\
-    plain_version;\
-    different 1.0;\
-    different 1.0.0;\
-    different 1!1.0;\
-    different 1.0a1;\
-    different 1.0b1;\
-    different 1.0a2;\
-    different 1.0.post1;\
-    different 1.0.dev1;\
-    different 1.0+1;\
-    different 1.0+a;\
-    different 1.0+a.1;\
-    different 1.0+b;\
+    accepted  ;\
+    huge 1 .0 = 50001 0;\
+    huge 1+x .y > 1 50001;\
+    ordered 1.0.dev456 1.0a1 1.0a2.dev456 1.0a12.dev456 1.0a12 1.0b1.dev456 1.0b2 1.0b2.post345.dev456 \
+    1.0b2.post345 1.0rc1.dev456 1.0rc1 1.0 1.0+ab 1.0+abc 1.0+abc.5 1.0+abc.7 1.0+abc.10 1.0+5 1.0+10 \
+    1.0.post456.dev34 1.0.post456 1.0.15 1.1.dev1 1.1.2.3.4.5.6.7.8.9;\
+    made 1.0.0;\
+    different 1.0 1.0.0 1!1.0 1.0a1 1.0b1 1.0a2 1.0.post1 1.0.dev1 1.0+1 1.0+a 1.0+a.1 1.0+b;\
     public 1!2.0rc1.post2.dev3+x > 3;\
     public 1!2.0rc1.post2.dev3+x < 1!3;\
     public 1!2.0rc1.post2.dev3+x < 1!2;\
@@ -123,48 +94,47 @@ const ROWS: &str = "spelled v1.0|1.0;\
     public 1!2.0rc1.post2.dev3+x > 1!2rc1.post1;\
     public 1!2.0rc1.post2.dev3+x < 1!2rc1.post2.dev4;\
     public 1!2.0rc1.post2.dev3+x = 1!2.0.0rc1.post2.dev3+y;\
-    plain_public;\
-    release 1.2.3.4.5.6.7.8.9.10 > 1.2.3.4.5.6.7.8.9;\
-    release 1 = 1.0.0.0.0.0.0.0.0.0;\
+    numbers 1.2.3.4.5.6.7.8.9.10 > 1.2.3.4.5.6.7.8.9;\
+    numbers 1 = 1.0.0.0.0.0.0.0.0.0;\
     front 1.2.3.4.5.6.7.8.9.10 has 1.2.3.4.5.6.7.8.9;\
     front 1 has 1.0;\
     front 1.2.3.4.5.6.7.8.9 lacks 1.2.3.4.5.6.7.8.9.10;\
     front 1.2.3.4.5.6.7.8.9.10 lacks 2;\
-    pre_and_post 1!2.0rc1.post2.dev3+x;\
-    pre_and_post 3!1.4rc2.post5.dev6+a1.7;\
-    neither 1.0+dev;\
-    parts;\
-    class  110000;\
-    class \t110000;\
-    class \r100000;\
-    class \u{8}000000;\
-    class \u{e}000000;\
-    class 0001010;\
-    class Z000110;\
-    class a000110;\
-    class .000001;\
-    class -000001;\
-    class _000001;\
-    class @000000;\
-    white_run  \ta1, b | \t;\
-    after_white  \ta1, b |a1, b ;\
-    before_white  \ta1, b | \ta1, b;\
-    trimmed  \ta1, b |a1, b;\
-    before_comma  \ta1, b | \ta1;\
-    before_digit abc|abc;\
-    front_word a1, b|a1;\
-    after_word a1, b|, b;\
-    begins_letter a1|yes;\
-    begins_letter 1a|no;\
-    begins_letter |no;\
-    all_digits |yes;\
-    all_digits 19|yes;\
-    all_digits 1a|no;\
-    after_sign ~=1|1;\
-    after_sign ~1|none;\
-    before_star 1.*|1;\
-    before_star 1.|none;\
-    long_cut";
+    both 1!2.0rc1.post2.dev3+x;\
+    both 3!1.4rc2.post5.dev6+a1.7;\
+    unmarked 1.0+dev;\
+    told 3!1.4rc2.post5.dev6+a1.7;\
+    kind  110000;\
+    kind \t110000;\
+    kind \r100000;\
+    kind \u{8}000000;\
+    kind \u{e}000000;\
+    kind 0001010;\
+    kind Z000110;\
+    kind a000110;\
+    kind .000001;\
+    kind -000001;\
+    kind _000001;\
+    kind @000000;\
+    cut run  \ta1, b | \t;\
+    cut after_white  \ta1, b |a1, b ;\
+    cut before_white  \ta1, b | \ta1, b;\
+    cut trimmed  \ta1, b |a1, b;\
+    cut comma  \ta1, b | \ta1;\
+    cut digit abc|abc;\
+    cut word a1, b|a1;\
+    cut past_word a1, b|, b;\
+    cut letter a1|yes;\
+    cut letter 1a|no;\
+    cut letter |no;\
+    cut number |yes;\
+    cut number 19|yes;\
+    cut number 1a|no;\
+    cut sign ~=1|1;\
+    cut sign ~1|none;\
+    cut ending 1.*|1;\
+    cut ending 1.|none;\
+    gap";
 
 fn has_text(alloc: Global, version: &Version, want: &str) -> bool {
     match version.text(alloc) {
@@ -173,11 +143,14 @@ fn has_text(alloc: Global, version: &Version, want: &str) -> bool {
     }
 }
 
-fn is_copied(alloc: Global, version: &Version, want: &str) -> bool {
+// Whether a version has this text, and is its own copy.
+fn has_copy(alloc: Global, version: &Version, want: &str) -> bool {
     match version.copy(alloc) {
         Ok(copy) => {
-            let equal = version.cmp(&copy) == Ordering::Equal && version.same(&copy);
-            equal && has_text(alloc, &copy, want)
+            version.cmp(&copy).is_eq()
+                && version.same(&copy)
+                && has_text(alloc, version, want)
+                && has_text(alloc, &copy, want)
         }
         Err(_) => false,
     }
@@ -186,7 +159,7 @@ fn is_copied(alloc: Global, version: &Version, want: &str) -> bool {
 // Whether a text is a version with this normal text.
 fn is_spelled(alloc: Global, text: &str, want: &str) -> bool {
     match Version::read(alloc, text) {
-        Ok(version) => has_text(alloc, &version, want) && is_copied(alloc, &version, want),
+        Ok(version) => has_copy(alloc, &version, want),
         Err(_) => false,
     }
 }
@@ -194,13 +167,14 @@ fn is_spelled(alloc: Global, text: &str, want: &str) -> bool {
 fn is_refused(alloc: Global, text: &[u8]) -> bool {
     match Version::read_bytes(alloc, text) {
         Ok(_) => false,
-        Err(fault) => fault == VersionFault::NoReading,
+        Err(VersionFault::NoReading) => true,
+        Err(VersionFault::NoMemory) => false,
     }
 }
 
-fn is_long_refused(alloc: Global, piece: &str) -> Result<bool, AllocError> {
-    let text = repeated(alloc, "1", piece, 100_000)?;
-    Ok(is_refused(alloc, text.as_str().as_bytes()))
+fn is_long_refused(alloc: Global, piece: &str) -> bool {
+    let text = repeated(alloc, "1", piece, 100_000);
+    is_refused(alloc, text.as_str().as_bytes())
 }
 
 fn sign(order: Ordering) -> &'static str {
@@ -212,174 +186,139 @@ fn sign(order: Ordering) -> &'static str {
 }
 
 // What a comparison of two versions says.
-fn word(kind: &str, version: &Version, other: &Version) -> &'static str {
+fn word(kind: u8, version: &Version, other: &Version) -> &'static str {
     let (release, front) = (version.release.as_slice(), other.release.as_slice());
     match kind {
-        "public" => sign(Public::of(version).cmp(&Public::of(other))),
-        "release" => sign(cmp_releases(release, front)),
-        "front" if has_front(release, front) => "has",
-        "front" => "lacks",
-        "different" if version.same(other) => "same",
-        "different" => "another",
+        b'p' => sign(Public::of(version).cmp(&Public::of(other))),
+        b'n' => sign(cmp_releases(release, front)),
+        b'f' if has_front(release, front) => "has",
+        b'f' => "lacks",
+        _ if version.same(other) => "same",
         _ => sign(version.cmp(other)),
     }
 }
 
-fn compared(
-    alloc: Global,
-    kind: &str,
-    text: &str,
-    other: &str,
-) -> Result<&'static str, VersionFault> {
-    let version = Version::read(alloc, text)?;
-    let other = Version::read(alloc, other)?;
-    Ok(word(kind, &version, &other))
-}
-
-fn is_compared(alloc: Global, kind: &str, text: &str, other: &str, want: &str) -> bool {
-    match compared(alloc, kind, text, other) {
-        Ok(word) => word == want,
+fn comes_so(alloc: Global, kind: u8, version: &Version, want: &str, other: &str) -> bool {
+    match Version::read(alloc, other) {
+        Ok(other) => word(kind, version, &other) == want,
         Err(_) => false,
     }
 }
 
-// How a version comes to another of the increasing ones, where its row is passed or not.
-fn wanted(text: &str, other: &str, passed: bool) -> &'static str {
-    if other == text {
-        "="
-    } else if passed {
-        "<"
-    } else {
-        ">"
+// Whether a row `VERSION WORD VERSION` says what the comparison does.
+fn is_pair(alloc: Global, kind: u8, row: &str) -> bool {
+    let (text, rest) = cells(row, ' ');
+    let (want, other) = cells(rest, ' ');
+    match Version::read(alloc, text) {
+        Ok(version) => comes_so(alloc, kind, &version, want, other),
+        Err(_) => false,
     }
 }
 
-// Whether a version is placed among the increasing ones as its row is.
-fn is_placed(alloc: Global, text: &str) -> bool {
-    let mut passed = false;
-    for line in ROWS.split(';') {
-        if let Some(other) = line.strip_prefix("increasing ") {
-            if !is_compared(
-                alloc,
-                "increasing",
-                text,
-                other,
-                wanted(text, other, passed),
-            ) {
-                return false;
-            }
-            passed = passed || other == text;
-        }
-    }
-    passed
+// Whether a version of this text is a row's: how it comes to 1 without being the same, and its lengths.
+fn is_so_long(alloc: Global, version: &Version, text: &str, row: &str) -> bool {
+    let (want, rest) = cells(row, ' ');
+    let (release, local) = cells(rest, ' ');
+    comes_so(alloc, 0, version, want, "1")
+        && version.release.len() as u64 == number(release)
+        && version.local.len() as u64 == number(local)
+        && has_copy(alloc, version, text)
 }
 
-// Whether a version is the same as itself alone.
-fn is_alone(alloc: Global, text: &str) -> bool {
-    for line in ROWS.split(';') {
-        if let Some(other) = line.strip_prefix("different ") {
-            let want = if other == text { "same" } else { "another" };
-            if !is_compared(alloc, "different", text, other, want) {
-                return false;
-            }
+fn is_long_version(alloc: Global, text: &str, row: &str) -> bool {
+    match Version::read(alloc, text) {
+        Ok(version) => is_so_long(alloc, &version, text, row),
+        Err(_) => false,
+    }
+}
+
+fn is_huge(alloc: Global, row: &str) -> bool {
+    let (start, rest) = cells(row, ' ');
+    let (piece, rest) = cells(rest, ' ');
+    let text = repeated(alloc, start, piece, 50_000);
+    is_long_version(alloc, text.as_str(), rest)
+}
+
+fn push_version(alloc: Global, versions: &mut Vec<Version>, text: &str) {
+    if let Ok(version) = Version::read(alloc, text) {
+        let _ = versions.push(version);
+    }
+}
+
+// Whether a version comes to others as its place does to theirs.
+fn is_placed(version: &Version, place: usize, versions: &[Version]) -> bool {
+    for (other_place, other) in versions.iter().enumerate() {
+        if version.cmp(other) != place.cmp(&other_place) {
+            return false;
         }
     }
     true
 }
 
-// Whether a row `VERSION WORD VERSION` says what the comparison does.
-fn is_pair(alloc: Global, kind: &str, row: &str) -> bool {
-    let (text, rest) = row.split_once(' ').unwrap_or((row, ""));
-    let (want, other) = rest.split_once(' ').unwrap_or((rest, ""));
-    is_compared(alloc, kind, text, other, want)
+// Whether a version is the same as that of its place alone.
+fn is_alone(version: &Version, place: usize, versions: &[Version]) -> bool {
+    for (other_place, other) in versions.iter().enumerate() {
+        if version.same(other) != (place == other_place) {
+            return false;
+        }
+    }
+    true
 }
 
-fn has_lengths(alloc: Global, text: &str, release: usize, local: usize) -> bool {
-    match Version::read(alloc, text) {
-        Ok(version) => version.release.len() == release && version.local.len() == local,
+fn are_told(kind: u8, versions: &[Version]) -> bool {
+    for (place, version) in versions.iter().enumerate() {
+        let is_told = if kind == b'o' {
+            is_placed(version, place, versions)
+        } else {
+            is_alone(version, place, versions)
+        };
+        if !is_told {
+            return false;
+        }
+    }
+    true
+}
+
+// Whether versions, of which there are so many, are told so as often as that.
+fn are_told_often(kind: u8, versions: &[Version], count: usize, times: u32) -> bool {
+    for _ in 0..times {
+        if !are_told(kind, versions) {
+            return false;
+        }
+    }
+    versions.len() == count
+}
+
+fn are_versions(alloc: Global, kind: u8, texts: &str) -> bool {
+    let mut versions = Vec::new(alloc);
+    for text in texts.split(' ') {
+        push_version(alloc, &mut versions, text);
+    }
+    let (count, times) = if kind == b'o' { (24, 2_800) } else { (12, 1) };
+    are_told_often(kind, versions.as_slice(), count, times)
+}
+
+// Whether a version is the one that is made of the release 1, 0.
+fn is_made(alloc: Global, version: &Version) -> bool {
+    match vec![in alloc; 1, 0] {
+        Ok(release) => version.cmp(&Version::plain_of(alloc, release)).is_eq(),
         Err(_) => false,
     }
-}
-
-// Whether a version of many parts is read, and comes to the version 1 in this order without being the same.
-fn is_long(alloc: Global, start: &str, piece: &str, want: &str) -> Result<bool, AllocError> {
-    let text = repeated(alloc, start, piece, 50_000)?;
-    let text = text.as_str();
-    let placed = is_compared(alloc, "order", text, "1", want)
-        && is_compared(alloc, "different", text, "1", "another");
-    let (release, local) = if want == "=" {
-        (50_001, 0)
-    } else {
-        (1, 50_001)
-    };
-    Ok(placed && has_lengths(alloc, text, release, local) && is_spelled(alloc, text, text))
-}
-
-fn increasing(alloc: Global) -> Result<Vec<Version>, VersionFault> {
-    let mut versions = Vec::new(alloc);
-    for line in ROWS.split(';') {
-        if let Some(text) = line.strip_prefix("increasing ") {
-            versions.push(Version::read(alloc, text)?)?;
-        }
-    }
-    Ok(versions)
-}
-
-// How many of the versions come after this one.
-fn after(version: &Version, versions: &[Version]) -> u64 {
-    let mut after = 0u64;
-    for other in versions {
-        if version.cmp(other) == Ordering::Less {
-            after = after.wrapping_add(1);
-        }
-    }
-    after
-}
-
-fn pairs(versions: &[Version]) -> u64 {
-    let mut pairs = 0u64;
-    for version in versions {
-        pairs = pairs.wrapping_add(after(version, versions));
-    }
-    pairs
-}
-
-fn is_quick(alloc: Global) -> Result<bool, VersionFault> {
-    let versions = increasing(alloc)?;
-    let mut less = 0u64;
-    for _ in 0..2_800 {
-        less = less.wrapping_add(pairs(&versions));
-    }
-    Ok(less == 2_800 * 276)
-}
-
-fn is_one(alloc: Global) -> Result<bool, VersionFault> {
-    let version = Version::read(alloc, "1.0.0")?;
-    let plain = Version::plain_of(alloc, vec![in alloc; 1, 0]?);
-    Ok(version.cmp(&plain) == Ordering::Equal)
 }
 
 fn is_plain() -> bool {
     let plain = Public::plain(&[1, 2, 3]);
-    let equal = plain.cmp(&Public::plain(&[1, 2, 3, 0])) == Ordering::Equal;
-    equal && !plain.is_pre() && !plain.is_post()
+    let order = plain.cmp(&Public::plain(&[1, 2, 3, 0]));
+    order.is_eq() && !plain.is_pre() && !plain.is_post()
 }
 
 // Whether a version, and its public part, are both a pre-release and a post-release, or neither.
-fn is_both(alloc: Global, text: &str, want: bool) -> bool {
-    match Version::read(alloc, text) {
-        Ok(version) => {
-            let public = Public::of(&version);
-            let parts = public.is_pre() == want && public.is_post() == want;
-            parts && version.is_pre() == want && version.is_post() == want
-        }
-        Err(_) => false,
-    }
-}
-
-fn has_numbers(version: &Version) -> bool {
-    let release = version.release.as_slice() == [1, 4].as_slice();
-    release && version.epoch == 3 && version.post == Some(5) && version.dev == Some(6)
+fn is_both(version: &Version, want: bool) -> bool {
+    let public = Public::of(version);
+    public.is_pre() == want
+        && public.is_post() == want
+        && version.is_pre() == want
+        && version.is_post() == want
 }
 
 fn has_local(local: &[Segment]) -> bool {
@@ -389,13 +328,33 @@ fn has_local(local: &[Segment]) -> bool {
     word.as_str() == "a1"
 }
 
-fn has_parts(alloc: Global) -> bool {
-    match Version::read(alloc, "3!1.4rc2.post5.dev6+a1.7") {
-        Ok(version) => {
-            let (kind, number) = (PreKind::Rc, 2);
-            let candidate = version.pre == Some(Pre { kind, number });
-            candidate && has_numbers(&version) && has_local(version.local.as_slice())
-        }
+fn has_parts(version: &Version) -> bool {
+    version.epoch == 3
+        && matches!(version.release.as_slice(), [1, 4])
+        && matches!(
+            version.pre,
+            Some(Pre {
+                kind: PreKind::Rc,
+                number: 2
+            })
+        )
+        && matches!(version.post, Some(5))
+        && matches!(version.dev, Some(6))
+        && has_local(version.local.as_slice())
+}
+
+fn is_so(alloc: Global, kind: u8, version: &Version) -> bool {
+    match kind {
+        b'b' => is_both(version, true),
+        b'u' => is_both(version, false),
+        b't' => has_parts(version),
+        _ => is_made(alloc, version) && is_plain(),
+    }
+}
+
+fn is_version(alloc: Global, kind: u8, text: &str) -> bool {
+    match Version::read(alloc, text) {
+        Ok(version) => is_so(alloc, kind, &version),
         Err(_) => false,
     }
 }
@@ -428,78 +387,72 @@ fn yes(holds: bool) -> &'static [u8] {
     if holds { b"yes" } else { b"no" }
 }
 
-// Whether what a cut tells of a text is this, or its length this one's.
-fn is_told(kind: &str, text: &[u8], want: &[u8]) -> bool {
+fn cut(kind: u8, text: &[u8]) -> &[u8] {
     match kind {
-        "white_run" => run_len(&White, text) == want.len(),
-        "before_comma" => piece_len(&Only { byte: b',' }, text) == want.len(),
-        "before_digit" => piece_len(&Digit, text) == want.len(),
-        "begins_letter" => yes(begins(&Letter, text)) == want,
-        "all_digits" => yes(is_run(&Digit, text)) == want,
-        _ => false,
+        b'a' => after_run(&White, text),
+        b'b' => before_run(&White, text),
+        b't' => trimmed(&White, text),
+        b'w' => front_run(&Alphanumeric, text).0,
+        b'p' => front_run(&Alphanumeric, text).1,
+        b's' => after_word(text, b"~=").unwrap_or(b"none"),
+        b'e' => before_word(text, b".*").unwrap_or(b"none"),
+        b'l' => yes(begins(&Letter, text)),
+        _ => yes(is_run(&Digit, text)),
     }
 }
 
-fn is_cut(kind: &str, text: &[u8], want: &[u8]) -> bool {
+fn cut_length(kind: u8, text: &[u8]) -> usize {
     match kind {
-        "after_white" => after_run(&White, text) == want,
-        "before_white" => before_run(&White, text) == want,
-        "trimmed" => trimmed(&White, text) == want,
-        "front_word" => front_run(&Alphanumeric, text).0 == want,
-        "after_word" => front_run(&Alphanumeric, text).1 == want,
-        "after_sign" => after_word(text, b"~=").unwrap_or(b"none") == want,
-        "before_star" => before_word(text, b".*").unwrap_or(b"none") == want,
-        _ => is_told(kind, text, want),
+        b'r' => run_len(&White, text),
+        b'c' => piece_len(&Only { byte: b',' }, text),
+        _ => piece_len(&Digit, text),
+    }
+}
+
+// Whether what a cut gives of a text is this, or its length this one's.
+fn is_cut(row: &str) -> bool {
+    let (kind, rest) = cells(row, ' ');
+    let (text, want) = cells(rest, '|');
+    match letter(kind) {
+        b'r' | b'c' | b'd' => cut_length(letter(kind), text.as_bytes()) == want.len(),
+        kind => cut(kind, text.as_bytes()) == want.as_bytes(),
     }
 }
 
 fn is_long_cut(text: &[u8]) -> bool {
-    let trimmed = trimmed(&White, text) == b"1".as_slice();
-    trimmed
-        && run_len(&Blank, after_run(&Digit, text)) == 10_000
+    run_len(&Blank, after_run(&Digit, text)) == 10_000
         && piece_len(&Letter, text) == 10_001
+        && matches!(trimmed(&White, text), [b'1'])
 }
 
-fn is_cut_at_length(alloc: Global) -> Result<bool, AllocError> {
-    let long = repeated(alloc, "1", " ", 10_000)?;
-    Ok(is_long_cut(long.as_str().as_bytes()))
+fn is_cut_at_length(alloc: Global) -> bool {
+    let long = repeated(alloc, "1", " ", 10_000);
+    is_long_cut(long.as_str().as_bytes())
 }
 
-fn is_row_of_texts(alloc: Global, kind: &str, rest: &str) -> Option<bool> {
-    let (text, want) = rest.split_once('|').unwrap_or((rest, ""));
+fn is_row(alloc: Global, line: &str) -> bool {
+    let (word, rest) = cells(line, ' ');
+    let (text, want) = cells(rest, '|');
+    let kind = letter(word);
     match kind {
-        "spelled" => Some(is_spelled(alloc, text, want)),
-        "refused" => Some(is_refused(alloc, rest.as_bytes())),
-        "refused_bytes" => Some(is_refused(alloc, &[b'1', 255])),
-        "long_refused" => is_long_refused(alloc, rest).ok(),
-        "long_read" => Some(is_long_refused(alloc, rest) == Ok(false)),
-        "long_release" => is_long(alloc, "1", ".0", "=").ok(),
-        "long_local" => is_long(alloc, "1+x", ".y", ">").ok(),
-        "class" => Some(is_class_row(rest.as_bytes())),
-        "long_cut" => is_cut_at_length(alloc).ok(),
-        _ => Some(is_cut(kind, text.as_bytes(), want.as_bytes())),
-    }
-}
-
-fn is_row(alloc: Global, line: &str) -> Option<bool> {
-    let (kind, rest) = line.split_once(' ').unwrap_or((line, ""));
-    match kind {
-        "increasing" => Some(is_placed(alloc, rest)),
-        "different" => Some(is_alone(alloc, rest)),
-        "public" | "release" | "front" => Some(is_pair(alloc, kind, rest)),
-        "quick" => is_quick(alloc).ok(),
-        "plain_version" => is_one(alloc).ok(),
-        "plain_public" => Some(is_plain()),
-        "pre_and_post" => Some(is_both(alloc, rest, true)),
-        "neither" => Some(is_both(alloc, rest, false)),
-        "parts" => Some(has_parts(alloc)),
-        _ => is_row_of_texts(alloc, kind, rest),
+        b's' => is_spelled(alloc, text, want),
+        b'r' => is_refused(alloc, rest.as_bytes()),
+        b'i' => is_refused(alloc, &[b'1', 255]),
+        b'l' => is_long_refused(alloc, rest),
+        b'a' => !is_long_refused(alloc, rest),
+        b'h' => is_huge(alloc, rest),
+        b'o' | b'd' => are_versions(alloc, kind, rest),
+        b'p' | b'n' | b'f' => is_pair(alloc, kind, rest),
+        b'k' => is_class_row(rest.as_bytes()),
+        b'c' => is_cut(rest),
+        b'g' => is_cut_at_length(alloc),
+        _ => is_version(alloc, kind, rest),
     }
 }
 
 #[test]
 fn versions_and_cuts_are_as_told(rt: HostRuntime) {
     for line in ROWS.split(';') {
-        assert!(rt; is_row(rt.alloc(), line) == Some(true), "{line}");
+        assert!(rt; is_row(rt.alloc(), line), "{line}");
     }
 }
