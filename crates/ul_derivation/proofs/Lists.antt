@@ -1,9 +1,7 @@
 -- Tests of a list, element by element.
-use Rattle.std.proofs.Common.{◌≡◌, ℕ, ◌+◌, ◌<◌, inl, inr, List, ◌∷◌, drop, length, get_or, subst, sym, ap, ◌∙◌}
+use Rattle.std.proofs.Common.{◌≡◌, ℕ, ◌+◌, ◌<◌, List, ◌∷◌, drop, length, get_or, subst, sym, ap, ◌∙◌}
 use Rattle.std.proofs.lemmas.List.{drop_more}
-use Rattle.ul_problem.proofs.ForCallers.{at_head, in_rest, head_or_rest}
 use Rattle.ul_problem.specs.Plain.{Plain}
-use Rattle.std.specs.List.{Contains}
 use Rattle.ul_problem.specs.Steps.{IsTermOf, AreTermsOf, IsRootTerm, AreRootTerms}
 use Rattle.ul_problem.specs.declared.term.Term.{Term}
 
@@ -30,14 +28,3 @@ roots_more p ts i t Q h e f a =
 
 pub roots_not : (p : Plain) (ts : List Term) (i : ℕ) (t : Term) (Q : Type 0) → i < length ts → t ≡ get_or ts i t → (IsRootTerm p t → ⊥) → IsAlike (AreRootTerms p (drop i ts)) Q → Q → ⊥
 roots_not p ts i t Q h e f a q = f (subst (AreRootTerms p) (front_is ts i t h e) (a.from q)).0
-
-pub one_more : {A : Type 0} (xs : List A) (i : ℕ) (x y : A) (Q : Type 0) → i < length xs → y ≡ get_or xs i y → (y ≡ x → ⊥) → IsAlike (Contains (drop i xs) x) Q → IsAlike (Contains (drop (i + 1) xs) x) Q
-one_more {A} xs i x y Q h e n a =
-    let g = front_is xs i y h e in
-    record { to = λ r. a.to (subst (λ (l : List A). Contains l x) (sym g) (in_rest y (drop (i + 1) xs) x r)); from = λ q. rest (subst (λ (l : List A). Contains l x) g (a.from q)) }
-  where
-    rest : Contains (y ∷ drop (i + 1) xs) x → Contains (drop (i + 1) xs) x
-    rest c = elim (head_or_rest y (drop (i + 1) xs) x c) [ inl f ↦ absurd (n f) | inr r ↦ r ]
-
-pub one_here : {A : Type 0} (xs : List A) (i : ℕ) (x y : A) (Q : Type 0) → i < length xs → y ≡ get_or xs i y → y ≡ x → IsAlike (Contains (drop i xs) x) Q → Q
-one_here {A} xs i x y Q h e f a = a.to (subst (λ (l : List A). Contains l x) (sym (front_is xs i y h e)) (at_head y (drop (i + 1) xs) x f))

@@ -1,9 +1,11 @@
 -- A search for a need.
-use Rattle.std.proofs.Common.{◌≡◌, ℕ, ◌+◌, ◌<◌, inl, inr, Bool, true, Some, List, [], ◌∷◌, drop, length, get_or, subst, sym, ap, ◌∙◌, arith}
+use Rattle.std.proofs.Common.{◌≡◌, ℕ, ◌+◌, ◌<◌, inl, inr, Bool, true, Some, List, [], ◌∷◌, drop, length, get_or, subst, sym, ap, ◌∙◌, arith, Ok, nat_cmp, Equal}
 use Rattle.std.proofs.lemmas.List.{drop_more, get_or_default}
 use Rattle.std.proofs.lemmas.Bool.{cases_lt, cases_order, true≢false}
 use Rattle.ul_ranges.specs.Flags.{has, IsNextMember}
-use Rattle.std.specs.List.{Contains}
+use Rattle.std.specs.List.{Contains, HoldsAt}
+use Rattle.std.specs.List.Sorted.{IsSearchInRange}
+use Rattle.std.proofs.lemmas.Cmp.{ranked}
 use Rattle.ul_problem.proofs.ForCallers.{head_or_rest}
 use Rattle.ul_problem.specs.Steps.{HasNeed}
 use Rattle.ul_derivation.specs.Looking.{AreNeedsOfSize}
@@ -11,6 +13,10 @@ use Rattle.ul_problem.specs.declared.problem.Need.{Need}
 
 pub one_at : {A : Type 0} (xs : List A) (i : ℕ) (x : A) → i < length xs → x ≡ get_or xs i x → Contains xs x
 one_at xs i x h e = (i, h, sym e)
+
+-- a place that a search found
+pub found_at : (xs : List ℕ) (x i : ℕ) → IsSearchInRange (Ok i) (length xs) → HoldsAt (λ y. nat_cmp y x ≡ Equal) xs i → Contains xs x
+found_at xs x i l h = (i, l, ranked (get_or xs i x) x Equal (sym (h x)))
 
 pub need_here : (needs : List Need) (i : ℕ) (x : Need) (m : ℕ) (w : List Bool) → i < length needs → x ≡ get_or needs i x → x.node ≡ m → ((u : ℕ) → has u x.permitted ≡ true → has u w ≡ true) → HasNeed needs m w
 need_here needs i x m w h e f g = (x, one_at needs i x h e, f, g)

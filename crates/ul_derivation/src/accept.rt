@@ -8,7 +8,7 @@ use std::alloc::{AllocError, Global};
 use ul_problem::{Derivation, Problem};
 
 /// Why a derivation isn't accepted.
-#[derive(Clone, Copy, Debug, PartialEq, Eq)]
+#[derive(Clone, Copy)]
 pub enum AcceptFault {
     /// The first bad step, from 1. It is the number of steps plus one where each step is right and the last doesn't forbid what the
     /// roots are, or there is none.

@@ -38,12 +38,15 @@ fn is_led_to(needs: &[Need], entries: &[Entry], target: u64, permitted: &Ordinal
     requires { AreNeedsOfSize needs.now target (length permitted.now) }
     ensures { IsTrue result → HasNeed needs.now target permitted.now }
 {
-    let first = entries.partition_point(|entry| entry.target < target);
+    let first = match entries.binary_search(&(target, 0)) {
+        Ok(first) => first,
+        Err(first) => first,
+    };
     for entry in &entries[first..] {
-        if entry.target != target {
+        if entry.0 != target {
             return false;
         }
-        if is_need_at(needs, entry.place, target, permitted) {
+        if is_need_at(needs, entry.1, target, permitted) {
             return true;
         }
     }

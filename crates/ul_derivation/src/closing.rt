@@ -12,16 +12,10 @@ use ul_problem::{Problem, Step, Term};
 fn is_root(roots: &[u64], node: u64) -> bool
     ensures { IsTrue result ↔ Contains roots.now node }
 {
-    let place = roots.partition_point(|root| *root < node);
-    if place < roots.len() && roots[place] == node {
-        return true;
+    match roots.binary_search(&node) {
+        Ok(_) => true,
+        Err(_) => roots.contains(&node),
     }
-    for root in roots {
-        if *root == node {
-            return true;
-        }
-    }
-    false
 }
 
 // Whether the term is positive and on a root, with a set that isn't empty.

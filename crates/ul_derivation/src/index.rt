@@ -10,11 +10,7 @@ use ul_problem::Need;
 const SHORT: usize = 16;
 
 // A need of a row: its target, and its place in the row.
-#[derive(Clone, Copy)]
-pub struct Entry {
-    pub target: u64,
-    pub place: usize,
-}
+pub type Entry = (u64, usize);
 
 // The needs of the long rows that were looked at, in the order of their targets. A row is that of a node and a version.
 #[derive(Drop)]
@@ -56,9 +52,8 @@ impl Index {
 fn sorted(alloc: Global, needs: &[Need]) -> Result<Vec<Entry>, AllocError> {
     let mut entries = Vec::with_capacity(alloc, needs.len())?;
     for place in 0..needs.len() {
-        let target = needs[place].node;
-        entries.push(Entry { target, place })?;
+        entries.push((needs[place].node, place))?;
     }
-    entries.sort_unstable_by_key(|entry| entry.target);
+    entries.sort_unstable();
     Ok(entries)
 }
