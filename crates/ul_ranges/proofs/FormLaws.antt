@@ -306,8 +306,10 @@ front_kept size count f c h = keeps f (front size count) h.is_form (length-front
   | inr l ↦ le-ltb k count (omega (arith, l, c)) ∙ sym (get_or_past (front size count) k false (let e = length-front size count in omega arith))
 ])
 
-pub all_kept : (size : ℕ) (f : Form) → HasFront size size f → flags_in f ≡ replicate size true
-all_kept size f h = keeps f (replicate size true) h.is_form (length-replicate size true ∙ sym h.same_size) (λ k. h.each k ∙ elim (cases_lt k size) [
-  | inl l ↦ lt-ltb k size l ∙ sym (get_or-replicate size k true false l)
-  | inr l ↦ le-ltb k size l ∙ sym (get_or_past (replicate size true) k false (let e = length-replicate size true in omega arith))
+-- the numbers below the size are all numbers of a set
+pub front_whole : (size : ℕ) → front size size ≡ replicate size true
+front_whole size = same_sets (front size size) (replicate size true) (length-front size size ∙ sym (length-replicate size true)) (λ k. elim (cases_lt k size) [
+  | inl l ↦ has-front k size size l ∙ lt-ltb k size l ∙ sym (get_or-replicate size k true false l)
+  | inr l ↦ get_or_past (front size size) k false (let e = length-front size size in omega arith)
+      ∙ sym (get_or_past (replicate size true) k false (let e = length-replicate size true in omega arith))
 ])

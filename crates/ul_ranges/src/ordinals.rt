@@ -196,8 +196,7 @@ impl Ordinals {
     pub fn all(alloc: Global, size: u32) -> Result<Ordinals, AllocError>
         ensures { IfOk result (λ s. s ≡ replicate size true) }
     {
-        let form = forms::front(alloc, size, size)?;
-        Ok(Ordinals { form })
+        Ordinals::front(alloc, size, size)
     }
 
     /// The set, of this size, of the numbers below `count`.
