@@ -56,6 +56,12 @@ pub kept_is : (l : List ℕ) (m : Bool) (rs : Results) (o : Option Plain) (d z e
 kept_is l m rs o d z e ps bs carry first other parts made =
     settled_is l m rs o d z e (filled_results rs z) bs carry first other refl (made ∙ ap (λ x. reduced_branches m x e) parts ∙ kept_branches m rs o d z e first other)
 
+-- the same, of what is closed
+pub kept_level_is : (l : List ℕ) (m : Bool) (rs : Results) (o : Option Plain) (d z e : Plain) (ps : List (List ℕ × Plain)) → m ≡ carries l → z ≡ earliest m rs o d → e ≡ own_or o (latest m rs z)
+    → ps ≡ kept_results m rs z → close l e (reduced_branches (carries l) ps e) ≡ settled_level l rs o d
+kept_level_is l m rs o d z e ps carry first other parts =
+    ap (λ k. close l e (reduced_branches k ps e)) (sym carry) ∙ kept_is l m rs o d z e ps (reduced_branches m ps e) carry first other parts refl
+
 kept_fit : (m : Bool) (rs : Results) (z : Plain) (l : List ℕ) → ResultsFit rs l → Fits z l → PartsFit (kept_results m rs z) l
 kept_fit m [] z l h x = tt
 kept_fit m (r ∷ rs) z l h x = go (left_out m r.1) (own_fits r.1 z l h.0 x) (kept_fit m rs)

@@ -1,9 +1,11 @@
 -- How two truths are joined, and the branches of a tree that is being made.
-use Rattle.std.specs.Prelude.{ℕ, ◌+◌, ◌<◌, List, Bool, not, ◌≡◌, if◌then◌else◌}
-use Rattle.ul_nodes.specs.Plain.{Plain, truth, Branches}
-use Rattle.ul_nodes.specs.Apply.{size, apply, close, both, either, same_bool}
+use Rattle.std.specs.Prelude.{ℕ, suc, ◌+◌, ◌<◌, List, Bool, not, ◌≡◌, if◌then◌else◌}
+use Rattle.ul_nodes.specs.Plain.{Plain, truth, Branches, carries}
+use Rattle.ul_nodes.specs.Apply.{size, apply, close, outs, part_at, both, either, same_bool}
+use Rattle.ul_nodes.specs.Keys.{level_view, keys_of_both}
 use Rattle.ul_tree.specs.Views.{tree_view}
 use Rattle.ul_nodes.specs.declared.level.Key.{Key}
+use Rattle.ul_nodes.specs.declared.level.Level.{Level}
 use Rattle.ul_nodes.specs.Rows.{made_view}
 use Rattle.ul_tree.specs.declared.join.AtOnce.{AtOnce}
 use Rattle.ul_tree.specs.declared.join.AtOnce.TheVariants.{Truth, Side}
@@ -37,3 +39,11 @@ trees_made = made_view tree_view
 -- a tree is the node of a level with these branches, or the other part alone where there are none
 abbrev pub IsClosed : List ℕ → Tree → List (Key × Tree) → Tree → Type 0
 IsClosed level other made t = tree_view t ≡ close level (tree_view other) (trees_made made)
+
+-- the branches of the joined tree of two at a level, beside its other part; the number bounds how deep the joining goes
+abbrev pub AreJoined : Join → Level → Tree → Tree → Tree → List (Key × Tree) → Type 0
+AreJoined op level left right other made =
+    let a = tree_view left in
+    let b = tree_view right in
+    let l = level_view level in
+    (n : ℕ) → size a + size b < suc n → trees_made made ≡ outs (λ v. apply (truth_of op) n (part_at l v a) (part_at l v b)) (carries l) (keys_of_both level a b) (tree_view other)

@@ -1,11 +1,11 @@
 -- What the code of simplifying sees of pieces and regions, as plain data.
 use Rattle.std.specs.Prelude.{ℕ, List, [], ◌∷◌, Bool, false, Option, Some, None, option_map, ◌≡◌, zero, suc, if◌then◌else◌}
 use Rattle.std.specs.Ordering.{is_lt}
-use Rattle.ul_nodes.specs.Plain.{Plain, truth, node, Branches, done, branch, text_cmp, by_order, holds_of}
-use Rattle.ul_nodes.specs.Apply.{either, rest_at}
+use Rattle.ul_nodes.specs.Plain.{Plain, truth, node, Branches, done, branch, text_cmp, by_order, carries, holds_of}
+use Rattle.ul_nodes.specs.Apply.{either, rest_at, close, reduced_branches}
 use Rattle.ul_nodes.specs.Reduced.{IsReduced, Fits}
 use Rattle.ul_nodes.specs.Keys.{keys_view, level_view, branches_from, branches_of, rest_of, top_of}
-use Rattle.ul_nodes.specs.Rows.{Results, own_or, results_view, parts_view}
+use Rattle.ul_nodes.specs.Rows.{Results, own_or, latest, results_view, parts_view}
 use Rattle.ul_tree.specs.Simplify.{Simplifies, Pieces, Piece, settled_level, union_in}
 use Rattle.ul_tree.specs.Views.{tree_view}
 use Rattle.ul_nodes.specs.declared.level.Level.{Level}
@@ -133,3 +133,14 @@ PiecesAre level tree region keys results = Pieces (level_view level) (tree_view 
 -- the parts of keys that aren't left out at once
 abbrev pub kept_trees : Bool → List (Key × Option Tree) → Tree → List (List ℕ × Plain)
 kept_trees carried results first = kept_results carried (result_trees results) (tree_view first)
+
+-- the part of the piece without a key: its own result, or else the nearest one before it
+abbrev pub kept_rest : Bool → List (Key × Option Tree) → Option Tree → Tree → Plain
+kept_rest carried results rest first = own_or (option_map tree_view rest) (latest carried (result_trees results) (tree_view first))
+
+-- a level of these parts, in which nothing says the same twice
+abbrev pub reduced_tree : Level → List (Key × Tree) → Tree → Plain
+reduced_tree level parts other =
+    let l = level_view level in
+    let d = tree_view other in
+    close l d (reduced_branches (carries l) (part_trees parts) d)

@@ -6,10 +6,11 @@ ghost use Rattle.ul_tree.specs.Views.{tree_view, points_view};
 ghost use Rattle.ul_nodes.specs.Keys.{same_tops};
 
 use crate::Tree;
-use crate::part::{branch_at, branch_count, known, level_of, rest_of};
+use crate::pairs::made_both;
+use crate::part::{branch_at, branch_count, known, level_of, rest_of, truth_value};
 use crate::tree::{DEEPEST, deeper};
 use std::alloc::{AllocError, Global};
-use ul_base::owned::{beside, boxed, named, with_made};
+use ul_base::owned::{boxed, named, with_made};
 
 impl Tree {
     /// An equal tree.
@@ -45,19 +46,32 @@ pub fn copy(alloc: Global, tree: &Tree) -> Result<Tree, AllocError>
 pub fn copy_within(alloc: Global, tree: &Tree, room: usize) -> Result<Tree, AllocError>
     ensures { IfOk result (λ t. tree_view t ≡ tree_view tree.now) }
 {
+    if let Some(value) = truth_value(tree) {
+        return Ok(Tree::Truth(value));
+    }
+    let room = deeper(room)?;
+    copy_node(alloc, tree, room)
+}
+
+// An equal tree of equal parts, with this room for each.
+#[cycle(copy)]
+fn copy_node(alloc: Global, tree: &Tree, room: usize) -> Result<Tree, AllocError>
+    ensures { IfOk result (λ t. tree_view t ≡ tree_view tree.now) }
+{
     match tree {
         Tree::Truth(value) => Ok(Tree::Truth(*value)),
         Tree::Extra { points, other } => {
-            let room = deeper(room)?;
-            let copied = copy_points(alloc, points, room)?;
-            let made = boxed(alloc, copy_within(alloc, other, room));
-            let (points, other) = beside(copied, made)?;
+            let (points, other) = made_both(
+                copy_points(alloc, points, room),
+                boxed(alloc, copy_within(alloc, other, room)),
+            )?;
             Ok(Tree::Extra { points, other })
         }
         Tree::Python { starts, parts } => {
-            let room = deeper(room)?;
-            let copied = Vec::from_slice(alloc, starts.as_slice())?;
-            let (starts, parts) = beside(copied, copy_parts(alloc, parts, room))?;
+            let (starts, parts) = made_both(
+                Vec::from_slice(alloc, starts.as_slice()),
+                copy_parts(alloc, parts, room),
+            )?;
             Ok(Tree::Python { starts, parts })
         }
         Tree::Text {
@@ -65,10 +79,10 @@ pub fn copy_within(alloc: Global, tree: &Tree, room: usize) -> Result<Tree, Allo
             points,
             other,
         } => {
-            let room = deeper(room)?;
-            let copied = copy_points(alloc, points, room)?;
-            let made = boxed(alloc, copy_within(alloc, other, room));
-            let (points, other) = beside(copied, made)?;
+            let (points, other) = made_both(
+                copy_points(alloc, points, room),
+                boxed(alloc, copy_within(alloc, other, room)),
+            )?;
             Ok(Tree::Text {
                 variable: *variable,
                 points,
@@ -76,11 +90,12 @@ pub fn copy_within(alloc: Global, tree: &Tree, room: usize) -> Result<Tree, Allo
             })
         }
         Tree::Opaque { atom, yes, no } => {
-            let room = deeper(room)?;
-            let first = boxed(alloc, copy_within(alloc, yes, room))?;
-            let sides = beside(first, boxed(alloc, copy_within(alloc, no, room)))?;
-            let (both, atom) = beside(sides, atom.copy(alloc))?;
-            let (yes, no) = both;
+            let sides = made_both(
+                boxed(alloc, copy_within(alloc, yes, room)),
+                boxed(alloc, copy_within(alloc, no, room)),
+            );
+            let (atom, sides) = made_both(atom.copy(alloc), sides)?;
+            let (yes, no) = sides;
             Ok(Tree::Opaque { atom, yes, no })
         }
     }

@@ -1,21 +1,23 @@
 //! A tree made of two, part by part.
-ghost use Rattle.std.specs.Prelude.{◌≡◌, length, map, string_bytes, IfOk};
+ghost use Rattle.std.specs.Prelude.{◌≡◌, length, map, string_bytes, IfOk, Some};
 ghost use Rattle.ul_tree.specs.TreeFacts.{IsTree};
 ghost use Rattle.ul_nodes.specs.Plain.{truth};
 ghost use Rattle.ul_nodes.specs.Reduced.{IsReduced};
-ghost use Rattle.ul_nodes.specs.Apply.{close};
+ghost use Rattle.ul_nodes.specs.Apply.{close, first_of};
 ghost use Rattle.ul_tree.specs.Views.{tree_view, points_view};
 ghost use Rattle.ul_nodes.specs.Closing.{keyed_branches};
 ghost use Rattle.ul_nodes.specs.Keys.{level_view, KeysOf};
 ghost use Rattle.ul_nodes.specs.Rows.{IfSome};
-ghost use Rattle.ul_tree.specs.Joins.{truth_of, IsJoined, at_once_view, past_truth, trees_made, IsClosed};
+ghost use Rattle.ul_tree.specs.Joins.{truth_of, IsJoined, at_once_view, past_truth, trees_made, IsClosed, AreJoined};
 ghost use Rattle.ul_tree.specs.JoinSteps.{JoinsTo};
 
 use crate::Tree;
 use crate::copy::copy_within;
+use crate::pairs::made_both;
 use crate::part::{Trees, known, truth_value};
 use crate::tree::{DEEPEST, deeper};
 use std::alloc::{AllocError, Global};
+use ul_base::owned::{beside, boxed};
 use ul_nodes::branches::add;
 use ul_nodes::closing::{Closed, closed_level};
 use ul_nodes::level::{Key, Level};
@@ -81,8 +83,10 @@ pub fn closed(
             parts,
             other,
         } => {
-            let points = points_of(alloc, texts, parts)?;
-            let other = Box::new(alloc, other)?;
+            let (points, other) = made_both(
+                points_of(alloc, texts, parts),
+                boxed(alloc, Ok(other)),
+            )?;
             Ok(Tree::Extra { points, other })
         }
         Closed::Python { starts, parts } => Ok(Tree::Python { starts, parts }),
@@ -92,8 +96,10 @@ pub fn closed(
             parts,
             other,
         } => {
-            let points = points_of(alloc, texts, parts)?;
-            let other = Box::new(alloc, other)?;
+            let (points, other) = made_both(
+                points_of(alloc, texts, parts),
+                boxed(alloc, Ok(other)),
+            )?;
             Ok(Tree::Text {
                 variable,
                 points,
@@ -101,9 +107,9 @@ pub fn closed(
             })
         }
         Closed::Opaque { atom, holds, fails } => {
-            let atom = atom.copy(alloc)?;
-            let yes = Box::new(alloc, holds)?;
-            let no = Box::new(alloc, fails)?;
+            let sides = made_both(boxed(alloc, Ok(holds)), boxed(alloc, Ok(fails)));
+            let (atom, sides) = made_both(atom.copy(alloc), sides)?;
+            let (yes, no) = sides;
             Ok(Tree::Opaque { atom, yes, no })
         }
     }
@@ -202,8 +208,7 @@ pub fn joined_within(
     ensures reduced { IfOk result IsTree }
 {
     if let Some(known) = at_once(operation, left, right) {
-        let tree = made(alloc, known, room)?;
-        return Ok(tree);
+        return made(alloc, known, room);
     }
     joined_parts(alloc, operation, left, right, room)
 }
@@ -226,28 +231,50 @@ fn joined_parts(
     match first_level::<Trees>(left, right) {
         None => Ok(Tree::Truth(operation.truth(known(left), known(right)))),
         Some(level) => {
-            let keys = level_keys::<Trees>(alloc, level, left, right)?;
-            let other = joined_within(
+            let rest = joined_within(
                 alloc,
                 operation,
                 rest_at::<Trees>(left, level),
                 rest_at::<Trees>(right, level),
                 room,
             )?;
-            let carried = level.is_carried();
-            let mut made: Vec<(Key<'_>, Tree)> = Vec::new(alloc);
-            for key in &keys {
-                let next = joined_within(
-                    alloc,
-                    operation,
-                    part_at::<Trees>(left, level, *key),
-                    part_at::<Trees>(right, level, *key),
-                    room,
-                )?;
-                add(&Trees, &mut made, &other, carried, *key, next)?;
-            }
-            let tree = closed(alloc, level, other, made)?;
-            Ok(tree)
+            let branches = joined_branches(alloc, operation, left, right, level, &rest, room);
+            let (other, made) = beside(rest, branches)?;
+            closed(alloc, level, other, made)
         }
     }
+}
+
+// The branches of the joined tree at a level, beside its other part.
+#[cycle(joined)]
+fn joined_branches<'x>(
+    alloc: Global,
+    operation: Join,
+    left: &'x Tree,
+    right: &'x Tree,
+    level: Level<'_>,
+    other: &Tree,
+    room: usize,
+) -> Result<Vec<(Key<'x>, Tree)>, AllocError>
+    requires left_reduced { IsTree left.now }
+    requires right_reduced { IsTree right.now }
+    requires first { Some (level_view level) ≡ first_of (tree_view left.now) (tree_view right.now) }
+    requires other_reduced { IsTree other.now }
+    ensures branches { IfOk result (λ bs. AreJoined operation level.entry left.now right.now other.now bs.items) }
+    ensures kinds { IfOk result (λ bs. KeysOf (level_view level.entry) bs.items) }
+{
+    let keys = level_keys::<Trees>(alloc, level, left, right)?;
+    let carried = level.is_carried();
+    let mut made: Vec<(Key<'x>, Tree)> = Vec::new(alloc);
+    for key in &keys {
+        let next = joined_within(
+            alloc,
+            operation,
+            part_at::<Trees>(left, level, *key),
+            part_at::<Trees>(right, level, *key),
+            room,
+        )?;
+        add(&Trees, &mut made, other, carried, *key, next)?;
+    }
+    Ok(made)
 }

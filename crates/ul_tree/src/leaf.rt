@@ -10,8 +10,9 @@ ghost use Rattle.ul_tree.specs.Leaves.{point_of};
 ghost use Rattle.ul_tree.specs.declared.tree.Tree.TheVariants.{Truth};
 
 use crate::Tree;
+use crate::pairs::made_both;
 use std::alloc::{AllocError, Global};
-use ul_base::owned::{beside, boxed, named, with_made};
+use ul_base::owned::{boxed, named, with_made};
 use ul_base::{Name, NameFault};
 use ul_marker::{Atom, Variable};
 
@@ -72,10 +73,9 @@ pub fn opaque_tree(alloc: Global, atom: &Atom, positive: bool) -> Result<Tree, A
     ensures reduced { IfOk result IsTree }
     ensures truth { IfOk result (λ t. HoldsAs t (atom_truth atom.now positive)) }
 {
-    let yes = truth_alone(alloc, positive)?;
-    let sides = beside(yes, truth_alone(alloc, !positive))?;
-    let (both, atom) = beside(sides, atom.copy(alloc))?;
-    let (yes, no) = both;
+    let sides = made_both(truth_alone(alloc, positive), truth_alone(alloc, !positive));
+    let (atom, sides) = made_both(atom.copy(alloc), sides)?;
+    let (yes, no) = sides;
     Ok(Tree::Opaque { atom, yes, no })
 }
 
@@ -83,8 +83,7 @@ pub fn opaque_tree(alloc: Global, atom: &Atom, positive: bool) -> Result<Tree, A
 fn truth_alone(alloc: Global, value: bool) -> Result<Box<Tree>, AllocError>
     ensures { IfOk result (λ place. place.value ≡ Truth value) }
 {
-    let place = boxed(alloc, Ok(Tree::Truth(value)))?;
-    Ok(place)
+    boxed(alloc, Ok(Tree::Truth(value)))
 }
 
 // The one point of a comparison, and the part of all else.
@@ -96,9 +95,7 @@ fn branches(
     ensures point { IfOk result (λ made. points_view made.0.items ≡ point_of literal.now equal) }
     ensures other { IfOk result (λ made. made.1.value ≡ Truth (not equal)) }
 {
-    let points = point(alloc, literal, equal)?;
-    let made = beside(points, truth_alone(alloc, !equal))?;
-    Ok(made)
+    made_both(point(alloc, literal, equal), truth_alone(alloc, !equal))
 }
 
 // The one point of a comparison.

@@ -7,6 +7,7 @@ pub mod laws;
 pub mod leaf;
 pub mod markers;
 mod operations;
+mod pairs;
 pub mod part;
 pub mod python;
 mod samples;

@@ -15,6 +15,7 @@ ghost use Rattle.ul_tree.specs.Views.{tree_view};
 use crate::Tree;
 use crate::leaf::{extra_tree, opaque_tree, text_tree};
 use crate::operations::{plain_and, plain_not, plain_or};
+use crate::pairs::kept;
 use crate::part::truth_value;
 use crate::python::clause_tree;
 use std::alloc::{AllocError, Global};
@@ -49,13 +50,11 @@ pub fn of_marker(alloc: Global, marker: &Marker) -> Result<Tree, AllocError>
         Marker::Opaque { atom, positive } => opaque_tree(alloc, atom, *positive),
         Marker::All(parts) => {
             let trees = of_markers(alloc, parts)?;
-            let tree = joined(alloc, true, trees)?;
-            Ok(tree)
+            joined(alloc, true, trees)
         }
         Marker::Any(parts) => {
             let trees = of_markers(alloc, parts)?;
-            let tree = joined(alloc, false, trees)?;
-            Ok(tree)
+            joined(alloc, false, trees)
         }
     }
 }
@@ -87,8 +86,7 @@ pub fn of_python(alloc: Global, specifiers: &Specifiers) -> Result<Tree, AllocEr
     for clause in &specifiers.clauses {
         trees = with_made(trees, clause_tree(alloc, clause, true))?;
     }
-    let tree = joined(alloc, true, trees)?;
-    Ok(tree)
+    joined(alloc, true, trees)
 }
 
 // The tree of the interpreters whose version is one of a list, or isn't.
@@ -107,8 +105,7 @@ fn list_tree(
         trees = with_made(trees, version_tree(alloc, version, full))?;
     }
     let tree = joined(alloc, false, trees)?;
-    let tree = within_or_not(alloc, within, tree)?;
-    Ok(tree)
+    within_or_not(alloc, within, tree)
 }
 
 // A tree itself where it is asked for, else its negation.
@@ -120,8 +117,7 @@ fn within_or_not(alloc: Global, within: bool, tree: Tree) -> Result<Tree, AllocE
     if within {
         return Ok(tree);
     }
-    let tree = made_from(plain_not(alloc, &tree), tree)?;
-    Ok(tree)
+    made_from(plain_not(alloc, &tree), tree)
 }
 
 // The tree of the interpreters whose version equals another.
@@ -135,8 +131,7 @@ fn version_tree(alloc: Global, version: &Version, full: bool) -> Result<Tree, Al
         version: version.copy(alloc)?,
         prefix: false,
     };
-    let tree = made_from(clause_tree(alloc, &clause, full), clause)?;
-    Ok(tree)
+    made_from(clause_tree(alloc, &clause, full), clause)
 }
 
 /// The tree that is true where all trees are, or where some tree is, joined by halves. The trees are moved.
@@ -147,8 +142,7 @@ pub fn joined(alloc: Global, all: bool, trees: Vec<Tree>) -> Result<Tree, AllocE
 {
     let mut trees = trees;
     let count = trees.len();
-    let tree = made_from(joined_some(alloc, all, &mut trees, count), trees)?;
-    Ok(tree)
+    made_from(joined_some(alloc, all, &mut trees, count), trees)
 }
 
 // All trees of a row, of which there may be none, taken away and joined.
@@ -193,8 +187,7 @@ fn joined_last(
     let half = count / 2;
     let last = joined_last(alloc, all, trees, half)?;
     let (back, front) = beside(last, joined_last(alloc, all, trees, count - half))?;
-    let tree = pair(alloc, all, front, back)?;
-    Ok(tree)
+    pair(alloc, all, front, back)
 }
 
 // The tree that is true where both trees are, or where one of them is. A truth that settles the joined truth is the
@@ -211,8 +204,7 @@ fn pair(alloc: Global, all: bool, front: Tree, back: Tree) -> Result<Tree, Alloc
     if let Some(value) = truth_value(&back) {
         return Ok(past_neutral(all, value, back, front));
     }
-    let tree = made_from(both_or_either(alloc, all, &front, &back), (front, back))?;
-    Ok(tree)
+    made_from(both_or_either(alloc, all, &front, &back), (front, back))
 }
 
 // The tree that is true where both trees are, or where one of them is, as is asked.
@@ -223,11 +215,9 @@ fn both_or_either(alloc: Global, all: bool, front: &Tree, back: &Tree) -> Result
     ensures truth { IfOk result (λ t. HoldsAs t (λ w x. joint all (truths_of (front.now ∷ back.now ∷ []) w x))) }
 {
     if all {
-        let tree = plain_and(alloc, front, back)?;
-        return Ok(tree);
+        return plain_and(alloc, front, back);
     }
-    let tree = plain_or(alloc, front, back)?;
-    Ok(tree)
+    plain_or(alloc, front, back)
 }
 
 // The other tree where a truth is neutral, else the tree of the truth, which settles the joined one.
@@ -235,7 +225,7 @@ fn past_neutral(neutral: bool, value: bool, settles: Tree, other: Tree) -> Tree
     ensures { tree_view result ≡ (if same_bool value neutral then tree_view other else tree_view settles) }
 {
     if value == neutral {
-        return other;
+        return kept(other, settles);
     }
-    settles
+    kept(settles, other)
 }

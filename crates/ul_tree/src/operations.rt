@@ -25,8 +25,7 @@ pub fn plain_and(alloc: Global, left: &Tree, right: &Tree) -> Result<Tree, Alloc
     ensures reduced { IfOk result IsTree }
     ensures truth { IfOk result (λ t. HoldsJoined both left.now right.now t) }
 {
-    let tree = joined(alloc, Join::Both, left, right)?;
-    Ok(tree)
+    joined(alloc, Join::Both, left, right)
 }
 
 /// The tree that is true where one of two is.
@@ -40,8 +39,7 @@ pub fn plain_or(alloc: Global, left: &Tree, right: &Tree) -> Result<Tree, AllocE
     ensures reduced { IfOk result IsTree }
     ensures truth { IfOk result (λ t. HoldsJoined either left.now right.now t) }
 {
-    let tree = joined(alloc, Join::Either, left, right)?;
-    Ok(tree)
+    joined(alloc, Join::Either, left, right)
 }
 
 /// The tree that is true where this one is false.
@@ -69,9 +67,8 @@ pub fn plain_at_extra(alloc: Global, whole: &Tree, extra: &str) -> Result<Tree, 
     ensures truth { IfOk result (λ t. HoldsAs t (λ w x. tree_holds (tree_view whole.now) w extra.now)) }
     ensures no_extra { IfOk result (λ t. asks_extra (tree_view t) ≡ false) }
 {
-    let tree = copy(
+    copy(
         alloc,
         part_at::<Trees>(whole, Level::Extra, Key::Literal(extra)),
-    )?;
-    Ok(tree)
+    )
 }

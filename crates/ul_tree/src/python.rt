@@ -9,8 +9,9 @@ ghost use Rattle.ul_tree.specs.Pieces.{flipping, major_of, minor_of, patch_of, s
 ghost use Rattle.ul_tree.specs.Views.{tree_view};
 
 use crate::Tree;
+use crate::pairs::made_both;
 use std::alloc::{AllocError, Global};
-use ul_base::owned::{beside, with_one};
+use ul_base::owned::with_one;
 use ul_marker::meets_python;
 use ul_specifier::Clause;
 
@@ -134,7 +135,6 @@ pub fn stepped(alloc: Global, first: bool, starts: &[u128]) -> Result<Tree, Allo
     if starts.is_empty() {
         return Ok(Tree::Truth(first));
     }
-    let pieces = pieces(alloc, starts)?;
-    let (starts, parts) = beside(pieces, parts(alloc, first, starts))?;
+    let (starts, parts) = made_both(pieces(alloc, starts), parts(alloc, first, starts))?;
     Ok(Tree::Python { starts, parts })
 }

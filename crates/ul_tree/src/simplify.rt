@@ -43,8 +43,7 @@ pub fn plain_simplify(alloc: Global, whole: &Tree, within: &Tree) -> Result<Tree
     ensures reduced { IfOk result IsTree }
     ensures agrees { IfOk result (λ t. AgreesWithin (tree_view within.now) (tree_view whole.now) (tree_view t)) }
 {
-    let simpler = simplified(alloc, whole, within, DEEPEST)?;
-    Ok(simpler)
+    simplified(alloc, whole, within, DEEPEST)
 }
 
 // Whether a tree's top level is above another level.
@@ -64,12 +63,10 @@ fn union(alloc: Global, tree: &Tree) -> Result<Tree, AllocError>
 {
     let count = branch_count(tree);
     if count == 0 {
-        let rest = copy(alloc, rest_of(tree))?;
-        return Ok(rest);
+        return copy(alloc, rest_of(tree));
     }
     let parts = union_of(alloc, tree, 0, count)?;
-    let union = made_from(joined(alloc, Join::Either, rest_of(tree), &parts), parts)?;
-    Ok(union)
+    made_from(joined(alloc, Join::Either, rest_of(tree), &parts), parts)
 }
 
 // The union of the parts of the branches from one place up to another, by halves.
@@ -82,14 +79,12 @@ fn union_of(alloc: Global, tree: &Tree, low: usize, high: usize) -> Result<Tree,
 {
     let count = high - low;
     if count == 1 {
-        let part = copy(alloc, branch_at(tree, low).part)?;
-        return Ok(part);
+        return copy(alloc, branch_at(tree, low).part);
     }
     let middle = low + count / 2;
     let first = union_of(alloc, tree, low, middle)?;
     let (front, back) = beside(first, union_of(alloc, tree, middle, high))?;
-    let union = made_from(joined(alloc, Join::Either, &front, &back), (front, back))?;
-    Ok(union)
+    made_from(joined(alloc, Join::Either, &front, &back), (front, back))
 }
 
 // The union of the parts of a tree that is let go.
@@ -97,8 +92,7 @@ fn union_from(alloc: Global, tree: Tree) -> Result<Tree, AllocError>
     requires { IsTree tree }
     ensures { IfOk result (λ t. tree_view t ≡ union_parts (tree_view tree)) }
 {
-    let union = made_from(union(alloc, &tree), tree)?;
-    Ok(union)
+    made_from(union(alloc, &tree), tree)
 }
 
 // A region without its levels above a tree's: each is taken away by the union of its parts. None where there is
@@ -172,10 +166,7 @@ fn lowered_for_parts(
     }
     match first_part_level(whole) {
         None => Ok(None),
-        Some(first) => {
-            let made = lowered(alloc, region, first)?;
-            Ok(made)
-        }
+        Some(first) => lowered(alloc, region, first),
     }
 }
 
@@ -198,16 +189,12 @@ fn simplified(alloc: Global, whole: &Tree, within: &Tree, room: usize) -> Result
     ensures { IfOk result (λ t. Simplifies (tree_view whole.now) (tree_view within.now) (tree_view t)) }
 {
     match level_of(whole) {
-        None => {
-            let tree = copy(alloc, whole)?;
-            Ok(tree)
-        }
+        None => copy(alloc, whole),
         Some(level) => {
             let room = deeper(room)?;
             let made = lowered(alloc, within, level)?;
             let region = standing_region(&made, within);
-            let tree = made_from(simplified_at(alloc, whole, region, level, room), made)?;
-            Ok(tree)
+            made_from(simplified_at(alloc, whole, region, level, room), made)
         }
     }
 }
@@ -229,15 +216,13 @@ fn simplified_at<'x>(
     ensures { IfOk result (λ t. Simplifies (tree_view whole.now) (tree_view region.now) (tree_view t)) }
 {
     if known(region) {
-        let tree = copy(alloc, whole)?;
-        return Ok(tree);
+        return copy(alloc, whole);
     }
     let made = lowered_for_parts(alloc, whole, region, level)?;
     let lower = standing_region(&made, region);
     let found = pieces(alloc, whole, region, lower, level, room);
     let (results, rest) = made_from(found, made)?;
-    let tree = settled(alloc, level, results, rest, rest_at::<Trees>(whole, level))?;
-    Ok(tree)
+    settled(alloc, level, results, rest, rest_at::<Trees>(whole, level))
 }
 
 // The results of all pieces of a node, with that of the piece without a key; `lower` stands for the region in them.
@@ -270,8 +255,7 @@ fn pieces<'x>(
         rest_at::<Trees>(lower, level),
         room,
     );
-    let both = beside(results, rest)?;
-    Ok(both)
+    beside(results, rest)
 }
 
 // The results of the pieces at keys of a level.

@@ -1,4 +1,7 @@
-use Rattle.std.proofs.Common.{◌∷◌, [], ap, sym, ◌∙◌, subst}
+use Rattle.std.proofs.Common.{◌≡◌, ◌∷◌, [], Box, Global, Result, Ok, ap, sym, ◌∙◌, subst}
+use Rattle.std.specs.Prelude.{IfOk}
+use Rattle.std.specs.declared.alloc.AllocError.{AllocError}
+use Rattle.ul_base.proofs.ForCallers.{made_holds}
 use Rattle.ul_nodes.specs.Plain.{node, branch, done}
 use Rattle.ul_nodes.specs.Levels.{extra_level, text_level, atom_level}
 use Rattle.ul_nodes.specs.Closing.{closed_view, IsEven}
@@ -9,6 +12,14 @@ use Rattle.ul_tree.specs.Views.{tree_view, points_view}
 use Rattle.ul_tree.specs.declared.tree.Tree.{Tree}
 use Rattle.ul_tree.proofs.Shapes.{view_extra, view_python, view_text, view_opaque}
 use Rattle.ul_tree.proofs.join.closed.Goals as goal
+
+-- a tree that is there
+abbrev given : Tree → Result Tree AllocError
+given t = Ok t
+
+-- a value in memory of its own
+boxed_is : (t : Tree) (b : Box Tree Global) (made : Result (Box Tree Global) AllocError) → made ≡ Ok b → IfOk made (λ place. given t ≡ Ok place.value) → b.value ≡ t
+boxed_is t b made e h = let p : given t ≡ Ok b.value = made_holds made b _ e h in cc
 
 pub closed_level-requires-clause-one : goal.closed_level-requires-clause-one
 closed_level-requires-clause-one c = one_mark tree_view (level_view c.args.level) (tree_view c.args.other) c.args.made.items c.requires.reduced
@@ -21,11 +32,15 @@ returns-in-Part c = sym (ap (closed_view tree_view) c.in-Part.is) ∙ c.in_ok-li
 pub points_of-requires : goal.points_of-requires
 points_of-requires c = subst (λ (z : Closed Tree). IsEven z) c.in-Extra.is c.in_ok-lists.ensures.even
 
-pub returns-in_ok-other-in-Extra : goal.returns-in_ok-other-in-Extra
-returns-in_ok-other-in-Extra c =
-    view_extra c.in_ok-points-in-Extra.points c.in_ok-other-in-Extra.other
-    ∙ ap (λ t. node extra_level (tree_view t) (points_view c.in_ok-points-in-Extra.points.items)) c.in_ok-other-in-Extra.ensures.ok
-    ∙ ap (node extra_level (tree_view c.in-Extra.other)) c.in_ok-points-in-Extra.ensures
+pub returns-in_ok-points-in-Extra : goal.returns-in_ok-points-in-Extra
+returns-in_ok-points-in-Extra c =
+    let points = c.in_ok-points-in-Extra.points in
+    let other = c.in_ok-points-in-Extra.other in
+    let both = c.in_ok-points-in-Extra.ensures in
+    let alone = boxed_is c.in-Extra.other other c.boxed.result both.1 c.boxed.ensures in
+    view_extra points other
+    ∙ ap (λ t. node extra_level (tree_view t) (points_view points.items)) alone
+    ∙ ap (node extra_level (tree_view c.in-Extra.other)) (made_holds c.points_of.result points _ both.0 c.points_of.ensures)
     ∙ sym (ap (closed_view tree_view) c.in-Extra.is) ∙ c.in_ok-lists.ensures.tree tree_view
 
 -- ---- a text variable
@@ -33,12 +48,16 @@ returns-in_ok-other-in-Extra c =
 pub points_of-requires-in-Text : goal.points_of-requires-in-Text
 points_of-requires-in-Text c = subst (λ (z : Closed Tree). IsEven z) c.in-Text.is c.in_ok-lists.ensures.even
 
-pub returns-in_ok-other-in-Text : goal.returns-in_ok-other-in-Text
-returns-in_ok-other-in-Text c =
+pub returns-in_ok-points-in-Text : goal.returns-in_ok-points-in-Text
+returns-in_ok-points-in-Text c =
     let l = text_level c.in-Text.variable in
-    view_text c.in-Text.variable c.in_ok-points-in-Text.points c.in_ok-other-in-Text.other
-    ∙ ap (λ t. node l (tree_view t) (points_view c.in_ok-points-in-Text.points.items)) c.in_ok-other-in-Text.ensures.ok
-    ∙ ap (node l (tree_view c.in-Text.other)) c.in_ok-points-in-Text.ensures
+    let points = c.in_ok-points-in-Text.points in
+    let other = c.in_ok-points-in-Text.other in
+    let both = c.in_ok-points-in-Text.ensures in
+    let alone = boxed_is c.in-Text.other other c.boxed-in-Text.result both.1 c.boxed-in-Text.ensures in
+    view_text c.in-Text.variable points other
+    ∙ ap (λ t. node l (tree_view t) (points_view points.items)) alone
+    ∙ ap (node l (tree_view c.in-Text.other)) (made_holds c.points_of-in-Text.result points _ both.0 c.points_of-in-Text.ensures)
     ∙ sym (ap (closed_view tree_view) c.in-Text.is) ∙ c.in_ok-lists.ensures.tree tree_view
 
 -- ---- the interpreter
@@ -48,12 +67,18 @@ returns-in-Python c = view_python c.in-Python.starts c.in-Python.parts ∙ sym (
 
 -- ---- an opaque comparison
 
-pub returns-in_ok-no-in-Opaque : goal.returns-in_ok-no-in-Opaque
-returns-in_ok-no-in-Opaque c =
+pub returns-in_ok-atom-in-Opaque : goal.returns-in_ok-atom-in-Opaque
+returns-in_ok-atom-in-Opaque c =
     let a = c.in-Opaque.atom.now in
     let d = tree_view c.in-Opaque.fails in
-    view_opaque c.in_ok-atom-in-Opaque.atom c.in_ok-yes-in-Opaque.yes c.in_ok-no-in-Opaque.no
-    ∙ ap (λ b. node (atom_level b) (tree_view c.in_ok-no-in-Opaque.no.value) (branch (1 ∷ []) (tree_view c.in_ok-yes-in-Opaque.yes.value) done)) c.in_ok-atom-in-Opaque.ensures
-    ∙ ap (λ t. node (atom_level a) (tree_view t) (branch (1 ∷ []) (tree_view c.in_ok-yes-in-Opaque.yes.value) done)) c.in_ok-no-in-Opaque.ensures.ok
-    ∙ ap (λ t. node (atom_level a) d (branch (1 ∷ []) (tree_view t) done)) c.in_ok-yes-in-Opaque.ensures.ok
+    let atom = c.in_ok-atom-in-Opaque.atom in
+    let sides = c.in_ok-atom-in-Opaque.sides in
+    let made = c.in_ok-atom-in-Opaque.ensures in
+    let both = made_holds c.made_both-sides.result sides _ made.1 c.made_both-sides.ensures in
+    let yes = boxed_is c.in-Opaque.holds sides.0 c.boxed-in-Opaque.result both.0 c.boxed-in-Opaque.ensures in
+    let no = boxed_is c.in-Opaque.fails sides.1 c.boxed-in-Opaque-2.result both.1 c.boxed-in-Opaque-2.ensures in
+    view_opaque atom sides.0 sides.1
+    ∙ ap (λ b. node (atom_level b) (tree_view sides.1.value) (branch (1 ∷ []) (tree_view sides.0.value) done)) (made_holds c.copy.result atom _ made.0 c.copy.ensures)
+    ∙ ap (λ t. node (atom_level a) (tree_view t) (branch (1 ∷ []) (tree_view sides.0.value) done)) no
+    ∙ ap (λ t. node (atom_level a) d (branch (1 ∷ []) (tree_view t) done)) yes
     ∙ sym (ap (closed_view tree_view) c.in-Opaque.is) ∙ c.in_ok-lists.ensures.tree tree_view

@@ -1,6 +1,7 @@
 use Rattle.std.proofs.Common.{◌-◌, ◌/◌, [], ◌∷◌, List, ap, sym, ◌∙◌, subst, length, arith, drop, length-take}
 use Rattle.std.specs.List.{All}
 use Rattle.std.proofs.lemmas.List.Elements.{All-take}
+use Rattle.std.proofs.lemmas.Result.{IfOk-weaker}
 use Rattle.ul_tree.specs.Joining.{joint, truths_of}
 use Rattle.ul_nodes.specs.Reduced.{IsReduced}
 use Rattle.ul_tree.specs.Values.{tree_holds}
@@ -34,7 +35,9 @@ joined_last-requires-2 t c =
     )
 
 pub returns-clause-truth : goal.returns-clause-truth
-returns-clause-truth t c w x =
+returns-clause-truth t c =
+    IfOk-weaker c.pair.result _ _
+    (λ tree truth w x.
     let all = c.args.all in
     let xs = c.args.trees.now.items in
     let half = c.args.count / 2 in
@@ -42,10 +45,11 @@ returns-clause-truth t c w x =
     let back = c.in_ok-back.back in
     let both = c.in_ok-back.ensures in
     let told = made_holds c.joined_last-2.result c.in_ok-back.front _ both.1 c.joined_last-2.ensures.truth in
-    c.in_ok-tree.ensures.truth w x
+    truth w x
     ∙ ap (λ b. joint all (b ∷ tree_holds (tree_view back) w x ∷ [])) (told w x)
     ∙ ap (λ b. joint all (joint all (truths_of (drop (length left - (c.args.count - half)) left) w x) ∷ b ∷ [])) (ap (λ z. tree_holds (tree_view z) w x) both.0 ∙ c.in_ok-last.ensures.truth w x)
-    ∙ last_truths all xs left c.args.count half w x (omega arith) c.requires.within c.in_ok-last.ensures.left
+    ∙ last_truths all xs left c.args.count half w x (omega arith) c.requires.within c.in_ok-last.ensures.left)
+    c.pair.ensures.truth
 
 pub pair-requires-clause-front_reduced : goal.pair-requires-clause-front_reduced
 pair-requires-clause-front_reduced t c = made_holds c.joined_last-2.result c.in_ok-back.front _ c.in_ok-back.ensures.1 c.joined_last-2.ensures.reduced

@@ -58,21 +58,27 @@ of_marker-returns-in-Opaque-clause-truth t c =
     (λ tree truth w x h. truth w x ∙ sym (ap (λ f. marker_holds f w x) (ap marker_view c.in-Opaque.is ∙ marker_opaque c.in-Opaque.atom c.in-Opaque.positive)))
     c.opaque_tree.ensures.truth
 
-pub of_marker-returns-in_ok-tree-in-All-clause-truth : goal.of_marker-returns-in_ok-tree-in-All-clause-truth
-of_marker-returns-in_ok-tree-in-All-clause-truth t c w x h =
+pub of_marker-returns-in_ok-trees-in-All-clause-truth : goal.of_marker-returns-in_ok-trees-in-All-clause-truth
+of_marker-returns-in_ok-trees-in-All-clause-truth t c =
     let parts = c.in-All.parts in
-    c.in_ok-tree-in-All.ensures.truth w x
+    made_then c.joined.result _ _
+    (λ tree truth w x h.
+    truth w x
     ∙ ap (joint true) (c.in_ok-trees-in-All.ensures.truth w x h ∙ ap (map (λ m. marker_holds (marker_view m) w x)) c.deref-in-All.ensures.value)
     ∙ all_joint parts.items w x
-    ∙ sym (ap (λ f. marker_holds f w x) (ap marker_view c.in-All.is ∙ marker_all parts))
+    ∙ sym (ap (λ f. marker_holds f w x) (ap marker_view c.in-All.is ∙ marker_all parts)))
+    c.joined.ensures.truth
 
-pub of_marker-returns-in_ok-tree-in-Any-clause-truth : goal.of_marker-returns-in_ok-tree-in-Any-clause-truth
-of_marker-returns-in_ok-tree-in-Any-clause-truth t c w x h =
+pub of_marker-returns-in_ok-trees-in-Any-clause-truth : goal.of_marker-returns-in_ok-trees-in-Any-clause-truth
+of_marker-returns-in_ok-trees-in-Any-clause-truth t c =
     let parts = c.in-Any.parts in
-    c.in_ok-tree-in-Any.ensures.truth w x
+    made_then c.joined-in-Any.result _ _
+    (λ tree truth w x h.
+    truth w x
     ∙ ap (joint false) (c.in_ok-trees-in-Any.ensures.truth w x h ∙ ap (map (λ m. marker_holds (marker_view m) w x)) c.deref-in-Any.ensures.value)
     ∙ any_joint parts.items w x
-    ∙ sym (ap (λ f. marker_holds f w x) (ap marker_view c.in-Any.is ∙ marker_any parts))
+    ∙ sym (ap (λ f. marker_holds f w x) (ap marker_view c.in-Any.is ∙ marker_any parts)))
+    c.joined-in-Any.ensures.truth
 
 pub of_markers-loop-part-preserved : goal.of_markers-loop-part-preserved
 of_markers-loop-part-preserved t c =

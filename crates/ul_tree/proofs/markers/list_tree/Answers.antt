@@ -1,6 +1,7 @@
 use Rattle.std.proofs.Common.{ap, sym, ◌∙◌, List, false, subst, ◌++◌, ◌+◌, map, drop}
 use Rattle.std.specs.Prelude.{All}
 use Rattle.std.proofs.lemmas.List.Elements.{All-push}
+use Rattle.std.proofs.lemmas.Result.{IfOk-weaker}
 use Rattle.ul_version.specs.Fields.{Fields, plain}
 use Rattle.ul_specifier.specs.Meaning.{meets_clause}
 use Rattle.ul_comparison.specs.Truth.{as_asked, equal_to, python_release}
@@ -12,13 +13,16 @@ use Rattle.ul_tree.proofs.Joint.{listed_joint, truths_all, truths_more}
 use Rattle.ul_tree.proofs.markers.list_tree.Goals as goal
 
 pub returns-clause-truth : goal.returns-clause-truth
-returns-clause-truth c w x h =
+returns-clause-truth c =
+    IfOk-weaker c.within_or_not.result _ _
+    (λ tree truth w x h.
     let release = python_release c.args.full w in
     let f = λ (V : Fields). meets_clause (equal_to V) (plain release) in
-    c.in_ok-tree-2.ensures.truth w x
+    truth w x
     ∙ ap (as_asked c.args.within) (c.in_ok-tree.ensures.truth w x
     ∙ ap (joint false) (truths_all f c.loop-version.trees.items c.args.versions.now c.loop-version.version-index w x c.loop-version-test.false (c.loop-version.invariant.truth w x h))
-    ∙ listed_joint c.args.versions.now release)
+    ∙ listed_joint c.args.versions.now release))
+    c.within_or_not.ensures.truth
 
 pub loop-version-preserved : goal.loop-version-preserved
 loop-version-preserved c =

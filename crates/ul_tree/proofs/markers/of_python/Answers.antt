@@ -1,5 +1,8 @@
-use Rattle.std.proofs.Common.{[], ap, sym, ◌∙◌, List, true, subst, ◌++◌, ◌+◌, map, drop}
-use Rattle.std.specs.Prelude.{All}
+use Rattle.std.proofs.Common.{◌≡◌, ℕ, Bool, false, Result, Ok, Err, [], ap, sym, ◌∙◌, List, true, subst, ◌++◌, ◌+◌, map, drop}
+use Rattle.std.specs.Prelude.{All, IfOk}
+use Rattle.std.specs.declared.alloc.AllocError.{AllocError}
+use Rattle.std.proofs.lemmas.Result.{IfOk-weaker}
+use Rattle.ul_tree.specs.Sample.{asks_extra}
 use Rattle.std.proofs.lemmas.List.Elements.{All-push}
 use Rattle.ul_version.specs.Fields.{plain}
 use Rattle.ul_specifier.specs.Clauses.{ClauseFields}
@@ -15,18 +18,24 @@ use Rattle.ul_tree.proofs.TreeTruths.{no_extra}
 use Rattle.ul_tree.proofs.markers.of_python.Goals as goal
 
 pub returns-clause-truth : goal.returns-clause-truth
-returns-clause-truth c w x h =
+returns-clause-truth c =
+    IfOk-weaker c.joined.result _ _
+    (λ tree truth w x h.
     let release = python_release true w in
     let f = λ (s : ClauseFields). meets_clause s (plain release) in
-    c.in_ok-tree.ensures.truth w x
+    truth w x
     ∙ ap (joint true) (truths_all f c.loop-clause.trees.items c.deref-clause-items.result.now c.loop-clause.clause-index w x c.loop-clause-test.false (c.loop-clause.invariant.truth w x h))
     ∙ meets_joint c.deref-clause-items.result.now (plain release)
-    ∙ ap (λ z. meets_list z (plain release)) (c.deref-clause-items.ensures.value ∙ c.specifiers.view_is)
+    ∙ ap (λ z. meets_list z (plain release)) (c.deref-clause-items.ensures.value ∙ c.specifiers.view_is))
+    c.joined.ensures.truth
+
+-- what is said of the interpreter alone asks for no extra
+asks_none : (f : List ℕ → Bool) (made : Result Tree AllocError) → IfOk made IsTree → IfOk made (λ t. HoldsByPython t true f) → IfOk made (λ t. asks_extra (tree_view t) ≡ false)
+asks_none f (Ok t) reduced truth = no_extra.region (tree_view t) (record { reduced = reduced; truth = λ w x h. truth w x h ∙ sym (truth w [] h) })
+asks_none f (Err e) reduced truth = tt
 
 pub returns-clause-no_extra : goal.returns-clause-no_extra
-returns-clause-no_extra c =
-    let told = returns-clause-truth c in
-    no_extra.region (tree_view c.in_ok-tree.tree) (record { reduced = c.in_ok-tree.ensures.reduced; truth = λ w x h. told w x h ∙ sym (told w [] h) })
+returns-clause-no_extra c = asks_none (λ release. meets_list c.args.specifiers.now (plain release)) c.joined.result c.joined.ensures.reduced (returns-clause-truth c)
 
 pub loop-clause-preserved : goal.loop-clause-preserved
 loop-clause-preserved c =

@@ -1,4 +1,4 @@
-use Rattle.std.proofs.Common.{ℕ, ◌∷◌, Global, Vec, map, length, sym, ap, ◌∙◌}
+use Rattle.std.proofs.Common.{◌∷◌, map, length, sym, ap, ◌∙◌}
 use Rattle.ul_specifier.proofs.ForCallers.{not_empty}
 use Rattle.ul_nodes.specs.Closing.{python_of}
 use Rattle.ul_tree.specs.Views.{tree_view}
@@ -12,7 +12,7 @@ returns c =
     let starts = c.args.starts.now in
     let made = c.in_ok-starts.parts in
     let both = c.in_ok-starts.ensures in
-    let pieces = ap (λ (z : Vec ℕ Global). z.items) both.0 ∙ c.in_ok-pieces.ensures in
+    let pieces = made_holds c.pieces.result c.in_ok-starts.starts _ both.0 c.pieces.ensures in
     let parts = made_holds c.parts.result made _ both.1 c.parts.ensures in
     view_python c.in_ok-starts.starts made
     ∙ ap (λ z. python_of z (map tree_view made.items)) pieces

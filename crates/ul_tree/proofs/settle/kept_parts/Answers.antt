@@ -1,4 +1,5 @@
-use Rattle.std.proofs.Common.{◌++◌, ap, sym, ◌∙◌}
+use Rattle.std.proofs.Common.{◌++◌, ◌∷◌, [], ap, sym, ◌∙◌}
+use Rattle.ul_base.proofs.ForCallers.{made_holds}
 use Rattle.std.specs.Option.{option_map}
 use Rattle.ul_tree.specs.Views.{tree_view}
 use Rattle.ul_nodes.specs.Keys.{key_view}
@@ -31,11 +32,16 @@ loop-key-preserved c =
     let rest = c.next.new.self.rest.items in
     let z = tree_view c.args.first.now in
     let own = option_map tree_view c.in-Some.own in
+    let more = c.in_ok-parts.ensures in
+    let one = more.0 in
+    let pair = made_holds c.beside.result one _ more.1 c.beside.ensures in
+    let part = made_holds c.kept_or_copied-part.result one.1 _ pair.1 c.kept_or_copied-part.ensures in
+    let is = more.2 ∙ ap (λ k. xs ++ (k, one.1) ∷ []) pair.0 in
     record {
-      left = ap (λ ys. parts_view tree_view ys ++ kept_results m (results_view tree_view rest) (last_part (parts_view tree_view ys) z)) c.in_ok-push.ensures.items
-          ∙ kept_step tree_view m xs (c.in-Some.key, c.in_ok-part.part) own (results_view tree_view rest) z (sym c.is_left_out.ensures ∙ c.if-is_left_out.false)
-          (c.in_ok-part.ensures ∙ ap (own_or own) (ap tree_view c.last_part.ensures ∙ part_viewed tree_view c.deref.result.now c.args.first.now ∙ ap (λ ys. last_part (parts_view tree_view ys) z) c.deref.ensures.value))
+      left = ap (λ ys. parts_view tree_view ys ++ kept_results m (results_view tree_view rest) (last_part (parts_view tree_view ys) z)) is
+          ∙ kept_step tree_view m xs (c.in-Some.key, one.1) own (results_view tree_view rest) z (sym c.is_left_out.ensures ∙ c.if-is_left_out.false)
+          (part ∙ ap (own_or own) (ap tree_view c.last_part.ensures ∙ part_viewed tree_view c.deref.result.now c.args.first.now ∙ ap (λ ys. last_part (parts_view tree_view ys) z) c.deref.ensures.value))
           ∙ ap (λ ys. parts_view tree_view xs ++ kept_results m (results_view tree_view ys) (last_part (parts_view tree_view xs) z)) (sym c.in-Some.ensures.steps.0)
           ∙ c.loop-key.invariant.left;
-      kinds = λ l h. kinds_step l (c.in-Some.key, c.in-Some.own) c.in_ok-part.part xs c.push.new.self.items c.loop-key.key-iterator.rest.items rest c.in-Some.ensures.steps.0 c.in_ok-push.ensures.items (c.loop-key.invariant.kinds l h);
+      kinds = λ l h. kinds_step l (c.in-Some.key, c.in-Some.own) one.1 xs c.in_ok-parts.parts.items c.loop-key.key-iterator.rest.items rest c.in-Some.ensures.steps.0 is (c.loop-key.invariant.kinds l h);
     }

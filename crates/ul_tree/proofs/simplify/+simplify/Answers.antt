@@ -1,5 +1,6 @@
 use Rattle.std.proofs.Common.{◌≡◌, ◌≢◌, false, ◌<◌, ◌++◌, ◌∷◌, [], List, Option, Global, Vec, ap, sym, ◌∙◌, refl, subst, arith}
 use Rattle.std.specs.Option.{option_map}
+use Rattle.std.proofs.lemmas.Result.{IfOk-weaker}
 use Rattle.ul_nodes.specs.Plain.{Plain, truth}
 use Rattle.ul_nodes.specs.Reduced.{IsReduced}
 use Rattle.ul_nodes.specs.Apply.{size, rest_at}
@@ -40,11 +41,13 @@ pub results-returns-clause-pieces : goal.results-returns-clause-pieces
 results-returns-clause-pieces t c =
     results_end tree_view (level_view c.args.level) (tree_view c.args.whole.now) (tree_view c.args.region.now) c.args.keys.now c.loop-key.key-index c.loop-key.made.items (omega arith) c.loop-key.invariant.pieces
 
-pub simplified-returns-in_ok-tree-in-None : goal.simplified-returns-in_ok-tree-in-None
-simplified-returns-in_ok-tree-in-None t c = truth_done (tree_view c.args.whole.now) (tree_view c.args.within.now) (tree_view c.in_ok-tree-in-None.tree) c.in-None.ensures c.in_ok-tree-in-None.ensures
+pub simplified-returns-in-None : goal.simplified-returns-in-None
+simplified-returns-in-None t c =
+    IfOk-weaker c.copy.result _ _ (λ tree is. truth_done (tree_view c.args.whole.now) (tree_view c.args.within.now) (tree_view tree) c.in-None.ensures is) c.copy.ensures
 
 pub simplified_at-returns-then-known : goal.simplified_at-returns-then-known
-simplified_at-returns-then-known t c = all_done (tree_view c.args.whole.now) (tree_view c.args.region.now) (tree_view c.in_ok-tree.tree) (sym c.known.ensures ∙ c.if-known.true) c.in_ok-tree.ensures
+simplified_at-returns-then-known t c =
+    IfOk-weaker c.copy.result _ _ (λ tree is. all_done (tree_view c.args.whole.now) (tree_view c.args.region.now) (tree_view tree) (sym c.known.ensures ∙ c.if-known.true) is) c.copy.ensures
 
 pub results-loop-key-preserved : goal.results-loop-key-preserved
 results-loop-key-preserved t c =
@@ -84,16 +87,18 @@ pieces-returns-clause-settled t c =
     let r = tree_view c.args.region.now in
     let w = tree_view c.args.lower.now in
     let s = c.requires.lower in
-    let both = c.in_ok-both.both in
+    let found = made_holds c.results.result c.in_ok-results.results _ c.in_ok-results.ensures c.results.ensures.pieces in
+    IfOk-weaker c.beside.result _ _
+    (λ both told.
     let rs = results_view tree_view both.0.items in
     let o = option_map tree_view both.1 in
-    let found = made_holds c.results.result c.in_ok-results.results _ c.in_ok-results.ensures c.results.ensures.pieces in
-    let pieces = subst (λ (z : Vec (Key × Option Tree) Global). Pieces l f w (keys_view c.deref.result.now) (results_view tree_view z.items)) (sym c.in_ok-both.ensures.0) found in
-    let rest = made_holds c.piece-rest.result both.1 _ c.in_ok-both.ensures.1 c.piece-rest.ensures in
+    let pieces = subst (λ (z : Vec (Key × Option Tree) Global). Pieces l f w (keys_view c.deref.result.now) (results_view tree_view z.items)) (sym told.0) found in
+    let rest = made_holds c.piece-rest.result both.1 _ told.1 c.piece-rest.ensures in
     level_done f r (settled_level l rs o (rest_at l f)) l (keys_view c.in_ok-keys.keys.items) rs o c.requires.top c.requires.not_above c.requires.not_false c.requires.not_true c.in_ok-keys.ensures.keys
     (subst (λ (z : List Key). Pieces l f r (keys_view z) rs) c.deref.ensures.value (s.parts _ rs pieces))
     (s.rest o (subst (λ (z : Plain). Piece z (rest_at l w) o) c.rest_at.ensures.part (subst (λ (z : Plain). Piece (tree_view c.rest_at.result.now) z o) c.rest_at-2.ensures.part rest)))
-    refl
+    refl)
+    c.beside.ensures
 
 pub pieces-returns-clause-results_reduced : goal.pieces-returns-clause-results_reduced
 pieces-returns-clause-results_reduced t c =
@@ -102,8 +107,11 @@ pieces-returns-clause-results_reduced t c =
     let w = tree_view c.args.lower.now in
     let s = c.requires.lower in
     let found = made_holds c.results.result c.in_ok-results.results _ c.in_ok-results.ensures c.results.ensures.pieces in
-    let pieces = subst (λ (z : Vec (Key × Option Tree) Global). Pieces l f w (keys_view c.deref.result.now) (results_view tree_view z.items)) (sym c.in_ok-both.ensures.0) found in
-    results_reduced pieces (λ v. tree_part l v f c.requires.top c.requires.whole_reduced) (λ v. region_part l v w s.not_above s.reduced)
+    IfOk-weaker c.beside.result _ _
+    (λ both told.
+    let pieces = subst (λ (z : Vec (Key × Option Tree) Global). Pieces l f w (keys_view c.deref.result.now) (results_view tree_view z.items)) (sym told.0) found in
+    results_reduced pieces (λ v. tree_part l v f c.requires.top c.requires.whole_reduced) (λ v. region_part l v w s.not_above s.reduced))
+    c.beside.ensures
 
 pub pieces-returns-clause-rest_reduced : goal.pieces-returns-clause-rest_reduced
 pieces-returns-clause-rest_reduced t c =
@@ -111,18 +119,22 @@ pieces-returns-clause-rest_reduced t c =
     let f = tree_view c.args.whole.now in
     let w = tree_view c.args.lower.now in
     let s = c.requires.lower in
-    let both = c.in_ok-both.both in
-    result_reduced (tree_view c.rest_at.result.now) (tree_view c.rest_at-2.result.now) (option_map tree_view both.1) (made_holds c.piece-rest.result both.1 _ c.in_ok-both.ensures.1 c.piece-rest.ensures)
+    IfOk-weaker c.beside.result _ _
+    (λ both told.
+    result_reduced (tree_view c.rest_at.result.now) (tree_view c.rest_at-2.result.now) (option_map tree_view both.1) (made_holds c.piece-rest.result both.1 _ told.1 c.piece-rest.ensures)
     (subst (λ (z : Plain). IsReduced z) (sym c.rest_at.ensures.part) (tree_rest l f c.requires.top c.requires.whole_reduced))
-    (subst (λ (z : Plain). IsReduced z) (sym c.rest_at-2.ensures.part) (region_rest l w s.not_above s.reduced))
+    (subst (λ (z : Plain). IsReduced z) (sym c.rest_at-2.ensures.part) (region_rest l w s.not_above s.reduced)))
+    c.beside.ensures
 
-pub simplified-returns-in_ok-tree-in-Some : goal.simplified-returns-in_ok-tree-in-Some
-simplified-returns-in_ok-tree-in-Some t c =
+pub simplified-returns-in_ok-made-in-Some : goal.simplified-returns-in_ok-made-in-Some
+simplified-returns-in_ok-made-in-Some t c =
     let f = tree_view c.args.whole.now in
     let w = tree_view c.args.within.now in
-    let tree = c.in_ok-tree-in-Some.tree in
-    let made = made_holds c.simplified_at.result tree _ c.in_ok-tree-in-Some.ensures c.simplified_at.ensures in
-    lowered_done f w _ (tree_view tree) (level_view c.in-Some.level) c.in-Some.ensures c.in_ok-made-in-Some.ensures (subst (λ (z : Plain). Simplifies f z (tree_view tree)) c.standing_region-region.ensures made)
+    IfOk-weaker c.made_from.result _ _
+    (λ tree is.
+    let made = made_holds c.simplified_at.result tree _ is c.simplified_at.ensures in
+    lowered_done f w _ (tree_view tree) (level_view c.in-Some.level) c.in-Some.ensures c.in_ok-made-in-Some.ensures (subst (λ (z : Plain). Simplifies f z (tree_view tree)) c.standing_region-region.ensures made))
+    c.made_from.ensures
 
 pub simplified_at-settled-requires-clause-otherwise_reduced : goal.simplified_at-settled-requires-clause-otherwise_reduced
 simplified_at-settled-requires-clause-otherwise_reduced t c =
@@ -189,9 +201,12 @@ simplified_at-returns t c =
     let l = level_view c.args.level in
     let results = c.in_ok-results.results in
     let rest = c.in_ok-results.rest in
+    IfOk-weaker c.settled.result _ _
+    (λ tree is.
     subst (λ (z : Plain). Simplifies (tree_view c.args.whole.now) (tree_view c.args.region.now) z)
-    (sym (c.in_ok-tree-2.ensures ∙ ap (settled_level l (results_view tree_view results.items) (option_map tree_view rest)) c.rest_at.ensures.part))
-    (made_holds c.pieces-found.result (results, rest) _ c.in_ok-results.ensures c.pieces-found.ensures.settled)
+    (sym (is ∙ ap (settled_level l (results_view tree_view results.items) (option_map tree_view rest)) c.rest_at.ensures.part))
+    (made_holds c.pieces-found.result (results, rest) _ c.in_ok-results.ensures c.pieces-found.ensures.settled))
+    c.settled.ensures
 
 pub simplified_at-settled-requires-clause-kinds : goal.simplified_at-settled-requires-clause-kinds
 simplified_at-settled-requires-clause-kinds t c = made_holds c.pieces-found.result (c.in_ok-results.results, c.in_ok-results.rest) _ c.in_ok-results.ensures c.pieces-found.ensures.kinds
@@ -204,5 +219,8 @@ simplified_at-settled-requires-clause-rest_reduced t c = made_holds c.pieces-fou
 
 pub pieces-returns-clause-kinds : goal.pieces-returns-clause-kinds
 pieces-returns-clause-kinds t c =
-    subst (λ (z : Vec (Key × Option Tree) Global). KeysOf (level_view c.args.level) z.items) (sym c.in_ok-both.ensures.0)
-    (made_holds c.results.result c.in_ok-results.results _ c.in_ok-results.ensures c.results.ensures.kinds)
+    IfOk-weaker c.beside.result _ _
+    (λ both told.
+    subst (λ (z : Vec (Key × Option Tree) Global). KeysOf (level_view c.args.level) z.items) (sym told.0)
+    (made_holds c.results.result c.in_ok-results.results _ c.in_ok-results.ensures c.results.ensures.kinds))
+    c.beside.ensures

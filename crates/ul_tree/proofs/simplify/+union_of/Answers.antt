@@ -1,4 +1,5 @@
 use Rattle.std.proofs.Common.{◌≡◌, ◌/◌, ◌-◌, ◌+◌, ap, sym, ◌∙◌, subst, arith}
+use Rattle.std.proofs.lemmas.Result.{IfOk-weaker}
 use Rattle.ul_nodes.specs.Keys.{branches_of}
 use Rattle.ul_nodes.specs.Plain.{Plain, holds_of}
 use Rattle.ul_nodes.specs.Reduced.{IsReduced}
@@ -15,14 +16,17 @@ use Rattle.ul_tree.proofs.simplify.+union_of.Goals as goal
 
 pub returns-then-count-eq1-clause-reduced : goal.returns-then-count-eq1-clause-reduced
 returns-then-count-eq1-clause-reduced t c =
-    subst (λ (z : Plain). IsReduced z) (sym c.in_ok-part.ensures) (part_reduced (tree_view c.args.tree.now) _ _ _ c.args.low c.requires.reduced c.branch_at.ensures.found)
+    IfOk-weaker c.copy.result _ _ (λ part is. subst (λ (z : Plain). IsReduced z) (sym is) (part_reduced (tree_view c.args.tree.now) _ _ _ c.args.low c.requires.reduced c.branch_at.ensures.found)) c.copy.ensures
 
 pub returns-then-count-eq1-clause-truth : goal.returns-then-count-eq1-clause-truth
 returns-then-count-eq1-clause-truth t c =
     let bs = branches_of (tree_view c.args.tree.now) in
-    let one : HoldsParts bs c.args.low 1 (tree_view c.in_ok-part.part) = λ f. ap (λ z. holds_of z f) c.in_ok-part.ensures ∙ sym (one_part _ _ _ _ f c.branch_at.ensures.found) in
     let e : 1 ≡ c.args.high - c.args.low = omega (arith, c.if-count-eq1.true) in
-    subst (λ n. HoldsParts bs c.args.low n (tree_view c.in_ok-part.part)) e one
+    IfOk-weaker c.copy.result _ _
+    (λ part is.
+    let one : HoldsParts bs c.args.low 1 (tree_view part) = λ f. ap (λ z. holds_of z f) is ∙ sym (one_part _ _ _ _ f c.branch_at.ensures.found) in
+    subst (λ n. HoldsParts bs c.args.low n (tree_view part)) e one)
+    c.copy.ensures
 
 pub union_of-requires : goal.union_of-requires
 union_of-requires t c =
@@ -43,16 +47,19 @@ returns-clause-truth t c =
     let front = c.in_ok-front.front in
     let back = c.in_ok-front.back in
     let both = c.in_ok-front.ensures in
-    let made = made_holds c.joined.result c.in_ok-union.union (λ u. IsJoined Either (tree_view front) (tree_view back) (tree_view u)) c.in_ok-union.ensures c.joined.ensures.joined in
-    halves_joined bs low middle high (tree_view front) (tree_view back) (tree_view c.in_ok-union.union) (omega arith) (omega (arith, c.requires.some))
+    IfOk-weaker c.made_from.result _ _
+    (λ union is.
+    let made = made_holds c.joined.result union (λ u. IsJoined Either (tree_view front) (tree_view back) (tree_view u)) is c.joined.ensures.joined in
+    halves_joined bs low middle high (tree_view front) (tree_view back) (tree_view union) (omega arith) (omega (arith, c.requires.some))
     (subst IsTree (sym both.0) c.in_ok-first.ensures.reduced)
     (made_holds c.union_of-2.result back IsTree both.1 c.union_of-2.ensures.reduced)
     made
     (subst (λ (z : Tree). HoldsParts bs low (middle - low) (tree_view z)) (sym both.0) c.in_ok-first.ensures.truth)
-    (made_holds c.union_of-2.result back (λ z. HoldsParts bs middle (high - middle) (tree_view z)) both.1 c.union_of-2.ensures.truth)
+    (made_holds c.union_of-2.result back (λ z. HoldsParts bs middle (high - middle) (tree_view z)) both.1 c.union_of-2.ensures.truth))
+    c.made_from.ensures
 
 pub returns-clause-reduced : goal.returns-clause-reduced
-returns-clause-reduced t c = made_holds c.joined.result c.in_ok-union.union _ c.in_ok-union.ensures c.joined.ensures.reduced
+returns-clause-reduced t c = IfOk-weaker c.made_from.result _ _ (λ union is. made_holds c.joined.result union _ is c.joined.ensures.reduced) c.made_from.ensures
 
 pub joined-requires-clause-left_reduced : goal.joined-requires-clause-left_reduced
 joined-requires-clause-left_reduced t c = subst IsTree (sym c.in_ok-front.ensures.0) c.in_ok-first.ensures.reduced
