@@ -1,44 +1,49 @@
 //! Machine files and the worlds of machines, as tables.
 
-use crate::texts::{atom, atoms_of, cells, digit};
-use std::alloc::{AllocError, Global};
-use std::fmt::Write;
+use crate::texts::{atom, atoms_of, digit, letter, number, repeated};
+use std::alloc::Global;
 use ul_marker::{Atom, EnvFault, Machine, World, world_of};
+use ul_test_rows::{cells, put, put_number};
 
 // The keys of a machine file, in the order in which they are looked for.
 const KEYS: &str =
     "os_name sys_platform platform_machine platform_python_implementation platform_release \
     platform_system platform_version implementation_name implementation_version python_full_version";
 
-// A key with its text.
-fn push_entry(text: &mut String, key: &str, version: &str) -> Result<(), AllocError> {
+// Puts a key with its text.
+fn put_entry(text: &mut String, key: &str, version: &str) {
     let value = match key {
         "python_full_version" => version,
         "implementation_version" => "3.10.4rc1",
         "platform_version" => "#1 SMP \\u00e9",
         _ => key,
     };
-    write!(text, ", \"{key}\": \"{value}\"")
+    put(text, ", \"");
+    put(text, key);
+    put(text, "\": \"");
+    put(text, value);
+    put(text, "\"");
 }
 
 // A machine file without one of its keys, with this version of Python, and with more behind them.
-fn file(alloc: Global, left_out: &str, version: &str, more: &str) -> Result<String, AllocError> {
-    let mut text = String::from_str(alloc, "{\"python_version\": 7, \"more\": [1]")?;
+fn file(alloc: Global, left_out: &str, version: &str, more: &str) -> String {
+    let mut text = String::new(alloc);
+    put(&mut text, "{\"python_version\": 7, \"more\": [1]");
     for key in KEYS.split(' ') {
         if key != left_out {
-            push_entry(&mut text, key, version)?;
+            put_entry(&mut text, key, version);
         }
     }
-    text.push_str(more)?;
-    Ok(text)
+    put(&mut text, more);
+    text
 }
 
-fn is_interpreter(alloc: Global, python: (u32, u32, u32), want: &str) -> bool {
-    let (major, minor, patch) = python;
-    match format!(in alloc; "{major} {minor} {patch}") {
-        Ok(text) => text.as_str() == want,
-        Err(_) => false,
-    }
+fn is_interpreter(python: (u32, u32, u32), want: &str) -> bool {
+    let (major, rest) = cells(want, ' ');
+    let (minor, patch) = cells(rest, ' ');
+    number(major) == python.0 as usize
+        && number(minor) == python.1 as usize
+        && number(patch) == python.2 as usize
 }
 
 // Whether a fault is the one of a name; of a missing key that is the key.
@@ -54,12 +59,12 @@ fn is_fault(fault: &EnvFault, want: &str) -> bool {
 // Whether bytes are read as a machine with this version, or refused by this fault.
 fn is_told(alloc: Global, bytes: &[u8], want: &str) -> bool {
     match Machine::read(alloc, bytes) {
-        Ok(machine) => is_interpreter(alloc, machine.python, want),
+        Ok(machine) => is_interpreter(machine.python, want),
         Err(fault) => is_fault(&fault, want),
     }
 }
 
-// What machine files are read as, or the first fault: files of a version of Python; files that miss a key; texts, which
+// By the letter of the first word, what machine files are read as, or the first fault: files of a version of Python; files that miss a key; texts, which
 // are no object or lack the first key; bytes that are no text; and a long file, in place of a text of the others. Then
 // whether opaque comparisons hold on a machine, and the comparisons; and that many of them stand in order.
 const MACHINES: &str = "version|3 12 4|3.12.4\n\
@@ -118,36 +123,33 @@ const MACHINES: &str = "version|3 12 4|3.12.4\n\
     compared|1|implementation_version in '3.10.4rc1 x'\n\
     compared|1|sys_platform in 'sys_platform'\n\
     compared|0|'q' in platform_version\n\
-    many";
+    ordered";
 
 fn is_version(alloc: Global, version: &str, want: &str) -> bool {
-    match file(alloc, "", version, "}") {
-        Ok(text) => is_told(alloc, text.as_bytes(), want),
-        Err(_) => false,
-    }
+    is_told(alloc, file(alloc, "", version, "}").as_bytes(), want)
+}
+
+// A key that has a number, beside a key whose name ends alike.
+fn number_entry(alloc: Global, key: &str) -> String {
+    let mut text = String::new(alloc);
+    put(&mut text, ", \"");
+    put(&mut text, key);
+    put(&mut text, "\": 1, \"x");
+    put(&mut text, key);
+    put(&mut text, "\": \"");
+    put(&mut text, key);
+    put(&mut text, "\"}");
+    text
 }
 
 // Whether a key is missed in a file without it that has more behind its keys.
 fn is_missed(alloc: Global, key: &str, more: &str) -> bool {
-    match file(alloc, key, "3.12", more) {
-        Ok(text) => is_told(alloc, text.as_bytes(), key),
-        Err(_) => false,
-    }
+    is_told(alloc, file(alloc, key, "3.12", more).as_bytes(), key)
 }
 
-// Whether a key is missed where it is left out, and where it has a number, beside a key whose name ends alike.
+// Whether a key is missed where it is left out, and where it has a number.
 fn is_missed_twice(alloc: Global, key: &str) -> bool {
-    match format!(in alloc; ", \"{key}\": 1, \"x{key}\": \"{key}\"}}") {
-        Ok(number) => is_missed(alloc, key, "}") && is_missed(alloc, key, number.as_str()),
-        Err(_) => false,
-    }
-}
-
-// A file with 10,000 times `ab` in place of a text.
-fn long_file(alloc: Global, replaced: &str) -> Result<String, AllocError> {
-    let long = "ab".repeat(alloc, 10_000)?;
-    let text = file(alloc, "", "3.12.4", "}")?;
-    text.replace(alloc, replaced, long.as_str())
+    is_missed(alloc, key, "}") && is_missed(alloc, key, number_entry(alloc, key).as_str())
 }
 
 // Whether the text of the platform's version alone is long.
@@ -160,31 +162,40 @@ fn has_long_text(machine: &Machine) -> bool {
     machine.texts.len() == 8 && machine.implementation_version.as_str() == "3.10.4rc1"
 }
 
-// Whether such a file is read.
-fn is_long_read(alloc: Global, replaced: &str) -> Option<bool> {
-    let text = long_file(alloc, replaced).ok()?;
-    let machine = Machine::read(alloc, text.as_bytes()).ok()?;
-    Some(has_long_text(&machine))
+fn has_long(alloc: Global, bytes: &[u8]) -> bool {
+    match Machine::read(alloc, bytes) {
+        Ok(machine) => has_long_text(&machine),
+        Err(_) => false,
+    }
 }
 
-fn machine(alloc: Global) -> Option<Machine> {
-    let text = file(alloc, "", "3.10.4", "}").ok()?;
-    Machine::read(alloc, text.as_bytes()).ok()
+// Whether a file with 10,000 times `ab` in place of a text is read.
+fn is_long_read(alloc: Global, replaced: &str) -> bool {
+    let long = repeated(alloc, 10_000, "ab");
+    let text = file(alloc, "", "3.12.4", "}");
+    match text.replace(alloc, replaced, long.as_str()) {
+        Ok(text) => has_long(alloc, text.as_bytes()),
+        Err(_) => false,
+    }
 }
 
 fn world(alloc: Global, atoms: &Vec<Atom>) -> Option<World> {
-    let machine = machine(alloc)?;
-    world_of(alloc, &machine, atoms).ok()
+    match Machine::read(alloc, file(alloc, "", "3.10.4", "}").as_bytes()) {
+        Ok(machine) => world_of(alloc, &machine, atoms).ok(),
+        Err(_) => None,
+    }
 }
 
 // The comparisons `os_name < 'ptN'` for 300 numbers, each twice, in disorder, and one that isn't opaque.
-fn many_text(alloc: Global) -> Result<String, AllocError> {
+fn many_text(alloc: Global) -> String {
     let mut text = String::new(alloc);
-    for turn in 0..600u32 {
-        write!(text, "os_name < 'pt{}' or ", (turn * 7) % 300)?;
+    for turn in 0..600u64 {
+        put(&mut text, "os_name < 'pt");
+        put_number(&mut text, (turn * 7) % 300);
+        put(&mut text, "' or ");
     }
-    text.push_str("extra == ''")?;
-    Ok(text)
+    put(&mut text, "extra == ''");
+    text
 }
 
 fn has_all(world: &World, atoms: &[Atom]) -> bool {
@@ -247,23 +258,16 @@ fn is_compared(alloc: Global, text: &str, want: &str) -> bool {
     }
 }
 
-fn are_many_compared(alloc: Global) -> bool {
-    match many_text(alloc) {
-        Ok(text) => is_compared(alloc, text.as_str(), "many"),
-        Err(_) => false,
-    }
-}
-
 fn is_row(alloc: Global, line: &str) -> bool {
-    let (kind, rest) = cells(line);
-    let (want, text) = cells(rest);
-    match kind {
-        "version" => is_version(alloc, text, want),
-        "missed" => is_missed_twice(alloc, want),
-        "text" => is_told(alloc, text.as_bytes(), want),
-        "bytes" => is_told(alloc, b"{\"os_name\": \"\xff\"}", want),
-        "long" => matches!(is_long_read(alloc, want), Some(true)),
-        "many" => are_many_compared(alloc),
+    let (kind, rest) = cells(line, '|');
+    let (want, text) = cells(rest, '|');
+    match letter(kind) {
+        b'v' => is_version(alloc, text, want),
+        b'm' => is_missed_twice(alloc, want),
+        b't' => is_told(alloc, text.as_bytes(), want),
+        b'b' => is_told(alloc, b"{\"os_name\": \"\xff\"}", want),
+        b'l' => is_long_read(alloc, want),
+        b'o' => is_compared(alloc, many_text(alloc).as_str(), "many"),
         _ => is_compared(alloc, text, want),
     }
 }

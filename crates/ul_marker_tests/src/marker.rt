@@ -1,10 +1,11 @@
 //! Truths of markers at worlds, the order of atoms, and the texts of a world, as tables.
 
-use crate::texts::{atom, cells, digit, front, number, numbered, variable, world};
+use crate::texts::{atom, digit, letter, number, numbered, variable, world};
 use crate::worlds::{holds_at, worlds};
 use std::alloc::Global;
 use ul_marker::{Atom, Marker, World, meets_python};
 use ul_specifier::{Clause, Op};
+use ul_test_rows::{cells, put};
 
 // The files of three machines, and behind each the opaque comparisons that hold at its world; at the last none does.
 const MACHINES: &str = "\
@@ -57,34 +58,36 @@ const MARKERS: &str = "000 111 0 1|extra == 'test'\n\
     000 000 3 0|('a' in os_name or os_name < 'b') and ('a' in os_name or python_full_version in '3.8.1, 3.9')\n\
     000 000 1 1|implementation_version == '3' and (python_version in '3.8 2' or \
     (extra == '' and sys_platform == 'b'))\n\
-    111 111 0 0|all of nothing\n\
-    000 000 0 0|any of nothing\n\
+    111 111 0 0|conjunction of nothing\n\
+    000 000 0 0|disjunction of nothing\n\
     110 110 300 1|a long marker";
 
 // A list of versions, and a choice of comparisons, with 300 numbers each.
-fn long_marker(alloc: Global) -> Option<Marker> {
-    let versions = numbered(alloc, 300, ",3.", "").ok()?;
-    let choices = numbered(alloc, 300, " or ('a", "' in os_name and extra == 'x')").ok()?;
-    let text = format!(in alloc; "python_version in '2{versions}'{choices}").ok()?;
-    Marker::read(alloc, text.as_str()).ok()
+fn long_text(alloc: Global) -> String {
+    let versions = numbered(alloc, 300, ",3.", "");
+    let choices = numbered(alloc, 300, " or ('a", "' in os_name and extra == 'x')");
+    let mut text = String::new(alloc);
+    put(&mut text, "python_version in '2");
+    put(&mut text, versions.as_str());
+    put(&mut text, "'");
+    put(&mut text, choices.as_str());
+    text
 }
 
+// The marker of a text, or one that the table names; no other text begins with these letters.
 fn marker_of(alloc: Global, text: &str) -> Option<Marker> {
-    match text {
-        "all of nothing" => Some(Marker::All(Vec::new(alloc))),
-        "any of nothing" => Some(Marker::Any(Vec::new(alloc))),
-        "a long marker" => long_marker(alloc),
+    match letter(text) {
+        b'c' => Some(Marker::All(Vec::new(alloc))),
+        b'd' => Some(Marker::Any(Vec::new(alloc))),
+        b'a' => Marker::read(alloc, long_text(alloc).as_str()).ok(),
         _ => Marker::read(alloc, text).ok(),
     }
 }
 
 fn holds(alloc: Global, marker: &Marker, alone: &str, with_test: &str) -> bool {
-    match worlds(alloc, MACHINES) {
-        Some(worlds) => {
-            holds_at(&worlds, "", marker, alone) && holds_at(&worlds, "test", marker, with_test)
-        }
-        None => false,
-    }
+    let worlds = worlds(alloc, MACHINES);
+    let worlds = worlds.as_slice();
+    holds_at(worlds, "", marker, alone) && holds_at(worlds, "test", marker, with_test)
 }
 
 fn has_count(alloc: Global, marker: &Marker, count: &str) -> bool {
@@ -96,9 +99,9 @@ fn has_count(alloc: Global, marker: &Marker, count: &str) -> bool {
 
 // Whether a marker is what the front of a row says.
 fn is_told(alloc: Global, marker: &Marker, facts: &str) -> bool {
-    let (alone, facts) = front(facts);
-    let (with_test, facts) = front(facts);
-    let (count, asks) = front(facts);
+    let (alone, facts) = cells(facts, ' ');
+    let (with_test, facts) = cells(facts, ' ');
+    let (count, asks) = cells(facts, ' ');
     digit(marker.asks_extra()) == asks
         && has_count(alloc, marker, count)
         && holds(alloc, marker, alone, with_test)
@@ -132,7 +135,7 @@ const ORDERED: &str = "0 os_name contains \n\
 // Whether a comparison stands at a place among all.
 fn stands_at(alloc: Global, place: usize, atom_here: &Atom) -> bool {
     for line in ORDERED.lines() {
-        let (other, text) = front(line);
+        let (other, text) = cells(line, ' ');
         match atom(alloc, text) {
             Some(second) => {
                 if atom_here.cmp(&second) != place.cmp(&number(other)) {
@@ -146,12 +149,21 @@ fn stands_at(alloc: Global, place: usize, atom_here: &Atom) -> bool {
 }
 
 // Whether the copy of a comparison stands there.
-fn is_placed(alloc: Global, place: &str, text: &str) -> Option<bool> {
-    let copy = atom(alloc, text)?.copy(alloc).ok()?;
-    Some(stands_at(alloc, number(place), &copy))
+fn is_copy_placed(alloc: Global, place: &str, atom: &Atom) -> bool {
+    match atom.copy(alloc) {
+        Ok(copy) => stands_at(alloc, number(place), &copy),
+        Err(_) => false,
+    }
 }
 
-// What is checked:
+fn is_placed(alloc: Global, place: &str, text: &str) -> bool {
+    match atom(alloc, text) {
+        Some(atom) => is_copy_placed(alloc, place, &atom),
+        None => false,
+    }
+}
+
+// What is checked, by the letter of the first word:
 // - `atom`: whether a comparison is one;
 // - `world`: whether the first machine has a world where the opaque comparisons of a marker hold, in its order;
 // - `bare`: whether there is a world without texts;
@@ -183,7 +195,7 @@ const CHECKED: &str = "atom 1 python_version contains ~ '\n\
 
 // The world of the first machine where the opaque comparisons of a marker hold.
 fn first_world(alloc: Global, marker: &str) -> Option<World> {
-    world(alloc, cells(MACHINES).0, marker)
+    world(alloc, cells(MACHINES, '|').0, marker)
 }
 
 fn is_named(alloc: Global, name: &str, want: &str) -> bool {
@@ -208,20 +220,20 @@ fn is_compatible(alloc: Global, version: &str) -> bool {
 }
 
 fn is_checked(alloc: Global, line: &str) -> bool {
-    let (kind, rest) = front(line);
-    let (want, text) = front(rest);
-    match kind {
-        "atom" => digit(atom(alloc, text).is_some()) == want,
-        "world" => digit(first_world(alloc, text).is_some()) == want,
-        "bare" => digit(is_bare_world(alloc)) == want,
-        "compatible" => digit(is_compatible(alloc, text)) == want,
-        "text" => is_named(alloc, want, text),
-        _ => matches!(is_placed(alloc, kind, rest), Some(true)),
+    let (kind, rest) = cells(line, ' ');
+    let (want, text) = cells(rest, ' ');
+    match letter(kind) {
+        b'a' => digit(atom(alloc, text).is_some()) == want,
+        b'w' => digit(first_world(alloc, text).is_some()) == want,
+        b'b' => digit(is_bare_world(alloc)) == want,
+        b'c' => digit(is_compatible(alloc, text)) == want,
+        b't' => is_named(alloc, want, text),
+        _ => is_placed(alloc, kind, rest),
     }
 }
 
 fn is_row(alloc: Global, line: &str) -> bool {
-    let (facts, text) = cells(line);
+    let (facts, text) = cells(line, '|');
     if text.is_empty() {
         return is_checked(alloc, line);
     }

@@ -1,8 +1,9 @@
 //! Readings of markers, as tables.
 
-use crate::texts::{front, numbered, parts};
-use std::alloc::{AllocError, Global};
+use crate::texts::{letter, number, numbered, parts, repeated};
+use std::alloc::Global;
 use ul_marker::{Marker, MarkerFault};
+use ul_test_rows::{cells, put};
 
 // The relations of the table below, in order.
 const RELATIONS: &str = "==,!=,<=,>=,<,>,~=,in,not in";
@@ -42,11 +43,12 @@ const TEXTS: &str =
     0 python_version == '3.8' or python_version == 'x'|0 python_version ~= '3'|0 python_version > '3.*'|0 'a' == 'b'|\
     0 os_name == sys_platform|0 os_name == posix|0 posix == 'a'|0 os_name == 'a' xor os_name == 'b'|0 os_name == 'a' && os_name == 'b'";
 
-// Whether long texts are read, and their names; and that a long choice has each of its parts.
-const LONG: &str = "long 1 64 parentheses|\
-    long 0 65 parentheses|\
-    long 1 ten thousand nests|\
-    long 0 a million open parentheses|\
+// Whether long texts are read, and what they are made of: how often a piece stands there, the piece, a middle, and what
+// stands as often behind it; and that a long choice has each of its parts.
+const LONG: &str = "long 1 64~(~os_name == 'a'~)|\
+    long 0 65~(~os_name == 'a'~)|\
+    long 1 10000~((os_name == 'a') and extra == 'b') or ~os_name != 'c'~|\
+    long 0 1000000~(~~|\
     choice of 20001 parts";
 
 // Whether a text is read, as a digit.
@@ -58,77 +60,62 @@ fn answer(alloc: Global, text: &str) -> &'static str {
     }
 }
 
-// Which relations are read between two sides, as digits.
-fn relations(alloc: Global, left: &str, right: &str) -> Result<String, AllocError> {
-    let mut read = String::new(alloc);
-    for relation in RELATIONS.split(',') {
-        let text = format!(in alloc; "{left} {relation} {right}")?;
-        read.push_str(answer(alloc, text.as_str()))?;
-    }
-    Ok(read)
+// A text between two others, with a blank on each side.
+fn related(alloc: Global, left: &str, relation: &str, right: &str) -> String {
+    let mut text = String::new(alloc);
+    put(&mut text, left);
+    put(&mut text, " ");
+    put(&mut text, relation);
+    put(&mut text, " ");
+    put(&mut text, right);
+    text
 }
 
+// Whether these relations, as digits, are read between two sides.
 fn has_relations(alloc: Global, left: &str, right: &str, want: &str) -> bool {
-    match relations(alloc, left, right) {
-        Ok(read) => read.as_str() == want,
-        Err(_) => false,
+    let mut read = String::new(alloc);
+    for relation in RELATIONS.split(',') {
+        let text = related(alloc, left, relation, right);
+        put(&mut read, answer(alloc, text.as_str()));
     }
+    read.as_str() == want
 }
 
 fn is_related(alloc: Global, variable: &str, want: &str) -> bool {
-    let (left, right) = front(want);
+    let (left, right) = cells(want, ' ');
     has_relations(alloc, variable, "'3.8'", left) && has_relations(alloc, "'3.8'", variable, right)
 }
 
-// A piece so many times, a middle, and a last piece as often.
-fn repeated(
-    alloc: Global,
-    count: usize,
-    piece: &str,
-    middle: &str,
-    last: &str,
-) -> Result<String, AllocError> {
-    let mut text = piece.repeat(alloc, count)?;
-    text.push_str(middle)?;
-    let last = last.repeat(alloc, count)?;
-    text.push_str(last.as_str())?;
-    Ok(text)
-}
-
-fn long_text(alloc: Global, name: &str) -> Result<String, AllocError> {
-    match name {
-        "64 parentheses" => repeated(alloc, 64, "(", "os_name == 'a'", ")"),
-        "65 parentheses" => repeated(alloc, 65, "(", "os_name == 'a'", ")"),
-        "ten thousand nests" => {
-            let nest = "((os_name == 'a') and extra == 'b') or ";
-            repeated(alloc, 10_000, nest, "os_name != 'c'", "")
-        }
-        _ => repeated(alloc, 1_000_000, "(", "", ""),
-    }
+fn long_text(alloc: Global, row: &str) -> String {
+    let (count, rest) = cells(row, '~');
+    let (piece, rest) = cells(rest, '~');
+    let (middle, last) = cells(rest, '~');
+    let mut text = repeated(alloc, number(count), piece);
+    put(&mut text, middle);
+    put(&mut text, repeated(alloc, number(count), last).as_str());
+    text
 }
 
 fn is_long_told(alloc: Global, line: &str) -> bool {
-    let (want, name) = front(line);
-    match long_text(alloc, name) {
-        Ok(text) => answer(alloc, text.as_str()) == want,
-        Err(_) => false,
-    }
+    let (want, row) = cells(line, ' ');
+    answer(alloc, long_text(alloc, row).as_str()) == want
 }
 
 // How many parts a choice of 20,000 comparisons, and one more, is read into.
-fn long_count(alloc: Global) -> Option<usize> {
-    let mut text = numbered(alloc, 20_000, "os_name == '", "' or ").ok()?;
-    text.push_str("extra == 'b'").ok()?;
-    Some(parts(alloc, text.as_str()))
+fn long_count(alloc: Global) -> usize {
+    let mut text = numbered(alloc, 20_000, "os_name == '", "' or ");
+    put(&mut text, "extra == 'b'");
+    parts(alloc, text.as_str())
 }
 
+// A row that doesn't begin with a digit, nor with the letter of a long text, begins with a variable.
 fn is_row(alloc: Global, line: &str) -> bool {
-    let (word, rest) = front(line);
-    match word {
-        "0" | "1" => answer(alloc, rest) == word,
-        "long" => is_long_told(alloc, rest),
-        "choice" => matches!(long_count(alloc), Some(20_001)),
-        variable => is_related(alloc, variable, rest),
+    let (word, rest) = cells(line, ' ');
+    match letter(word) {
+        b'0' | b'1' => answer(alloc, rest) == word,
+        b'l' => is_long_told(alloc, rest),
+        b'c' => long_count(alloc) == 20_001,
+        _ => is_related(alloc, word, rest),
     }
 }
 

@@ -1,9 +1,9 @@
 //! Markers, some from the metadata of published packages, evaluated at three machines.
 
-use crate::texts::{cells, front};
 use crate::worlds::{holds_at, worlds};
 use std::alloc::Global;
 use ul_marker::{Marker, MarkerFault};
+use ul_test_rows::cells;
 
 // The files of three machines, and behind each the opaque comparisons of the markers below that hold on it.
 const MACHINES: &str = "\
@@ -286,15 +286,13 @@ const OWN: &str = "000 platform_release == '10.0'|texts are compared as texts, n
 
 // Whether a marker holds with the extra `test` on those machines where the digits say so.
 fn holds_on_machines(alloc: Global, marker: &Marker, digits: &str) -> bool {
-    match worlds(alloc, MACHINES) {
-        Some(worlds) => holds_at(&worlds, "test", marker, digits),
-        None => false,
-    }
+    let worlds = worlds(alloc, MACHINES);
+    holds_at(worlds.as_slice(), "test", marker, digits)
 }
 
 fn is_row(alloc: Global, line: &str) -> bool {
-    let (case, _) = cells(line);
-    let (want, text) = front(case);
+    let (case, _) = cells(line, '|');
+    let (want, text) = cells(case, ' ');
     match Marker::read(alloc, text) {
         Ok(marker) => holds_on_machines(alloc, &marker, want),
         Err(MarkerFault::NoReading) => want == "---",

@@ -1,15 +1,17 @@
 //! Printed comparisons, which are read back.
 
-use crate::texts::{atom, cells, parts};
+use crate::texts::{atom, letter, parts, repeated};
 use std::alloc::{AllocError, Global};
 use ul_marker::printed::{push_atom, push_bound, push_extra, push_text};
 use ul_marker::{Atom, Marker, Variable, is_literal};
+use ul_test_rows::{cells, put};
 
 // A list of printed comparisons.
 const LIST: &str = "python_full_version >= '3.0.4294967295' and python_full_version < '4.10.0' or \
     os_name == \"a'b\" and implementation_name != 'a\"b' or extra == ''";
 
-// Opaque comparisons, how they are printed, and how where they don't hold; then the list above, and a long literal.
+// Opaque comparisons, how they are printed, and how where they don't hold; then, by its letter, the list
+// above, and a long literal.
 const PRINTED: &str = "python_version contains x|'x' in python_version|'x' not in python_version\n\
     sys_platform within x|sys_platform in 'x'|sys_platform not in 'x'\n\
     platform_release below x|platform_release < 'x'|platform_release >= 'x'\n\
@@ -29,20 +31,17 @@ fn push_comparison(out: &mut String, place: usize) -> Result<(), AllocError> {
     }
 }
 
-fn list(alloc: Global) -> Result<String, AllocError> {
+fn list(alloc: Global) -> String {
     let mut out = String::new(alloc);
     for (place, before) in "| and | or | and | or ".split('|').enumerate() {
-        out.push_str(before)?;
-        push_comparison(&mut out, place)?;
+        put(&mut out, before);
+        let _ = push_comparison(&mut out, place);
     }
-    Ok(out)
+    out
 }
 
 fn is_list_printed(alloc: Global) -> bool {
-    match list(alloc) {
-        Ok(out) => out.as_str() == LIST && parts(alloc, LIST) == 3,
-        Err(_) => false,
-    }
+    list(alloc).as_str() == LIST && parts(alloc, LIST) == 3
 }
 
 fn is_printed(alloc: Global, atom: &Atom, positive: bool, want: &str) -> bool {
@@ -72,7 +71,7 @@ fn comes_back(alloc: Global, atom: &Atom, positive: bool, text: &str) -> bool {
 }
 
 fn is_opaque_printed(alloc: Global, text: &str, texts: &str) -> bool {
-    let (holds, fails) = cells(texts);
+    let (holds, fails) = cells(texts, '|');
     match atom(alloc, text) {
         Some(atom) => comes_back(alloc, &atom, true, holds)
             && comes_back(alloc, &atom, false, fails),
@@ -103,26 +102,22 @@ fn is_long_printed(alloc: Global, literal: &str) -> bool {
 
 // Whether a text is a literal, and none with the other quote behind it.
 fn is_literal_alone(alloc: Global, text: &str) -> bool {
-    match format!(in alloc; "{text}\"") {
-        Ok(both) => is_literal(text.as_bytes()) && !is_literal(both.as_bytes()),
-        Err(_) => false,
-    }
+    let mut both = String::new(alloc);
+    put(&mut both, text);
+    put(&mut both, "\"");
+    is_literal(text.as_bytes()) && !is_literal(both.as_bytes())
 }
 
 fn are_quotes_printed(alloc: Global) -> bool {
-    match "'".repeat(alloc, 10_000) {
-        Ok(quotes) => {
-            is_literal_alone(alloc, quotes.as_str()) && is_long_printed(alloc, quotes.as_str())
-        }
-        Err(_) => false,
-    }
+    let quotes = repeated(alloc, 10_000, "'");
+    is_literal_alone(alloc, quotes.as_str()) && is_long_printed(alloc, quotes.as_str())
 }
 
 fn is_row(alloc: Global, line: &str) -> bool {
-    let (text, texts) = cells(line);
-    match text {
-        "the list" => is_list_printed(alloc),
-        "a literal of ten thousand quotes" => are_quotes_printed(alloc),
+    let (text, texts) = cells(line, '|');
+    match letter(text) {
+        b't' => is_list_printed(alloc),
+        b'a' => are_quotes_printed(alloc),
         _ => is_opaque_printed(alloc, text, texts),
     }
 }

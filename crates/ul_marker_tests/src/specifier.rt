@@ -1,9 +1,9 @@
 //! Meanings and readings of PEP 440, as tables.
 
-use crate::texts::{cells, digit, front, number};
-use std::alloc::{AllocError, Global};
-use std::fmt::Write;
+use crate::texts::{digit, letter, number, repeated};
+use std::alloc::Global;
 use ul_specifier::{Clause, Op, SpecFault, Specifiers, equals_plain};
+use ul_test_rows::{cells, put};
 use ul_version::Version;
 
 // Versions with and without each of the parts, and with zeros at the end of the release.
@@ -83,12 +83,13 @@ const GRID: &str = "grid ==1.0|111000000011100000000000000000;\
     grid ==1!1.*|000000000000000000000000001110;\
     grid !=1!1.*|111111111111111111111111110001";
 
-// A specifier, and what is wanted of it:
+// A specifier, and what is wanted of it, by the letter of the first word:
 // - `met`: a version, and whether it meets the specifier; in the last rows also why `packaging` 24 answers otherwise;
 // - `refused`: it has no reading; the last ones, with the reason, are read by `packaging` 24;
 // - `sums`: whether it names a pre-release, and whether it pins 1;
-// - `lower`: its lower part, clause by clause; `count`: how many clauses it has;
-// - `long` is a list of so many clauses that 2 meets, and of one more; `clauses` are two clauses alone.
+// - `at_least`: its lower part, clause by clause; `count`: how many clauses it has;
+// - `long` is a list of so many clauses that 2 meets, and of one more; `two_clauses` stand
+//   alone.
 const LISTS: &str = "met ==1.0|1.0+cpu 1;\
     met >1.7|1.7.post1 0;\
     met >1.7|1.7.0.post1 0;\
@@ -138,12 +139,12 @@ const LISTS: &str = "met ==1.0|1.0+cpu 1;\
     sums >0,==1.0|0 1;\
     sums ==1.0.*|0 0;\
     sums ==1.0+x|0 0;\
-    lower <9,==1.0+x,!=2,>3,==4.*,<=5,~=6.1,>=7|>=1.0 >3 >=4 >=6.1 >=7 ;\
+    at_least <9,==1.0+x,!=2,>3,==4.*,<=5,~=6.1,>=7|>=1.0 >3 >=4 >=6.1 >=7 ;\
     count \t>= 1 , !=1.5.*,<2,\r\n|3;\
     long 8;\
     long 299;\
     long 2000;\
-    clauses";
+    two_clauses";
 
 // Whether a version meets a list, as a digit.
 fn meets(alloc: Global, list: &Specifiers, version: &str) -> &'static str {
@@ -154,12 +155,12 @@ fn meets(alloc: Global, list: &Specifiers, version: &str) -> &'static str {
 }
 
 // The versions that meet a list, as digits.
-fn met(alloc: Global, list: &Specifiers) -> Result<String, AllocError> {
+fn met(alloc: Global, list: &Specifiers) -> String {
     let mut met = String::new(alloc);
     for version in VERSIONS.split(' ') {
-        met.push_str(meets(alloc, list, version))?;
+        put(&mut met, meets(alloc, list, version));
     }
-    Ok(met)
+    met
 }
 
 // Whether a clause says the same of a version as of its release.
@@ -198,15 +199,12 @@ fn meet_alike(alloc: Global, clauses: &[Clause]) -> bool {
 }
 
 fn is_met_as(alloc: Global, list: &Specifiers, want: &str) -> bool {
-    match met(alloc, list) {
-        Ok(met) => met.as_str() == want && meet_alike(alloc, &list.clauses),
-        Err(_) => false,
-    }
+    met(alloc, list).as_str() == want && meet_alike(alloc, &list.clauses)
 }
 
 fn is_example(alloc: Global, list: &Specifiers, row: &str) -> bool {
-    let (version, rest) = front(row);
-    let (want, _) = front(rest);
+    let (version, rest) = cells(row, ' ');
+    let (want, _) = cells(rest, ' ');
     meets(alloc, list, version) == want
 }
 
@@ -218,32 +216,30 @@ fn pins_one(alloc: Global, list: &Specifiers) -> &'static str {
 }
 
 fn is_summed_up(alloc: Global, list: &Specifiers, row: &str) -> bool {
-    let (names_pre, pinned) = front(row);
+    let (names_pre, pinned) = cells(row, ' ');
     digit(list.names_pre()) == names_pre && pins_one(alloc, list) == pinned
 }
 
-fn push_clause(alloc: Global, text: &mut String, clause: &Clause) -> Result<(), AllocError> {
-    let sign = if matches!(clause.op, Op::More) {
-        ">"
-    } else {
-        ">="
-    };
-    let version = clause.version.text(alloc)?;
-    write!(text, "{sign}{version} ")
+fn put_clause(alloc: Global, text: &mut String, clause: &Clause) {
+    let is_more = matches!(clause.op, Op::More);
+    put(text, if is_more { ">" } else { ">=" });
+    if let Ok(version) = clause.version.text(alloc) {
+        put(text, version.as_str());
+    }
+    put(text, " ");
 }
 
-fn lower_text(alloc: Global, list: &Specifiers) -> Result<String, AllocError> {
-    let lower = list.lower_part(alloc)?;
+fn clauses_text(alloc: Global, clauses: &[Clause]) -> String {
     let mut text = String::new(alloc);
-    for clause in &lower.clauses {
-        push_clause(alloc, &mut text, clause)?;
+    for clause in clauses {
+        put_clause(alloc, &mut text, clause);
     }
-    Ok(text)
+    text
 }
 
 fn is_lower(alloc: Global, list: &Specifiers, want: &str) -> bool {
-    match lower_text(alloc, list) {
-        Ok(text) => text.as_str() == want,
+    match list.lower_part(alloc) {
+        Ok(lower) => clauses_text(alloc, &lower.clauses).as_str() == want,
         Err(_) => false,
     }
 }
@@ -264,38 +260,31 @@ fn is_long(alloc: Global, list: &Specifiers, clauses: &str) -> bool {
     }
 }
 
-fn is_right(alloc: Global, list: &Specifiers, kind: &str, want: &str) -> bool {
+fn is_right(alloc: Global, list: &Specifiers, kind: u8, want: &str) -> bool {
     match kind {
-        "grid" => is_met_as(alloc, list, want),
-        "met" => is_example(alloc, list, want),
-        "sums" => is_summed_up(alloc, list, want),
-        "lower" => is_lower(alloc, list, want),
-        "count" => has_clauses(list, want),
-        "long" => is_long(alloc, list, want),
+        b'g' => is_met_as(alloc, list, want),
+        b'm' => is_example(alloc, list, want),
+        b's' => is_summed_up(alloc, list, want),
+        b'a' => is_lower(alloc, list, want),
+        b'c' => has_clauses(list, want),
+        b'l' => is_long(alloc, list, want),
         _ => false,
     }
 }
 
-fn is_told(alloc: Global, kind: &str, text: &str, want: &str) -> bool {
+fn is_told(alloc: Global, kind: u8, text: &str, want: &str) -> bool {
     match Specifiers::read(alloc, text) {
         Ok(list) => is_right(alloc, &list, kind, want),
-        Err(SpecFault::NoReading) => kind == "refused",
+        Err(SpecFault::NoReading) => kind == b'r',
         Err(SpecFault::NoMemory) => false,
     }
 }
 
 // A list of so many clauses that all ask for what 2 is, and one more.
-fn long_text(alloc: Global, clauses: &str) -> Option<String> {
-    let mut text = ">=1 , ".repeat(alloc, number(clauses)).ok()?;
-    text.push_str("<3").ok()?;
-    Some(text)
-}
-
-fn is_long_told(alloc: Global, clauses: &str) -> bool {
-    match long_text(alloc, clauses) {
-        Some(text) => is_told(alloc, "long", text.as_str(), clauses),
-        None => false,
-    }
+fn long_text(alloc: Global, clauses: &str) -> String {
+    let mut text = repeated(alloc, number(clauses), ">=1 , ");
+    put(&mut text, "<3");
+    text
 }
 
 fn is_version(alloc: Global, clause: &Clause, want: &str) -> bool {
@@ -326,12 +315,12 @@ fn are_clauses(alloc: Global) -> bool {
 }
 
 fn is_row(alloc: Global, line: &str) -> bool {
-    let (kind, rest) = front(line);
-    let (text, want) = cells(rest);
-    match kind {
-        "long" => is_long_told(alloc, text),
-        "clauses" => are_clauses(alloc),
-        _ => is_told(alloc, kind, text, want),
+    let (word, rest) = cells(line, ' ');
+    let (text, want) = cells(rest, '|');
+    match letter(word) {
+        b'l' => is_told(alloc, b'l', long_text(alloc, text).as_str(), text),
+        b't' => are_clauses(alloc),
+        kind => is_told(alloc, kind, text, want),
     }
 }
 

@@ -1,8 +1,8 @@
 //! What the lines of the tests' tables say. Functions answer `None`, or what no line wants, for want of memory.
 
-use std::alloc::{AllocError, Global};
-use std::fmt::Write;
+use std::alloc::Global;
 use ul_marker::{Atom, AtomKind, Machine, Marker, Variable, World};
+use ul_test_rows::{cells, put, put_number};
 
 const VARIABLES: [Variable; 11] = [
     Variable::OsName,
@@ -18,32 +18,36 @@ const VARIABLES: [Variable; 11] = [
     Variable::ImplementationVersion,
 ];
 
-/// The first word of a line, and what comes after the blank behind it.
-pub(crate) fn front(line: &str) -> (&str, &str) {
-    line.split_once(' ').unwrap_or((line, ""))
-}
-
-/// What comes before the first bar of a line, and what comes after it.
-pub(crate) fn cells(line: &str) -> (&str, &str) {
-    line.split_once('|').unwrap_or((line, ""))
-}
-
 pub(crate) fn digit(holds: bool) -> &'static str {
     if holds { "1" } else { "0" }
 }
 
 /// Two pieces of text with a number between them, for so many numbers from 0 on.
-pub(crate) fn numbered(
-    alloc: Global,
-    count: u32,
-    before: &str,
-    after: &str,
-) -> Result<String, AllocError> {
+pub(crate) fn numbered(alloc: Global, count: u64, before: &str, after: &str) -> String {
     let mut text = String::new(alloc);
     for number in 0..count {
-        write!(text, "{before}{number}{after}")?;
+        put(&mut text, before);
+        put_number(&mut text, number);
+        put(&mut text, after);
     }
-    Ok(text)
+    text
+}
+
+/// A text so many times.
+pub(crate) fn repeated(alloc: Global, count: usize, piece: &str) -> String {
+    let mut text = String::new(alloc);
+    for _ in 0..count {
+        put(&mut text, piece);
+    }
+    text
+}
+
+/// The first letter of a word, or 0.
+pub(crate) fn letter(word: &str) -> u8 {
+    match word.as_bytes().first() {
+        Some(letter) => *letter,
+        None => 0,
+    }
 }
 
 /// The number that digits are.
@@ -61,20 +65,21 @@ pub(crate) fn variable(name: &str) -> Variable {
     Variable::OsName
 }
 
+// The kind of a name, by its letter.
 fn kind(word: &str) -> AtomKind {
-    match word {
-        "contains" => AtomKind::Contains,
-        "within" => AtomKind::Within,
-        "below" => AtomKind::Below,
-        "at_most" => AtomKind::AtMost,
+    match letter(word) {
+        b'c' => AtomKind::Contains,
+        b'w' => AtomKind::Within,
+        b'b' => AtomKind::Below,
+        b'a' => AtomKind::AtMost,
         _ => AtomKind::Same,
     }
 }
 
 /// The comparison `VARIABLE KIND LITERAL`, where it is one.
 pub(crate) fn atom(alloc: Global, text: &str) -> Option<Atom> {
-    let (name, rest) = front(text);
-    let (word, literal) = front(rest);
+    let (name, rest) = cells(text, ' ');
+    let (word, literal) = cells(rest, ' ');
     match String::from_str(alloc, literal) {
         Ok(literal) => Atom::of(variable(name), kind(word), literal),
         Err(_) => None,

@@ -1,18 +1,26 @@
 //! Worlds of machines, and where markers hold at them.
 
-use crate::texts::{cells, world};
+use crate::texts::world;
 use std::alloc::Global;
 use ul_marker::{Marker, World};
+use ul_test_rows::cells;
+
+// Pushes the world of a machine's file, if it is one.
+fn push_world(alloc: Global, worlds: &mut Vec<World>, machine: &str) {
+    let (file, truths) = cells(machine, '|');
+    if let Some(world) = world(alloc, file, truths) {
+        let _ = worlds.push(world);
+    }
+}
 
 /// The worlds of machines' files that have a semicolon between them. Behind each file, after a bar, stands a marker
 /// whose opaque comparisons hold there.
-pub(crate) fn worlds(alloc: Global, machines: &str) -> Option<Vec<World>> {
+pub(crate) fn worlds(alloc: Global, machines: &str) -> Vec<World> {
     let mut worlds = Vec::new(alloc);
     for machine in machines.split(';') {
-        let (file, truths) = cells(machine);
-        worlds.push(world(alloc, file, truths)?).ok()?;
+        push_world(alloc, &mut worlds, machine);
     }
-    Some(worlds)
+    worlds
 }
 
 /// Whether a marker holds with an extra at each world where a digit is `1`, and only there.
