@@ -1,13 +1,14 @@
 //! Trees of markers and of specifiers, as tables.
+ghost use Rattle.ul_comparison.specs.Formulas.{IsFormula};
+ghost use Rattle.ul_marker.specs.Views.{marker_view};
 ghost use Rattle.ul_tree.specs.TreeFacts.{IsTree};
 
-use crate::texts::{cells, tree_count, tree_of, words, world_of};
+use crate::texts::{letter, tree_count, tree_of, world_of};
 use std::alloc::Global;
 use ul_marker::{Marker, World};
 use ul_specifier::Specifiers;
+use ul_test_rows::cells;
 use ul_tree::{Tree, holds, of_marker, of_python};
-
-const LAST: u32 = u32::MAX;
 
 // What is wanted of the trees of texts:
 // - `alike`: the tree holds as the marker at each interpreter of the grid;
@@ -66,17 +67,32 @@ fn is_wanted(marker: Option<&Marker>, world: &World) -> bool {
     }
 }
 
+// Whether a tree holds at the world of an interpreter just where it should.
+fn agrees_at(tree: &Tree, marker: Option<&Marker>, world: Option<World>) -> bool
+    requires { IsTree tree.now }
+{
+    match world {
+        Some(world) => {
+            let agrees = holds(tree, &world, "") == is_wanted(marker, &world);
+            drop(world);
+            agrees
+        }
+        None => false,
+    }
+}
+
+fn number(word: &str) -> u32 {
+    word.parse::<u32>().unwrap_or(u32::MAX)
+}
+
 fn agrees_in(alloc: Global, tree: &Tree, marker: Option<&Marker>, major: u32, minor: u32) -> bool
     requires { IsTree tree.now }
 {
-    for patch in [0, 1, 2, 5, 6, LAST] {
-        match world_of(alloc, (major, minor, patch), "a", "b", Vec::new(alloc)) {
-            Some(world) => {
-                if holds(tree, &world, "") != is_wanted(marker, &world) {
-                    return false;
-                }
-            }
-            None => return false,
+    for patch in "0 1 2 5 6 4294967295".split(' ') {
+        let python = (major, minor, number(patch));
+        let world = world_of(alloc, python, "a", "b", Vec::new(alloc));
+        if !agrees_at(tree, marker, world) {
+            return false;
         }
     }
     true
@@ -86,9 +102,9 @@ fn agrees_in(alloc: Global, tree: &Tree, marker: Option<&Marker>, major: u32, mi
 fn agrees(alloc: Global, tree: &Tree, marker: Option<&Marker>) -> bool
     requires { IsTree tree.now }
 {
-    for major in [0, 2, 3, 4, LAST] {
-        for minor in [0, 7, 8, 9, 10, LAST] {
-            if !agrees_in(alloc, tree, marker, major, minor) {
+    for major in "0 2 3 4 4294967295".split(' ') {
+        for minor in "0 7 8 9 10 4294967295".split(' ') {
+            if !agrees_in(alloc, tree, marker, number(major), number(minor)) {
                 return false;
             }
         }
@@ -96,40 +112,70 @@ fn agrees(alloc: Global, tree: &Tree, marker: Option<&Marker>) -> bool
     true
 }
 
+fn is_alike(alloc: Global, marker: &Marker) -> bool
+    requires { IsFormula (marker_view marker.now) }
+{
+    match of_marker(alloc, marker) {
+        Ok(tree) => {
+            let alike = agrees(alloc, &tree, Some(marker));
+            drop(tree);
+            alike
+        }
+        Err(_) => false,
+    }
+}
+
 fn holds_alike(alloc: Global, text: &str) -> bool {
     match Marker::read(alloc, text) {
-        Ok(marker) => match of_marker(alloc, &marker) {
-            Ok(tree) => agrees(alloc, &tree, Some(&marker)),
-            Err(_) => false,
-        },
+        Ok(marker) => {
+            let alike = is_alike(alloc, &marker);
+            drop(marker);
+            alike
+        }
+        Err(_) => false,
+    }
+}
+
+fn agrees_with_met(alloc: Global, specifiers: &Specifiers) -> bool {
+    match of_python(alloc, specifiers) {
+        Ok(tree) => {
+            let met = agrees(alloc, &tree, None);
+            drop(tree);
+            met
+        }
         Err(_) => false,
     }
 }
 
 fn holds_where_met(alloc: Global, text: &str) -> bool {
     match Specifiers::read(alloc, text) {
-        Ok(specifiers) => match of_python(alloc, &specifiers) {
-            Ok(tree) => agrees(alloc, &tree, None),
-            Err(_) => false,
-        },
+        Ok(specifiers) => {
+            let met = agrees_with_met(alloc, &specifiers);
+            drop(specifiers);
+            met
+        }
         Err(_) => false,
     }
 }
 
 // How many trees the two texts of a line have.
 fn line_count(alloc: Global, line: &str) -> &'static str {
-    let (first, second) = cells(line);
+    let (first, second) = cells(line, '|');
     match tree_of(alloc, first) {
-        Ok(tree) => tree_count(alloc, &tree, second),
+        Ok(tree) => {
+            let count = tree_count(alloc, &tree, second);
+            drop(tree);
+            count
+        }
         Err(_) => "none",
     }
 }
 
 fn is_row(alloc: Global, line: &str) -> bool {
-    let (kind, text) = words(line);
-    match kind {
-        "alike" => holds_alike(alloc, text),
-        "met" => holds_where_met(alloc, text),
+    let (kind, text) = cells(line, ' ');
+    match letter(kind) {
+        b'a' => holds_alike(alloc, text),
+        b'm' => holds_where_met(alloc, text),
         _ => line_count(alloc, text) == kind,
     }
 }

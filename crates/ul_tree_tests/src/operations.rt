@@ -28,7 +28,11 @@ fn truths(alloc: Global, seed: u64) -> Option<Vec<Atom>> {
         return Some(Vec::new(alloc));
     }
     match Marker::read(alloc, "'Ubuntu' in platform_version") {
-        Ok(marker) => marker.atoms(alloc).ok(),
+        Ok(marker) => {
+            let atoms = marker.atoms(alloc).ok();
+            drop(marker);
+            atoms
+        }
         Err(_) => None,
     }
 }
@@ -118,12 +122,19 @@ fn grown_holds(seed: u64, depth: u8, world: &World, extra: &str) -> bool {
 }
 
 // Whether that tree, and its part of the extra `test`, hold at a world where they should.
-fn agrees_at(seed: u64, tree: &Tree, of_test: &Tree, world: &World, extra: &str) -> bool
+fn agrees_at(seed: u64, tree: &Tree, of_test: &Tree, world: Option<World>, extra: &str) -> bool
     requires tree_reduced { IsTree tree.now }
     requires of_test_reduced { IsTree of_test.now }
 {
-    holds(tree, world, extra) == grown_holds(seed, 4, world, extra)
-        && holds(of_test, world, extra) == grown_holds(seed, 4, world, "test")
+    match world {
+        Some(world) => {
+            let agrees = holds(tree, &world, extra) == grown_holds(seed, 4, &world, extra)
+                && holds(of_test, &world, extra) == grown_holds(seed, 4, &world, "test");
+            drop(world);
+            agrees
+        }
+        None => false,
+    }
 }
 
 // Whether they do so at twenty worlds.
@@ -132,24 +143,35 @@ fn agrees(alloc: Global, seed: u64, tree: &Tree, of_test: &Tree) -> bool
     requires of_test_reduced { IsTree of_test.now }
 {
     for turn in 0..20 {
-        match world(alloc, next(seed.wrapping_add(turn))) {
-            Some(world) => {
-                if !agrees_at(seed, tree, of_test, &world, extra(turn)) {
-                    return false;
-                }
-            }
-            None => return false,
+        let world = world(alloc, next(seed.wrapping_add(turn)));
+        if !agrees_at(seed, tree, of_test, world, extra(turn)) {
+            return false;
         }
     }
     true
 }
 
+// Whether a tree and its part of the extra `test` hold where they should.
+fn is_right(alloc: Global, seed: u64, tree: &Tree) -> bool
+    requires { IsTree tree.now }
+{
+    match plain_at_extra(alloc, tree, "test") {
+        Ok(of_test) => {
+            let agrees = agrees(alloc, seed, tree, &of_test);
+            drop(of_test);
+            agrees
+        }
+        Err(_) => false,
+    }
+}
+
 fn is_joined(alloc: Global, seed: u64) -> bool {
     match grown(alloc, seed, 4) {
-        Ok(tree) => match plain_at_extra(alloc, &tree, "test") {
-            Ok(of_test) => agrees(alloc, seed, &tree, &of_test),
-            Err(_) => false,
-        },
+        Ok(tree) => {
+            let is_right = is_right(alloc, seed, &tree);
+            drop(tree);
+            is_right
+        }
         Err(_) => false,
     }
 }

@@ -1,10 +1,10 @@
 //! Samples of trees, as a table.
 ghost use Rattle.ul_tree.specs.TreeFacts.{IsTree};
 
-use crate::texts::{cells, tree_of};
-use std::alloc::{AllocError, Global};
-use std::fmt::Write;
+use crate::texts::tree_of;
+use std::alloc::Global;
 use ul_marker::World;
+use ul_test_rows::{cells, put, put_number};
 use ul_tree::part::{asks_extra, is_false};
 use ul_tree::{Tree, holds, sample};
 
@@ -22,24 +22,23 @@ const SAMPLES: &str = "0.0.0        |python_version >= '0'\n\
     0.0.0 a b      |sys_platform == 'b' and os_name == 'a' or python_full_version >= '3.8' and 'a' in os_name\n\
     3.8.0        +a+b|'b' in os_name and 'a' in os_name and python_version >= '3.8'";
 
-fn shown(alloc: Global, world: &World) -> Result<String, AllocError> {
+fn shown(alloc: Global, world: &World) -> String {
     let (major, minor, patch) = world.python;
-    let mut line = format!(in alloc; "{major}.{minor}.{patch}")?;
+    let mut line = String::new(alloc);
+    put_number(&mut line, major.into());
+    put(&mut line, ".");
+    put_number(&mut line, minor.into());
+    put(&mut line, ".");
+    put_number(&mut line, patch.into());
     for text in &world.texts {
-        write!(line, " {text}")?;
+        put(&mut line, " ");
+        put(&mut line, text.as_str());
     }
     for truth in &world.truths {
-        write!(line, "+{}", truth.literal)?;
+        put(&mut line, "+");
+        put(&mut line, truth.literal.as_str());
     }
-    Ok(line)
-}
-
-// Whether a world is shown so.
-fn is_shown(alloc: Global, world: &World, want: &str) -> bool {
-    match shown(alloc, world) {
-        Ok(line) => line.as_str() == want,
-        Err(_) => false,
-    }
+    line
 }
 
 // Whether the sample of a tree is shown so, and the tree holds at it.
@@ -50,15 +49,23 @@ fn is_sample(alloc: Global, tree: &Tree, want: &str) -> bool
         return false;
     }
     match sample(alloc, tree) {
-        Ok(world) => holds(tree, &world, "") && is_shown(alloc, &world, want),
+        Ok(world) => {
+            let so = holds(tree, &world, "") && shown(alloc, &world).as_str() == want;
+            drop(world);
+            so
+        }
         Err(_) => false,
     }
 }
 
 fn is_sampled(alloc: Global, line: &str) -> bool {
-    let (want, text) = cells(line);
+    let (want, text) = cells(line, '|');
     match tree_of(alloc, text) {
-        Ok(tree) => is_sample(alloc, &tree, want),
+        Ok(tree) => {
+            let is_sample = is_sample(alloc, &tree, want);
+            drop(tree);
+            is_sample
+        }
         Err(_) => false,
     }
 }

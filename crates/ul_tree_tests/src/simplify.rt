@@ -1,9 +1,10 @@
 //! Trees made simpler, as a table.
 ghost use Rattle.ul_tree.specs.TreeFacts.{IsTree};
 
-use crate::texts::{cells, tree_count, tree_of, world_of};
+use crate::texts::{tree_count, tree_of, world_of};
 use std::alloc::Global;
 use ul_marker::World;
+use ul_test_rows::cells;
 use ul_tree::part::is_false;
 use ul_tree::{Tree, holds, plain_simplify};
 
@@ -33,12 +34,20 @@ const SIMPLER: &str =
     os_name == 'nt' and 'x' in os_name and 'y' in os_name|sys_platform == 'a' and 'x' in os_name and 'y' in os_name|os_name == 'nt'";
 
 // Whether two trees say the same at a world if a region holds there.
-fn agree_at(made: &Tree, tree: &Tree, region: &Tree, world: &World) -> bool
+fn agree_at(made: &Tree, tree: &Tree, region: &Tree, world: Option<World>) -> bool
     requires made_reduced { IsTree made.now }
     requires tree_reduced { IsTree tree.now }
     requires region_reduced { IsTree region.now }
 {
-    !holds(region, world, "") || holds(made, world, "") == holds(tree, world, "")
+    match world {
+        Some(world) => {
+            let agree = !holds(region, &world, "")
+                || holds(made, &world, "") == holds(tree, &world, "");
+            drop(world);
+            agree
+        }
+        None => false,
+    }
 }
 
 // Whether they do so at nine worlds.
@@ -48,14 +57,10 @@ fn agree(alloc: Global, made: &Tree, tree: &Tree, region: &Tree) -> bool
     requires region_reduced { IsTree region.now }
 {
     for minor in 8..=10 {
-        for name in ["nt", "java", "posix"] {
-            match world_of(alloc, (3, minor, 0), name, "", Vec::new(alloc)) {
-                Some(world) => {
-                    if !agree_at(made, tree, region, &world) {
-                        return false;
-                    }
-                }
-                None => return false,
+        for name in "nt java posix".split(' ') {
+            let world = world_of(alloc, (3, minor, 0), name, "", Vec::new(alloc));
+            if !agree_at(made, tree, region, world) {
+                return false;
             }
         }
     }
@@ -72,7 +77,10 @@ fn becomes(alloc: Global, tree: &Tree, region: &Tree, wanted: &str) -> bool
     }
     match plain_simplify(alloc, tree, region) {
         Ok(made) => {
-            tree_count(alloc, &made, wanted) == "one" && agree(alloc, &made, tree, region)
+            let becomes = tree_count(alloc, &made, wanted) == "one"
+                && agree(alloc, &made, tree, region);
+            drop(made);
+            becomes
         }
         Err(_) => false,
     }
@@ -81,17 +89,25 @@ fn becomes(alloc: Global, tree: &Tree, region: &Tree, wanted: &str) -> bool
 fn is_simpler(alloc: Global, tree: &Tree, rest: &str) -> bool
     requires { IsTree tree.now }
 {
-    let (region, wanted) = cells(rest);
+    let (region, wanted) = cells(rest, '|');
     match tree_of(alloc, region) {
-        Ok(region) => becomes(alloc, tree, &region, wanted),
+        Ok(region) => {
+            let becomes = becomes(alloc, tree, &region, wanted);
+            drop(region);
+            becomes
+        }
         Err(_) => false,
     }
 }
 
 fn is_row(alloc: Global, line: &str) -> bool {
-    let (text, rest) = cells(line);
+    let (text, rest) = cells(line, '|');
     match tree_of(alloc, text) {
-        Ok(tree) => is_simpler(alloc, &tree, rest),
+        Ok(tree) => {
+            let is_simpler = is_simpler(alloc, &tree, rest);
+            drop(tree);
+            is_simpler
+        }
         Err(_) => false,
     }
 }

@@ -4,13 +4,18 @@ ghost use Rattle.ul_tree.specs.TreeFacts.{IsTree};
 
 use std::alloc::{AllocError, Global};
 use ul_marker::{Atom, Marker, World};
+use ul_test_rows::put;
 use ul_tree::{Tree, of_marker, plain_not};
 
 fn marker_tree(alloc: Global, text: &str) -> Result<Tree, AllocError>
     ensures { IfOk result IsTree }
 {
     match Marker::read(alloc, text) {
-        Ok(marker) => of_marker(alloc, &marker),
+        Ok(marker) => {
+            let tree = of_marker(alloc, &marker);
+            drop(marker);
+            tree
+        }
         Err(_) => Err(AllocError),
     }
 }
@@ -18,8 +23,14 @@ fn marker_tree(alloc: Global, text: &str) -> Result<Tree, AllocError>
 fn negated_tree(alloc: Global, text: &str) -> Result<Tree, AllocError>
     ensures { IfOk result IsTree }
 {
-    let tree = marker_tree(alloc, text)?;
-    plain_not(alloc, &tree)
+    match marker_tree(alloc, text) {
+        Ok(tree) => {
+            let negated = plain_not(alloc, &tree);
+            drop(tree);
+            negated
+        }
+        Err(fault) => Err(fault),
+    }
 }
 
 /// The tree of a marker's text, or of the negation of one after `not_of`.
@@ -37,31 +48,31 @@ pub(crate) fn tree_count(alloc: Global, tree: &Tree, text: &str) -> &'static str
     requires { IsTree tree.now }
 {
     match tree_of(alloc, text) {
-        Ok(other) => { if tree.same(&other) { "one" } else { "two" } }
+        Ok(other) => {
+            let is_same = tree.same(&other);
+            drop(other);
+            if is_same { "one" } else { "two" }
+        }
         Err(_) => "none",
     }
 }
 
-/// The first word of a line, and what comes after the blank behind it.
-pub(crate) fn words(line: &str) -> (&str, &str) {
-    line.split_once(' ').unwrap_or((line, ""))
-}
-
-/// What comes before the first bar of a line, and what comes after it.
-pub(crate) fn cells(line: &str) -> (&str, &str) {
-    line.split_once('|').unwrap_or((line, ""))
-}
-
-// The text of a system, that of a platform, and six empty ones.
-fn world_texts(alloc: Global, system: &str, platform: &str) -> Result<Vec<String>, AllocError> {
-    let mut texts = Vec::new(alloc);
-    for text in [system, platform, "", "", "", "", "", ""] {
-        texts.push(String::from_str(alloc, text)?)?;
+/// The first letter of a word, or 0.
+pub(crate) fn letter(word: &str) -> u8 {
+    match word.as_bytes().first() {
+        Some(letter) => *letter,
+        None => 0,
     }
-    Ok(texts)
 }
 
-/// The world of an interpreter, of a system and a platform, and of the comparisons that hold.
+fn push_text(alloc: Global, texts: &mut Vec<String>, text: &str) {
+    let mut owned = String::new(alloc);
+    put(&mut owned, text);
+    let _ = texts.push(owned);
+}
+
+/// The world of an interpreter, of a system and a platform, whose six other texts are empty, and of the comparisons
+/// that hold.
 pub(crate) fn world_of(
     alloc: Global,
     python: (u32, u32, u32),
@@ -69,8 +80,11 @@ pub(crate) fn world_of(
     platform: &str,
     truths: Vec<Atom>,
 ) -> Option<World> {
-    match world_texts(alloc, system, platform) {
-        Ok(texts) => World::of(python, texts, truths),
-        Err(_) => None,
+    let mut texts = Vec::new(alloc);
+    push_text(alloc, &mut texts, system);
+    push_text(alloc, &mut texts, platform);
+    for _ in 0..6 {
+        push_text(alloc, &mut texts, "");
     }
+    World::of(python, texts, truths)
 }
