@@ -8,11 +8,17 @@ use Rattle.ul_core.specs.Core.{Core, core_of, first_core, log_of}
 use Rattle.ul_core.specs.Steps.{after_tree}
 
 module _ {L : Type 0} where
+  -- the log at a place
+  pub log_at : (logs : List (Vec (Tree L))) (claims k : ℕ) (v : Vec (Tree L)) (s : Core L)
+      → core_of logs claims ≡ s → k < length s.logs → v ≡ get_or logs k v → log_of s k ≡ v.items
+  log_at logs claims k v s is l at_k =
+      let inside : k < length logs = omega (arith, length-map logs (λ (z : Vec (Tree L)). z.items), ap (λ z. length z.logs) is) in
+      ap (λ z. log_of z k) (sym is) ∙ (get_or-map (λ (z : Vec (Tree L)). z.items) logs k v [] inside ∙ ap (λ z. z.items) (sym at_k))
+
   pub log_longer : (logs : List (Vec (Tree L))) (claims k : ℕ) (v w : Vec (Tree L)) (s : Core L) (t : Tree L)
       → core_of logs claims ≡ s → k < length s.logs → v ≡ get_or logs k v → w.items ≡ v.items ++ t ∷ [] → core_of (set logs k w) claims ≡ after_tree s k t
   log_longer logs claims k v w s t is l at_k more =
-      let inside : k < length logs = omega (arith, length-map logs (λ (z : Vec (Tree L)). z.items), ap (λ z. length z.logs) is) in
-      let here : log_of s k ≡ v.items = ap (λ z. log_of z k) (sym is) ∙ (get_or-map (λ (z : Vec (Tree L)). z.items) logs k v [] inside ∙ ap (λ z. z.items) (sym at_k)) in
+      let here : log_of s k ≡ v.items = log_at logs claims k v s is l at_k in
       let item : w.items ≡ log_of s k ++ t ∷ [] = more ∙ ap (λ z. z ++ t ∷ []) (sym here) in
       ap (λ z. record { logs = z; claims = claims }) (map-set (λ (z : Vec (Tree L)). z.items) logs k w)
       ∙ (λ i. record { logs = set (is i).logs k (item i); claims = (is i).claims })
