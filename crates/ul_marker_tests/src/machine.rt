@@ -59,14 +59,19 @@ fn is_fault(fault: &EnvFault, want: &str) -> bool {
 // Whether bytes are read as a machine with this version, or refused by this fault.
 fn is_told(alloc: Global, bytes: &[u8], want: &str) -> bool {
     match Machine::read(alloc, bytes) {
-        Ok(machine) => is_interpreter(machine.python, want),
+        Ok(machine) => {
+            let is_so = is_interpreter(machine.python, want);
+            drop(machine);
+            is_so
+        }
         Err(fault) => is_fault(&fault, want),
     }
 }
 
-// By the letter of the first word, what machine files are read as, or the first fault: files of a version of Python; files that miss a key; texts, which
-// are no object or lack the first key; bytes that are no text; and a long file, in place of a text of the others. Then
-// whether opaque comparisons hold on a machine, and the comparisons; and that many of them stand in order.
+// By the letter of the first word, what machine files are read as, or the first fault: files of a version of Python;
+// files that miss a key; texts, which are no object or lack the first key; bytes that are no text; and a long file, in
+// place of a text of the others. Then whether opaque comparisons hold on a machine, and the comparisons; and that many of
+// them stand in order.
 const MACHINES: &str = "version|3 12 4|3.12.4\n\
     version|3 0 4294967295|03.0.4294967295\n\
     version|form|3.12\n\
@@ -164,7 +169,11 @@ fn has_long_text(machine: &Machine) -> bool {
 
 fn has_long(alloc: Global, bytes: &[u8]) -> bool {
     match Machine::read(alloc, bytes) {
-        Ok(machine) => has_long_text(&machine),
+        Ok(machine) => {
+            let is_long = has_long_text(&machine);
+            drop(machine);
+            is_long
+        }
         Err(_) => false,
     }
 }
@@ -246,7 +255,11 @@ fn is_held(alloc: Global, world: &World, atoms: &[Atom], want: &str) -> bool {
 
 fn are_held(alloc: Global, atoms: &Vec<Atom>, want: &str) -> bool {
     match world(alloc, atoms) {
-        Some(world) => is_held(alloc, &world, atoms, want),
+        Some(world) => {
+            let is_held = is_held(alloc, &world, atoms, want);
+            drop(world);
+            is_held
+        }
         None => false,
     }
 }

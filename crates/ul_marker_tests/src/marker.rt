@@ -110,7 +110,11 @@ fn is_told(alloc: Global, marker: &Marker, facts: &str) -> bool {
 // Whether a marker and its copy are so.
 fn is_copied(alloc: Global, marker: &Marker, facts: &str) -> bool {
     match marker.copy(alloc) {
-        Ok(copy) => is_told(alloc, marker, facts) && is_told(alloc, &copy, facts),
+        Ok(copy) => {
+            let told = is_told(alloc, marker, facts) && is_told(alloc, &copy, facts);
+            drop(copy);
+            told
+        }
         Err(_) => false,
     }
 }
@@ -138,7 +142,9 @@ fn stands_at(alloc: Global, place: usize, atom_here: &Atom) -> bool {
         let (other, text) = cells(line, ' ');
         match atom(alloc, text) {
             Some(second) => {
-                if atom_here.cmp(&second) != place.cmp(&number(other)) {
+                let order = atom_here.cmp(&second);
+                drop(second);
+                if order != place.cmp(&number(other)) {
                     return false;
                 }
             }
@@ -200,7 +206,11 @@ fn first_world(alloc: Global, marker: &str) -> Option<World> {
 
 fn is_named(alloc: Global, name: &str, want: &str) -> bool {
     match first_world(alloc, "os_name == 'posix'") {
-        Some(world) => world.text(variable(name)) == want,
+        Some(world) => {
+            let is_named = world.text(variable(name)) == want;
+            drop(world);
+            is_named
+        }
         None => false,
     }
 }
@@ -219,14 +229,23 @@ fn is_compatible(alloc: Global, version: &str) -> bool {
     }
 }
 
+fn is_atom(alloc: Global, text: &str) -> bool {
+    atom(alloc, text).is_some()
+}
+
+fn is_world(alloc: Global, marker: &str) -> bool {
+    first_world(alloc, marker).is_some()
+}
+
 fn is_checked(alloc: Global, line: &str) -> bool {
     let (kind, rest) = cells(line, ' ');
     let (want, text) = cells(rest, ' ');
+    let holds = letter(want) == b'1';
     match letter(kind) {
-        b'a' => digit(atom(alloc, text).is_some()) == want,
-        b'w' => digit(first_world(alloc, text).is_some()) == want,
-        b'b' => digit(is_bare_world(alloc)) == want,
-        b'c' => digit(is_compatible(alloc, text)) == want,
+        b'a' => is_atom(alloc, text) == holds,
+        b'w' => is_world(alloc, text) == holds,
+        b'b' => is_bare_world(alloc) == holds,
+        b'c' => is_compatible(alloc, text) == holds,
         b't' => is_named(alloc, want, text),
         _ => is_placed(alloc, kind, rest),
     }
@@ -238,7 +257,11 @@ fn is_row(alloc: Global, line: &str) -> bool {
         return is_checked(alloc, line);
     }
     match marker_of(alloc, text) {
-        Some(marker) => is_copied(alloc, &marker, facts),
+        Some(marker) => {
+            let is_copied = is_copied(alloc, &marker, facts);
+            drop(marker);
+            is_copied
+        }
         None => false,
     }
 }

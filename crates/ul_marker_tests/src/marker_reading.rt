@@ -54,7 +54,10 @@ const LONG: &str = "long 1 64~(~os_name == 'a'~)|\
 // Whether a text is read, as a digit.
 fn answer(alloc: Global, text: &str) -> &'static str {
     match Marker::read(alloc, text) {
-        Ok(_marker) => "1",
+        Ok(marker) => {
+            drop(marker);
+            "1"
+        }
         Err(MarkerFault::NoReading) => "0",
         Err(MarkerFault::NoMemory) => "no memory",
     }

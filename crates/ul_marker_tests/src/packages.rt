@@ -294,7 +294,11 @@ fn is_row(alloc: Global, line: &str) -> bool {
     let (case, _) = cells(line, '|');
     let (want, text) = cells(case, ' ');
     match Marker::read(alloc, text) {
-        Ok(marker) => holds_on_machines(alloc, &marker, want),
+        Ok(marker) => {
+            let holds = holds_on_machines(alloc, &marker, want);
+            drop(marker);
+            holds
+        }
         Err(MarkerFault::NoReading) => want == "---",
         Err(MarkerFault::NoMemory) => false,
     }

@@ -61,7 +61,11 @@ fn is_opaque(marker: &Marker, atom: &Atom, positive: bool) -> bool {
 
 fn is_read(alloc: Global, atom: &Atom, positive: bool, text: &str) -> bool {
     match Marker::read(alloc, text) {
-        Ok(marker) => is_opaque(&marker, atom, positive),
+        Ok(marker) => {
+            let is_read = is_opaque(&marker, atom, positive);
+            drop(marker);
+            is_read
+        }
         Err(_) => false,
     }
 }
@@ -88,7 +92,11 @@ fn is_text(marker: &Marker, literal: &str) -> bool {
 
 fn is_text_read(alloc: Global, text: &str, literal: &str) -> bool {
     match Marker::read(alloc, text) {
-        Ok(marker) => is_text(&marker, literal),
+        Ok(marker) => {
+            let is_read = is_text(&marker, literal);
+            drop(marker);
+            is_read
+        }
         Err(_) => false,
     }
 }

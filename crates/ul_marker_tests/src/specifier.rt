@@ -88,8 +88,7 @@ const GRID: &str = "grid ==1.0|111000000011100000000000000000;\
 // - `refused`: it has no reading; the last ones, with the reason, are read by `packaging` 24;
 // - `sums`: whether it names a pre-release, and whether it pins 1;
 // - `at_least`: its lower part, clause by clause; `count`: how many clauses it has;
-// - `long` is a list of so many clauses that 2 meets, and of one more; `two_clauses` stand
-//   alone.
+// - `long` is a list of so many clauses that 2 meets, and of one more; `two_clauses` are two clauses alone.
 const LISTS: &str = "met ==1.0|1.0+cpu 1;\
     met >1.7|1.7.post1 0;\
     met >1.7|1.7.0.post1 0;\
@@ -239,7 +238,11 @@ fn clauses_text(alloc: Global, clauses: &[Clause]) -> String {
 
 fn is_lower(alloc: Global, list: &Specifiers, want: &str) -> bool {
     match list.lower_part(alloc) {
-        Ok(lower) => clauses_text(alloc, &lower.clauses).as_str() == want,
+        Ok(lower) => {
+            let is_lower = clauses_text(alloc, &lower.clauses).as_str() == want;
+            drop(lower);
+            is_lower
+        }
         Err(_) => false,
     }
 }
@@ -274,7 +277,11 @@ fn is_right(alloc: Global, list: &Specifiers, kind: u8, want: &str) -> bool {
 
 fn is_told(alloc: Global, kind: u8, text: &str, want: &str) -> bool {
     match Specifiers::read(alloc, text) {
-        Ok(list) => is_right(alloc, &list, kind, want),
+        Ok(list) => {
+            let is_right = is_right(alloc, &list, kind, want);
+            drop(list);
+            is_right
+        }
         Err(SpecFault::NoReading) => kind == b'r',
         Err(SpecFault::NoMemory) => false,
     }

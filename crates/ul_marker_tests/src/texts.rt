@@ -89,7 +89,11 @@ pub(crate) fn atom(alloc: Global, text: &str) -> Option<Atom> {
 /// The opaque comparisons of a marker's text, in its order.
 pub(crate) fn atoms_of(alloc: Global, text: &str) -> Option<Vec<Atom>> {
     match Marker::read(alloc, text) {
-        Ok(marker) => marker.atoms(alloc).ok(),
+        Ok(marker) => {
+            let atoms = marker.atoms(alloc).ok();
+            drop(marker);
+            atoms
+        }
         Err(_) => None,
     }
 }
@@ -114,7 +118,11 @@ fn part_count(marker: &Marker) -> usize {
 /// How many parts the marker of a text has that is a choice.
 pub(crate) fn parts(alloc: Global, text: &str) -> usize {
     match Marker::read(alloc, text) {
-        Ok(marker) => part_count(&marker),
+        Ok(marker) => {
+            let count = part_count(&marker);
+            drop(marker);
+            count
+        }
         Err(_) => 0,
     }
 }
