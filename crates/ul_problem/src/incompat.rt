@@ -5,6 +5,7 @@ ghost use Rattle.ul_problem.specs.Steps.{IsIncompat};
 use crate::term::{Term, Terms};
 use std::alloc::{AllocError, Global};
 use std::marker::Model;
+use ul_base::owned::beside;
 
 // Terms as they are held: up to two, as most steps say them, in place, and more in a list.
 #[derive(Drop)]
@@ -64,6 +65,19 @@ impl Saying {
             Held::Listed(terms) => terms.as_slice(),
         }
     }
+
+    fn copy(&self, alloc: Global) -> Result<Saying, AllocError>
+        ensures { IfOk result (λ ts. ts ≡ self.now) }
+    {
+        match &self.held {
+            Held::One([term]) => Ok(Saying::one(term.copy(alloc)?)),
+            Held::Two([first, second]) => {
+                let (first, second) = beside(first.copy(alloc)?, second.copy(alloc))?;
+                Ok(Saying::two(first, second))
+            }
+            Held::Listed(terms) => Ok(Saying::of(terms.copy(alloc)?)),
+        }
+    }
 }
 
 /// Terms of which no serving selection has all: at most one on a node, in the order of nodes, and none that always holds.
@@ -121,7 +135,7 @@ impl Incompat {
     pub fn copy(&self, alloc: Global) -> Result<Incompat, AllocError>
         ensures { IfOk result (λ ts. ts ≡ self.now) }
     {
-        let terms = Terms::copied(alloc, self.terms())?;
-        Ok(Incompat::of(terms))
+        let terms = self.terms.copy(alloc)?;
+        Ok(Incompat { terms })
     }
 }

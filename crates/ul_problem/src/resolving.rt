@@ -1,11 +1,11 @@
 //! The resolvent of two incompatibilities.
-ghost use Rattle.std.specs.Prelude.{◌≡◌, ◌↔◌, ◌++◌, Option, Some, length, IfOk, IsTrue};
+ghost use Rattle.std.specs.Prelude.{◌≡◌, ◌≤◌, ◌↔◌, ◌++◌, Option, Some, length, IfOk, IfSome, IsTrue};
 ghost use Rattle.std.specs.Option.{option_copied, option_to_list};
 ghost use Rattle.ul_problem.specs.Terms.{node_of, set_of, IsOrdered};
 ghost use Rattle.ul_problem.specs.Plain.{Plain};
 ghost use Rattle.ul_problem.specs.Steps.{AreOfOne, AreTermsOf, IsResolvent, resolvent_term};
 ghost use Rattle.ul_problem.specs.declared.term.Term.{Term};
-ghost use Rattle.ul_problem.specs.Turns.{turn_of, lone_of, AreLevel};
+ghost use Rattle.ul_problem.specs.Turns.{turn_of, lone_of, AreLevel, IsPassed};
 
 use crate::incompat::Incompat;
 use crate::saying::written;
@@ -37,7 +37,7 @@ pub fn resolvent(
     Ok(Incompat::of(terms))
 }
 
-/// Whether terms are the resolvent of two incompatibilities on a node.
+/// Whether terms are the resolvent of two incompatibilities on a node. The three lists are merged in step.
 pub fn is_resolvent(
     alloc: Global,
     node: u64,
@@ -49,8 +49,53 @@ pub fn is_resolvent(
     requires in_order { IsOrdered left.now × IsOrdered right.now }
     ensures { IfOk result (λ b. IsTrue b ↔ IsResolvent node left.now right.now terms.now) }
 {
+    if is_merged(alloc, node, left, right, terms)? {
+        return Ok(true);
+    }
     let wanted = merged(alloc, node, left, right)?;
     Ok(same_terms(wanted.as_slice(), terms))
+}
+
+// Whether the merge of two lists gives the terms, one after another.
+fn is_merged(
+    alloc: Global,
+    node: u64,
+    left: &[Term],
+    right: &[Term],
+    terms: &[Term],
+) -> Result<bool, AllocError>
+    requires sizes { AreOfOne left.now right.now }
+    requires in_order { IsOrdered left.now × IsOrdered right.now }
+    ensures { IfOk result (λ b. IsTrue b → IsResolvent node left.now right.now terms.now) }
+{
+    let mut place = 0;
+    let mut i = 0;
+    let mut j = 0;
+    while i < left.len() || j < right.len() {
+        let turn = next_turn(alloc, node, left[i..].first(), right[j..].first())?;
+        i += turn.left;
+        j += turn.right;
+        place = match place_after(terms, place, turn.term) {
+            Some(next) => next,
+            None => return Ok(false),
+        };
+    }
+    Ok(place == terms.len())
+}
+
+// The place after a term, where the list has it at a place; the place itself where there is none.
+fn place_after(terms: &[Term], place: usize, term: Option<Term>) -> Option<usize>
+    requires { place ≤ length terms.now }
+    ensures { IfSome result (λ next. IsPassed terms.now place term next) }
+{
+    match term {
+        Some(term) => if place < terms.len() && terms[place].same(&term) {
+            Some(place + 1)
+        } else {
+            None
+        },
+        None => Some(place),
+    }
 }
 
 // The merge of two lists of terms in the order of their nodes.
