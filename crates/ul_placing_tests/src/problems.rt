@@ -99,7 +99,7 @@ fn region_of<R: Wait>(
 }
 
 fn pair_of(alloc: Global, name: &str, version: &str) -> Result<(Name, Version), Fail> {
-    let version = Version::read(alloc, version)?;
+    let version = Version::read(alloc, version).ok().ok_or(AllocError)?;
     let name = Name::read(alloc, name)?;
     Ok((name, version))
 }
