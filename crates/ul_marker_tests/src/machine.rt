@@ -1,9 +1,9 @@
 //! Machine files and the worlds of machines, as tables.
 
-use crate::texts::{atom, atoms_of, digit, letter, number, repeated};
+use crate::texts::{atom, atoms_of, digit, number, repeated};
 use std::alloc::Global;
 use ul_marker::{Atom, EnvFault, Machine, World, world_of};
-use ul_test_rows::{cells, put, put_number};
+use ul_test_rows::{cells, letter, put, put_number};
 
 // The keys of a machine file, in the order in which they are looked for.
 const KEYS: &str =

@@ -1,11 +1,11 @@
 //! Truths of markers at worlds, the order of atoms, and the texts of a world, as tables.
 
-use crate::texts::{atom, digit, letter, number, numbered, variable, world};
+use crate::texts::{atom, digit, number, numbered, variable, world};
 use crate::worlds::{holds_at, worlds};
 use std::alloc::Global;
 use ul_marker::{Atom, Marker, World, meets_python};
 use ul_specifier::{Clause, Op};
-use ul_test_rows::{cells, put};
+use ul_test_rows::{cells, letter, put};
 
 // The files of three machines, and behind each the opaque comparisons that hold at its world; at the last none does.
 const MACHINES: &str = "\

@@ -1,9 +1,9 @@
 //! Readings of markers, as tables.
 
-use crate::texts::{letter, number, numbered, parts, repeated};
+use crate::texts::{number, numbered, parts, repeated};
 use std::alloc::Global;
 use ul_marker::{Marker, MarkerFault};
-use ul_test_rows::{cells, put};
+use ul_test_rows::{cells, letter, put};
 
 // The relations of the table below, in order.
 const RELATIONS: &str = "==,!=,<=,>=,<,>,~=,in,not in";

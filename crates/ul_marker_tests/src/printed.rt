@@ -1,10 +1,10 @@
 //! Printed comparisons, which are read back.
 
-use crate::texts::{atom, letter, parts, repeated};
+use crate::texts::{atom, parts, repeated};
 use std::alloc::{AllocError, Global};
 use ul_marker::printed::{push_atom, push_bound, push_extra, push_text};
 use ul_marker::{Atom, Marker, Variable, is_literal};
-use ul_test_rows::{cells, put};
+use ul_test_rows::{cells, letter, put};
 
 // A list of printed comparisons.
 const LIST: &str = "python_full_version >= '3.0.4294967295' and python_full_version < '4.10.0' or \

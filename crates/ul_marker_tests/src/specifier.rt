@@ -1,9 +1,9 @@
 //! Meanings and readings of PEP 440, as tables.
 
-use crate::texts::{digit, letter, number, repeated};
+use crate::texts::{digit, number, repeated};
 use std::alloc::Global;
 use ul_specifier::{Clause, Op, SpecFault, Specifiers, equals_plain};
-use ul_test_rows::{cells, put};
+use ul_test_rows::{cells, letter, put};
 use ul_version::Version;
 
 // Versions with and without each of the parts, and with zeros at the end of the release.

@@ -2,7 +2,7 @@
 
 use std::alloc::Global;
 use ul_marker::{Atom, AtomKind, Machine, Marker, Variable, World};
-use ul_test_rows::{cells, put, put_number};
+use ul_test_rows::{cells, letter, put, put_number};
 
 const VARIABLES: [Variable; 11] = [
     Variable::OsName,
@@ -40,14 +40,6 @@ pub(crate) fn repeated(alloc: Global, count: usize, piece: &str) -> String {
         put(&mut text, piece);
     }
     text
-}
-
-/// The first letter of a word, or 0.
-pub(crate) fn letter(word: &str) -> u8 {
-    match word.as_bytes().first() {
-        Some(letter) => *letter,
-        None => 0,
-    }
 }
 
 /// The number that digits are.

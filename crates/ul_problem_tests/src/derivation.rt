@@ -1,10 +1,10 @@
 //! Derivations over small problems, and large ones.
 
-use crate::texts::{letter, number, problem_of, set_of, term};
+use crate::texts::{number, problem_of, set_of, term};
 use std::alloc::{AllocError, Global};
 use ul_derivation::{AcceptFault, accepts};
 use ul_problem::{Derivation, Problem, Step, Term, Terms};
-use ul_test_rows::{cells, put, put_number};
+use ul_test_rows::{cells, letter, put, put_number};
 
 // demo 1 needs q {1}; q 1 and q 2 need z {}; q[x] has no needs; z has no versions.
 const CLASH: &str = "demo 1,1 2 0 1;q 2,3 0 0 0;q/x 2;z 0";

@@ -1,11 +1,11 @@
 //! The calls on small problems.
 ghost use Rattle.std.specs.Prelude.{◌<◌};
 
-use crate::texts::{letter, node, number, problem_of, read_nodes, term};
+use crate::texts::{node, number, problem_of, read_nodes, term};
 use std::alloc::{AllocError, Global};
 use ul_problem::{Incompat, NodeFacts, Problem, Relation, Step, Term, same_terms};
 use ul_ranges::Ordinals;
-use ul_test_rows::{cells, put, put_number};
+use ul_test_rows::{cells, letter, put, put_number};
 
 // The problem of demo, q and q[x], with one need of demo.
 const SMALL: &str = "demo 1,1 2 0 2;q 2;q/x 2";

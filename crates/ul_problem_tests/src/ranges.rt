@@ -1,10 +1,10 @@
 //! The block sets against the plain ones, and pieces on outside examples.
 ghost use Rattle.std.specs.Prelude.{◌<◌, IfOk, All};
 
-use crate::texts::{letter, number as size_of};
+use crate::texts::number as size_of;
 use std::alloc::{AllocError, Global};
 use ul_ranges::{Cuts, Ordinals, plain};
-use ul_test_rows::cells;
+use ul_test_rows::{cells, letter};
 
 // What is tried, a case a row. The first word, by its letter, says what the others are:
 //

@@ -19,14 +19,6 @@ pub(crate) fn number(word: &str) -> u32 {
     word.parse::<u32>().unwrap_or(0)
 }
 
-/// The first letter of a word, or 0.
-pub(crate) fn letter(word: &str) -> u8 {
-    match word.as_bytes().first() {
-        Some(letter) => *letter,
-        None => 0,
-    }
-}
-
 // The numbers from `low` to before `high`, below a size.
 fn set(alloc: Global, size: u32, low: u32, high: u32) -> Result<Ordinals, AllocError> {
     let mut members = Vec::new(alloc);

@@ -1,13 +1,13 @@
 //! Names, nodes, files and sinks: that the calls succeed, at size too, and that the definitions mean what PEP 503 and
 //! PEP 508 do.
-use crate::texts::{letter, number, repeated};
+use crate::texts::{number, repeated};
 use std::alloc::Global;
 use std::collections::{BTreeSet, HashSet};
 use ul_base::{
     Files, Gate, MemFiles, MemSink, Name, NameFault, Node, Open, ReadRefused, Sink, SinkRefused,
     SureFiles, is_name,
 };
-use ul_test_rows::{cells, put, put_number};
+use ul_test_rows::{cells, letter, put, put_number};
 
 // What is tried, a case a row. The first word, by its letter, says what the others are:
 //

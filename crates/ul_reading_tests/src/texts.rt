@@ -17,11 +17,3 @@ pub(crate) fn repeated(alloc: Global, start: &str, piece: &str, count: usize) ->
 pub(crate) fn number(word: &str) -> u64 {
     word.parse::<u64>().unwrap_or(0)
 }
-
-/// The first letter of a word, or 0.
-pub(crate) fn letter(word: &str) -> u8 {
-    match word.as_bytes().first() {
-        Some(letter) => *letter,
-        None => 0,
-    }
-}

@@ -1,8 +1,8 @@
 //! Readings, texts and orders of PEP 440, and texts that are cut.
-use crate::texts::{letter, number, repeated};
+use crate::texts::{number, repeated};
 use std::alloc::Global;
 use std::cmp::Ordering;
-use ul_test_rows::cells;
+use ul_test_rows::{cells, letter};
 use ul_version::ascii::{
     Alphanumeric, Blank, ByteClass, Digit, Letter, Only, Separator, White, after_run, after_word,
     before_run, before_word, begins, front_run, is_run, piece_len, run_len, trimmed,

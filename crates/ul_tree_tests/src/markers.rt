@@ -3,11 +3,11 @@ ghost use Rattle.ul_comparison.specs.Formulas.{IsFormula};
 ghost use Rattle.ul_marker.specs.Views.{marker_view};
 ghost use Rattle.ul_tree.specs.TreeFacts.{IsTree};
 
-use crate::texts::{letter, tree_count, tree_of, world_of};
+use crate::texts::{tree_count, tree_of, world_of};
 use std::alloc::Global;
 use ul_marker::{Marker, World};
 use ul_specifier::Specifiers;
-use ul_test_rows::cells;
+use ul_test_rows::{cells, letter};
 use ul_tree::{Tree, holds, of_marker, of_python};
 
 // What is wanted of the trees of texts:

@@ -3,10 +3,9 @@ ghost use Rattle.ul_comparison.specs.Formulas.{IsFormula};
 ghost use Rattle.ul_marker.specs.Views.{marker_view};
 ghost use Rattle.ul_tree.specs.TreeFacts.{IsTree};
 
-use crate::texts::letter;
 use std::alloc::Global;
 use ul_marker::Marker;
-use ul_test_rows::{cells, put, put_number};
+use ul_test_rows::{cells, letter, put, put_number};
 use ul_tree::part::{asks_extra, is_false};
 use ul_tree::{
     DEEPEST, Tree, holds, of_marker, paths, plain_and, plain_not, plain_simplify, sample,

@@ -57,14 +57,6 @@ pub(crate) fn tree_count(alloc: Global, tree: &Tree, text: &str) -> &'static str
     }
 }
 
-/// The first letter of a word, or 0.
-pub(crate) fn letter(word: &str) -> u8 {
-    match word.as_bytes().first() {
-        Some(letter) => *letter,
-        None => 0,
-    }
-}
-
 fn push_text(alloc: Global, texts: &mut Vec<String>, text: &str) {
     let mut owned = String::new(alloc);
     put(&mut owned, text);
