@@ -26,6 +26,28 @@ pub record Joined (claims : ClaimsView) (seats rest : List SeatView) (parts : �
   pub drawn_all : (x : ℕ) → times x drawn + times_drawn x rest ≡ times_drawn x seats
   pub parts_all : parts + sum_by (λ s. s.parts) rest ≡ sum_by (λ s. s.parts) seats
 
+-- one seat is taken off all: it is of the same claims, and its own lists are the first
+pub first_joined : (claims : ClaimsView) (seats rest : List SeatView) (s : SeatView) (numbers : List ℕ) → All (λ s. s.claims ≡ claims) seats → seats ≡ rest ++ s ∷ []
+    → numbers ≡ below s.claims.limit s.drawn → (s.claims ≡ claims) × Joined claims seats rest s.parts s.drawn numbers
+first_joined claims seats rest s numbers all left kept =
+    let own : All (λ s. s.claims ≡ claims) (rest ++ s ∷ []) = All-same (λ s. s.claims ≡ claims) (rest ++ s ∷ []) seats (sym left) all in
+    let both = All-pop (λ s. s.claims ≡ claims) (rest ++ s ∷ []) rest (Some s) refl own in (
+      both.1,
+      record {
+        own = both.0;
+        kept = kept ∙ ap (λ (c : ClaimsView). below c.limit s.drawn) both.1;
+        drawn_all = λ x. omega (arith, ap (times_drawn x) left, sum_by_push (λ (s : SeatView). times x s.drawn) rest s);
+        parts_all = omega (arith, ap (sum_by (λ (s : SeatView). s.parts)) left, sum_by_push (λ (s : SeatView). s.parts) rest s);
+      },
+    )
+
+-- the last of the seats that are left is of the same claims
+pub next_own : (claims : ClaimsView) (seats rest rest' : List SeatView) (s : SeatView) (parts : ℕ) (drawn numbers : List ℕ) → Joined claims seats rest parts drawn numbers → rest ≡ rest' ++ s ∷ []
+    → s.claims ≡ claims
+next_own claims seats rest rest' s parts drawn numbers j left =
+    let own : All (λ s. s.claims ≡ claims) (rest' ++ s ∷ []) = All-same (λ s. s.claims ≡ claims) (rest' ++ s ∷ []) rest (sym left) j.own in
+    (All-pop (λ s. s.claims ≡ claims) (rest' ++ s ∷ []) rest' (Some s) refl own).1
+
 -- one more seat is taken in, the last of those that are left
 pub joined_more : (claims : ClaimsView) (seats rest rest' : List SeatView) (s : SeatView) (parts : ℕ) (drawn numbers numbers' : List ℕ) (slots : List (ℕ × ℕ)) → Joined claims seats rest parts drawn numbers → rest ≡ rest' ++ s ∷ []
     → numbers' ≡ numbers ++ below claims.limit s.drawn → (me : Me ℕ Tally) → me ≡ (tally (parts + s.parts) (drawn ++ s.drawn), slots) → Joined claims seats rest' me.0.parts me.0.drawn numbers'

@@ -1,10 +1,24 @@
-use Rattle.std.proofs.Common.{rules, arith, ◌≡◌, ◌<◌, ◌↔◌, ℕ, List, [], ap, ◌∙◌}
+use Rattle.std.proofs.Common.{rules, arith, ◌≡◌, ◌<◌, ◌↔◌, ◌++◌, ◌∷◌, ℕ, List, [], ap, sym, ◌∙◌}
 use Rattle.std.specs.Prelude.{Contains}
 use Rattle.ul_claims.specs.Rule.{times, once_below}
-use Rattle.ul_claims.specs.Seats.{times_drawn}
+use Rattle.ul_claims.specs.Seats.{ClaimsView, SeatView, times_drawn}
 use Rattle.ul_claims.proofs.Keeping.{looks}
-use Rattle.ul_claims.proofs.Gathered.{joined_more, joined_drawn, joined_parts, drawn_from_times, times_from_drawn, sorted_rises, sorted_has, all_drawn}
+use Rattle.ul_claims.proofs.Gathered.{first_joined, next_own, joined_more, joined_drawn, joined_parts, drawn_from_times, times_from_drawn, sorted_rises, sorted_has, all_drawn}
 use Rattle.ul_claims.proofs.counters.Claims.gather.Goals as goal
+
+pub loop-seat-init : goal.loop-seat-init
+loop-seat-init c =
+    let left = c.in-Some.ensures.items ∙ ap (λ (s : SeatView). c.pop.new.self.items ++ s ∷ []) (sym c.last.view_is) in
+    let first = first_joined _ _ _ _ _ c.requires.own left c.last.invariant.below_limit in record {
+      table = ap (λ (m : ClaimsView). m.table) first.0;
+      free = c.last.invariant.free;
+      joined = first.1;
+    }
+
+pub take_in-requires : goal.take_in-requires
+take_in-requires c = record {
+  own = (c.loop-seat.invariant.table, next_own _ _ _ _ _ _ _ _ c.loop-seat.invariant.joined c.in-Some-pop.ensures.items);
+}
 
 pub loop-seat-preserved : goal.loop-seat-preserved
 loop-seat-preserved c =
