@@ -38,21 +38,10 @@ tops_differ (truth a) (node k e cs) h = refl
 tops_differ (node l d bs) (truth b) h = refl
 tops_differ (node l d bs) (node k e cs) h = ap (λ b. both b (both (same d e) (sames bs cs))) (sym (is_eq-slice_cmp l k) ∙ h)
 
-pub truths_same : (s t : Plain) → top_of s ≡ None → same_tops s t ≡ true → same s t ≡ true
-truths_same (truth a) (truth b) n h = h
-truths_same (truth a) (node k e cs) n h = cc
-truths_same (node l d bs) t n h = cc
-
 pub nodes_same : (s t : Plain) → top_of s ≢ None → same_tops s t ≡ true → same s t ≡ both (same (rest_of s) (rest_of t)) (sames (branches_of s) (branches_of t))
 nodes_same (truth a) t n h = absurd (n refl)
 nodes_same (node l d bs) (truth b) n h = cc
 nodes_same (node l d bs) (node k e cs) n h = ap (λ b. both b (both (same d e) (sames bs cs))) (sym (is_eq-slice_cmp l k) ∙ h)
-
--- the second is a node too
-pub tops_some : (s t : Plain) → top_of s ≢ None → same_tops s t ≡ true → top_of t ≢ None
-tops_some (truth a) t n h = absurd (n refl)
-tops_some (node l d bs) (truth b) n h = λ e. cc
-tops_some (node l d bs) (node k e cs) n h = λ q. cc
 
 pub sames_counts : (bs cs : Branches) → branch_count bs ≢ branch_count cs → sames bs cs ≡ false
 sames_counts done done n = absurd (n refl)

@@ -166,11 +166,6 @@ abbrev later : List ℕ → List (List ℕ) → ℕ
 later l [] = 0
 later l (j ∷ js) = one_if_less (text_cmp l j) + later l js
 
-one_at_most : (o : Ordering) → one_if_less o ≤ 1
-one_at_most Less = omega arith
-one_at_most Equal = omega arith
-one_at_most Greater = omega arith
-
 one_fewer : (l k j : List ℕ) → text_cmp l k ≡ Less → one_if_less (text_cmp k j) ≤ one_if_less (text_cmp l j)
 one_fewer l k j e = go (text_cmp k j) refl
   where

@@ -1,30 +1,19 @@
 -- The first path of a tree, arm by arm.
-use Rattle.std.proofs.Common.{rules, ◌≡◌, ℕ, List, [], ◌∷◌, true, false, refl, ap, sym, ◌∙◌, subst, Some, None, Result, Ok, Err, IfOk, Vec, Box, Global, String}
+use Rattle.std.proofs.Common.{◌≡◌, ℕ, List, [], ◌∷◌, true, false, refl, ap, sym, ◌∙◌, subst, Some, None, Result, Ok, Err, IfOk}
 use Rattle.ul_comparison.specs.Atoms.{AtomFields}
 use Rattle.ul_comparison.specs.Worlds.{WorldFields}
-use Rattle.ul_comparison.specs.declared.variable.Variable.{Variable}
 use Rattle.ul_tree.specs.FirstParts.{is_false, first_branch}
-use Rattle.ul_nodes.specs.Levels.{extra_level, python_level, text_level, atom_level}
+use Rattle.ul_nodes.specs.Levels.{python_level, atom_level}
 use Rattle.ul_nodes.specs.Plain.{Plain, node, Branches, done, branch, carries}
 use Rattle.ul_nodes.specs.Reduced.{Fits}
 use Rattle.ul_tree.specs.Sample.{with_level, beside, sample_from}
 use Rattle.ul_tree.specs.Views.{tree_view, points_view, pieces_view}
 use Rattle.ul_nodes.specs.Closing.{python_of}
-use Rattle.ul_tree.specs.declared.tree.Tree.{Tree, Extra, Python, Text, Opaque, the_lemmas}
-use Rattle.std.proofs.Common.{map}
+use Rattle.ul_tree.specs.declared.tree.Tree.{Tree}
+use Rattle.std.proofs.Common.{map, ◌+◌, ◌<◌, length, drop, get_or, Global, String, string_bytes}
+use Rattle.std.specs.Prelude.{if◌then◌else◌}
+use Rattle.ul_tree.proofs.Rebuilt.{points_left}
 use Rattle.ul_tree.proofs.NextParts.{GoesOn, point_goes_on, other_goes_on, piece_goes_on, holds_goes_on, fails_goes_on}
-
-pub view-Extra : (points : Vec (String Global × Tree) Global) (other : Box Tree Global) → tree_view (Extra points other) ≡ node extra_level (tree_view other.value) (points_view points.items)
-view-Extra points other = search (rules, the_lemmas)
-
-pub view-Python : (starts : Vec ℕ Global) (parts : Vec Tree Global) → tree_view (Python starts parts) ≡ python_of starts.items (map tree_view parts.items)
-view-Python starts parts = search (rules, the_lemmas)
-
-pub view-Text : (variable : Variable) (points : Vec (String Global × Tree) Global) (other : Box Tree Global) → tree_view (Text variable points other) ≡ node (text_level variable) (tree_view other.value) (points_view points.items)
-view-Text variable points other = search (rules, the_lemmas)
-
-pub view-Opaque : (atom : AtomFields) (holds fails : Box Tree Global) → tree_view (Opaque atom holds fails) ≡ node (atom_level atom) (tree_view fails.value) (branch (1 ∷ []) (tree_view holds.value) done)
-view-Opaque atom holds fails = search (rules, the_lemmas)
 
 pub by_point : (t : Plain) (b l : List ℕ) (d : Plain) (bs : Branches) → Fits t b → t ≡ node l d bs → carries l ≡ false → (k : List ℕ) (c : Plain) → Some (k, c) ≡ first_branch bs → GoesOn t l k c
 by_point t b l d bs f e m k c q = subst (λ (z : Plain). GoesOn z l k c) (sym e) (point_goes_on l b d bs m (subst (λ (z : Plain). Fits z b) e f) k c q)
@@ -49,3 +38,11 @@ world_goes_on t l v c o w u e = ap (λ z. sample_from z c) e ∙ sym (o.sample w
 pub if_ok_along : {A E : Type 0} (r : Result A E) (a b c : WorldFields) → IfOk r (λ _. a ≡ b) → b ≡ c → IfOk r (λ _. a ≡ c)
 if_ok_along (Ok x) a b c h e = h ∙ e
 if_ok_along (Err x) a b c h e = tt
+
+-- the next point is the first whose part isn't false, or its part is false
+pub point_met : (ps : List (String Global × Tree)) (i : ℕ) (p : String Global × Tree) → i < length ps → p ≡ get_or ps i p → is_false (tree_view p.1) ≡ false → first_branch (points_view (drop i ps)) ≡ Some (string_bytes p.0, tree_view p.1)
+point_met ps i p h is e = ap first_branch (points_left ps i p h is) ∙ ap (λ b. if b then first_branch (points_view (drop (i + 1) ps)) else Some (string_bytes p.0, tree_view p.1)) e
+
+pub point_passed : (ps : List (String Global × Tree)) (i : ℕ) (p : String Global × Tree) → i < length ps → p ≡ get_or ps i p → is_false (tree_view p.1) ≡ true
+    → first_branch (points_view (drop (i + 1) ps)) ≡ first_branch (points_view (drop i ps))
+point_passed ps i p h is e = sym (ap first_branch (points_left ps i p h is) ∙ ap (λ b. if b then first_branch (points_view (drop (i + 1) ps)) else Some (string_bytes p.0, tree_view p.1)) e)

@@ -1,11 +1,14 @@
 -- A text of `x` alone that is no key.
-use Rattle.std.proofs.Common.{◌≡◌, ◌≢◌, ℕ, suc, zero, ◌+◌, ◌-◌, ◌≤◌, ◌<◌, List, [], ◌∷◌, ◌++◌, length, Bool, true, false, ◌||◌, cond, refl, ap, sym, ◌∙◌, arith}
+use Rattle.std.proofs.Common.{◌≡◌, ◌≢◌, ℕ, suc, zero, ◌+◌, ◌-◌, ◌≤◌, ◌<◌, List, [], ◌∷◌, ◌++◌, length, Bool, true, false, ◌||◌, cond, refl, ap, sym, ◌∙◌, arith, drop, get_or, Global, String, string_bytes}
 use Rattle.std.specs.Str.{bytes_eq}
 use Rattle.std.proofs.lemmas.Slice.Eq.{bytes_eq-Decides}
 use Rattle.std.proofs.Math.ListN.{length-append}
 use Rattle.ul_nodes.specs.Plain.{Branches, done, branch}
 use Rattle.ul_tree.specs.Sample.{has_key, key_lengths, fresh_from, fresh}
+use Rattle.ul_tree.specs.Views.{points_view}
+use Rattle.ul_tree.specs.declared.tree.Tree.{Tree}
 use Rattle.ul_tree.proofs.Extras.{NoKey, no_key_long}
+use Rattle.ul_tree.proofs.Rebuilt.{points_left}
 
 no_key_test : (bs : Branches) (x : List ℕ) → has_key bs x ≡ false → NoKey x bs
 no_key_test done x h = tt
@@ -49,3 +52,11 @@ fresh_end bs x z h k s = go (suc (key_lengths bs) - length x) (omega arith)
     go : (n : ℕ) → n + length x ≡ suc (key_lengths bs) → x ≡ z
     go zero e = h zero e
     go (suc n) e = sym (ap (λ t. cond t (fresh_from n bs (x ++ 120 ∷ [])) x) k) ∙ h (suc n) e
+
+-- the next point has the key, or hasn't
+pub key_met : (ps : List (String Global × Tree)) (i : ℕ) (p : String Global × Tree) (x : List ℕ) → i < length ps → p ≡ get_or ps i p → bytes_eq (string_bytes p.0) x ≡ true → has_key (points_view (drop i ps)) x ≡ true
+key_met ps i p x h is e = ap (λ z. has_key z x) (points_left ps i p h is) ∙ ap (λ t. t || has_key (points_view (drop (i + 1) ps)) x) e
+
+pub key_passed : (ps : List (String Global × Tree)) (i : ℕ) (p : String Global × Tree) (x : List ℕ) → i < length ps → p ≡ get_or ps i p → bytes_eq (string_bytes p.0) x ≡ false
+    → has_key (points_view (drop (i + 1) ps)) x ≡ has_key (points_view (drop i ps)) x
+key_passed ps i p x h is e = sym (ap (λ z. has_key z x) (points_left ps i p h is) ∙ ap (λ t. t || has_key (points_view (drop (i + 1) ps)) x) e)

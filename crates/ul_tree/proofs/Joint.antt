@@ -13,14 +13,10 @@ use Rattle.ul_comparison.specs.Worlds.{WorldFields}
 use Rattle.ul_marker.specs.declared.marker.Marker.{Marker}
 use Rattle.ul_nodes.specs.Apply.{both, either, same_bool}
 use Rattle.ul_nodes.specs.Plain.{Plain, truth}
-use Rattle.ul_tree.specs.Joining.{joint, truths_of}
+use Rattle.ul_tree.specs.Joining.{joint, truths_of, last_trees}
 use Rattle.ul_tree.specs.Values.{tree_holds}
 use Rattle.ul_tree.specs.Views.{tree_view}
 use Rattle.ul_tree.specs.declared.tree.Tree.{Tree}
-
-pub joint_none : (all : Bool) → all ≡ joint all []
-joint_none true = refl
-joint_none false = refl
 
 pub joint_one : (all b : Bool) → b ≡ joint all (b ∷ [])
 joint_one true true = refl
@@ -129,3 +125,7 @@ listed_joint (V ∷ versions) release = ap (λ b. meets_clause (equal_to V) (pla
 
 pub meets_joint : (clauses : List ClauseFields) (c : Fields) → joint true (map (λ s. meets_clause s c) clauses) ≡ meets_list clauses c
 meets_joint clauses c = list_all-map _ _ clauses
+
+-- the last trees, as many as there are, are all of them
+pub all_last : (count : ℕ) (trees : List Tree) → count ≡ length trees → last_trees count trees ≡ trees
+all_last count trees e = let none : length trees - count ≡ 0 = omega (arith, e) in ap (λ k. drop k trees) none

@@ -80,13 +80,6 @@ extra_holds literal equal w x may =
     pointed_holds extra_level literal equal (value_of w x) refl
     ∙ ap (as_asked equal) (turned x literal ∙ is_eq-slice_cmp literal x ∙ ap (λ b. b && bytes_eq literal x) (sym may))
 
-denied : (equal : Bool) → not equal ≡ as_asked equal false
-denied true = refl
-denied false = refl
-
-pub extra_none : (literal : List ℕ) (equal : Bool) (x : List ℕ) → (is_empty literal || is_name literal) ≡ false → not equal ≡ as_asked equal (equals_extra literal x)
-extra_none literal equal x none = denied equal ∙ ap (as_asked equal) (ap (λ b. b && bytes_eq literal x) (sym none))
-
 -- ---- texts
 
 pub text_below : (v : Variable) → is_text v ≡ true → text_number v < 8

@@ -1,11 +1,11 @@
 -- The first path of a reduced tree goes on into the first of its parts that isn't false.
-use Rattle.std.proofs.Common.{◌≡◌, ◌≢◌, ℕ, suc, zero, ◌+◌, ◌/◌, ◌%◌, ◌^◌, ◌≤◌, ◌<◌, List, [], ◌∷◌, ◌++◌, length, drop, get_or, map, Bool, true, false, cond, refl, ap, sym, ◌∙◌, subst, arith, append-nil, set, Global, String, string_bytes, Option, Some, None}
+use Rattle.std.proofs.Common.{◌≡◌, ◌≢◌, ℕ, suc, zero, ◌+◌, ◌/◌, ◌%◌, ◌^◌, ◌≤◌, ◌<◌, List, [], ◌∷◌, length, drop, get_or, map, Bool, true, false, cond, refl, ap, sym, ◌∙◌, subst, arith, set, Global, String, string_bytes, Option, Some, None}
 use Rattle.std.proofs.lemmas.List.{drop_more, length-map, map-set, set_past}
 use Rattle.ul_comparison.specs.Atoms.{AtomFields}
 use Rattle.ul_comparison.specs.Worlds.{WorldFields}
 use Rattle.ul_nodes.specs.Apply.{size, sizes}
 use Rattle.ul_tree.specs.FirstParts.{is_false, first_branch}
-use Rattle.ul_nodes.specs.Levels.{python_level, atom_level}
+use Rattle.ul_nodes.specs.Levels.{python_level}
 use Rattle.ul_nodes.specs.Plain.{Plain, truth, node, Branches, done, branch, carries, carried_part}
 use Rattle.ul_nodes.specs.Reduced.{Fits, FitsAll, HasBranch}
 use Rattle.ul_tree.specs.Sample.{Step, beside, or_else, longer_path, first_path, first_in, with_level, with_path, sample_from}
@@ -155,14 +155,6 @@ piece_goes_on starts parts b h k c e =
     let p : Piece b d bs (Some (k, c)) = subst (λ (o : Option (List ℕ × Plain)). Piece b d bs o) (sym (e ∙ ap first_branch s.3)) (piece b d bs f) in
     subst (λ (z : Plain). GoesOn z python_level k c) (sym s.2) p
 
-pub piece_found : (starts : List ℕ) (parts : List Plain) (b : List ℕ) → Fits (python_of starts parts) b → None ≡ first_branch (pieces_of starts parts) → ⊥
-piece_found starts parts b h e =
-    let s = (shaped starts parts b h).node_is in
-    let d : Plain = s.0 in
-    let bs : Branches = s.1 in
-    let f : Fits (node python_level d bs) b = subst (λ (z : Plain). Fits z b) s.2 h in
-    subst (λ (o : Option (List ℕ × Plain)). Piece b d bs o) (sym (e ∙ ap first_branch s.3)) (piece b d bs f)
-
 -- an opaque comparison
 pub holds_goes_on : (l b : List ℕ) (c d : Plain) → carries l ≡ false → Fits (node l d (branch (1 ∷ []) c done)) b → is_false c ≡ false → GoesOn (node l d (branch (1 ∷ []) c done)) l (1 ∷ []) c
 holds_goes_on l b c d m h e =
@@ -170,9 +162,6 @@ holds_goes_on l b c d m h e =
 
 pub fails_goes_on : (l b : List ℕ) (c d : Plain) → carries l ≡ false → Fits (node l d (branch (1 ∷ []) c done)) b → is_false c ≡ true → GoesOn (node l d (branch (1 ∷ []) c done)) l (beside l (branch (1 ∷ []) c done)) d
 fails_goes_on l b c d m h e = other_goes_on l b d (branch (1 ∷ []) c done) m h (sym (ap (λ t. cond t None (Some (1 ∷ [], c))) e))
-
-pub atom_fails : (a : AtomFields) (bs : Branches) (w : WorldFields) → with_level (atom_level a) (beside (atom_level a) bs) w ≡ w
-atom_fails a bs w = let u : WorldFields = record w { truths = w.truths ++ [] } in let e : u ≡ w = ap (λ t. record w { truths = t }) (append-nil w.truths) in e
 
 -- ---- what is collected on the way
 

@@ -127,9 +127,6 @@ pieces_served : {l : List ℕ} {f r : Plain} {ks : List (List ℕ)} {rs : Result
 pieces_served no_piece c h = no_piece
 pieces_served (piece {k = k} {o = o} p ps) c h = piece (h k o p) (pieces_served ps c h)
 
-pub stands_itself : (l : List ℕ) (f c : Plain) → IsReduced c → is_above l c ≡ false → StandsFor l f c c
-stands_itself l f c h a = record { reduced = h; not_above = a; parts = λ ks rs p. p; rest = λ o p. p }
-
 pub stands_as : (l : List ℕ) (f c r w : Plain) → w ≡ r → StandsFor l f c r → StandsFor l f c w
 stands_as l f c r w e h = subst (λ (z : Plain). StandsFor l f c z) (sym e) h
 

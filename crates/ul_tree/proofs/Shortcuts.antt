@@ -1,9 +1,9 @@
 -- The steps of joining, and when the joined tree is known at once.
-use Rattle.std.proofs.Common.{◌≡◌, ℕ, suc, ◌+◌, ◌<◌, List, [], Bool, true, false, not, refl, ap, sym, ◌∙◌, arith, Some}
+use Rattle.std.proofs.Common.{◌≡◌, ℕ, zero, suc, None, ◌+◌, ◌<◌, List, [], Bool, true, false, not, refl, ap, sym, ◌∙◌, arith, Some}
 use Rattle.ul_nodes.specs.Plain.{Plain, truth, node}
 use Rattle.ul_nodes.specs.Reduced.{IsReduced}
 use Rattle.ul_tree.specs.Values.{value_of, tree_holds}
-use Rattle.ul_nodes.specs.Apply.{apply, apply_at, built, first_of, keys, key_union, branches_at, rest_at, part_at, size, both, either, truth_value}
+use Rattle.ul_nodes.specs.Apply.{apply, apply_at, built, first_of, keys, key_union, branches_at, rest_at, part_at, size, both, either, truth_value, leaf_truth}
 use Rattle.ul_tree.specs.Laws.{joined_by, not_of}
 use Rattle.ul_tree.specs.JoinSteps.{HasJoinedTruth, JoinsTo, ApplySteps, JoinShortcuts, first_alone, Implies, ImpliesByJoin}
 use Rattle.ul_tree.specs.Joins.{past_truth}
@@ -100,9 +100,6 @@ pub either_joins : (x : Bool) (a : Plain) → IsReduced a → JoinsTo either a (
 either_joins true a h = record { reduced = tt; truth = λ w e is extra. either_true (tree_holds a w e) }
 either_joins false a h = record { reduced = h; truth = λ w e is extra. either_false (tree_holds a w e) }
 
-pub negation_joins : (x : Bool) (b : Plain) → JoinsTo (λ p q. not p) (truth x) b (truth (not x))
-negation_joins x b = record { reduced = tt; truth = λ w e is extra. refl }
-
 pub truth_is : (t : Plain) (x : Bool) → Some x ≡ truth_value t → truth x ≡ t
 truth_is (truth b) x e = let q : x ≡ b = cc in ap truth q
 truth_is (node l d bs) x e = cc
@@ -127,3 +124,11 @@ implies_by_join a b x y = (to, back)
 
     back : Implies a b → joined_by first_alone a b ≡ truth false
     back f = sym (one_result first_alone a b (truth false) x y tt (λ w z is extra. never_alone (tree_holds a w z) (tree_holds b w z) (f w z is extra)))
+
+-- the join of two truths
+pub truths_joined : (op : Bool → Bool → Bool) (a b t : Plain) → None ≡ first_of a b → t ≡ truth (op (leaf_truth a) (leaf_truth b)) → (n : ℕ) → size a + size b < n → t ≡ apply op n a b
+truths_joined op (truth x) (truth y) t first e zero h = absurd (omega (arith, h))
+truths_joined op (truth x) (truth y) t first e (suc n) h = e
+truths_joined op (truth x) (node k d bs) t first e n h = cc
+truths_joined op (node l d bs) (truth y) t first e n h = cc
+truths_joined op (node l d bs) (node k c cs) t first e n h = cc

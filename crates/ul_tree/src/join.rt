@@ -116,7 +116,6 @@ pub fn closed(
 }
 
 /// What the join of two trees is at once: a truth, or one of its sides.
-#[derive(Clone, Copy)]
 pub enum AtOnce<'a> {
     Truth(bool),
     Side(&'a Tree),

@@ -95,16 +95,9 @@ fn branches(
     ensures point { IfOk result (λ made. points_view made.0.items ≡ point_of literal.now equal) }
     ensures other { IfOk result (λ made. made.1.value ≡ Truth (not equal)) }
 {
-    made_both(point(alloc, literal, equal), truth_alone(alloc, !equal))
-}
-
-// The one point of a comparison.
-fn point(alloc: Global, literal: &str, equal: bool) -> Result<Vec<(String, Tree)>, AllocError>
-    ensures { IfOk result (λ ps. points_view ps.items ≡ point_of literal.now equal) }
-{
-    let points = with_made(
-        Vec::new(alloc),
-        named(alloc, literal, Ok(Tree::Truth(equal))),
-    )?;
-    Ok(points)
+    let point = named(alloc, literal, Ok(Tree::Truth(equal)));
+    made_both(
+        with_made(Vec::new(alloc), point),
+        truth_alone(alloc, !equal),
+    )
 }

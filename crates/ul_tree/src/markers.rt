@@ -142,26 +142,10 @@ pub fn joined(alloc: Global, all: bool, trees: Vec<Tree>) -> Result<Tree, AllocE
 {
     let mut trees = trees;
     let count = trees.len();
-    made_from(joined_some(alloc, all, &mut trees, count), trees)
-}
-
-// All trees of a row, of which there may be none, taken away and joined.
-fn joined_some(
-    alloc: Global,
-    all: bool,
-    trees: &mut Vec<Tree>,
-    count: usize,
-) -> Result<Tree, AllocError>
-    requires count { count ≡ length trees.old.items }
-    requires reduced { All IsTree trees.old.items }
-    ensures reduced { IfOk result IsTree }
-    ensures truth { IfOk result (λ t. HoldsAs t (λ w x. joint all (truths_of trees.old.items w x))) }
-{
     if count == 0 {
         return Ok(Tree::Truth(all));
     }
-    let tree = joined_last(alloc, all, trees, count)?;
-    Ok(tree)
+    made_from(joined_last(alloc, all, &mut trees, count), trees)
 }
 
 // The last so many trees of a row, taken away and joined.

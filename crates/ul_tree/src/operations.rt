@@ -52,8 +52,7 @@ pub fn plain_not(alloc: Global, whole: &Tree) -> Result<Tree, AllocError>
     ensures reduced { IfOk result IsTree }
     ensures truth { IfOk result (λ t. HoldsAs t (λ w x. not (tree_holds (tree_view whole.now) w x))) }
 {
-    let tree = joined(alloc, Join::NotFirst, whole, &Tree::Truth(false))?;
-    Ok(tree)
+    joined(alloc, Join::NotFirst, whole, &Tree::Truth(false))
 }
 
 /// The tree of one extra, which may be empty: it asks for no extra.

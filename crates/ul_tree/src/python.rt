@@ -29,8 +29,7 @@ pub fn clause_tree(alloc: Global, clause: &Clause, full: bool) -> Result<Tree, A
     ensures truth { IfOk result (λ t. HoldsByPython t full (meets_release clause.now)) }
 {
     let starts = starts(alloc, clause, full)?;
-    let tree = stepped(alloc, meets_at(clause, full, 0), &starts)?;
-    Ok(tree)
+    stepped(alloc, meets_at(clause, full, 0), &starts)
 }
 
 // The three numbers of an interpreter, by its number.

@@ -1,9 +1,9 @@
 use Rattle.std.proofs.Common.{◌≡◌, ℕ, zero, suc, List, [], ◌+◌, ◌<◌, refl, ap, sym, ◌∙◌, arith, drop, subst, get_or, Some}
 use Rattle.std.proofs.lemmas.List.{drop_all}
 use Rattle.std.proofs.lemmas.Result.{IfOk-weaker}
-use Rattle.ul_nodes.specs.Plain.{Plain, carries}
+use Rattle.ul_nodes.specs.Plain.{Plain, truth, carries}
 use Rattle.ul_nodes.specs.Reduced.{IsReduced}
-use Rattle.ul_nodes.specs.Apply.{size, apply, outs, part_at, rest_at, close, first_of}
+use Rattle.ul_nodes.specs.Apply.{size, apply, outs, part_at, rest_at, close, first_of, leaf_truth}
 use Rattle.ul_tree.specs.Views.{tree_view}
 use Rattle.ul_nodes.specs.Keys.{level_view, key_view, keys_view, keys_of_both, AreKeysOf}
 use Rattle.ul_nodes.specs.Rows.{made_view}
@@ -16,7 +16,8 @@ use Rattle.ul_base.proofs.ForCallers.{made_holds}
 use Rattle.ul_tree.proofs.Applied.{applied}
 use Rattle.ul_tree.proofs.Smaller.{rests_smaller, parts_smaller}
 use Rattle.ul_nodes.proofs.ForCallers.{then_none, stands_kept}
-use Rattle.ul_tree.proofs.Shortcuts.{at_once}
+use Rattle.ul_tree.proofs.Shapes.{view_truth}
+use Rattle.ul_tree.proofs.Shortcuts.{at_once, truths_joined}
 use Rattle.ul_tree.proofs.Steps.{no_key, step_kept, keys_left, applied_is, rest_at_reduced, part_at_reduced}
 use Rattle.ul_tree.proofs.join.+joined.Goals as goal
 
@@ -155,3 +156,11 @@ joined_within-returns-in-Some-clause-joined t c =
 
 pub joined_within-returns-in-Some-clause-reduced : goal.joined_within-returns-in-Some-clause-reduced
 joined_within-returns-in-Some-clause-reduced t c = IfOk-weaker c.made.result _ _ (λ tree is. subst (λ (z : Plain). IsReduced z) (sym is) c.in-Some.ensures.reduced) c.made.ensures
+
+pub joined_parts-returns-in-None-clause-joined : goal.joined_parts-returns-in-None-clause-joined
+joined_parts-returns-in-None-clause-joined t c =
+    let a = tree_view c.args.left.now in
+    let b = tree_view c.args.right.now in
+    let op = truth_of c.args.operation in
+    truths_joined op a b _ c.in-None.ensures
+    (view_truth c.truth.result ∙ ap truth (c.truth.ensures ∙ ap (λ x. op x c.known-in-None.result) c.known.ensures ∙ ap (op (leaf_truth a)) c.known-in-None.ensures))

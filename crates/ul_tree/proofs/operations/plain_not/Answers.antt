@@ -1,4 +1,5 @@
 use Rattle.std.proofs.Common.{suc, ◌+◌, ap, ◌∙◌, arith, sym, subst, not, false}
+use Rattle.std.proofs.lemmas.Result.{IfOk-weaker}
 use Rattle.ul_nodes.specs.Plain.{Plain}
 use Rattle.ul_nodes.specs.Reduced.{IsReduced}
 use Rattle.ul_nodes.specs.Apply.{size}
@@ -13,5 +14,6 @@ pub returns-clause-truth : goal.returns-clause-truth
 returns-clause-truth c =
     let a = tree_view c.args.whole.now in
     let b = tree_view (Truth false) in
-    let e = c.in_ok-tree.ensures.joined (suc (size a + size b)) (omega arith) in
-    λ w x. ap (λ t. tree_holds t w x) e ∙ operations.join_truth (λ x y. not x) a b c.requires (subst (λ (z : Plain). IsReduced z) (sym (view_truth false)) tt) w x
+    IfOk-weaker c.joined.result _ _
+    (λ tree is w x. ap (λ t. tree_holds t w x) (is (suc (size a + size b)) (omega arith)) ∙ operations.join_truth (λ x y. not x) a b c.requires (subst (λ (z : Plain). IsReduced z) (sym (view_truth false)) tt) w x)
+    c.joined.ensures.joined
