@@ -164,3 +164,12 @@ joined_parts-returns-in-None-clause-joined t c =
     let op = truth_of c.args.operation in
     truths_joined op a b _ c.in-None.ensures
     (view_truth c.truth.result ∙ ap truth (c.truth.ensures ∙ ap (λ x. op x c.known-in-None.result) c.known.ensures ∙ ap (op (leaf_truth a)) c.known-in-None.ensures))
+
+pub joined_parts-returns-in-None-clause-reduced : goal.joined_parts-returns-in-None-clause-reduced
+joined_parts-returns-in-None-clause-reduced t c = subst (λ (z : Plain). IsReduced z) (sym (view_truth c.truth.result)) tt
+
+pub joined_within-returns-clause-joined : goal.joined_within-returns-clause-joined
+joined_within-returns-clause-joined t c = c.joined_parts.ensures.joined
+
+pub joined_within-returns-clause-reduced : goal.joined_within-returns-clause-reduced
+joined_within-returns-clause-reduced t c = c.joined_parts.ensures.reduced

@@ -56,3 +56,6 @@ pair-requires-clause-front_reduced t c = made_holds c.joined_last-2.result c.in_
 
 pub pair-requires-clause-back_reduced : goal.pair-requires-clause-back_reduced
 pair-requires-clause-back_reduced t c = subst IsTree (sym c.in_ok-back.ensures.0) c.in_ok-last.ensures.reduced
+
+pub returns-clause-reduced : goal.returns-clause-reduced
+returns-clause-reduced t c = c.pair.ensures.reduced

@@ -101,3 +101,24 @@ of_markers-loop-part-preserved t c =
 pub of_markers-returns-clause-truth : goal.of_markers-returns-clause-truth
 of_markers-returns-clause-truth t c w x h =
     truths_all (λ (m : Marker). marker_holds (marker_view m) w x) c.loop-part.trees.items c.args.parts.now c.loop-part.part-index w x c.loop-part-test.false (c.loop-part.invariant.truth w x h)
+
+pub of_marker-returns-in-Extra-clause-reduced : goal.of_marker-returns-in-Extra-clause-reduced
+of_marker-returns-in-Extra-clause-reduced t c = c.extra_tree.ensures.reduced
+
+pub of_marker-returns-in-Python-clause-reduced : goal.of_marker-returns-in-Python-clause-reduced
+of_marker-returns-in-Python-clause-reduced t c = c.clause_tree.ensures.reduced
+
+pub of_marker-returns-in-PythonList-clause-reduced : goal.of_marker-returns-in-PythonList-clause-reduced
+of_marker-returns-in-PythonList-clause-reduced t c = c.list_tree.ensures.reduced
+
+pub of_marker-returns-in-Text-clause-reduced : goal.of_marker-returns-in-Text-clause-reduced
+of_marker-returns-in-Text-clause-reduced t c = c.text_tree.ensures.reduced
+
+pub of_marker-returns-in-Opaque-clause-reduced : goal.of_marker-returns-in-Opaque-clause-reduced
+of_marker-returns-in-Opaque-clause-reduced t c = c.opaque_tree.ensures.reduced
+
+pub of_marker-returns-in_ok-trees-in-All-clause-reduced : goal.of_marker-returns-in_ok-trees-in-All-clause-reduced
+of_marker-returns-in_ok-trees-in-All-clause-reduced t c = c.joined.ensures.reduced
+
+pub of_marker-returns-in_ok-trees-in-Any-clause-reduced : goal.of_marker-returns-in_ok-trees-in-Any-clause-reduced
+of_marker-returns-in_ok-trees-in-Any-clause-reduced t c = c.joined-in-Any.ensures.reduced
