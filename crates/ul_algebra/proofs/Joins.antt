@@ -1,6 +1,6 @@
 -- When the join of two diagrams is known at once, and when the two sides may change places.
-use Rattle.std.proofs.Common.{◌≡◌, suc, ◌+◌, Bool, true, false, Option, Some, None, refl, ap, sym, ◌∙◌, arith, if◌then◌else◌}
-use Rattle.ul_nodes.specs.Apply.{size, truth_value}
+use Rattle.std.proofs.Common.{◌≡◌, ℕ, zero, suc, ◌+◌, ◌<◌, Bool, true, false, Option, Some, None, refl, ap, ◌∙◌, arith, if◌then◌else◌}
+use Rattle.ul_nodes.specs.Apply.{size, apply, first_of, leaf_truth, truth_value}
 use Rattle.ul_tree.specs.JoinSteps.{HasJoinedTruth, JoinsTo}
 use Rattle.ul_tree.specs.Laws.{joined_by}
 use Rattle.ul_nodes.specs.Plain.{Plain, truth, node}
@@ -10,35 +10,7 @@ use Rattle.ul_tree.specs.Values.{tree_holds}
 use Rattle.ul_tree.proofs.ForCallers.{at_once, operations}
 use Rattle.ul_algebra.specs.Joinings.{Commutes, FollowsSide, IsJoinedBy, at_once_tree}
 use Rattle.ul_algebra.specs.declared.questions.AtOnce.{AtOnce}
-use Rattle.ul_algebra.specs.declared.questions.AtOnce.TheVariants.{Truth, First, Second}
-
--- ---- what follows a side's truth
-
-alike : (c v : Bool) → v ≡ (if c then v else v)
-alike true v = refl
-alike false v = refl
-
-itself : (c : Bool) → c ≡ (if c then true else false)
-itself true = refl
-itself false = refl
-
-pub always : (p q : Bool) (side : AtOnce) → p ≡ true → q ≡ true → FollowsSide p q side (Truth true)
-always p q side e f a b = record {
-  reduced = λ r. tt;
-  truth = λ w x. alike (tree_holds (at_once_tree a b side) w x) true ∙ (λ i. if tree_holds (at_once_tree a b side) w x then sym e i else sym f i);
-}
-
-pub never : (p q : Bool) (side : AtOnce) → p ≡ false → q ≡ false → FollowsSide p q side (Truth false)
-never p q side e f a b = record {
-  reduced = λ r. tt;
-  truth = λ w x. alike (tree_holds (at_once_tree a b side) w x) false ∙ (λ i. if tree_holds (at_once_tree a b side) w x then sym e i else sym f i);
-}
-
-pub unchanged : (p q : Bool) (side : AtOnce) → p ≡ true → q ≡ false → FollowsSide p q side side
-unchanged p q side e f a b = record {
-  reduced = λ r. r;
-  truth = λ w x. itself (tree_holds (at_once_tree a b side) w x) ∙ (λ i. if tree_holds (at_once_tree a b side) w x then sym e i else sym f i);
-}
+use Rattle.ul_algebra.specs.declared.questions.AtOnce.TheVariants.{First, Second}
 
 -- what follows for each answer follows for an answer, if there is one
 pub answer_then : (P Q : AtOnce → Type 0) (o : Option AtOnce) → ((k : AtOnce) → P k → Q k) → IfSome P o → IfSome Q o
@@ -96,6 +68,14 @@ equal_known op a b p q k e r l m f =
 -- so it is the join
 pub joined_at_once : (op : Bool → Bool → Bool) (a b k t : Plain) → IsReduced a → IsReduced b → JoinsTo op a b k → t ≡ k → IsJoinedBy op a b t
 joined_at_once op a b k t ra rb j e n h = e ∙ at_once op a b k ra rb j.reduced j.truth n h
+
+-- the join of two truths
+pub truths_joined : (op : Bool → Bool → Bool) (a b t : Plain) → None ≡ first_of a b → t ≡ truth (op (leaf_truth a) (leaf_truth b)) → (n : ℕ) → size a + size b < n → t ≡ apply op n a b
+truths_joined op (truth x) (truth y) t first e zero h = absurd (omega (arith, h))
+truths_joined op (truth x) (truth y) t first e (suc n) h = e
+truths_joined op (truth x) (node k d bs) t first e n h = cc
+truths_joined op (node l d bs) (truth y) t first e n h = cc
+truths_joined op (node l d bs) (node k c cs) t first e n h = cc
 
 -- ---- two sides that change places
 

@@ -8,7 +8,7 @@ use Rattle.ul_core.specs.declared.trees.Tree.{Tree}
 use Rattle.ul_interner.specs.Marked.{plain, id_of}
 use Rattle.ul_interner.specs.Known.{Held, Known, Knows, tree_at}
 use Rattle.ul_interner.proofs.ForCallers.{known_here, stays, known_stays}
-use Rattle.ul_nodes.specs.Plain.{Plain, truth}
+use Rattle.ul_nodes.specs.Plain.{Plain}
 use Rattle.ul_algebra.specs.declared.labels.DiagramLabel.{DiagramLabel}
 use Rattle.ul_algebra.specs.declared.questions.Question.{Question}
 use Rattle.ul_algebra.specs.Spelled.{spells, tree_of}
@@ -108,11 +108,3 @@ own_more g h more (Some m) k = known_stays g h more m k
 pub truth_kept : (g h : Held DiagramLabel) (value : Bool) (o : Option Seen) → Knows g h → IsKeptTruth g value o → IsKeptTruth h value o
 truth_kept g h value None more k = tt
 truth_kept g h value (Some m) more k = (known_stays g h more m k.0, k.1)
-
--- and it is known, and the tree of that truth
-pub truth_there : (h : Held DiagramLabel) (value : Bool) (o : Option Seen) (r : Seen) → IsKeptTruth h value o → o ≡ Some r → Known h r × (tree_of r ≡ truth value)
-truth_there h value None r k e = absurd (let f : None ≡ Some r = e in cc)
-truth_there h value (Some m) r k e = subst (λ z. Known h z × (tree_of z ≡ truth value)) (some_mark m r e) k
-  where
-    some_mark : (m r : Seen) → Some m ≡ Some r → m ≡ r
-    some_mark m r e = cc

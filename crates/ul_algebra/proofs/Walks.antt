@@ -1,8 +1,8 @@
 -- The branches of a tree, one after another.
-use Rattle.std.proofs.Common.{◌≡◌, ◌≢◌, ℕ, suc, ◌+◌, ◌≤◌, List, [], ◌∷◌, ◌++◌, ap, sym, ◌∙◌, subst, add-one, Some, None, true}
+use Rattle.std.proofs.Common.{◌≡◌, ◌≢◌, ℕ, suc, ◌+◌, ◌≤◌, List, [], ◌∷◌, ◌++◌, refl, ap, sym, ◌∙◌, subst, add-one, Some, None, true}
 use Rattle.ul_nodes.specs.Plain.{Plain, truth, node, Branches, done, branch}
 use Rattle.ul_nodes.specs.Reduced.{IsReduced}
-use Rattle.ul_nodes.specs.Apply.{close}
+use Rattle.ul_nodes.specs.Apply.{close, leaf_truth}
 use Rattle.ul_nodes.specs.Keys.{key_view, top_of, rest_of, branches_of, branches_from, branch_count, then_branches, is_key_of, has_kind}
 use Rattle.ul_nodes.specs.Rows.{made_view}
 use Rattle.ul_nodes.specs.declared.level.Key.{Key}
@@ -14,6 +14,11 @@ a_node l t e q = let r : Some l ≡ None = e ∙ q in absurd (no r)
   where
     no : Some l ≡ None → ⊥
     no r = cc
+
+-- a tree without a top level is its truth
+pub leaf_is : (t : Plain) → None ≡ top_of t → truth (leaf_truth t) ≡ t
+leaf_is (truth b) e = refl
+leaf_is (node l d bs) e = cc
 
 -- a reduced node is its other part and its branches
 pub whole : (l : List ℕ) (t : Plain) → Some l ≡ top_of t → IsReduced t → close l (rest_of t) (branches_of t) ≡ t

@@ -37,8 +37,7 @@ impl<'a> Algebra<'a> {
         ensures diagram { IfOk result (IsDiagram self.new) }
         ensures tree { IfOk result (λ d. tree_of d ≡ tree_view tree.now) }
     {
-        let d = diagram_of(self, rt, alloc, tree, DEEPEST)?;
-        Ok(d)
+        diagram_of(self, rt, alloc, tree, DEEPEST)
     }
 
     /// The tree that a diagram stands for.
@@ -50,8 +49,7 @@ impl<'a> Algebra<'a> {
         requires { IsDiagram self.now diagram.now }
         ensures { IfOk result (λ t. tree_view t ≡ tree_of diagram.now) }
     {
-        let t = spelled_tree(alloc, diagram, DEEPEST)?;
-        Ok(t)
+        spelled_tree(alloc, diagram, DEEPEST)
     }
 }
 
@@ -70,10 +68,7 @@ fn diagram_of<R: Wait>(
     ensures known { IfOk result (Known algebra.new) }
 {
     match part::level_of(tree) {
-        None => {
-            let d = algebra.truth(rt, alloc, part::known(tree))?;
-            Ok(d)
-        }
+        None => algebra.truth(rt, alloc, part::known(tree)),
         Some(level) => {
             let room = deeper(room)?;
             let made = diagrams_in(algebra, rt, alloc, tree, level, room)?;

@@ -192,18 +192,9 @@ fn taken<R: Wait>(
     ensures known { IfOk result (Known algebra.new) }
 {
     match found {
-        AtOnce::Truth(value) => {
-            let d = algebra.truth(rt, alloc, value)?;
-            Ok(d)
-        }
-        AtOnce::First => {
-            let d = a.share()?;
-            Ok(d)
-        }
-        AtOnce::Second => {
-            let d = b.share()?;
-            Ok(d)
-        }
+        AtOnce::Truth(value) => algebra.truth(rt, alloc, value),
+        AtOnce::First => a.share(),
+        AtOnce::Second => b.share(),
     }
 }
 
@@ -241,8 +232,7 @@ pub(crate) fn joined<R: Wait>(
     }
     if op.commutes() {
         if is_before(b, a) {
-            let made = joined_once(algebra, rt, alloc, op, b, a, room)?;
-            return Ok(made);
+            return joined_once(algebra, rt, alloc, op, b, a, room);
         }
     }
     joined_once(algebra, rt, alloc, op, a, b, room)
@@ -294,10 +284,7 @@ fn joined_anew<R: Wait>(
 {
     let room = deeper(room)?;
     match first_level::<Diagrams>(a, b) {
-        None => {
-            let d = algebra.truth(rt, alloc, op.truth(known(a), known(b)))?;
-            Ok(d)
-        }
+        None => algebra.truth(rt, alloc, op.truth(known(a), known(b))),
         Some(level) => {
             let keys = level_keys::<Diagrams>(alloc, level, a, b)?;
             let other = joined(

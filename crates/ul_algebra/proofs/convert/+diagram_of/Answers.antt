@@ -3,7 +3,7 @@ use Rattle.std.specs.List.{All}
 use Rattle.ul_base.proofs.ForCallers.{made_holds}
 use Rattle.ul_interner.specs.Known.{Known}
 use Rattle.ul_interner.proofs.ForCallers.{known_stays, knows_then}
-use Rattle.ul_nodes.specs.Plain.{Plain}
+use Rattle.ul_nodes.specs.Plain.{Plain, truth}
 use Rattle.ul_nodes.specs.Reduced.{IsReduced}
 use Rattle.ul_nodes.specs.Apply.{size, close}
 use Rattle.ul_nodes.specs.Keys.{level_view, branches_of, rest_of, has_kind}
@@ -15,9 +15,14 @@ use Rattle.ul_algebra.specs.Made.{Seen, diagrams_made}
 use Rattle.ul_algebra.specs.Spelled.{tree_of}
 use Rattle.ul_algebra.proofs.Kept.{if_handed, made_then}
 use Rattle.ul_algebra.proofs.Rows.{all_more, all_push}
-use Rattle.ul_algebra.proofs.Walks.{a_node, whole, kind_of, walk_step, walk_end}
+use Rattle.ul_algebra.proofs.Walks.{a_node, leaf_is, whole, kind_of, walk_step, walk_end}
 use Rattle.ul_algebra.proofs.convert.+diagram_of.Goals as goal
 use Rattle.ul_algebra.proofs.convert.+diagram_of.Goals.{diagram_of-In_ok-branches-in-Some}
+
+pub diagram_of-returns-in-None-clause-tree : goal.diagram_of-returns-in-None-clause-tree
+diagram_of-returns-in-None-clause-tree g t c =
+    let a = tree_view c.args.tree.now in
+    made_then c.truth.result (λ d. tree_of d ≡ truth c.known.result) (λ d. tree_of d ≡ a) (λ d e. e ∙ ap truth c.known.ensures ∙ leaf_is a c.in-None.ensures) c.truth.ensures.tree
 
 pub diagram_of-diagram_of-rest-requires : goal.diagram_of-diagram_of-rest-requires
 diagram_of-diagram_of-rest-requires g t c =

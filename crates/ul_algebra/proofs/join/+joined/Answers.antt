@@ -3,11 +3,11 @@ use Rattle.std.specs.Prelude.{IfOk}
 use Rattle.std.specs.List.{All}
 use Rattle.std.proofs.lemmas.List.{drop_all}
 use Rattle.ul_base.proofs.ForCallers.{made_holds}
-use Rattle.ul_interner.specs.Known.{Known}
+use Rattle.ul_interner.specs.Known.{Known, Knows}
 use Rattle.ul_interner.proofs.ForCallers.{known_stays, knows_then}
-use Rattle.ul_nodes.specs.Plain.{Plain}
+use Rattle.ul_nodes.specs.Plain.{Plain, truth}
 use Rattle.ul_nodes.specs.Reduced.{IsReduced}
-use Rattle.ul_nodes.specs.Apply.{size, apply, close, part_at}
+use Rattle.ul_nodes.specs.Apply.{size, apply, close, leaf_truth, part_at}
 use Rattle.ul_nodes.specs.Keys.{level_view, key_view, keys_view, has_kind}
 use Rattle.ul_nodes.specs.declared.level.Key.{Key}
 use Rattle.ul_tree.proofs.ForCallers.{applied}
@@ -18,8 +18,8 @@ use Rattle.ul_algebra.specs.Spelled.{tree_of}
 use Rattle.ul_algebra.specs.Made.{Seen, diagrams_made}
 use Rattle.ul_algebra.specs.Joinings.{truth_of, at_once_tree, IsJoin}
 use Rattle.ul_algebra.proofs.Rows.{all_more}
-use Rattle.ul_algebra.proofs.Joins.{joined_at_once, swapped}
-use Rattle.ul_algebra.proofs.Kept.{diagram_stays, part_diagram, if_share, if_handed, made_then}
+use Rattle.ul_algebra.proofs.Joins.{joined_at_once, swapped, truths_joined}
+use Rattle.ul_algebra.proofs.Kept.{diagram_stays, part_diagram, if_share, if_handed, made_both, made_then}
 use Rattle.ul_algebra.proofs.join.+joined.Goals as goal
 use Rattle.ul_algebra.proofs.join.+joined.Goals.{joined_anew-In_ok-rest-in-Some}
 
@@ -40,8 +40,16 @@ joined-returns-in-Some-clause-reduced g t c =
 
 pub joined-returns-then-is_before-clause-joined : goal.joined-returns-then-is_before-clause-joined
 joined-returns-then-is_before-clause-joined g t c =
-    swapped (truth_of c.args.op) (tree_of c.args.a.now) (tree_of c.args.b.now) (tree_of c.in_ok-made.made) (c.commutes.ensures c.if-commutes.true) c.requires.a.reduced c.requires.b.reduced
-    c.in_ok-made.ensures.reduced c.in_ok-made.ensures.joined
+    made_both c.joined_once.result (λ d. IsReduced (tree_of d)) (λ d. IsJoin c.args.op c.args.b.now c.args.a.now d) (λ d. IsJoin c.args.op c.args.a.now c.args.b.now d)
+    (λ d r j. swapped (truth_of c.args.op) (tree_of c.args.a.now) (tree_of c.args.b.now) (tree_of d) (c.commutes.ensures c.if-commutes.true) c.requires.a.reduced c.requires.b.reduced r j) c.joined_once.ensures.reduced c.joined_once.ensures.joined
+
+pub joined-joined_once-requires : goal.joined-joined_once-requires
+joined-joined_once-requires g t c =
+    let d = c.decreases in λ κs o. (omega (arith, d), (o, (c.requires.b, c.requires.a)))
+
+pub joined-joined_once-requires-2 : goal.joined-joined_once-requires-2
+joined-joined_once-requires-2 g t c =
+    let d = c.decreases in λ κs o. (omega (arith, d), (o, (c.requires.a, c.requires.b)))
 
 -- ---- joined_once
 
@@ -67,7 +75,43 @@ joined_once-remembered-requires-clause-known g t c = c.in_ok-made.ensures.known
 pub joined_once-remembered-requires-clause-answer : goal.joined_once-remembered-requires-clause-answer
 joined_once-remembered-requires-clause-answer g t c = c.in_ok-made.ensures.joined
 
+pub joined_once-joined_anew-requires : goal.joined_once-joined_anew-requires
+joined_once-joined_anew-requires g t c =
+    let d = c.decreases in λ κs o. (omega (arith, d), (o, (c.requires.a, c.requires.b)))
+
+pub joined_once-returns-in-Some-clause-joined : goal.joined_once-returns-in-Some-clause-joined
+joined_once-returns-in-Some-clause-joined g t c =
+    if_share c.share.result c.in-Some.found.now (λ d. IsJoin c.args.op c.args.a.now c.args.b.now d) c.share.ensures c.in-Some.ensures.answer
+
+pub joined_once-returns-in-Some-clause-known : goal.joined_once-returns-in-Some-clause-known
+joined_once-returns-in-Some-clause-known g t c = if_share c.share.result c.in-Some.found.now (λ d. Known c.args.algebra.now d) c.share.ensures c.in-Some.ensures.known
+
+pub joined_once-returns-clause-knows : goal.joined_once-returns-clause-knows
+joined_once-returns-clause-knows g t c = subst (λ h. Knows c.args.algebra.now h) (sym c.remembered.ensures.same) c.in_ok-made.ensures.knows
+
+pub joined_once-returns-clause-joined : goal.joined_once-returns-clause-joined
+joined_once-returns-clause-joined g t c =
+    if_share c.remembered.result c.in_ok-made.made (λ d. IsJoin c.args.op c.args.a.now c.args.b.now d) c.remembered.ensures.answer c.in_ok-made.ensures.joined
+
+pub joined_once-returns-clause-known : goal.joined_once-returns-clause-known
+joined_once-returns-clause-known g t c =
+    if_share c.remembered.result c.in_ok-made.made (λ d. Known c.remembered.new.self d) c.remembered.ensures.answer
+    (subst (λ h. Known h c.in_ok-made.made) (sym c.remembered.ensures.same) c.in_ok-made.ensures.known)
+
+pub joined_once-returns-clause-reduced : goal.joined_once-returns-clause-reduced
+joined_once-returns-clause-reduced g t c =
+    if_share c.remembered.result c.in_ok-made.made (λ d. IsReduced (tree_of d)) c.remembered.ensures.answer c.in_ok-made.ensures.reduced
+
 -- ---- joined_anew
+
+pub joined_anew-returns-in-None-clause-joined : goal.joined_anew-returns-in-None-clause-joined
+joined_anew-returns-in-None-clause-joined g t c =
+    let a = tree_of c.args.a.now in
+    let b = tree_of c.args.b.now in
+    let op = truth_of c.args.op in
+    made_then c.truth-in-None.result (λ d. tree_of d ≡ truth c.truth.result) (λ d. IsJoin c.args.op c.args.a.now c.args.b.now d)
+    (λ d e. truths_joined op a b (tree_of d) c.in-None.ensures (e ∙ ap truth (c.truth.ensures ∙ ap (λ x. op x c.known-in-None.result) c.known.ensures ∙ ap (op (leaf_truth a)) c.known-in-None.ensures)))
+    c.truth-in-None.ensures.tree
 
 pub joined_anew-joined-requires : goal.joined_anew-joined-requires
 joined_anew-joined-requires g t c =

@@ -1,7 +1,7 @@
 use Rattle.std.proofs.Common.{◌<◌, ◌≡◌, ◌++◌, ◌∷◌, [], ℕ, List, Option, Global, Vec, ap, sym, ◌∙◌, refl, subst, arith, get_or, false}
 use Rattle.std.specs.Prelude.{IfOk}
 use Rattle.ul_base.proofs.ForCallers.{made_holds}
-use Rattle.ul_interner.specs.Known.{Known}
+use Rattle.ul_interner.specs.Known.{Known, Knows}
 use Rattle.std.specs.Option.{option_map}
 use Rattle.ul_interner.proofs.ForCallers.{known_stays, knows_then}
 use Rattle.ul_nodes.specs.Plain.{Plain, truth}
@@ -79,6 +79,32 @@ results-returns-clause-pieces g t c =
     results_end tree_of (level_view c.args.level) (tree_of c.args.f.now) (tree_of c.args.region.now) c.args.keys.now c.loop-key.key-index c.loop-key.made.items (omega arith) c.loop-key.invariant.pieces
 
 -- ---- simplified
+
+pub simplified-simplified_anew-requires : goal.simplified-simplified_anew-requires
+simplified-simplified_anew-requires g t c =
+    let d = c.decreases in λ κs o. (omega (arith, d), (o, (c.requires.f, (c.requires.c, c.requires.not_false))))
+
+pub simplified-returns-then-stays-clause-known : goal.simplified-returns-then-stays-clause-known
+simplified-returns-then-stays-clause-known g t c = if_share c.share.result c.args.f.now (λ d. Known c.args.algebra.now d) c.share.ensures c.requires.f.known
+
+pub simplified-returns-in-Some-clause-known : goal.simplified-returns-in-Some-clause-known
+simplified-returns-in-Some-clause-known g t c = if_share c.share-in-Some.result c.in-Some.found.now (λ d. Known c.args.algebra.now d) c.share-in-Some.ensures c.in-Some.ensures.known
+
+pub simplified-returns-in-Some-clause-rule : goal.simplified-returns-in-Some-clause-rule
+simplified-returns-in-Some-clause-rule g t c =
+    if_share c.share-in-Some.result c.in-Some.found.now (λ d. Simplifies (tree_of c.args.f.now) (tree_of c.args.c.now) (tree_of d)) c.share-in-Some.ensures c.in-Some.ensures.answer
+
+pub simplified-returns-clause-knows : goal.simplified-returns-clause-knows
+simplified-returns-clause-knows g t c = subst (λ h. Knows c.args.algebra.now h) (sym c.remembered.ensures.same) c.in_ok-made.ensures.knows
+
+pub simplified-returns-clause-known : goal.simplified-returns-clause-known
+simplified-returns-clause-known g t c =
+    if_share c.remembered.result c.in_ok-made.made (λ d. Known c.remembered.new.self d) c.remembered.ensures.answer
+    (subst (λ h. Known h c.in_ok-made.made) (sym c.remembered.ensures.same) c.in_ok-made.ensures.known)
+
+pub simplified-returns-clause-rule : goal.simplified-returns-clause-rule
+simplified-returns-clause-rule g t c =
+    if_share c.remembered.result c.in_ok-made.made (λ d. Simplifies (tree_of c.args.f.now) (tree_of c.args.c.now) (tree_of d)) c.remembered.ensures.answer c.in_ok-made.ensures.rule
 
 pub simplified-remembered-requires-clause-a : goal.simplified-remembered-requires-clause-a
 simplified-remembered-requires-clause-a g t c = known_stays c.args.algebra.now c.simplified_anew.new.algebra c.in_ok-made.ensures.knows c.args.f.now c.requires.f.known
