@@ -22,3 +22,9 @@ returns-clause-tree g c =
     (λ m. tree_of m ≡ keyed_node (atom_level c.args.atom.now) ((1 ∷ []) ∷ []) (map tree_of both))
     (λ m h. h ∙ ap (λ a. keyed_node (atom_level a) ((1 ∷ []) ∷ []) (map tree_of c.in_ok-sides.sides.items)) same ∙ ap (λ z. keyed_node (atom_level c.args.atom.now) ((1 ∷ []) ∷ []) (map tree_of z)) e)
     c.node.ensures.tree
+
+pub returns-clause-knows : goal.returns-clause-knows
+returns-clause-knows g c = c.node.ensures.knows
+
+pub returns-clause-known : goal.returns-clause-known
+returns-clause-known g c = c.node.ensures.known
