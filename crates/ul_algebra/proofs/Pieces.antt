@@ -2,8 +2,8 @@
 use Rattle.std.specs.List.{All}
 use Rattle.std.proofs.lemmas.List.{length-map}
 use Rattle.std.proofs.lemmas.List.Elements.{All-push}
-use Rattle.std.proofs.Common.{true, false, Bool, Global, String, string_bytes, arith, ◌≡◌, ◌<◌, ℕ, zero, suc, List, [], ◌∷◌, ◌++◌, map, length, refl, ap, sym, ◌∙◌, subst}
-use Rattle.ul_nodes.specs.Plain.{Plain, node, Branches, branch}
+use Rattle.std.proofs.Common.{true, false, Bool, Global, String, string_bytes, arith, ◌≡◌, ℕ, zero, suc, List, [], ◌∷◌, ◌++◌, map, length, refl, ap, sym, ◌∙◌, subst}
+use Rattle.ul_nodes.specs.Plain.{node, branch}
 use Rattle.ul_nodes.specs.Closing.{keyed_branches, branch_parts, level_parts}
 use Rattle.ul_nodes.specs.declared.level.Key.{Key}
 use Rattle.ul_algebra.specs.Made.{Seen}
