@@ -14,3 +14,5 @@ pub mod Related
 pub mod Spelled
 pub mod ForCallers
 pub mod Told
+pub mod Walks
+pub mod MarkerViews

@@ -2,8 +2,6 @@
 
 ghost use Rattle.std.specs.Prelude.{◌≡◌, ◌≤◌, ◌<◌, ◌+◌, ◌||◌, [], ◌∷◌, IfErr, IfOk, None, Some, true, length, take, drop, string_bytes};
 ghost use Rattle.std.specs.List.{list_all, slice_split};
-ghost use Rattle.ul_version.specs.Reading.{version_of};
-ghost use Rattle.ul_specifier.specs.Reading as Clauses;
 ghost use Rattle.ul_comparison.specs.Atoms;
 ghost use Rattle.ul_marker.specs.Comparisons as Grammar;
 ghost use Rattle.ul_marker.specs.Readers.{added_piece, optional_bytes, versions_view, Reads};
@@ -12,6 +10,7 @@ ghost use Rattle.ul_marker.specs.Views.{marker_view};
 use crate::words::{Literal, Token};
 use crate::{Atom, AtomKind, Marker, MarkerFault, Variable};
 use std::alloc::{AllocError, Global};
+use ul_base::owned::made_from;
 use ul_base::{Name, NameFault};
 use ul_specifier::{Clause, Op, SpecFault};
 use ul_version::ascii::{ByteClass, piece_len};
@@ -38,19 +37,13 @@ fn python_full(variable: Variable) -> Option<bool>
 
 // The literal beside `extra`: where it is a name, its normal form.
 #[tactic(auto, unfolding(crate::specs::Comparisons::extra_literal))]
-fn extra_literal(alloc: Global, literal: &Literal) -> Result<String, MarkerFault>
-    ensures { Reads string_bytes result (Some (Grammar.extra_literal literal.now)) }
+fn extra_literal(alloc: Global, literal: &Literal) -> Result<String, AllocError>
+    ensures { IfOk result (λ t. string_bytes t ≡ Grammar.extra_literal literal.now) }
 {
     match Name::read(alloc, literal.as_str()) {
-        Ok(name) => {
-            let text = String::from_str(alloc, name.text())?;
-            Ok(text)
-        }
-        Err(NameFault::NoReading) => {
-            let text = String::from_str(alloc, literal.as_str())?;
-            Ok(text)
-        }
-        Err(NameFault::NoMemory) => Err(MarkerFault::NoMemory),
+        Ok(name) => made_from(String::from_str(alloc, name.text()), name),
+        Err(NameFault::NoReading) => String::from_str(alloc, literal.as_str()),
+        Err(NameFault::NoMemory) => Err(AllocError),
     }
 }
 
@@ -134,16 +127,6 @@ fn text_sign(
     }
 }
 
-fn clause(alloc: Global, op: Op, literal: &Literal) -> Result<Clause, MarkerFault>
-    ensures { Reads (λ c. c) result (Clauses.clause_with op literal.now) }
-{
-    match Clause::read(alloc, op, literal.as_str()) {
-        Ok(clause) => Ok(clause),
-        Err(SpecFault::NoReading) => Err(MarkerFault::NoReading),
-        Err(SpecFault::NoMemory) => Err(MarkerFault::NoMemory),
-    }
-}
-
 // A variable, a sign and a literal.
 #[tactic(auto, using(crate::proofs::Compared::not_python), unfolding(crate::specs::Comparisons::sign_formula))]
 fn signed(alloc: Global, subject: &Token, op: Op, literal: &Literal) -> Result<Marker, MarkerFault>
@@ -175,10 +158,11 @@ fn python_sign(
 {
     match python_full(variable) {
         None => text_sign(alloc, variable, op, literal),
-        Some(full) => {
-            let clause = clause(alloc, op, literal)?;
-            Ok(Marker::Python { full, clause })
-        }
+        Some(full) => match Clause::read(alloc, op, literal.as_str()) {
+            Ok(clause) => Ok(Marker::Python { full, clause }),
+            Err(SpecFault::NoReading) => Err(MarkerFault::NoReading),
+            Err(SpecFault::NoMemory) => Err(MarkerFault::NoMemory),
+        },
     }
 }
 
@@ -197,17 +181,6 @@ fn mirrored(op: Op) -> Option<Op>
     }
 }
 
-// A version of a list.
-fn version(alloc: Global, piece: &[u8]) -> Result<Version, MarkerFault>
-    ensures { Reads (λ v. v) result (version_of piece.now) }
-{
-    match Version::read_bytes(alloc, piece) {
-        Ok(version) => Ok(version),
-        Err(VersionFault::NoReading) => Err(MarkerFault::NoReading),
-        Err(VersionFault::NoMemory) => Err(MarkerFault::NoMemory),
-    }
-}
-
 // The version of a piece of a list, which an empty piece hasn't.
 fn add_version(alloc: Global, list: &mut Vec<Version>, piece: &[u8]) -> Result<(), MarkerFault>
     ensures added { IfOk result (λ u. added_piece list.old.items piece.now ≡ Some list.new.items) }
@@ -216,9 +189,14 @@ fn add_version(alloc: Global, list: &mut Vec<Version>, piece: &[u8]) -> Result<(
     if piece.is_empty() {
         return Ok(());
     }
-    let version = version(alloc, piece)?;
-    list.push(version)?;
-    Ok(())
+    match Version::read_bytes(alloc, piece) {
+        Ok(version) => {
+            list.push(version)?;
+            Ok(())
+        }
+        Err(VersionFault::NoReading) => Err(MarkerFault::NoReading),
+        Err(VersionFault::NoMemory) => Err(MarkerFault::NoMemory),
+    }
 }
 
 /// The bytes between the versions of a list: space and comma.

@@ -1,11 +1,12 @@
 //! Markers.
 
-ghost use Rattle.std.specs.Prelude.{◌≡◌, ◌++◌, IfOk, OnOk, map};
+ghost use Rattle.std.specs.Prelude.{◌≡◌, ◌++◌, IfOk, map};
 ghost use Rattle.ul_marker.specs.Parts;
 ghost use Rattle.ul_marker.specs.Views.{marker_view, markers_view};
 
 use crate::{Atom, Variable};
 use std::alloc::{AllocError, Global};
+use ul_base::owned::with_made;
 use ul_specifier::Clause;
 use ul_version::Version;
 
@@ -60,9 +61,7 @@ impl Marker {
     pub fn atoms(&self, alloc: Global) -> Result<Vec<Atom>, AllocError>
         ensures { IfOk result (λ v. v.items ≡ Parts.atoms_of (marker_view self.now)) }
     {
-        let mut atoms = Vec::new(alloc);
-        add_atoms(alloc, self, &mut atoms)?;
-        Ok(atoms)
+        add_atoms(alloc, self, Vec::new(alloc))
     }
 
     /// Whether a comparison with `extra` stands in the marker, even where its truth doesn't depend on it.
@@ -75,34 +74,36 @@ impl Marker {
     }
 }
 
-// Puts the opaque comparisons of a marker behind others.
+// The opaque comparisons of a marker behind others.
 #[cycle(atoms)]
-fn add_atoms(alloc: Global, marker: &Marker, atoms: &mut Vec<Atom>) -> Result<(), AllocError>
-    ensures { OnOk result (atoms.new.items ≡ atoms.old.items ++ Parts.atoms_of (marker_view marker.now)) }
+fn add_atoms(alloc: Global, marker: &Marker, atoms: Vec<Atom>) -> Result<Vec<Atom>, AllocError>
+    ensures { IfOk result (λ v. v.items ≡ atoms.items ++ Parts.atoms_of (marker_view marker.now)) }
 {
     match marker {
-        Marker::Opaque { atom, .. } => {
-            atoms.push(atom.copy(alloc)?)?;
-            Ok(())
-        }
+        Marker::Opaque { atom, .. } => with_made(atoms, atom.copy(alloc)),
         Marker::All(parts) => add_part_atoms(alloc, parts, atoms),
         Marker::Any(parts) => add_part_atoms(alloc, parts, atoms),
         Marker::Extra { .. }
         | Marker::Python { .. }
         | Marker::PythonList { .. }
-        | Marker::Text { .. } => Ok(()),
+        | Marker::Text { .. } => Ok(atoms),
     }
 }
 
-// Puts the opaque comparisons of markers behind others.
+// The opaque comparisons of markers behind others.
 #[cycle(atoms)]
-fn add_part_atoms(alloc: Global, parts: &[Marker], atoms: &mut Vec<Atom>) -> Result<(), AllocError>
-    ensures { OnOk result (atoms.new.items ≡ atoms.old.items ++ Parts.atoms_in (markers_view parts.now)) }
+fn add_part_atoms(
+    alloc: Global,
+    parts: &[Marker],
+    atoms: Vec<Atom>,
+) -> Result<Vec<Atom>, AllocError>
+    ensures { IfOk result (λ v. v.items ≡ atoms.items ++ Parts.atoms_in (markers_view parts.now)) }
 {
+    let mut atoms = atoms;
     for part in parts {
-        add_atoms(alloc, part, atoms)?;
+        atoms = add_atoms(alloc, part, atoms)?;
     }
-    Ok(())
+    Ok(atoms)
 }
 
 // Whether a comparison with `extra` stands in a marker.
@@ -197,7 +198,7 @@ fn copy_parts(alloc: Global, parts: &[Marker]) -> Result<Vec<Marker>, AllocError
 {
     let mut copied = Vec::with_capacity(alloc, parts.len())?;
     for part in parts {
-        copied.push(copy(alloc, part)?)?;
+        copied = with_made(copied, copy(alloc, part))?;
     }
     Ok(copied)
 }
@@ -208,7 +209,7 @@ fn copy_versions(alloc: Global, versions: &[Version]) -> Result<Vec<Version>, Al
 {
     let mut copied = Vec::with_capacity(alloc, versions.len())?;
     for version in versions {
-        copied.push(version.copy(alloc)?)?;
+        copied = with_made(copied, version.copy(alloc))?;
     }
     Ok(copied)
 }

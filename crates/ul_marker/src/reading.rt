@@ -10,6 +10,7 @@ use crate::comparison::comparison;
 use crate::words::{MAX_DEPTH, Token, opened, tokens};
 use crate::{Marker, MarkerFault};
 use std::alloc::Global;
+use ul_base::owned::with_one;
 use ul_specifier::{after_space, before_space};
 
 /// How parts are joined: by `and`, or by `or`.
@@ -17,16 +18,6 @@ use ul_specifier::{after_space, before_space};
 pub enum Chain {
     Conjunction,
     Disjunction,
-}
-
-// Whether a token stands between two parts.
-fn joins(token: &Token, kind: Chain) -> bool
-    ensures { result ≡ spec.joins kind token.now }
-{
-    match kind {
-        Chain::Conjunction => matches!(token, Token::And),
-        Chain::Disjunction => matches!(token, Token::Or),
-    }
 }
 
 // How many tokens stand before the first joining one that stands in no parentheses, or in all.
@@ -51,7 +42,13 @@ fn part_len(tokens: &[Token], kind: Chain) -> usize
 fn cuts(token: &Token, count: usize, kind: Chain) -> bool
     ensures { result ≡ spec.cuts kind count token.now }
 {
-    count == 0 && joins(token, kind)
+    if count > 0 {
+        return false;
+    }
+    match kind {
+        Chain::Conjunction => matches!(token, Token::And),
+        Chain::Disjunction => matches!(token, Token::Or),
+    }
 }
 
 fn is_open(token: &Token) -> bool
@@ -115,7 +112,7 @@ fn read_chain(
     'parts: loop {
         let (front, back) = rest.split_at(part_len(rest, kind));
         let part = read_part(alloc, front, depth, kind)?;
-        parts.push(part)?;
+        parts = with_one(parts, part)?;
         let [_, others @ ..] = back else {
             return Ok(joined(parts, kind));
         };

@@ -11,6 +11,7 @@ ghost use Rattle.ul_marker.specs.Words as Grammar;
 use crate::{MarkerFault, Variable};
 use std::alloc::{AllocError, Global};
 use std::marker::Model;
+use ul_base::owned::with_one;
 use ul_comparison::is_literal_byte;
 use ul_specifier::{Op, after_space, operator};
 use ul_version::ascii::{ByteClass, White, run_len};
@@ -334,7 +335,7 @@ pub fn tokens(alloc: Global, input: &[u8]) -> Result<Vec<Token>, MarkerFault>
         if depth > usize::from(MAX_DEPTH) {
             return Err(MarkerFault::NoReading);
         }
-        list.push(token)?;
+        list = with_one(list, token)?;
         rest = after_space(after, true);
     }
     Ok(list)

@@ -43,10 +43,10 @@ read_chain-returns-in_default t c =
     let whole : take n xs ≡ xs = take_all n xs past in
     let front : c.split_at.result.0.now ≡ xs = c.split_at.ensures.front ∙ whole in
     rw c.joined.ensures
-    (chain-some kind c.args.depth c.args.tokens.now (map marker_view c.push.new.self.items)
+    (chain-some kind c.args.depth c.args.tokens.now (map marker_view c.in_ok-parts.parts.items)
     (c.parts.invariant ∙ each-last read (map marker_view c.parts.parts.items) _ (pieces_from kind 0 xs) xs (marker_view c.in_ok-part.part)
     (c.part_len.ensures.last past) (rw front at c.in_ok-part.ensures)
-    (ap (λ (l : List Marker). map marker_view l) c.in_ok-push.ensures.items ∙ map-append marker_view c.parts.parts.items (c.in_ok-part.part ∷ []))))
+    (ap (λ (l : List Marker). map marker_view l) c.in_ok-parts.ensures ∙ map-append marker_view c.parts.parts.items (c.in_ok-part.part ∷ []))))
 
 pub read_chain-parts-preserved : goal.read_chain-parts-preserved
 read_chain-parts-preserved t c =
@@ -58,4 +58,4 @@ read_chain-parts-preserved t c =
     rw (take_rest c.split_at.result.1.now 1, c.split_at.ensures.back, drop-drop 1 n xs)
     (c.parts.invariant ∙ each-more read (map marker_view c.parts.parts.items) _ (pieces_from kind 0 xs) (take n xs) (pieces_from kind 0 (drop (n + 1) xs)) (marker_view c.in_ok-part.part)
     (c.part_len.ensures.more more) (rw c.split_at.ensures.front at c.in_ok-part.ensures)
-    (ap (λ (l : List Marker). map marker_view l) c.in_ok-push.ensures.items ∙ map-append marker_view c.parts.parts.items (c.in_ok-part.part ∷ [])))
+    (ap (λ (l : List Marker). map marker_view l) c.in_ok-parts.ensures ∙ map-append marker_view c.parts.parts.items (c.in_ok-part.part ∷ [])))

@@ -38,10 +38,10 @@ pub tokens-preserved : goal.tokens-preserved
 tokens-preserved c = record {
   found =
       rw c.after_space-rest.ensures
-      (c.tokens.invariant.found ∙ onto-next c.tokens.rest.now c.in_ok-token.token c.in_ok-token.after.now c.tokens.list.items _ c.in_ok-token.ensures c.in_ok-push.ensures.items);
+      (c.tokens.invariant.found ∙ onto-next c.tokens.rest.now c.in_ok-token.token c.in_ok-token.after.now c.tokens.list.items _ c.in_ok-token.ensures c.in_ok-list.ensures);
   depth =
       c.opened-depth.ensures ∙ ap (open_count c.in_ok-token.token) c.tokens.invariant.depth ∙ sym (level-push 0 c.tokens.list.items c.in_ok-token.token)
-      ∙ ap (λ (ts : List Token). level_after 0 ts) (sym c.in_ok-push.ensures.items);
+      ∙ ap (λ (ts : List Token). level_after 0 ts) (sym c.in_ok-list.ensures);
   fits = omega arith;
 }
 
