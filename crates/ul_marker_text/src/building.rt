@@ -98,6 +98,5 @@ pub fn build<'m>(
     let step = first[at];
     let level = step_level(&step);
     let parts = parts(alloc, paths, at, level, room)?;
-    let tree = node_of(alloc, above, level, parts)?;
-    Ok(tree)
+    node_of(alloc, above, level, parts)
 }

@@ -1,5 +1,5 @@
 //! Nodes that are made of their parts, if they are reduced.
-ghost use Rattle.std.specs.Prelude.{◌≡◌, ◌∷◌, ◌↔◌, ℕ, List, [], IfOk, IsTrue, OnOk, Some, All, map, true, false, option_map};
+ghost use Rattle.std.specs.Prelude.{◌≡◌, ◌∷◌, ◌↔◌, ℕ, List, [], IfOk, IsTrue, Some, All, map, true, false, option_map};
 ghost use Rattle.std.specs.Ordering.{is_lt};
 ghost use Rattle.ul_comparison.specs.Atoms.{IsAtom};
 ghost use Rattle.ul_tree.specs.Fans.{filled_points, listed_points, node_of as node_of_parts, opening_node, other_part, pieces_from, pointed_at};
@@ -20,6 +20,7 @@ use crate::printing::END;
 use crate::steps::{Step, has_key, key_of};
 use std::alloc::{AllocError, Global};
 use std::collections::VecDeque;
+use ul_base::owned::{beside, refused, with_one};
 use ul_base::{Name, NameFault};
 use ul_marker::printed::Comparison;
 use ul_marker::{Atom, is_literal};
@@ -58,10 +59,12 @@ fn literal_of<'m>(comparison: Comparison<'m>) -> Option<&'m str>
     }
 }
 
-// Takes an atom, which is one that a marker's text can spell.
-fn tell_atom(atom: Atom)
-    ensures { IsAtom atom }
-{}
+// An atom is one that a marker's text can spell: a look at a field tells what its type keeps.
+fn tell_atom(atom: &Atom)
+    ensures { IsAtom atom.now }
+{
+    let _ = &atom.kind;
+}
 
 // The key of a comparison, as one of a level, if it is one.
 fn point_key<'m>(
@@ -93,7 +96,7 @@ fn point_key<'m>(
             None => Ok(None),
         },
         Level::Opaque(atom) => {
-            tell_atom(atom.copy(alloc)?);
+            tell_atom(atom);
             if key_of(comparison).cmp(Key::Holds).is_eq() {
                 return Ok(Some(Key::Holds));
             }
@@ -113,9 +116,10 @@ fn point_keys<'m>(
 {
     let mut made = Vec::new(alloc);
     for (comparison, tree) in points {
-        match point_key(alloc, level, comparison)? {
-            None => return Ok(None),
-            Some(key) => made.push((key, tree))?,
+        let (tree, key) = beside(tree, point_key(alloc, level, comparison))?;
+        match key {
+            None => return Ok(refused((made, tree))),
+            Some(key) => made = with_one(made, (key, tree))?,
         }
     }
     Ok(Some(made))
@@ -144,8 +148,8 @@ fn number_keys<'m>(
     let mut made = Vec::new(alloc);
     for (number, tree) in pieces {
         match number_key(number) {
-            None => return Ok(None),
-            Some(key) => made.push((key, tree))?,
+            None => return Ok(refused((made, tree))),
+            Some(key) => made = with_one(made, (key, tree))?,
         }
     }
     Ok(Some(made))
@@ -212,30 +216,35 @@ fn closed_if_reduced(
         (tree_view other) (trees_made made.entry.items)) (tree_view t)) }
 {
     if made.is_empty() {
+        drop((other, made));
         return Ok(Tree::Truth(false));
     }
     if !is_below(above, level) {
+        drop((other, made));
         return Ok(Tree::Truth(false));
     }
     if !are_apart(&made, &other, level.is_carried()) {
+        drop((other, made));
         return Ok(Tree::Truth(false));
     }
-    let tree = closed(alloc, level, other, made)?;
-    Ok(tree)
+    closed(alloc, level, other, made)
 }
 
 // ---- pieces of the interpreter
 
-// A false piece from one number up to another, unless they are equal.
-fn close_gap(made: &mut Vec<(u128, Tree)>, next: u128, start: u128) -> Result<(), AllocError>
-    ensures { OnOk result (number_branches made.new.items
-        ≡ then_branches (number_branches made.old.items) (gap next start)) }
+// Pieces, and behind them a false one from one number up to another, unless they are equal.
+fn with_gap(
+    made: Vec<(u128, Tree)>,
+    next: u128,
+    start: u128,
+) -> Result<Vec<(u128, Tree)>, AllocError>
+    ensures { IfOk result (λ all. number_branches all.items
+        ≡ then_branches (number_branches made.items) (gap next start)) }
 {
     if next == start {
-        return Ok(());
+        return Ok(made);
     }
-    made.push((next, Tree::Truth(false)))?;
-    Ok(())
+    with_one(made, (next, Tree::Truth(false)))
 }
 
 // The pieces of the interpreter, from the first interpreter on: false where there is no part.
@@ -250,16 +259,21 @@ fn pieces(
     while let Some((step, tree)) = parts.pop_front() {
         match step {
             Step::Interval(start, end) => {
-                close_gap(&mut made, next, start)?;
-                made.push((start, tree))?;
+                let (tree, closed) = beside(tree, with_gap(made, next, start))?;
+                made = with_one(closed, (start, tree))?;
                 next = end;
             }
-            Step::Point(_) => return Ok(made),
-            Step::Others(_, _) => return Ok(made),
+            Step::Point(_) => {
+                drop(tree);
+                return Ok(made);
+            }
+            Step::Others(_, _) => {
+                drop(tree);
+                return Ok(made);
+            }
         }
     }
-    close_gap(&mut made, next, END)?;
-    Ok(made)
+    with_gap(made, next, END)
 }
 
 // The node of the interpreter with these parts.
@@ -277,12 +291,13 @@ fn pieces_node(
         return Ok(Tree::Truth(false));
     }
     let (_, other) = pieces.remove(0);
-    match number_keys(alloc, pieces)? {
-        None => Ok(Tree::Truth(false)),
-        Some(made) => {
-            let tree = closed_if_reduced(alloc, above, Level::Python, other, made)?;
-            Ok(tree)
+    let (other, made) = beside(other, number_keys(alloc, pieces))?;
+    match made {
+        None => {
+            drop(other);
+            Ok(Tree::Truth(false))
         }
+        Some(made) => closed_if_reduced(alloc, above, Level::Python, other, made),
     }
 }
 
@@ -311,8 +326,11 @@ fn take_other(mut parts: VecDeque<(Step<'_, '_>, Tree)>) -> Tree
 {
     while let Some((step, tree)) = parts.pop_front() {
         match step {
-            Step::Point(_) => continue,
-            Step::Interval(_, _) => return Tree::Truth(false),
+            Step::Point(_) => drop(tree),
+            Step::Interval(_, _) => {
+                drop(tree);
+                return Tree::Truth(false);
+            }
             Step::Others(_, _) => return tree,
         }
     }
@@ -361,10 +379,9 @@ fn filled<'m>(
     ensures other { IfOk result (λ v. other_part (parts_view parts.new.items)
         ≡ other_part (parts_view parts.old.items)) }
 {
-    let mut made = Vec::new(alloc);
-    made.push((first, take_point(parts, first)))?;
+    let mut made = with_one(Vec::new(alloc), (first, take_point(parts, first)))?;
     for key in row {
-        made.push((*key, take_point(parts, *key)))?;
+        made = with_one(made, (*key, take_point(parts, *key)))?;
     }
     Ok(made)
 }
@@ -379,9 +396,15 @@ fn listed<'m>(
     let mut made = Vec::new(alloc);
     while let Some((step, tree)) = parts.pop_front() {
         match step {
-            Step::Interval(_, _) => return Ok(made),
-            Step::Point(comparison) => made.push((comparison, tree))?,
-            Step::Others(_, _) => return Ok(made),
+            Step::Interval(_, _) => {
+                drop(tree);
+                return Ok(made);
+            }
+            Step::Point(comparison) => made = with_one(made, (comparison, tree))?,
+            Step::Others(_, _) => {
+                drop(tree);
+                return Ok(made);
+            }
         }
     }
     Ok(made)
@@ -401,12 +424,13 @@ fn points_closed(
     ensures { IfOk result (λ t. Keeps (above_view above.entry) (node (level_view level.entry)
         (tree_view other) (key_branches points.entry.items)) (tree_view t)) }
 {
-    match point_keys(alloc, level, points)? {
-        None => Ok(Tree::Truth(false)),
-        Some(made) => {
-            let tree = closed_if_reduced(alloc, above, level, other, made)?;
-            Ok(tree)
+    let (other, made) = beside(other, point_keys(alloc, level, points))?;
+    match made {
+        None => {
+            drop(other);
+            Ok(Tree::Truth(false))
         }
+        Some(made) => closed_if_reduced(alloc, above, level, other, made),
     }
 }
 
@@ -425,14 +449,11 @@ fn points_node(
     match other_keys(&parts) {
         None => {
             let points = listed(alloc, parts)?;
-            let tree = points_closed(alloc, above, level, Tree::Truth(false), points)?;
-            Ok(tree)
+            points_closed(alloc, above, level, Tree::Truth(false), points)
         }
         Some((first, row)) => {
             let points = filled(alloc, &mut parts, first, row)?;
-            let other = take_other(parts);
-            let tree = points_closed(alloc, above, level, other, points)?;
-            Ok(tree)
+            points_closed(alloc, above, level, take_other(parts), points)
         }
     }
 }
@@ -464,9 +485,7 @@ pub fn node_of(
         (tree_view t)) }
 {
     if has_interval(&parts) {
-        let tree = pieces_node(alloc, above, parts)?;
-        return Ok(tree);
+        return pieces_node(alloc, above, parts);
     }
-    let tree = points_node(alloc, above, level, parts)?;
-    Ok(tree)
+    points_node(alloc, above, level, parts)
 }

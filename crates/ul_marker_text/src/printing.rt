@@ -33,12 +33,10 @@ fn push_joined(out: &mut String, separator: &str, text: &str) -> Result<(), Allo
     ensures { OnOk result (string_bytes out.new ≡ separated_text separator.now (string_bytes out.old) text.now) }
 {
     if out.is_empty() {
-        out.push_str(text)?;
-        return Ok(());
+        return out.push_str(text);
     }
     out.push_str(separator)?;
-    out.push_str(text)?;
-    Ok(())
+    out.push_str(text)
 }
 
 // The three numbers of an interpreter, by its number.
@@ -104,12 +102,10 @@ fn add_key(out: &mut String, level: Level<'_>, key: Key<'_>, equal: bool) -> Res
         (key_view key.entry)) (string_bytes out.new)) }
 {
     if out.is_empty() {
-        push_key(out, level, key, equal)?;
-        return Ok(());
+        return push_key(out, level, key, equal);
     }
     out.push_str(" and ")?;
-    push_key(out, level, key, equal)?;
-    Ok(())
+    push_key(out, level, key, equal)
 }
 
 // That the interpreter is at least a number, or below it, behind the comparisons that stand already.
@@ -119,12 +115,10 @@ fn add_bound(out: &mut String, at_least: bool, number: u128) -> Result<(), Alloc
 {
     let python = interpreter(number);
     if out.is_empty() {
-        push_bound(out, at_least, python)?;
-        return Ok(());
+        return push_bound(out, at_least, python);
     }
     out.push_str(" and ")?;
-    push_bound(out, at_least, python)?;
-    Ok(())
+    push_bound(out, at_least, python)
 }
 
 // Where a piece starts, unless it starts at the first interpreter.
@@ -134,8 +128,7 @@ fn add_lower(out: &mut String, start: u128) -> Result<(), AllocError>
     if start == 0 {
         return Ok(());
     }
-    add_bound(out, true, start)?;
-    Ok(())
+    add_bound(out, true, start)
 }
 
 // Where a piece ends, unless it reaches up to the last interpreter.
@@ -145,8 +138,7 @@ fn add_upper(out: &mut String, end: u128) -> Result<(), AllocError>
     if end == END {
         return Ok(());
     }
-    add_bound(out, false, end)?;
-    Ok(())
+    add_bound(out, false, end)
 }
 
 // A piece of the interpreter, with the paths of its part.
@@ -169,8 +161,7 @@ fn print_piece(
     let mut next = String::from_str(alloc, prefix)?;
     add_lower(&mut next, start)?;
     add_upper(&mut next, end)?;
-    print(alloc, out, next.as_str(), part)?;
-    Ok(())
+    print(alloc, out, next.as_str(), part)
 }
 
 // A point, with the paths of its part.
@@ -194,8 +185,7 @@ fn print_point(
     }
     let mut next = String::from_str(alloc, prefix)?;
     add_key(&mut next, level, key, true)?;
-    print(alloc, out, next.as_str(), part)?;
-    Ok(())
+    print(alloc, out, next.as_str(), part)
 }
 
 // The comparisons of a node's other part, behind those that stand already.
@@ -242,8 +232,7 @@ fn print_points(
         return Ok(());
     }
     let next = other_prefix(alloc, prefix, level, tree)?;
-    print(alloc, out, next.as_str(), rest)?;
-    Ok(())
+    print(alloc, out, next.as_str(), rest)
 }
 
 // The number of a piece's key.
@@ -280,8 +269,7 @@ fn print_pieces(
         start = end;
         part = branch.part;
     }
-    print_piece(alloc, out, prefix, start, END, part)?;
-    Ok(())
+    print_piece(alloc, out, prefix, start, END, part)
 }
 
 /// Writes the paths of a tree behind others, where the first comparisons of each stand already.
@@ -294,18 +282,15 @@ pub fn print(alloc: Global, out: &mut String, prefix: &str, tree: &Tree) -> Resu
     match level_of(tree) {
         None => {
             if known(tree) {
-                push_joined(out, " or ", prefix)?;
-                return Ok(());
+                return push_joined(out, " or ", prefix);
             }
             Ok(())
         }
         Some(level) => {
             if level.is_carried() {
-                print_pieces(alloc, out, prefix, tree)?;
-                return Ok(());
+                return print_pieces(alloc, out, prefix, tree);
             }
-            print_points(alloc, out, prefix, level, tree)?;
-            Ok(())
+            print_points(alloc, out, prefix, level, tree)
         }
     }
 }

@@ -1,5 +1,8 @@
 //! The text of a tree, both ways.
-ghost use Rattle.std.specs.Prelude.{◌≡◌, ◌≢◌, ◌≤◌, [], IfOk, IfErr, Err, false, string_bytes, option_map};
+ghost use Rattle.std.specs.Prelude.{◌≡◌, ◌≢◌, ◌≤◌, ℕ, List, [], IfOk, IfErr, Err, Some, false, string_bytes, option_map};
+ghost use Rattle.std.specs.Str.{bytes_eq};
+ghost use Rattle.ul_marker.specs.Reading.{marker_of};
+ghost use Rattle.ul_marker.specs.Views.{marker_view};
 ghost use Rattle.ul_marker.specs.declared.fault.MarkerFault.TheVariants.{NoReading};
 ghost use Rattle.ul_tree.specs.Paths.{paths_of};
 ghost use Rattle.ul_nodes.specs.Plain.{Plain, truth};
@@ -21,6 +24,7 @@ use crate::printing::print;
 use crate::rows::rows;
 use crate::steps::{Step, steps};
 use std::alloc::{AllocError, Global};
+use ul_base::owned::{beside, refused};
 use ul_marker::printed::Comparison;
 use ul_marker::{Marker, MarkerFault};
 use ul_tree::part::{asks_extra, is_false, known, truth_value};
@@ -35,8 +39,7 @@ fn whole_text(alloc: Global, tree: &Tree) -> Result<String, AllocError>
     ensures { IfOk result (λ s. string_bytes s ≡ marker_text (tree_view tree.now)) }
 {
     if known(tree) {
-        let star = String::from_str(alloc, "*")?;
-        return Ok(star);
+        return String::from_str(alloc, "*");
     }
     let mut out = String::new(alloc);
     print(alloc, &mut out, "", tree)?;
@@ -91,7 +94,22 @@ fn tree_of_rows(alloc: Global, rows: &[Vec<Comparison<'_>>]) -> Result<Tree, All
     ensures { IfOk result (λ t. Keeps [] (rows_tree rows.now) (tree_view t)) }
 {
     let paths = paths_of_rows(alloc, rows)?;
-    let tree = build(alloc, &paths, 0, None, DEEPEST_TEXT)?;
+    build(alloc, &paths, 0, None, DEEPEST_TEXT)
+}
+
+// The tree of a marker's paths: where a tree's text spells the marker, that tree.
+fn tree_of_marker(alloc: Global, marker: &Marker) -> Result<Tree, MarkerFault>
+    ensures reduced { IfOk result IsTree }
+    ensures tree { IfOk result (λ r. (text : List ℕ) (t : Plain) → IsNodeText text t
+        → marker_of text ≡ Some (marker_view marker.now) → tree_view r ≡ t) }
+    ensures refused { result ≡ Err NoReading → (text : List ℕ) (t : Plain) → IsNodeText text t
+        → marker_of text ≡ Some (marker_view marker.now) → ⊥ }
+{
+    let rows = match rows(alloc, marker) {
+        Ok(rows) => rows,
+        Err(fault) => return Err(fault),
+    };
+    let tree = tree_of_rows(alloc, &rows)?;
     Ok(tree)
 }
 
@@ -101,16 +119,23 @@ fn regrouped(alloc: Global, text: &str) -> Result<Tree, MarkerFault>
     ensures tree { IfOk result (λ r. (t : Plain) → IsNodeText text.now t → tree_view r ≡ t) }
     ensures refused { result ≡ Err NoReading → (t : Plain) → IsNodeText text.now t → ⊥ }
 {
-    let marker = match Marker::read(alloc, text) {
-        Ok(marker) => marker,
-        Err(fault) => return Err(fault),
-    };
-    let rows = match rows(alloc, &marker) {
-        Ok(rows) => rows,
-        Err(fault) => return Err(fault),
-    };
-    let tree = tree_of_rows(alloc, &rows)?;
-    Ok(tree)
+    match Marker::read(alloc, text) {
+        Ok(marker) => {
+            let tree = tree_of_marker(alloc, &marker);
+            drop(marker);
+            tree
+        }
+        Err(fault) => Err(fault),
+    }
+}
+
+// Whether a tree has this text.
+fn has_text(alloc: Global, tree: &Tree, text: &str) -> Result<bool, AllocError>
+    requires { IsTree tree.now }
+    ensures { IfOk result (λ b. b ≡ bytes_eq (marker_text (tree_view tree.now)) text.now) }
+{
+    let again = whole_text(alloc, tree)?;
+    Ok(again.as_str() == text)
 }
 
 /// The tree whose text this is.
@@ -134,12 +159,15 @@ pub fn read(alloc: Global, text: &str) -> Result<Tree, MarkerFault>
         Err(fault) => return Err(fault),
     };
     if is_false(&tree) {
+        drop(tree);
         return Err(MarkerFault::NoReading);
     }
-    let again = whole_text(alloc, &tree)?;
-    if again.as_str() == text {
+    let told = has_text(alloc, &tree, text);
+    let (tree, has_text) = beside(tree, told)?;
+    if has_text {
         return Ok(tree);
     }
+    drop(tree);
     Err(MarkerFault::NoReading)
 }
 
@@ -167,7 +195,7 @@ pub fn read_marker(alloc: Global, bytes: &[u8]) -> Result<Option<Tree>, AllocErr
             if is_region(&tree) {
                 return Ok(Some(tree));
             }
-            Ok(None)
+            Ok(refused(tree))
         }
         Err(fault) => match fault {
             MarkerFault::NoReading => Ok(None),

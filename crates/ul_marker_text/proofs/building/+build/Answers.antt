@@ -2,6 +2,7 @@ use Rattle.std.proofs.Common.{◌≡◌, ◌<◌, ◌≤◌, ◌+◌, ◌-◌, a
 use Rattle.std.specs.Prelude.{Vec}
 use Rattle.std.specs.declared.alloc.Global.{Global}
 use Rattle.std.proofs.lemmas.List.{map-append, length-drop}
+use Rattle.std.proofs.lemmas.Result.{IfOk-weaker}
 use Rattle.ul_tree.specs.Fans.{parts_of, tree_of}
 use Rattle.ul_nodes.specs.Keys.{level_view}
 use Rattle.ul_tree.specs.PathLaws.{step_level}
@@ -35,8 +36,9 @@ build-returns t c =
     let k0 : at < length d.items = omega (arith, c.len.ensures, c.if-len-at.false, d.ok) in
     let k = subst (λ (r : Vec Step Global). at < length r.items) c.first-item.is k0 in
     let f = c.step_level-level.ensures ∙ ap (λ z. step_level (step_view z)) (c.index.ensures ∙ ap (λ r. get_or r.items at e) c.first-item.is) in
-    built _ _ _ _ (level_view c.step_level-level.result) (above_view c.args.above) (parts_view c.in_ok-parts.parts.items) (tree_view c.in_ok-tree.tree)
-    (group_fan c.args.paths.now 0 at d e c.in-len1-up.len_at_least k) f c.in_ok-parts.ensures c.in_ok-tree.ensures
+    IfOk-weaker c.node_of.result _ _
+    (λ tree kept. built _ _ _ _ (level_view c.step_level-level.result) (above_view c.args.above) (parts_view c.in_ok-parts.parts.items) (tree_view tree)
+    (group_fan c.args.paths.now 0 at d e c.in-len1-up.len_at_least k) f c.in_ok-parts.ensures kept) c.node_of.ensures
 
 pub parts-loop-from-smaller : goal.parts-loop-from-smaller
 parts-loop-from-smaller t c =

@@ -1,6 +1,7 @@
 use Rattle.std.proofs.Common.{◌≡◌, ◌≢◌, ap, sym, ◌∙◌, subst, List, [], None, length, rules}
 use Rattle.std.specs.Prelude.{All}
 use Rattle.std.specs.Ordering.{is_lt}
+use Rattle.std.proofs.lemmas.Result.{IfOk-weaker}
 use Rattle.ul_tree.specs.Joins.{trees_made}
 use Rattle.ul_nodes.specs.Keys.{level_view}
 use Rattle.ul_nodes.specs.Plain.{Plain, carries, done}
@@ -49,6 +50,6 @@ returns c =
     c.are_apart.ensures ∙ ap (λ m. are_apart None m d (trees_made c.deref.result.now)) c.is_carried.ensures ∙ ap (λ z. are_apart None (carries l) d (trees_made z)) c.deref.ensures.value in
     let z : length c.args.made.items ≢ 0 = search rules in
     let n : bs ≢ done = some_made c.args.made.items z in
-    let same = c.in_ok-tree.ensures ∙ close_node bs l d n in
-    keeps_itself above _ _ (subst (λ (t : Plain). Fits t above) (sym same)
-    (node_fits bs l above d n (sym c.is_below.ensures ∙ c.if-not-is_below.false) c.requires.keys c.requires.parts c.requires.other (sym e ∙ c.if-not-are_apart.false))) same
+    let fits = node_fits bs l above d n (sym c.is_below.ensures ∙ c.if-not-is_below.false) c.requires.keys c.requires.parts c.requires.other (sym e ∙ c.if-not-are_apart.false) in
+    IfOk-weaker c.closed.result _ _
+    (λ tree is. keeps_itself above _ _ (subst (λ (t : Plain). Fits t above) (sym (is ∙ close_node bs l d n)) fits) (is ∙ close_node bs l d n)) c.closed.ensures

@@ -6,7 +6,7 @@ use Rattle.ul_marker_text.proofs.nodes.listed.Goals as goal
 pub loop-step-preserved : goal.loop-step-preserved
 loop-step-preserved c =
     let e : c.loop-step.parts.items ≡ (Point c.in-Point.comparison, c.in-Some.tree) ∷ c.pop_front.new.self.items = cc c.in-Some.ensures.items in
-    ap (λ z. points_left z c.pop_front.new.self.items) c.in_ok-push-in-Point.ensures.items
+    ap (λ z. points_left z c.pop_front.new.self.items) c.in_ok-made-in-Point.ensures
     ∙ listed_more c.loop-step.made.items c.in-Point.comparison c.in-Some.tree c.loop-step.parts.items _ _ e c.loop-step.invariant
 
 pub returns-in-Interval : goal.returns-in-Interval

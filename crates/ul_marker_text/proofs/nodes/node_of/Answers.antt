@@ -1,4 +1,5 @@
 use Rattle.std.proofs.Common.{sym}
+use Rattle.std.proofs.lemmas.Result.{IfOk-weaker}
 use Rattle.ul_nodes.specs.Keys.{level_view}
 use Rattle.ul_marker_text.specs.Nodes.{parts_view}
 use Rattle.ul_marker_text.specs.StepViews.{above_view}
@@ -14,8 +15,10 @@ points_node-requires-clause-level c = first_flat c.args.parts.items (level_view 
 
 pub returns-then-has_interval : goal.returns-then-has_interval
 returns-then-has_interval c =
-    keeps_given (above_view c.args.above) _ _ _ (sym (node_pieces (parts_view c.args.parts.items) (sym c.if-has_interval.ensures))) c.in_ok-tree.ensures
+    let same = sym (node_pieces (parts_view c.args.parts.items) (sym c.if-has_interval.ensures)) in
+    IfOk-weaker c.pieces_node.result _ _ (λ tree kept. keeps_given (above_view c.args.above) _ _ _ same kept) c.pieces_node.ensures
 
 pub returns : goal.returns
 returns c =
-    keeps_given (above_view c.args.above) _ _ _ (sym (node_points (parts_view c.args.parts.items) (level_view c.args.level) (sym c.if-has_interval.ensures) c.requires.level)) c.in_ok-tree-2.ensures
+    let same = sym (node_points (parts_view c.args.parts.items) (level_view c.args.level) (sym c.if-has_interval.ensures) c.requires.level) in
+    IfOk-weaker c.points_node.result _ _ (λ tree kept. keeps_given (above_view c.args.above) _ _ _ same kept) c.points_node.ensures

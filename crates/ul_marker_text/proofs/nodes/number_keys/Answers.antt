@@ -8,7 +8,7 @@ use Rattle.ul_marker_text.proofs.nodes.number_keys.Goals as goal
 
 pub loop-number-preserved : goal.loop-number-preserved
 loop-number-preserved c =
-    subst (λ (z : List (Key × Tree)). KeysLeft python_level z (number_branches c.next.new.self.rest.items) (number_branches c.args.pieces.items)) (sym c.in_ok-push-in-Some-number_key.ensures.items)
+    subst (λ (z : List (Key × Tree)). KeysLeft python_level z (number_branches c.next.new.self.rest.items) (number_branches c.args.pieces.items)) (sym c.in_ok-made-in-Some-number_key.ensures)
     (keys_more python_level _ c.in-Some-number_key.key c.in-Some.tree c.loop-number.made.items _ _ _ (ap number_branches c.in-Some.ensures.steps.0) c.in-Some-number_key.ensures c.loop-number.invariant)
 
 pub returns : goal.returns

@@ -1,4 +1,5 @@
 use Rattle.std.proofs.Common.{ap, sym, ◌∙◌, subst, false, ◌∷◌, map}
+use Rattle.std.proofs.lemmas.Result.{IfOk-weaker}
 use Rattle.ul_tree.specs.Fans.{other_part}
 use Rattle.ul_nodes.specs.Keys.{level_view}
 use Rattle.ul_nodes.specs.Plain.{Branches, Plain, node, truth}
@@ -22,23 +23,21 @@ pub points_closed-requires-in-Some-clause-other : goal.points_closed-requires-in
 points_closed-requires-in-Some-clause-other c =
     let ps = parts_view c.args.parts.items in
     let o = other_of (other_part ps) _ c.in-Some.ensures in
-    subst (λ (z : Plain). Fits z (level_view c.args.level)) (sym (c.take_other-other.ensures _ o.part (c.in_ok-points-in-Some.ensures.other ∙ o.found)))
+    subst (λ (z : Plain). Fits z (level_view c.args.level)) (sym (c.take_other.ensures _ o.part (c.in_ok-points-in-Some.ensures.other ∙ o.found)))
     (other_fits ps (level_view c.args.level) _ o.part c.requires.parts o.found)
 
-pub returns-in_ok-tree-in-None : goal.returns-in_ok-tree-in-None
-returns-in_ok-tree-in-None c =
+pub returns-in_ok-points-in-None : goal.returns-in_ok-points-in-None
+returns-in_ok-points-in-None c =
     let l = level_view c.args.level in
     let ps = parts_view c.args.parts.items in
-    keeps_given (above_view c.args.above) _ _ _
-    (ap (λ z. node l z (key_branches c.in_ok-points-in-None.points.items)) (view_truth _) ∙ ap (node l (truth false)) c.in_ok-points-in-None.ensures ∙ sym (listed_all ps (no_other (other_part ps) c.in-None.ensures) l))
-    c.in_ok-tree-in-None.ensures
+    let same = ap (λ z. node l z (key_branches c.in_ok-points-in-None.points.items)) (view_truth _) ∙ ap (node l (truth false)) c.in_ok-points-in-None.ensures ∙ sym (listed_all ps (no_other (other_part ps) c.in-None.ensures) l) in
+    IfOk-weaker c.points_closed.result _ _ (λ tree kept. keeps_given (above_view c.args.above) _ _ _ same kept) c.points_closed.ensures
 
-pub returns-in_ok-tree-in-Some : goal.returns-in_ok-tree-in-Some
-returns-in_ok-tree-in-Some c =
+pub returns-in_ok-points-in-Some : goal.returns-in_ok-points-in-Some
+returns-in_ok-points-in-Some c =
     let l = level_view c.args.level in
     let ps = parts_view c.args.parts.items in
     let o = other_of (other_part ps) _ c.in-Some.ensures in
-    keeps_given (above_view c.args.above) _ _ _
-    (ap (λ z. node l z (key_branches c.in_ok-points-in-Some.points.items)) (c.take_other-other.ensures _ o.part (c.in_ok-points-in-Some.ensures.other ∙ o.found))
-    ∙ ap (node l o.part) c.in_ok-points-in-Some.ensures.branches ∙ sym (filled_all ps _ o.part o.found l))
-    c.in_ok-tree-in-Some.ensures
+    let same = ap (λ z. node l z (key_branches c.in_ok-points-in-Some.points.items)) (c.take_other.ensures _ o.part (c.in_ok-points-in-Some.ensures.other ∙ o.found))
+    ∙ ap (node l o.part) c.in_ok-points-in-Some.ensures.branches ∙ sym (filled_all ps _ o.part o.found l) in
+    IfOk-weaker c.points_closed-in-Some.result _ _ (λ tree kept. keeps_given (above_view c.args.above) _ _ _ same kept) c.points_closed-in-Some.ensures

@@ -1,4 +1,5 @@
 use Rattle.std.proofs.Common.{◌∙◌, ap, sym, add-one, arith, string_bytes}
+use Rattle.std.proofs.lemmas.Result.{on_ok_weaker}
 use Rattle.ul_nodes.specs.Keys.{level_view, key_view, branches_of, branches_from}
 use Rattle.ul_tree.specs.Views.{tree_view}
 use Rattle.ul_nodes.proofs.ForCallers.{from_end, part_reduced}
@@ -11,10 +12,17 @@ use Rattle.ul_marker_text.proofs.printing.+print.Goals as goal
 
 pub print-returns-then-known : goal.print-returns-then-known
 print-returns-then-known t c =
-    c.in_ok-push_joined-in-None.ensures ∙ truth_behind (string_bytes c.args.out.now) c.args.prefix.now (tree_view c.args.tree.now) (sym c.in-None.ensures) (sym c.if-known.ensures)
+    let same = truth_behind (string_bytes c.args.out.now) c.args.prefix.now (tree_view c.args.tree.now) (sym c.in-None.ensures) (sym c.if-known.ensures) in
+    on_ok_weaker c.push_joined.result (λ told. told ∙ same) c.push_joined.ensures
 
 pub print-returns-else-known : goal.print-returns-else-known
 print-returns-else-known t c = untrue_behind (string_bytes c.args.out.now) c.args.prefix.now (tree_view c.args.tree.now) (sym c.in-None.ensures) (sym c.if-known.ensures)
+
+pub print-returns-then-is_carried : goal.print-returns-then-is_carried
+print-returns-then-is_carried t c = c.print_pieces.ensures
+
+pub print-returns-else-is_carried : goal.print-returns-else-is_carried
+print-returns-else-is_carried t c = c.print_points.ensures
 
 pub print_piece-returns-then-is_false : goal.print_piece-returns-then-is_false
 print_piece-returns-then-is_false t c =
@@ -22,10 +30,10 @@ print_piece-returns-then-is_false t c =
 
 pub print_piece-returns : goal.print_piece-returns
 print_piece-returns t c =
-    c.in_ok-print.ensures
-    ∙ ap (λ z. paths_behind (string_bytes c.args.out.now) z (paths_to_true (tree_view c.args.part.now))) c.as_str.ensures.value
+    let same = ap (λ z. paths_behind (string_bytes c.args.out.now) z (paths_to_true (tree_view c.args.part.now))) c.as_str.ensures.value
     ∙ piece_behind (string_bytes c.args.out.now) c.args.prefix.now (string_bytes c.in_ok-next.next) (string_bytes c.add_lower.new.out) (string_bytes c.add_upper.new.out) c.args.start c.args.end
-    (paths_to_true (tree_view c.args.part.now)) c.in_ok-next.ensures.ok c.in_ok-add_lower.ensures c.in_ok-add_upper.ensures
+    (paths_to_true (tree_view c.args.part.now)) c.in_ok-next.ensures.ok c.in_ok-add_lower.ensures c.in_ok-add_upper.ensures in
+    on_ok_weaker c.print.result (λ told. told ∙ same) c.print.ensures
 
 pub print_point-returns-then-is_false : goal.print_point-returns-then-is_false
 print_point-returns-then-is_false t c =
@@ -33,10 +41,10 @@ print_point-returns-then-is_false t c =
 
 pub print_point-returns : goal.print_point-returns
 print_point-returns t c =
-    c.in_ok-print.ensures
-    ∙ ap (λ z. paths_behind (string_bytes c.args.out.now) z (paths_to_true (tree_view c.args.part.now))) c.as_str.ensures.value
+    let same = ap (λ z. paths_behind (string_bytes c.args.out.now) z (paths_to_true (tree_view c.args.part.now))) c.as_str.ensures.value
     ∙ point_behind (string_bytes c.args.out.now) c.args.prefix.now (string_bytes c.in_ok-next.next) (string_bytes c.add_key.new.out) (level_view c.args.level) (key_view c.args.key)
-    (paths_to_true (tree_view c.args.part.now)) c.in_ok-next.ensures.ok c.in_ok-add_key.ensures
+    (paths_to_true (tree_view c.args.part.now)) c.in_ok-next.ensures.ok c.in_ok-add_key.ensures in
+    on_ok_weaker c.print.result (λ told. told ∙ same) c.print.ensures
 
 pub print_points-print_point-requires : goal.print_points-print_point-requires
 print_points-print_point-requires t c =
@@ -70,10 +78,11 @@ print_points-returns t c =
     let bs = branches_of a in
     let l = level_view c.args.level in
     let e = points_done l (string_bytes c.loop-index.out) c.args.prefix.now (branches_from c.loop-index.index bs) (from_end bs c.loop-index.index (omega (arith, c.branch_count-index-end.ensures))) ∙ c.loop-index.invariant in
-    let f = c.in_ok-print.ensures ∙ ap (λ z. paths_behind (string_bytes c.loop-index.out) z (paths_to_true (tree_view c.rest_of-rest.result.now))) c.as_str.ensures.value
-    ∙ other_behind (string_bytes c.loop-index.out) c.args.prefix.now (string_bytes c.in_ok-next.next) l bs (paths_to_true (tree_view c.rest_of-rest.result.now)) c.in_ok-next.ensures in
-    node_behind (string_bytes c.args.out.now) (string_bytes c.loop-index.out) (string_bytes c.print.new.out) c.args.prefix.now l a ((c.requires.1).1).0 (((c.requires.1).1).1).0 e
-    (f ∙ ap (λ z. paths_behind (string_bytes c.loop-index.out) c.args.prefix.now (longer_paths (others l (keys bs)) (paths_to_true z))) c.rest_of-rest.ensures)
+    let same = ap (λ z. paths_behind (string_bytes c.loop-index.out) z (paths_to_true (tree_view c.rest_of-rest.result.now))) c.as_str.ensures.value
+    ∙ other_behind (string_bytes c.loop-index.out) c.args.prefix.now (string_bytes c.in_ok-next.next) l bs (paths_to_true (tree_view c.rest_of-rest.result.now)) c.in_ok-next.ensures
+    ∙ ap (λ z. paths_behind (string_bytes c.loop-index.out) c.args.prefix.now (longer_paths (others l (keys bs)) (paths_to_true z))) c.rest_of-rest.ensures in
+    on_ok_weaker c.print.result
+    (λ told. node_behind (string_bytes c.args.out.now) (string_bytes c.loop-index.out) (string_bytes c.print.new.out) c.args.prefix.now l a ((c.requires.1).1).0 (((c.requires.1).1).1).0 e (told ∙ same)) c.print.ensures
 
 pub print_pieces-loop-index-preserved : goal.print_pieces-loop-index-preserved
 print_pieces-loop-index-preserved t c =
@@ -92,7 +101,7 @@ pub print_pieces-returns : goal.print_pieces-returns
 print_pieces-returns t c =
     let a = tree_view c.args.tree.now in
     let bs = branches_of a in
-    pieces_done (tree_view c.loop-index.part.now) c.loop-index.start (string_bytes c.loop-index.out) (string_bytes c.print_piece-2.new.out) c.args.prefix.now (branches_from c.loop-index.index bs)
-    (from_end bs c.loop-index.index (omega (arith, c.branch_count-index-end.ensures))) c.in_ok-print_piece-2.ensures
-    ∙ c.loop-index.invariant.left
-    ∙ ap (paths_behind (string_bytes c.args.out.now) c.args.prefix.now) (sym (pieces_paths a ((c.requires.1).1).0))
+    let last = from_end bs c.loop-index.index (omega (arith, c.branch_count-index-end.ensures)) in
+    let same = c.loop-index.invariant.left ∙ ap (paths_behind (string_bytes c.args.out.now) c.args.prefix.now) (sym (pieces_paths a ((c.requires.1).1).0)) in
+    on_ok_weaker c.print_piece-2.result
+    (λ told. pieces_done (tree_view c.loop-index.part.now) c.loop-index.start (string_bytes c.loop-index.out) (string_bytes c.print_piece-2.new.out) c.args.prefix.now (branches_from c.loop-index.index bs) last told ∙ same) c.print_piece-2.ensures

@@ -1,5 +1,10 @@
-use Rattle.std.proofs.Common.{ap, sym, ◌∙◌}
+use Rattle.std.proofs.Common.{◌≡◌, true, false, ap, sym, ◌∙◌, subst}
+use Rattle.std.proofs.lemmas.Slice.Eq.{bytes_eq-Decides}
+use Rattle.ul_base.proofs.ForCallers.{made_holds}
+use Rattle.ul_nodes.specs.Reduced.{IsReduced}
+use Rattle.ul_tree.specs.FirstParts.{is_false}
 use Rattle.ul_tree.specs.Views.{tree_view}
+use Rattle.ul_tree.specs.declared.tree.Tree.{Tree}
 use Rattle.ul_tree.proofs.ForCallers.{view_truth}
 use Rattle.ul_marker_text.specs.MarkerText.{marker_text}
 use Rattle.ul_marker_text.proofs.TextsRead.{star_is, node_text_of, false_is, texts_differ}
@@ -21,4 +26,18 @@ returns-then-is_false-clause-refused c e t h f m =
 pub returns-clause-refused : goal.returns-clause-refused
 returns-clause-refused c e t h f m =
     let same = c.in-Ok.ensures.tree t (node_text_of c.args.text.now t c.if-eq.ensures h f m) in
-    texts_differ c.as_str.result.now c.args.text.now c.if-eq-2.ensures (c.as_str.ensures.value ∙ c.in_ok-again.ensures ∙ ap marker_text same ∙ m)
+    let told = made_holds c.has_text-told.result c.in_ok-tree.has_text _ c.in_ok-tree.ensures.1 c.has_text-told.ensures in
+    texts_differ (marker_text (tree_view c.in-Ok.tree)) c.args.text.now (sym c.if-has_text.false ∙ told) (ap marker_text same ∙ m)
+
+pub returns-then-has_text-clause-reduced : goal.returns-then-has_text-clause-reduced
+returns-then-has_text-clause-reduced c = subst (λ (z : Tree). IsReduced (tree_view z)) (sym c.in_ok-tree.ensures.0) c.in-Ok.ensures.reduced
+
+pub returns-then-has_text-clause-not_false : goal.returns-then-has_text-clause-not_false
+returns-then-has_text-clause-not_false c e =
+    let p : false ≡ true = c.if-is_false.ensures ∙ ap is_false (sym (ap tree_view c.in_ok-tree.ensures.0) ∙ e) in cc
+
+pub returns-then-has_text-clause-text : goal.returns-then-has_text-clause-text
+returns-then-has_text-clause-text c =
+    let told = made_holds c.has_text-told.result c.in_ok-tree.has_text _ c.in_ok-tree.ensures.1 c.has_text-told.ensures in
+    ap (λ z. marker_text (tree_view z)) c.in_ok-tree.ensures.0
+    ∙ (bytes_eq-Decides (marker_text (tree_view c.in-Ok.tree)) c.args.text.now).0 (sym told ∙ c.if-has_text.true)

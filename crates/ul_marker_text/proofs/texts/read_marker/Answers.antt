@@ -1,4 +1,5 @@
 use Rattle.std.proofs.Common.{sym, ◌∙◌, ap}
+use Rattle.std.specs.Prelude.{option_map}
 use Rattle.ul_tree.specs.Views.{tree_view}
 use Rattle.ul_marker_text.specs.MarkerOfText.{marker_of_text}
 use Rattle.ul_tree.specs.declared.tree.Tree.{Tree}
@@ -17,7 +18,8 @@ returns-then-is_region c =
 pub returns-else-is_region : goal.returns-else-is_region
 returns-else-is_region c =
     let r = c.in-Ok-read.ensures in
-    no_region c.in-Ok.text.now (tree_view c.in-Ok-read.tree) r.reduced r.not_false r.text (sym c.is_region.ensures ∙ c.if-is_region.false) ∙ ap marker_of_text c.in-Ok.ensures.cases.0
+    ap (option_map tree_view) c.refused.ensures
+    ∙ no_region c.in-Ok.text.now (tree_view c.in-Ok-read.tree) r.reduced r.not_false r.text (sym c.is_region.ensures ∙ c.if-is_region.false) ∙ ap marker_of_text c.in-Ok.ensures.cases.0
 
 pub returns-in-NoReading : goal.returns-in-NoReading
 returns-in-NoReading c = no_marker c.in-Ok.text.now (c.in-Err.ensures.refused (ap (err_of Tree) c.in-NoReading.is)) ∙ ap marker_of_text c.in-Ok.ensures.cases.0

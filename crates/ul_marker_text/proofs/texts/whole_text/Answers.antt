@@ -1,4 +1,5 @@
 use Rattle.std.proofs.Common.{◌∙◌, ap, sym}
+use Rattle.std.proofs.lemmas.Result.{IfOk-weaker}
 use Rattle.ul_tree.specs.PathList.{paths_to_true}
 use Rattle.ul_tree.specs.Views.{tree_view}
 use Rattle.ul_marker_text.specs.Printing.{paths_behind}
@@ -6,7 +7,8 @@ use Rattle.ul_marker_text.proofs.TreeTexts.{star_text, printed_text}
 use Rattle.ul_marker_text.proofs.texts.whole_text.Goals as goal
 
 pub returns-then-known : goal.returns-then-known
-returns-then-known c = c.in_ok-star.ensures.ok ∙ star_text (tree_view c.args.tree.now) (sym c.if-known.ensures)
+returns-then-known c =
+    IfOk-weaker c.from_str.result _ _ (λ star is. is ∙ star_text (tree_view c.args.tree.now) (sym c.if-known.ensures)) c.from_str.ensures.ok
 
 pub returns : goal.returns
 returns c =
