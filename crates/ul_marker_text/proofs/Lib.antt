@@ -18,3 +18,4 @@ pub mod TextsRead
 pub mod PlainTexts
 pub mod MarkersRead
 pub mod ForCallers
+pub mod Mapped

@@ -1,7 +1,8 @@
-use Rattle.std.proofs.Common.{◌≡◌, ◌≢◌, ap, sym, ◌∙◌, subst, List, [], None, length, rules}
+use Rattle.std.proofs.Common.{◌≡◌, ◌≢◌, ap, sym, ◌∙◌, subst, List, [], None, length, arith}
 use Rattle.std.specs.Prelude.{All}
 use Rattle.std.specs.Ordering.{is_lt}
 use Rattle.std.proofs.lemmas.Result.{IfOk-weaker}
+use Rattle.ul_specifier.proofs.ForCallers.{not_empty}
 use Rattle.ul_tree.specs.Joins.{trees_made}
 use Rattle.ul_nodes.specs.Keys.{level_view}
 use Rattle.ul_nodes.specs.Plain.{Plain, carries, done}
@@ -35,7 +36,8 @@ closed-requires-clause-reduced c =
     let bs = trees_made c.args.made.items in
     let e : c.are_apart.result ≡ are_apart None (carries l) d bs =
     c.are_apart.ensures ∙ ap (λ m. are_apart None m d (trees_made c.deref.result.now)) c.is_carried.ensures ∙ ap (λ z. are_apart None (carries l) d (trees_made z)) c.deref.ensures.value in
-    let z : length c.args.made.items ≢ 0 = search rules in
+    let some = not_empty _ (sym c.if-is_empty.false ∙ c.is_empty.ensures) in
+    let z : length c.args.made.items ≢ 0 = omega (arith, some, c.args.made.ok) in
     let n : bs ≢ done = some_made c.args.made.items z in
     subst (λ (t : Plain). IsReduced t) (sym (close_node bs l d n))
     (node_fits bs l [] d n (ap is_lt (level_first c.args.level)) c.requires.keys c.requires.parts c.requires.other (sym e ∙ c.if-not-are_apart.false))
@@ -48,7 +50,8 @@ returns c =
     let above = above_view c.args.above in
     let e : c.are_apart.result ≡ are_apart None (carries l) d bs =
     c.are_apart.ensures ∙ ap (λ m. are_apart None m d (trees_made c.deref.result.now)) c.is_carried.ensures ∙ ap (λ z. are_apart None (carries l) d (trees_made z)) c.deref.ensures.value in
-    let z : length c.args.made.items ≢ 0 = search rules in
+    let some = not_empty _ (sym c.if-is_empty.false ∙ c.is_empty.ensures) in
+    let z : length c.args.made.items ≢ 0 = omega (arith, some, c.args.made.ok) in
     let n : bs ≢ done = some_made c.args.made.items z in
     let fits = node_fits bs l above d n (sym c.is_below.ensures ∙ c.if-not-is_below.false) c.requires.keys c.requires.parts c.requires.other (sym e ∙ c.if-not-are_apart.false) in
     IfOk-weaker c.closed.result _ _

@@ -1,9 +1,10 @@
-use Rattle.std.proofs.Common.{◌<◌, sym, ap, ◌∙◌, subst, length, ◌∷◌, [], rules}
+use Rattle.std.proofs.Common.{◌<◌, sym, ap, ◌∙◌, subst, length, ◌∷◌, [], arith}
 use Rattle.std.specs.Prelude.{Option, Vec}
 use Rattle.std.specs.declared.alloc.Global.{Global}
 use Rattle.std.proofs.lemmas.Result.{IfOk-weaker}
 use Rattle.ul_base.proofs.ForCallers.{made_holds}
 use Rattle.ul_tree.specs.Fans.{pieces_from}
+use Rattle.ul_specifier.proofs.ForCallers.{not_empty}
 use Rattle.ul_tree.specs.Joins.{trees_made}
 use Rattle.ul_nodes.specs.Levels.{python_level}
 use Rattle.ul_nodes.specs.Plain.{Plain, Branches, node}
@@ -21,7 +22,8 @@ use Rattle.ul_marker_text.proofs.nodes.pieces_node.Goals as goal
 
 pub closed_if_reduced-requires : goal.closed_if_reduced-requires
 closed_if_reduced-requires c =
-    let some : 0 < length c.in_ok-pieces.pieces.items = search rules in
+    let filled = not_empty _ (sym c.if-is_empty.false ∙ c.is_empty.ensures) in
+    let some : 0 < length c.in_ok-pieces.pieces.items = omega (arith, filled, c.in_ok-pieces.pieces.ok) in
     let rest = number_branches c.remove-other.new.self.items in
     let cut = first_piece c.in_ok-pieces.pieces.items c.remove-other.result c.remove-other.new.self.items some c.remove-other.ensures.value c.remove-other.ensures.items in
     let all = subst (λ (z : Branches). BranchesFit python_level z) (sym c.in_ok-pieces.ensures ∙ cut) (pieces_fit (parts_view c.args.parts.items) 0 c.requires) in
@@ -36,7 +38,8 @@ closed_if_reduced-requires c =
 
 pub returns-in-None : goal.returns-in-None
 returns-in-None c =
-    let some : 0 < length c.in_ok-pieces.pieces.items = search rules in
+    let filled = not_empty _ (sym c.if-is_empty.false ∙ c.is_empty.ensures) in
+    let some : 0 < length c.in_ok-pieces.pieces.items = omega (arith, filled, c.in_ok-pieces.pieces.ok) in
     let rest = number_branches c.remove-other.new.self.items in
     let cut = first_piece c.in_ok-pieces.pieces.items c.remove-other.result c.remove-other.new.self.items some c.remove-other.ensures.value c.remove-other.ensures.items in
     let whole = sym c.in_ok-pieces.ensures ∙ cut in
@@ -48,7 +51,8 @@ returns-in-None c =
 
 pub returns-in-Some : goal.returns-in-Some
 returns-in-Some c =
-    let some : 0 < length c.in_ok-pieces.pieces.items = search rules in
+    let filled = not_empty _ (sym c.if-is_empty.false ∙ c.is_empty.ensures) in
+    let some : 0 < length c.in_ok-pieces.pieces.items = omega (arith, filled, c.in_ok-pieces.pieces.ok) in
     let rest = number_branches c.remove-other.new.self.items in
     let cut = first_piece c.in_ok-pieces.pieces.items c.remove-other.result c.remove-other.new.self.items some c.remove-other.ensures.value c.remove-other.ensures.items in
     let whole = sym c.in_ok-pieces.ensures ∙ cut in
