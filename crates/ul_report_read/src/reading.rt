@@ -11,6 +11,7 @@ use crate::lines::line;
 use crate::proof::Proof;
 use crate::states::{State, ended, next};
 use std::alloc::{AllocError, Global};
+use ul_base::owned::{beside, refused};
 use ul_lines::first_line;
 use ul_tree::laws::sample_holds;
 
@@ -36,7 +37,7 @@ fn follow(alloc: Global, state: State, found: Option<Line>) -> Result<Option<Sta
     ensures { IfOk result (λ after. after ≡ option_and_then (step state) found) }
 {
     match found {
-        None => Ok(None),
+        None => Ok(refused(state)),
         Some(line) => next(alloc, state, line),
     }
 }
@@ -44,7 +45,7 @@ fn follow(alloc: Global, state: State, found: Option<Line>) -> Result<Option<Sta
 fn behind(alloc: Global, state: State, text: &[u8]) -> Result<Option<State>, AllocError>
     ensures { IfOk result (λ found. found ≡ step_text proof_reader state text.now) }
 {
-    let found = line(alloc, text)?;
+    let (state, found) = beside(state, line(alloc, text))?;
     follow(alloc, state, found)
 }
 

@@ -3,12 +3,14 @@ ghost use Rattle.std.specs.Prelude.{◌≡◌, ◌++◌, ◌∷◌, [], IfOk, by
 ghost use Rattle.ul_report.specs.Texts.{world_text};
 ghost use Rattle.ul_report_read.specs.Automaton as spec;
 ghost use Rattle.ul_report_read.specs.Automaton.{final, step};
+ghost use Rattle.ul_report_read.specs.declared.line.Line.TheVariants.{Step, World};
 ghost use Rattle.ul_report_read.specs.declared.states.State.TheVariants.{Start, Titled, Forked, Bounded, Stepping};
 ghost use Rattle.ul_tree.specs.Sample.{sample_of};
 
 use crate::line::Line;
 use crate::proof::{Path, Proof};
 use std::alloc::{AllocError, Global};
+use ul_base::owned::{beside, refused, with_one};
 use ul_lines::same;
 use ul_lock_lines::{Region, Text};
 use ul_report::{Steps, TextStep, sample_text};
@@ -28,7 +30,7 @@ fn after_title(line: Line) -> Option<State>
 {
     match line {
         Line::Fork(path) => Some(State::Forked(path)),
-        _ => None,
+        other => refused(other),
     }
 }
 
@@ -37,7 +39,7 @@ fn after_fork(path: Path, line: Line) -> Option<State>
 {
     match line {
         Line::Region(region) => Some(State::Bounded(path, region)),
-        _ => None,
+        other => refused((path, other)),
     }
 }
 
@@ -50,6 +52,25 @@ fn is_sample(alloc: Global, region: &Region, text: &Text) -> Result<bool, AllocE
     Ok(is_same)
 }
 
+// The state behind a world, if it is the sample of the region.
+fn with_world(
+    alloc: Global,
+    path: Path,
+    region: Region,
+    text: Text,
+) -> Result<Option<State>, AllocError>
+    ensures { IfOk result (λ o. o ≡ step (Bounded path region) (World text)) }
+{
+    let sampled = is_sample(alloc, &region, &text);
+    let (kept, is_sampled) = beside((path, region, text), sampled)?;
+    if is_sampled {
+        let (path, region, _) = kept;
+        Ok(Some(State::Stepping(path, region, Steps::of(Vec::new(alloc)))))
+    } else {
+        Ok(refused(kept))
+    }
+}
+
 fn after_region(
     alloc: Global,
     path: Path,
@@ -59,14 +80,8 @@ fn after_region(
     ensures { IfOk result (λ o. o ≡ step (Bounded path region) line) }
 {
     match line {
-        Line::World(text) => {
-            if is_sample(alloc, &region, &text)? {
-                Ok(Some(State::Stepping(path, region, Steps::of(Vec::new(alloc)))))
-            } else {
-                Ok(None)
-            }
-        }
-        _ => Ok(None),
+        Line::World(text) => with_world(alloc, path, region, text),
+        other => Ok(refused((path, region, other))),
     }
 }
 
@@ -74,9 +89,28 @@ fn after_region(
 fn with(steps: Steps, step: TextStep) -> Result<Steps, AllocError>
     ensures { IfOk result (λ ss. ss ≡ steps ++ step ∷ []) }
 {
-    let mut list = steps.into_vec();
-    list.push(step)?;
+    let list = with_one(steps.into_vec(), step)?;
     Ok(Steps::of(list))
+}
+
+// The state behind one more step, if it has the next number.
+fn with_step(
+    path: Path,
+    region: Region,
+    steps: Steps,
+    number: u64,
+    text: TextStep,
+) -> Result<Option<State>, AllocError>
+    ensures { IfOk result (λ o. o ≡ step (Stepping path region steps) (Step number text)) }
+{
+    let count = steps.as_slice().len() as u64;
+    if number == count + 1 {
+        let (kept, steps) = beside((path, region), with(steps, text))?;
+        let (path, region) = kept;
+        Ok(Some(State::Stepping(path, region, steps)))
+    } else {
+        Ok(refused((path, region, steps, text)))
+    }
 }
 
 fn after_steps(
@@ -88,16 +122,8 @@ fn after_steps(
     ensures { IfOk result (λ o. o ≡ step (Stepping path region steps) line) }
 {
     match line {
-        Line::Step(number, text) => {
-            let count = steps.as_slice().len() as u64;
-            if number == count + 1 {
-                let steps = with(steps, text)?;
-                Ok(Some(State::Stepping(path, region, steps)))
-            } else {
-                Ok(None)
-            }
-        }
-        _ => Ok(None),
+        Line::Step(number, text) => with_step(path, region, steps, number, text),
+        other => Ok(refused((path, region, steps, other))),
     }
 }
 
@@ -108,7 +134,7 @@ pub fn next(alloc: Global, state: State, line: Line) -> Result<Option<State>, Al
     match state {
         State::Start => match line {
             Line::Title => Ok(Some(State::Titled)),
-            _ => Ok(None),
+            other => Ok(refused(other)),
         },
         State::Titled => Ok(after_title(line)),
         State::Forked(path) => Ok(after_fork(path, line)),
@@ -127,6 +153,6 @@ pub fn ended(state: State) -> Option<Proof>
             region,
             steps,
         }),
-        _ => None,
+        other => refused(other),
     }
 }

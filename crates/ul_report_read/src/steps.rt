@@ -8,6 +8,7 @@ ghost use Rattle.ul_report_read.specs.Tokens.{rises, rises_from};
 use crate::tokens::{after, node, number, placed};
 use std::alloc::{AllocError, Global};
 use ul_base::Node;
+use ul_base::owned::{beside, refused};
 use ul_lines::{divided, stripped};
 use ul_report::{Terms, TextStep, TextTerm, Versions};
 use ul_version::ascii::{Only, piece_len};
@@ -34,7 +35,7 @@ fn negative(alloc: Global, bytes: &[u8]) -> Result<Option<TextTerm>, AllocError>
             None => Ok(None),
             Some((node, versions)) => {
                 if versions.as_slice().is_empty() {
-                    Ok(None)
+                    Ok(refused((node, versions)))
                 } else {
                     Ok(Some(TextTerm::NotIn(node, versions)))
                 }
@@ -163,7 +164,7 @@ fn last(alloc: Global, bytes: &[u8]) -> Result<Option<(Node, Versions)>, AllocEr
             if rest.is_empty() {
                 Ok(Some((node, versions)))
             } else {
-                Ok(None)
+                Ok(refused((node, versions)))
             }
         }
     }
@@ -178,16 +179,22 @@ fn target(
     ensures { IfOk result (λ o. o ≡ spec.target_at node versions bytes.now) }
 {
     match stripped(bytes, b" ") {
-        None => Ok(None),
-        Some(rest) => match last(alloc, rest)? {
-            None => Ok(None),
-            Some((target, permitted)) => Ok(Some(TextStep::Need {
-                node,
-                versions,
-                target,
-                permitted,
-            })),
-        },
+        None => Ok(refused((node, versions))),
+        Some(rest) => {
+            let (source, found) = beside((node, versions), last(alloc, rest))?;
+            match found {
+                None => Ok(refused(source)),
+                Some((target, permitted)) => {
+                    let (node, versions) = source;
+                    Ok(Some(TextStep::Need {
+                        node,
+                        versions,
+                        target,
+                        permitted,
+                    }))
+                }
+            }
+        }
     }
 }
 
