@@ -28,6 +28,14 @@ use Rattle.ul_trail.proofs.Keeping.{follow_push}
 use Rattle.ul_trail.proofs.Decided.{place_decided}
 use Rattle.ul_trail.proofs.Propagating.{picks_append, mark_more, later_join, sizes_length, sizes_at}
 
+-- a node with a version has a place
+pub decided_there : (p : Plain) (sizes positions : List ℕ) (n v : ℕ) → sizes ≡ sizes_of p → length positions ≡ length sizes → v < size_of p n → n < length positions
+decided_there p sizes positions n v e l h =
+    let f = node_of_size p n v h in
+    let w = slice_get_within p.nodes n f.0 f.1 in
+    let count : length sizes ≡ length p.nodes = ap (λ (x : List ℕ). length x) e ∙ sizes_length p.nodes in
+    omega arith
+
 pub indexed_push : (d : Picks) (positions : List ℕ) (n v : ℕ) → IsIndexed d positions → is_decided n d ≡ false → n < length positions → IsIndexed (d ++ (n, v) ∷ []) (slice_set positions n (length d))
 indexed_push d positions n v x u l = record {
   inside = λ i e g. subst (λ (k : ℕ). e.0 < k) (sym (length-set positions n (length d))) (elim (last_cases d (n, v) e i g) [ inl h ↦ x.inside i e h.1 | inr h ↦ subst (λ (y : ℕ × ℕ). y.0 < length positions) (sym h.1) l ]);

@@ -1,6 +1,7 @@
 -- The steps that a problem gives are right, and are all that a trail begins with.
 use Rattle.std.proofs.Common.{◌≡◌, ℕ, zero, suc, ◌+◌, List, [], ◌∷◌, ◌++◌, Bool, true, false, cond, Option, Some, None, refl, ap, ◌∙◌, sym, subst, ◌<◌, inl, inr, arith, slice_get, get_or, length, take, append_assoc}
 use Rattle.std.proofs.lemmas.Bool.{cases_eq, true≢false}
+use Rattle.std.proofs.lemmas.List.{append-nil}
 use Rattle.std.proofs.lemmas.Option.{none-some, same_Some, slice_get_within, slice_get_read}
 use Rattle.std.specs.List.{Contains}
 use Rattle.ul_ranges.specs.Flags.{has, is_blank}
@@ -29,6 +30,20 @@ pub needs_next : (n : ℕ) (s t w : List Bool) (start steps now : List Step) (ne
 needs_next n s t w start steps now needs i x e q et ew g =
     g ∙ (ap (λ (l : List Bool). steps ++ NeedStep n l x.node w ∷ []) et ∙ (ap (λ (l : List Bool). steps ++ NeedStep n s x.node l ∷ []) ew ∙ (ap (λ (l : List Step). l ++ NeedStep n s x.node x.permitted ∷ []) q
     ∙ (append_assoc start (need_steps n s (take i needs)) (NeedStep n s x.node x.permitted ∷ []) ∙ ap (λ (l : List Step). start ++ l) (sym (ap (need_steps n s) (take_next needs x i e) ∙ needs_append n s (take i needs) x))))))
+
+-- the steps of a node, which begin with that of the barred versions and go on version by version
+pub versions_begin : (f : NodeFacts) (n : ℕ) (start now : List Step) → now ≡ start ++ python_steps n f.barred → now ≡ start ++ (python_steps n f.barred ++ versions_steps f n 0)
+versions_begin f n start now e = e ∙ ap (λ (l : List Step). start ++ l) (sym (append-nil (python_steps n f.barred)))
+
+pub versions_next : (f : NodeFacts) (n v : ℕ) (start steps now : List Step) → steps ≡ start ++ (python_steps n f.barred ++ versions_steps f n v) → now ≡ steps ++ version_steps f n v → now ≡ start ++ (python_steps n f.barred ++ versions_steps f n (v + 1))
+versions_next f n v start steps now h e =
+    let next : suc v ≡ v + 1 = omega arith in
+    e ∙ (ap (λ (l : List Step). l ++ version_steps f n v) h
+    ∙ (append_assoc start (python_steps n f.barred ++ versions_steps f n v) (version_steps f n v)
+    ∙ ap (λ (l : List Step). start ++ l) (append_assoc (python_steps n f.barred) (versions_steps f n v) (version_steps f n v) ∙ ap (λ (k : ℕ). python_steps n f.barred ++ versions_steps f n k) next)))
+
+pub versions_end : (f : NodeFacts) (n k : ℕ) (start now : List Step) → now ≡ start ++ (python_steps n f.barred ++ versions_steps f n k) → k ≡ length f.versions → now ≡ start ++ node_steps f n
+versions_end f n k start now h e = h ∙ ap (λ (j : ℕ). start ++ (python_steps n f.barred ++ versions_steps f n j)) e
 
 -- members
 in_needs : (n : ℕ) (s : List Bool) (needs : List Need) (need : Need) → Contains needs need → Contains (need_steps n s needs) (NeedStep n s need.node need.permitted)

@@ -11,7 +11,7 @@ use Rattle.ul_problem.specs.declared.step.Step.{Step}
 use Rattle.ul_problem.specs.declared.step.Step.TheVariants.{Need as NeedStep, Python, Base, Cut}
 use Rattle.ul_problem.proofs.ForCallers.{said_append}
 use Rattle.ul_trail.specs.declared.held_steps.HeldSteps.{HeldSteps}
-use Rattle.ul_trail.specs.HeldSteps.{need_of, is_read_off, step_read, steps_read, steps_in, ArePlaced, HoldsAlso}
+use Rattle.ul_trail.specs.HeldSteps.{need_of, is_read_off, step_read, steps_read, steps_in, ArePlaced, IsNumbered, HoldsAlso}
 use Rattle.ul_trail.proofs.Places.{last_cases, get_last}
 
 -- a need that says two terms is read off them
@@ -112,6 +112,13 @@ other_held s old now k z e f p terms h =
           ∙ (ap (λ (x : Step). steps_read ks (os ++ s ∷ []) terms ++ x ∷ []) (last_read os s (says p s))
           ∙ ap (λ (x : List Step). x ++ s ∷ []) (read_more ks os (s ∷ []) terms h.within)))),
     )
+
+-- a step that has a number, which stands at the end
+pub numbered_held : (s : Step) (old now : HeldSteps) (k : ℕ) → IsNumbered s old.others.items now.others.items k → now.places.items ≡ old.places.items ++ k ∷ [] → HoldsAlso (s ∷ []) old now
+numbered_held s old now k n e = elim n [
+  | inl h ↦ off_held s old now k h.0 h.1 e h.2
+  | inr h ↦ other_held s old now k h.0 e h.1
+]
 
 -- steps one after the other
 pub none_held : (held : HeldSteps) → HoldsAlso [] held held

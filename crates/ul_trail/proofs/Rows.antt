@@ -7,7 +7,7 @@ use Rattle.std.proofs.lemmas.Option.{none-some, same_Some, slice_get_read, get_o
 use Rattle.ul_problem.specs.Terms.{node_of, IsOrdered, IsOrderedFrom}
 use Rattle.ul_problem.specs.declared.term.Term.{Term}
 use Rattle.ul_trail.specs.Watched.{IsWatched, has_term, places_from}
-use Rattle.ul_trail.proofs.Places.{take_next, take_whole}
+use Rattle.ul_trail.proofs.Places.{take_next, take_whole, get_last}
 
 has_append : (n : ℕ) (xs : List Term) (t : Term) → has_term n (xs ++ t ∷ []) ≡ cond (has_term n xs) true (nat_eq (node_of t) n)
 has_append n [] t = which (nat_eq (node_of t) n)
@@ -79,3 +79,8 @@ watched_push terms rows rows' ts read place w l e r h = record {
       let z' : n < length rows = subst (λ (k : ℕ). n < k) l z in
       h n z' ∙ (ap (λ (x : List Term). get_or rows n [] ++ cond (has_term n x) (place ∷ []) []) r ∙ (ap (λ (x : List ℕ). x ++ cond (has_term n ts) (place ∷ []) []) (w.row n z') ∙ sym (places_append n 0 place terms ts (omega arith))));
 }
+
+-- the list that was pushed last, as it is read again
+pub last_held : (held now : List (List Term)) (x r ts : List Term) (place : ℕ) → now ≡ held ++ x ∷ [] → place ≡ length held → r ≡ get_or now place r → ts ≡ r → ts ≡ x
+last_held held now x r ts place e l h q =
+    q ∙ (h ∙ (ap (λ (k : ℕ). get_or now k r) l ∙ (ap (λ (xs : List (List Term)). get_or xs (length held) r) e ∙ get_or_from_slice_get (held ++ x ∷ []) (length held) x r (get_last held x))))

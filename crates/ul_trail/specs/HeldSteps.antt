@@ -1,5 +1,5 @@
 -- Held steps beside what they say. Nearly all are needs, which are read off the two terms that they say; the others are kept as they are.
-use Rattle.std.specs.Prelude.{◌≡◌, ℕ, zero, suc, List, [], ◌∷◌, ◌++◌, Bool, false, cond, not, Some, ◌≤◌, nat_eq, slice_get, get_or, length}
+use Rattle.std.specs.Prelude.{◌≡◌, ◌+◌, ◌⊎◌, ℕ, zero, suc, List, [], ◌∷◌, ◌++◌, Bool, true, false, cond, not, Some, ◌≤◌, nat_eq, slice_get, get_or, length}
 use Rattle.ul_ranges.specs.Flags.{is_blank}
 use Rattle.ul_problem.specs.Plain.{Plain}
 use Rattle.ul_problem.specs.Steps.{said_by}
@@ -52,6 +52,11 @@ steps_in held terms = steps_read held.places.items held.others.items terms
 pub record ArePlaced (places : List ℕ) (others : List Step) (terms : List (List Term)) : Type 0 where
   pub count : length places ≡ length terms
   pub within : (i k : ℕ) → slice_get places i ≡ Some k → k ≤ length others
+
+-- the number of a step that is held: 0, and the others stay, where it is read off; else one more than its place at their end
+abbrev pub IsNumbered : Step → List Step → List Step → ℕ → Type 0
+IsNumbered s old now k =
+    (is_read_off s ≡ true) × (k ≡ 0) × (now ≡ old) ⊎ (k ≡ length old + 1) × (now ≡ old ++ s ∷ [])
 
 -- steps are held after those that were, beside what all of them say
 abbrev pub HoldsAlso : List Step → HeldSteps → HeldSteps → Type 0

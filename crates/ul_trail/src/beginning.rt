@@ -8,21 +8,23 @@ use std::alloc::{AllocError, Global};
 use ul_problem::{Need, NodeFacts, Step};
 use ul_ranges::Ordinals;
 
+// The steps of a version's needs.
 fn push_needs(
     alloc: Global,
     steps: &mut Vec<Step>,
     node: u64,
-    versions: &Ordinals,
+    size: u32,
+    version: u32,
     needs: &[Need],
 ) -> Result<(), AllocError>
-    ensures { IfOk result (λ _. steps.new.items ≡ steps.old.items ++ need_steps node versions.now needs.now) }
+    requires { version < size }
+    ensures { IfOk result (λ _. steps.new.items ≡ steps.old.items ++ need_steps node (one_of size version) needs.now) }
 {
     for need in needs {
-        let versions = versions.copy(alloc)?;
         let permitted = need.permitted.copy(alloc)?;
         steps.push(Step::Need {
             node,
-            versions,
+            versions: single(size, version),
             target: need.node,
             permitted,
         })?;
@@ -42,14 +44,15 @@ fn push_version(
     requires version { version < length facts.now.versions }
     ensures { IfOk result (λ _. steps.new.items ≡ steps.old.items ++ version_steps facts.now node version) }
 {
-    let versions = single(facts.barred.size(), version);
-    push_base(alloc, steps, node, &versions, facts.base)?;
+    let size = facts.barred.size();
+    push_base(steps, node, size, version, facts.base)?;
     let rows = facts.needs.as_slice();
     push_needs(
         alloc,
         steps,
         node,
-        &versions,
+        size,
+        version,
         rows[version as usize].as_slice(),
     )
 }
@@ -87,18 +90,22 @@ pub fn steps_of(
     Ok(steps)
 }
 
+// The step of a version of an extra.
 fn push_base(
-    alloc: Global,
     steps: &mut Vec<Step>,
     node: u64,
-    versions: &Ordinals,
+    size: u32,
+    version: u32,
     base: Option<u64>,
 ) -> Result<(), AllocError>
-    ensures { IfOk result (λ _. steps.new.items ≡ steps.old.items ++ base_steps node versions.now base) }
+    requires { version < size }
+    ensures { IfOk result (λ _. steps.new.items ≡ steps.old.items ++ base_steps node (one_of size version) base) }
 {
     if base.is_some() {
-        let versions = versions.copy(alloc)?;
-        steps.push(Step::Base { node, versions })?;
+        steps.push(Step::Base {
+            node,
+            versions: single(size, version),
+        })?;
     }
     Ok(())
 }

@@ -1,7 +1,7 @@
 //! The held steps, beside what they say.
 ghost use Rattle.std.specs.Prelude.{◌≡◌, ◌<◌, ◌∷◌, [], length, get_or, IfOk};
 ghost use Rattle.ul_problem.specs.declared.step.Step.TheVariants.{Need as NeedStep};
-ghost use Rattle.ul_trail.specs.HeldSteps.{no_need, need_in, need_of, is_read_off, step_read, HoldsAlso};
+ghost use Rattle.ul_trail.specs.HeldSteps.{no_need, need_in, need_of, is_read_off, step_read, IsNumbered, HoldsAlso};
 
 use std::alloc::{AllocError, Global};
 use ul_problem::{Step, Term};
@@ -36,18 +36,11 @@ impl HeldSteps {
     {
         let number = self.places[place] as usize;
         if number == 0 {
-            let step = need_of(alloc, terms)?;
-            return Ok(step);
+            return need_of(alloc, terms);
         }
         match self.others.get(number - 1) {
-            Some(other) => {
-                let step = other.copy(alloc)?;
-                Ok(step)
-            }
-            None => {
-                let step = need_of(alloc, terms)?;
-                Ok(step)
-            }
+            Some(other) => other.copy(alloc),
+            None => need_of(alloc, terms),
         }
     }
 
@@ -55,14 +48,8 @@ impl HeldSteps {
     pub fn push(&mut self, step: Step) -> Result<(), AllocError>
         ensures { IfOk result (λ _. HoldsAlso (step ∷ []) self.old self.new) }
     {
-        if is_read_off(&step) {
-            self.places.push(0)?;
-            drop(step);
-        } else {
-            let number = self.others.len() as u64 + 1;
-            self.others.push(step)?;
-            self.places.push(number)?;
-        }
+        let number = number_of(&mut self.others, step)?;
+        self.places.push(number)?;
         Ok(())
     }
 
@@ -75,6 +62,20 @@ impl HeldSteps {
         }
         Ok(())
     }
+}
+
+// The number of a step that is held: 0 where it is read off its terms, and else one more than its place, which is then at
+// the end of the others.
+fn number_of(others: &mut Vec<Step>, step: Step) -> Result<u64, AllocError>
+    ensures { IfOk result (λ k. IsNumbered step others.old.items others.new.items k) }
+{
+    if is_read_off(&step) {
+        drop(step);
+        return Ok(0);
+    }
+    let number = others.len() as u64 + 1;
+    others.push(step)?;
+    Ok(number)
 }
 
 // Whether a step is a need that says two terms, off which it can be read.
@@ -104,11 +105,10 @@ fn need_of(alloc: Global, terms: &[Term]) -> Result<Step, AllocError>
     ensures { IfOk result (λ s. s ≡ need_of terms.now) }
 {
     if terms.len() < 2 {
-        let step = no_need(alloc)?;
-        return Ok(step);
+        no_need(alloc)
+    } else {
+        need_in(alloc, &terms[0], &terms[1])
     }
-    let step = need_in(alloc, &terms[0], &terms[1])?;
-    Ok(step)
 }
 
 // The need that says two terms.
@@ -117,24 +117,12 @@ fn need_in(alloc: Global, first: &Term, second: &Term) -> Result<Step, AllocErro
 {
     match first {
         Term::In(node, versions) => match second {
-            Term::In(_, _) => {
-                let step = no_need(alloc)?;
-                Ok(step)
-            }
-            Term::NotIn(target, permitted) => {
-                let step = need(alloc, *node, versions, *target, permitted)?;
-                Ok(step)
-            }
+            Term::In(_, _) => no_need(alloc),
+            Term::NotIn(target, permitted) => need(alloc, *node, versions, *target, permitted),
         },
         Term::NotIn(target, permitted) => match second {
-            Term::In(node, versions) => {
-                let step = need(alloc, *node, versions, *target, permitted)?;
-                Ok(step)
-            }
-            Term::NotIn(_, _) => {
-                let step = no_need(alloc)?;
-                Ok(step)
-            }
+            Term::In(node, versions) => need(alloc, *node, versions, *target, permitted),
+            Term::NotIn(_, _) => no_need(alloc),
         },
     }
 }

@@ -70,12 +70,11 @@ pub(crate) fn rooms_of(alloc: Global, nodes: &[NodeFacts]) -> Result<Rooms, Allo
     ensures counts { IfOk result (λ r. length r.counts.items ≡ length nodes.now) }
 {
     let mut rows = vec![in alloc; 0usize; nodes.len()]?;
-    let mut counts = Vec::with_capacity(alloc, nodes.len())?;
+    let mut counts = vec![in alloc; 0usize; nodes.len()]?;
     let mut steps = 0usize;
     for node in 0..nodes.len() {
-        let count = widen_by(&mut rows, node as u64, &nodes[node]);
-        counts.push(count)?;
-        steps = steps.saturating_add(count);
+        counts[node] = widen_by(&mut rows, node as u64, &nodes[node]);
+        steps = steps.saturating_add(counts[node]);
     }
     Ok(Rooms {
         rows,

@@ -10,7 +10,7 @@ ghost use Rattle.ul_trail.specs.Parts.{AppendsRoot, AsksNeeds, Stands};
 ghost use Rattle.ul_trail.specs.Kept.{IsIndexed};
 ghost use Rattle.ul_trail.specs.Roots.{root_picks};
 
-use crate::asking::ask;
+use crate::asking::pick;
 use crate::deciding::decision;
 use crate::fact::Fact;
 use crate::standing::Standing;
@@ -86,11 +86,14 @@ fn plant_one(
     ensures positions { IfOk result (λ _. length asked.new.positions.items ≡ length asked.old.positions.items) }
     ensures queue { IfOk result (λ _. AsksNeeds problem.now root asked.old asked.new) }
 {
+    pick(
+        &mut asked.picks,
+        &mut asked.positions,
+        &mut asked.queue,
+        (root, 0),
+        problem.needs_at(root, 0),
+    )?;
     let term = decision(problem.size_at(root), root, 0);
-    let needs = problem.needs_at(root, 0);
-    asked.positions[root as usize] = asked.picks.len();
-    asked.picks.push((root, 0))?;
-    ask(&mut asked.queue, needs)?;
     standing.push(
         alloc,
         Fact {

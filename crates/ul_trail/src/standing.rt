@@ -5,6 +5,7 @@ ghost use Rattle.ul_trail.specs.Parts.{Stands};
 
 use crate::fact::Fact;
 use std::alloc::{AllocError, Global};
+use std::mem;
 use ul_problem::{Relation, Term};
 
 /// The facts; of each node a term that says what they leave open; and of each fact what was known of its node before it.
@@ -27,10 +28,9 @@ impl Standing {
     {
         let node = fact.term.node() as usize;
         let met = self.known[node].meet(alloc, &fact.term)?;
-        let before = self.known[node].copy(alloc)?;
+        let before = mem::replace(&mut self.known[node], met);
         self.before.push(before)?;
         self.facts.push(fact)?;
-        self.known[node] = met;
         Ok(())
     }
 
@@ -53,8 +53,10 @@ impl Standing {
         ensures sizes { self.new.sizes.items ≡ self.old.sizes.items }
     {
         if let Some(fact) = self.facts.pop() {
+            let node = fact.term.node() as usize;
+            drop(fact);
             if let Some(before) = self.before.pop() {
-                self.known[fact.term.node() as usize] = before;
+                drop(mem::replace(&mut self.known[node], before));
             }
         }
     }

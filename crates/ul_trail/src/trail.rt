@@ -12,7 +12,7 @@ ghost use Rattle.ul_trail.specs.First.{first_steps};
 ghost use Rattle.ul_trail.specs.Parts.{IsOpenBefore};
 ghost use Rattle.ul_trail.specs.Moves.{AppendsDecision, HasSteps, at_roots};
 
-use crate::asking::{ask, first_undecided};
+use crate::asking::{first_undecided, pick};
 use crate::beginning::steps_of;
 use crate::deciding::decision;
 use crate::fact::{Fact, Progress};
@@ -242,8 +242,6 @@ impl Trail {
         ensures steps { IfOk result (λ _. self.new.steps ≡ self.old.steps) }
         ensures facts { IfOk result (λ _. AppendsDecision problem.now node version self.old.facts self.new.facts) }
     {
-        let needs = problem.needs_at(node, version);
-        let term = decision(problem.size_at(node), node, version);
         let first = first_undecided(
             self.queue.as_slice(),
             self.picks.as_slice(),
@@ -259,9 +257,14 @@ impl Trail {
             first,
         );
         self.marks.push(mark)?;
-        self.positions[node as usize] = self.picks.len();
-        self.picks.push((node, version))?;
-        ask(&mut self.queue, needs)?;
+        pick(
+            &mut self.picks,
+            &mut self.positions,
+            &mut self.queue,
+            (node, version),
+            problem.needs_at(node, version),
+        )?;
+        let term = decision(problem.size_at(node), node, version);
         let level = self.marks.len() as u64;
         self.standing.push(
             alloc,
@@ -364,8 +367,9 @@ fn rooted(alloc: Global, problem: &Problem, rooms: &Rooms) -> Result<Trail, Allo
 {
     let roots = problem.roots();
     let sizes = sizes(alloc, problem)?;
-    let count = sizes.len();
     let known = opens(alloc, sizes.as_slice())?;
+    let positions = vec![in alloc; 0usize; sizes.len()]?;
+    let queue = Vec::from_slice(alloc, roots)?;
     let rows = empty_rows(alloc, rooms.rows.as_slice())?;
     let terms = Vec::with_capacity(alloc, rooms.steps)?;
     let held = HeldSteps::with_room(alloc, rooms.steps)?;
@@ -377,8 +381,8 @@ fn rooted(alloc: Global, problem: &Problem, rooms: &Rooms) -> Result<Trail, Allo
     };
     let mut asked = Asked {
         picks: Vec::new(alloc),
-        positions: vec![in alloc; 0usize; count]?,
-        queue: Vec::from_slice(alloc, roots)?,
+        positions,
+        queue,
     };
     plant(alloc, problem, &mut standing, &mut asked)?;
     Ok(Trail {

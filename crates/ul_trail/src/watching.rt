@@ -72,9 +72,9 @@ impl Watching {
         ensures terms { IfOk result (λ _. self.new.terms.items ≡ self.old.terms.items ++ incompat ∷ []) }
         ensures width { IfOk result (λ _. length self.new.rows.items ≡ length self.old.rows.items) }
     {
-        let place = self.terms.len() as u64;
-        list(&mut self.rows, place, incompat.terms())?;
+        let place = self.terms.len();
         self.terms.push(incompat)?;
+        list(&mut self.rows, place as u64, self.terms[place].terms())?;
         Ok(())
     }
 }

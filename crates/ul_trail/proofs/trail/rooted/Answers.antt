@@ -23,7 +23,7 @@ use Rattle.ul_trail.proofs.trail.rooted.Goals as goal
 pub plant-requires-clause-positions : goal.plant-requires-clause-positions
 plant-requires-clause-positions c =
     let e : length c.in_ok-sizes.sizes.items ≡ length c.args.problem.now.nodes = ap (λ (x : List ℕ). length x) c.in_ok-sizes.ensures ∙ sizes_length c.args.problem.now.nodes in
-    let l = c.len-count.ensures in let v = c.in_ok-vec.ensures.len in
+    let l = c.len.ensures in let v = c.in_ok-positions.ensures.len in
     omega arith
 
 sizes-is : (c : goal.After-new-4) → length c.plant.new.standing.sizes.items ≡ length c.args.problem.now.nodes
