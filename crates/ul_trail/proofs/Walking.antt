@@ -1,5 +1,5 @@
 -- A walk over the row of a fact's node.
-use Rattle.std.proofs.Common.{◌≡◌, ℕ, suc, ◌+◌, ◌-◌, ◌*◌, List, [], ◌∷◌, ◌++◌, Bool, true, false, not, Option, Some, refl, ap, ◌∙◌, sym, subst, ◌<◌, ◌≤◌, ◌⊎◌, inl, inr, arith, slice_get, get_or, length, drop, append_assoc, length-append}
+use Rattle.std.proofs.Common.{◌≡◌, ℕ, suc, ◌+◌, ◌-◌, ◌*◌, List, [], ◌∷◌, ◌++◌, Bool, true, false, not, Option, Some, refl, ap, ◌∙◌, sym, subst, ◌<◌, ◌≤◌, ◌⊎◌, inl, inr, arith, slice_get, get_or, length, drop, append_assoc, length-append, zero}
 use Rattle.std.proofs.lemmas.Bool.{cases_eq}
 use Rattle.std.proofs.lemmas.List.{append-nil}
 use Rattle.std.proofs.lemmas.Option.{same_Some, slice_get_read, slice_get-get_or, get_or_from_slice_get, slice_get_within}
@@ -12,9 +12,9 @@ use Rattle.ul_trail.specs.declared.fact.Fact.{Fact}
 use Rattle.ul_trail.specs.Counts.{open_in}
 use Rattle.ul_trail.specs.Facts.{is_open}
 use Rattle.ul_trail.specs.Propagation.{IsOption}
-use Rattle.ul_trail.specs.Standing.{IsCalm, IsPending, IsSettled, IsForced, AreForced, HasForced, IsFresh, IsStanding}
+use Rattle.ul_trail.specs.Standing.{IsCalm, IsPending, IsSettled, IsForced, AreForced, HasForced, IsFresh, IsStanding, HasConflict}
 use Rattle.ul_trail.specs.Watched.{IsWatched, has_term, places_on}
-use Rattle.ul_trail.specs.Findings.{IsCalmAt, HasForcedOne, IsSettlement}
+use Rattle.ul_trail.specs.Findings.{IsCalmAt, HasForcedOne, IsSettlement, IsWalked}
 use Rattle.ul_trail.proofs.Places.{drop_get}
 use Rattle.ul_trail.proofs.Settling.{IsStill, still_push, settled_push, forced_pending, places_has, places_within, settled_next, negation_node}
 use Rattle.ul_trail.proofs.Levels.{new_lowers}
@@ -140,6 +140,37 @@ walks_next_as s0 s1 s2 known before known' before' terms level seen checked star
 
 pub row_place : (n i : ℕ) (row : List ℕ) (terms read : List (List Term)) → row ≡ places_on n terms → i < length row → read ≡ terms → get_or row i 0 < length read
 row_place n i row terms read e l r = subst (λ (x : List (List Term)). get_or row i 0 < length x) (sym r) (row_within n (get_or row i 0) i row terms e (slice_get-get_or row i 0 l))
+
+pub row_there : (sizes : List ℕ) (known before : List Term) (facts : List Fact) (rows : List (List ℕ)) (seen n : ℕ) (f : Fact) → IsStanding sizes known before facts → length rows ≡ length sizes
+    → seen < length facts → f ≡ get_or facts seen f → n ≡ node_of f.term → n < length rows
+row_there sizes known before facts rows seen n f s e l g m =
+    let z = s.inside seen f (slice_get_read facts (length facts) seen f refl l g) in
+    subst (λ (k : ℕ). n < k) (sym e) (subst (λ (k : ℕ). k < length sizes) (sym m) z.0)
+
+-- a list that is held is a conflict
+pub held_conflict : (sizes : List ℕ) (terms read : List (List Term)) (level k : ℕ) (old now : List Fact) (b : Bool) → read ≡ terms → b ≡ true → IsSettlement sizes read level k old now b → (now ≡ old) × HasConflict terms now k
+held_conflict sizes terms read level k old now b r e h =
+    let held = subst (IsSettlement sizes read level k old now) e h in
+    (held.0, subst (λ (t : List (List Term)). HasConflict t now k) r (subst (λ (fs : List Fact). HasConflict read fs k) (sym held.0) held.1))
+
+-- a walk ends at a list that is held, or after the last place of the row
+pub walks_held : (s0 s1 : List ℕ) (known before : List Term) (terms read : List (List Term)) (level seen checked k : ℕ) (start old now : List Fact) (row : List ℕ) (i : ℕ) (b : Bool) → Walks s0 known before terms level seen checked start old row i
+    → read ≡ terms → b ≡ true → IsSettlement s1 read level k old now b → IsWalked terms seen checked now (Some k) × HasForced s0 terms level start now
+walks_held s0 s1 known before terms read level seen checked k start old now row i b w r e h =
+    let held = held_conflict s1 terms read level k old now b r e h in (
+      (held.1, subst (λ (fs : List Fact). IsSettled fs terms seen checked) (sym held.0) w.kept),
+      subst (HasForced s0 terms level start) (sym held.0) w.grown,
+    )
+
+none_dropped : (row : List ℕ) (i : ℕ) → length row ≤ i → drop i row ≡ []
+none_dropped [] zero h = refl
+none_dropped [] (suc i) h = refl
+none_dropped (x ∷ row) zero h = absurd (omega arith)
+none_dropped (x ∷ row) (suc i) h = none_dropped row i (omega arith)
+
+pub walks_done : (sizes : List ℕ) (known before : List Term) (terms : List (List Term)) (level seen checked : ℕ) (start facts : List Fact) (row : List ℕ) (i : ℕ) → Walks sizes known before terms level seen checked start facts row i → length row ≤ i
+    → IsSettled facts terms (suc seen) checked
+walks_done sizes known before terms level seen checked start facts row i w h = walks_end facts terms seen checked (drop i row) w.walking (none_dropped row i h)
 
 -- how much is left
 negation_denies : (u : Term) (o : Option ℕ) → allows u o ≡ true → allows (negation u) o ≡ false

@@ -1,8 +1,8 @@
-use Rattle.std.proofs.Common.{ℕ, ◌≤◌, List, Bool, false, length, arith, subst, sym, ◌∙◌, add-one}
+use Rattle.std.proofs.Common.{ℕ, ◌≤◌, List, Bool, false, length, arith, subst, sym, ◌∙◌, add-one, refl, ap}
 use Rattle.ul_problem.specs.declared.term.Term.{Term}
-use Rattle.ul_trail.specs.Standing.{HasForced, IsSettled}
+use Rattle.ul_trail.specs.Standing.{HasForced, IsSettled, AllSized}
 use Rattle.ul_trail.specs.Findings.{IsWalked, IsSettlement}
-use Rattle.ul_trail.proofs.Walking.{forced_join, grown_room, walk_less, settle_less, settlement_forced, settlement_settled, all_calm}
+use Rattle.ul_trail.proofs.Walking.{forced_join, grown_room, walk_less, settle_less, settlement_forced, settlement_settled, all_calm, forced_none, held_conflict}
 use Rattle.ul_trail.proofs.propagation.spread.Goals as goal
 
 walked-grown : (c : goal.After-struct_known-then-now-len-1) → HasForced c.args.standing.now.sizes.items c.args.watching.now.terms.items c.args.level c.loop-now.standing.facts.items c.walk.new.standing.facts.items
@@ -55,3 +55,29 @@ loop-now-preserved c =
 
 pub returns-else-now-len-2-clause-progress : goal.returns-else-now-len-2-clause-progress
 returns-else-now-len-2-clause-progress c = all_calm c.loop-now.standing.facts.items c.args.watching.now.terms.items c.loop-now.now.seen c.loop-now.now.checked c.loop-now.invariant.settled (omega arith) (omega arith)
+
+pub walk-requires-clause-width : goal.walk-requires-clause-width
+walk-requires-clause-width c = c.requires.width ∙ ap (λ (z : List ℕ). length z) (sym c.loop-now.invariant.sizes)
+
+pub walk-requires-clause-sized : goal.walk-requires-clause-sized
+walk-requires-clause-sized c = subst (λ (z : List ℕ). AllSized z c.args.watching.now.terms.items) (sym c.loop-now.invariant.sizes) c.requires.sized
+
+pub settle-requires-clause-sized : goal.settle-requires-clause-sized
+settle-requires-clause-sized c = subst (AllSized c.loop-now.standing.sizes.items) (sym c.as_slice.ensures.value) (subst (λ (z : List ℕ). AllSized z c.args.watching.now.terms.items) (sym c.loop-now.invariant.sizes) c.requires.sized)
+
+pub loop-now-init : goal.loop-now-init
+loop-now-init c = record {
+  sizes = refl;
+  standing = c.requires.standing;
+  grown = forced_none c.args.standing.now.sizes.items c.args.watching.now.terms.items c.args.level c.args.standing.now.facts.items;
+  seen = c.requires.seen;
+  checked = c.requires.checked;
+  settled = c.requires.settled;
+}
+
+pub returns-in-Some-clause-progress : goal.returns-in-Some-clause-progress
+returns-in-Some-clause-progress c = (subst (IsWalked c.args.watching.now.terms.items c.loop-now.now.seen c.loop-now.now.checked c.walk.new.standing.facts.items) c.in-Some.is c.in_ok-held.ensures.walked).0
+
+pub returns-then-held-clause-progress : goal.returns-then-held-clause-progress
+returns-then-held-clause-progress c = (held_conflict c.loop-now.standing.sizes.items c.args.watching.now.terms.items c.as_slice.result.now c.args.level c.loop-now.now.checked c.loop-now.standing.facts.items c.settle.new.standing.facts.items c.in_ok-held-2.held
+    c.as_slice.ensures.value c.if-held.true c.in_ok-held-2.ensures.settlement).1

@@ -1,3 +1,4 @@
+use Rattle.ul_problem.proofs.ForCallers.{node_whole}
 use Rattle.std.proofs.Common.{◌≡◌, ℕ, List, length, subst, sym, ◌∙◌, ap, arith}
 use Rattle.ul_problem.specs.declared.problem.NodeFacts.{NodeFacts}
 use Rattle.ul_trail.specs.First.{first_steps}
@@ -42,3 +43,17 @@ returns-clause-steps c =
 
 pub returns-clause-rooted : goal.returns-clause-rooted
 returns-clause-rooted c = rooted_back c.args.problem.now c.loop-node.trail c.loop-node.invariant.right c.loop-node.invariant.grown
+
+pub steps_of-requires-clause-barred : goal.steps_of-requires-clause-barred
+steps_of-requires-clause-barred c = (node_whole c.args.problem.now c.loop-node.node c.index-nodes-node.result c.nodes-nodes.ensures.whole (node_read c.args.problem.now c.nodes-nodes.result.now c.loop-node.node c.index-nodes-node.result c.nodes-nodes.ensures.value c.loop-node-test.true c.index-nodes-node.is)).barred_size
+
+pub steps_of-requires-clause-rows : goal.steps_of-requires-clause-rows
+steps_of-requires-clause-rows c = (node_whole c.args.problem.now c.loop-node.node c.index-nodes-node.result c.nodes-nodes.ensures.whole (node_read c.args.problem.now c.nodes-nodes.result.now c.loop-node.node c.index-nodes-node.result c.nodes-nodes.ensures.value c.loop-node-test.true c.index-nodes-node.is)).rows
+
+pub index-requires : goal.index-requires
+index-requires c = omega (arith, c.in_ok-rooms.ensures.counts, c.in_ok-rooms.rooms.counts.ok)
+
+pub returns-clause-exact : goal.returns-clause-exact
+returns-clause-exact c =
+    let size : c.loop-node.node ≡ length c.nodes-nodes.result.now = omega (arith, c.loop-node-test.false, c.loop-node.auto.node-end) in
+    c.loop-node.invariant.steps ∙ ap (λ (n : ℕ). first_steps c.args.problem.now.nodes n) (size ∙ ap (λ (x : List NodeFacts). length x) c.nodes-nodes.ensures.value)

@@ -1,17 +1,18 @@
+use Rattle.std.proofs.lemmas.Option.{slice_get_within}
 use Rattle.std.proofs.Common.{◌≡◌, ℕ, List, [], ◌∷◌, ◌++◌, ◌+◌, ◌≤◌, suc, true, false, length, length-append, arith, ap, subst, sym, ◌∙◌, refl, None, Some}
 use Rattle.ul_problem.specs.declared.term.Term.{Term}
 use Rattle.ul_problem.specs.declared.term.Term.TheVariants.{In}
 use Rattle.ul_problem.specs.Plain.{size_of, needs_of}
 use Rattle.ul_problem.specs.Best.{Picks, is_decided, targets}
 use Rattle.ul_problem.specs.declared.problem.Need.{Need}
-use Rattle.ul_problem.proofs.ForCallers.{not_decided}
+use Rattle.ul_problem.proofs.ForCallers.{not_decided, node_of_size}
 use Rattle.ul_trail.specs.Track.{Track}
 use Rattle.ul_trail.specs.Facts.{is_open, level_of, picks_of, one_of}
 use Rattle.ul_trail.specs.Propagation.{IsTrailOf}
 use Rattle.ul_trail.specs.Moves.{decision_at}
 use Rattle.ul_trail.specs.Standing.{AllSized, IsSettled}
 use Rattle.ul_trail.specs.HeldSteps.{steps_in}
-use Rattle.ul_trail.specs.Kept.{IsKept, AreMarks, HasPassed, turns_of}
+use Rattle.ul_trail.specs.Kept.{IsKept, AreMarks, HasPassed, turns_of, IsIndexed}
 use Rattle.ul_trail.specs.declared.fact.Fact.{Fact}
 use Rattle.ul_trail.specs.declared.mark.Mark.{Mark}
 use Rattle.ul_trail.proofs.Settling.{settled_push}
@@ -137,3 +138,21 @@ returns-clause-kept c =
     let r2 = subst (λ (z : List ℕ). IsTrailOf c.args.problem.now (track-of c c.push-2.new.self.facts.items z (c.self.inside.queue.items ++ targets (needs_of c.args.problem.now c.args.node c.args.version)) (turns_of c.self.inside.marks.items ++ c.mark_of-mark.result.queue ∷ []))) (sym c.in_ok-push-2.ensures.sizes) r1 in
     let r3 = subst (λ (q : List ℕ). IsTrailOf c.args.problem.now (track-of c c.push-2.new.self.facts.items c.push-2.new.self.sizes.items q (turns_of c.self.inside.marks.items ++ c.mark_of-mark.result.queue ∷ []))) (sym (queue-is c)) r2 in
     subst (λ (q : List ℕ). IsTrailOf c.args.problem.now (track-of c c.push-2.new.self.facts.items c.push-2.new.self.sizes.items c.pick.new.queue.items q)) (sym e4) r3
+
+pub first_undecided-first-requires-clause-indexed : goal.first_undecided-first-requires-clause-indexed
+first_undecided-first-requires-clause-indexed c = subst (λ (d : Picks). IsIndexed d c.as_slice-3.result.now) (sym c.as_slice-2.ensures.value) (subst (IsIndexed c.self.inside.picks.items) (sym c.as_slice-3.ensures.value) (c.self.invariant (subst (IsTrailOf c.args.problem.now) (sym c.self.view_is) c.requires.right).whole).indexed)
+
+pub first_undecided-first-requires-clause-passed : goal.first_undecided-first-requires-clause-passed
+first_undecided-first-requires-clause-passed c = subst (λ (q : List ℕ). HasPassed q c.as_slice-2.result.now c.self.inside.first) (sym c.as_slice.ensures.value) (subst (λ (d : Picks). HasPassed c.self.inside.queue.items d c.self.inside.first) (sym c.as_slice-2.ensures.value) (c.self.invariant (subst (IsTrailOf c.args.problem.now) (sym c.self.view_is) c.requires.right).whole).passed)
+
+pub size_at-requires : goal.size_at-requires
+size_at-requires c = let f = node_of_size c.args.problem.now c.args.node c.args.version c.requires.there in slice_get_within c.args.problem.now.nodes c.args.node f.0 f.1
+
+pub needs_at-requires-clause-node : goal.needs_at-requires-clause-node
+needs_at-requires-clause-node c = let f = node_of_size c.args.problem.now c.args.node c.args.version c.requires.there in slice_get_within c.args.problem.now.nodes c.args.node f.0 f.1
+
+pub mark_of-mark-requires : goal.mark_of-mark-requires
+mark_of-mark-requires c = (c.self.invariant (subst (IsTrailOf c.args.problem.now) (sym c.self.view_is) c.requires.right).whole).seen
+
+pub decision-term-requires : goal.decision-term-requires
+decision-term-requires c = let size = c.size_at.ensures in let there = c.requires.there in omega arith
