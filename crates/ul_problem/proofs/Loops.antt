@@ -1,5 +1,5 @@
 -- Tests of a list, element by element.
-use Rattle.std.proofs.Common.{◌≡◌, ℕ, ◌+◌, ◌-◌, ◌<◌, ◌≤◌, List, [], ◌∷◌, ◌++◌, drop, take, length, length-drop, get_or, subst, sym, ap, ◌∙◌, arith}
+use Rattle.std.proofs.Common.{◌≡◌, ℕ, zero, suc, ◌+◌, ◌-◌, ◌<◌, ◌≤◌, List, [], ◌∷◌, ◌++◌, drop, take, length, length-drop, get_or, subst, sym, ap, ◌∙◌, arith}
 use Rattle.std.proofs.lemmas.List.{drop_more, take_more}
 use Rattle.std.proofs.Common.{Bool, true, false, not, inl, inr, refl}
 use Rattle.std.specs.declared.cmp.Ordering.{Ordering}
@@ -72,6 +72,15 @@ each_more P xs i x Q h e r s =
 
 pub each_not : {A : Type 0} (P : A → Type 0) (xs : List A) (i : ℕ) (x : A) (Q : Type 0) → i < length xs → x ≡ get_or xs i x → (P x → ⊥) → IsAlike (AllAre P (drop i xs)) Q → Q → ⊥
 each_not P xs i x Q h e r s q = r (subst (AllAre P) (rest_is xs i x h e) (s.from q)).0
+
+none_after : {A : Type 0} (P : A → Type 0) (xs : List A) (i : ℕ) → length xs ≤ i → AllAre P (drop i xs)
+none_after P [] zero h = tt
+none_after P [] (suc i) h = tt
+none_after P (x ∷ xs) zero h = absurd (omega arith)
+none_after P (x ∷ xs) (suc i) h = none_after P xs i (omega arith)
+
+pub each_all : {A : Type 0} (P : A → Type 0) (xs : List A) (i : ℕ) (Q : Type 0) → length xs ≤ i → IsAlike (AllAre P (drop i xs)) Q → Q
+each_all P xs i Q h s = s.to (none_after P xs i h)
 
 -- needs one after another
 pub needs_more : (nodes : List NodeFacts) (xs : List Need) (i : ℕ) (x : Need) (Q : Type 0) → i < length xs → x ≡ get_or xs i x → IsNeedAfter nodes (take i xs) x

@@ -65,31 +65,15 @@ fn with_need(alloc: Global, held: HeldNeeds, need: Need) -> Result<HeldNeeds, Al
     }
 }
 
-// The same needs in a list with room for so many.
-fn with_room(alloc: Global, held: HeldNeeds, count: usize) -> Result<HeldNeeds, AllocError>
-    ensures { IfOk result (λ h. needs_held h ≡ needs_held held) }
-{
-    let mut list = listed(alloc, held)?;
-    list.reserve(count.saturating_sub(list.len()))?;
-    Ok(HeldNeeds::Listed(list))
-}
-
-// Puts the number at the target's place in its place, or 0 where there is none.
-fn renumber_need(numbers: &[u64], need: &mut Need)
-    ensures { need.new ≡ need_renumbered numbers.now need.old }
-{
-    need.node = match numbers.get(need.node as usize) {
-        Some(number) => *number,
-        None => 0,
-    };
-}
-
-// The same for each of some needs.
+// Puts the number at each target's place in its place, or 0 where there is none.
 fn renumber_needs(numbers: &[u64], needs: &mut [Need])
     ensures { needs.new ≡ map (need_renumbered numbers.now) needs.old }
 {
     for need in needs.iter_mut() {
-        renumber_need(numbers, need);
+        need.node = match numbers.get(need.node as usize) {
+            Some(number) => *number,
+            None => 0,
+        };
     }
 }
 
@@ -179,9 +163,11 @@ impl NeedRow {
     pub fn make_room(&mut self, alloc: Global, count: usize) -> Result<(), AllocError>
         ensures { IfOk result (λ _. self.new ≡ self.old) }
     {
-        if count > 2 && self.as_slice().len() <= 2 {
+        if count > 2 {
             let held = mem::replace(&mut self.held, HeldNeeds::Empty);
-            self.held = with_room(alloc, held, count)?;
+            let mut list = listed(alloc, held)?;
+            list.reserve(count.saturating_sub(list.len()))?;
+            self.held = HeldNeeds::Listed(list);
         }
         Ok(())
     }

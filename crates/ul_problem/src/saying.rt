@@ -1,18 +1,17 @@
 //! What a step says.
-ghost use Rattle.std.specs.Prelude.{◌≡◌, ◌∷◌, [], length, slice_get, IfOk};
+ghost use Rattle.std.specs.Prelude.{◌≡◌, length, slice_get, IfOk};
 ghost use Rattle.ul_problem.specs.Plain.{base_in};
 ghost use Rattle.ul_problem.specs.Problems.{IsWellFormed};
-ghost use Rattle.ul_problem.specs.Terms.{meet_of, node_of, set_of};
 ghost use Rattle.ul_problem.specs.declared.term.Term.TheVariants.{In, NotIn};
-ghost use Rattle.ul_problem.specs.Steps.{AreTermsOf, IsStepWithin, base_or, says, pair_of, with_term, term_to_say};
+ghost use Rattle.ul_problem.specs.Steps.{AreTermsOf, IsStepWithin, base_or, says, pair_of, term_to_say};
 
 use crate::fitting::base_at;
 use crate::incompat::{Incompat, Saying};
 use crate::problem::{NodeFacts, Problem};
 use crate::step::Step;
-use crate::term::{Term, Terms};
+use crate::term::Term;
 use std::alloc::{AllocError, Global};
-use ul_base::owned::{beside, made_from, refused};
+use ul_base::owned::{beside, refused};
 use ul_ranges::Ordinals;
 
 impl Step {
@@ -62,12 +61,20 @@ fn implied(
     requires { node ≡ target → length versions.now ≡ length permitted.now }
     ensures { IfOk result (λ ts. ts ≡ pair_of (In node versions.now) (NotIn target permitted.now)) }
 {
+    if node == target {
+        return Ok(Saying::one(Term::In(node, versions.less(alloc, permitted)?)));
+    }
+    if permitted.is_empty() {
+        return Ok(Saying::one(Term::In(node, versions.copy(alloc)?)));
+    }
     let (versions, permitted) = beside(versions.copy(alloc)?, permitted.copy(alloc))?;
-    pair(
-        alloc,
-        Term::In(node, versions),
-        Term::NotIn(target, permitted),
-    )
+    let here = Term::In(node, versions);
+    let there = Term::NotIn(target, permitted);
+    if node < target {
+        Ok(Saying::two(here, there))
+    } else {
+        Ok(Saying::two(there, here))
+    }
 }
 
 // The place of a node's base, or the node's own where it has none.
@@ -89,44 +96,4 @@ pub(crate) fn written(term: Term) -> Option<Term>
     } else {
         Some(term)
     }
-}
-
-// The terms that are there.
-fn listed(alloc: Global, first: Option<Term>, second: Option<Term>) -> Saying
-    ensures { result ≡ with_term first (with_term second []) }
-{
-    match first {
-        Some(one) => match second {
-            Some(other) => Saying::two(one, other),
-            None => Saying::one(one),
-        },
-        None => match second {
-            Some(other) => Saying::one(other),
-            None => Saying::of(Terms::of(Vec::new(alloc))),
-        },
-    }
-}
-
-// Two terms in the order of their nodes, or met into one.
-fn pair(alloc: Global, term: Term, other: Term) -> Result<Saying, AllocError>
-    requires { node_of term ≡ node_of other → length (set_of term) ≡ length (set_of other) }
-    ensures { IfOk result (λ ts. ts ≡ pair_of term other) }
-{
-    if term.node() < other.node() {
-        Ok(listed(alloc, written(term), written(other)))
-    } else if other.node() < term.node() {
-        Ok(listed(alloc, written(other), written(term)))
-    } else {
-        made_from(met(alloc, &term, &other), (term, other))
-    }
-}
-
-// Two terms on one node, met into one.
-fn met(alloc: Global, term: &Term, other: &Term) -> Result<Saying, AllocError>
-    requires nodes { node_of term.now ≡ node_of other.now }
-    requires sizes { length (set_of term.now) ≡ length (set_of other.now) }
-    ensures { IfOk result (λ ts. ts ≡ with_term (term_to_say (meet_of term.now other.now)) []) }
-{
-    let both = term.meet(alloc, other)?;
-    Ok(listed(alloc, written(both), None))
 }
