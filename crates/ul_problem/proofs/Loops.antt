@@ -1,6 +1,6 @@
 -- Tests of a list, element by element.
 use Rattle.std.proofs.Common.{◌≡◌, ℕ, zero, suc, ◌+◌, ◌-◌, ◌<◌, ◌≤◌, List, [], ◌∷◌, ◌++◌, drop, take, length, length-drop, get_or, subst, sym, ap, ◌∙◌, arith}
-use Rattle.std.proofs.lemmas.List.{drop_more, take_more}
+use Rattle.std.proofs.lemmas.List.{drop_more, take_more, take_all, get_or_default}
 use Rattle.std.proofs.Common.{Bool, true, false, not, inl, inr, refl}
 use Rattle.std.specs.declared.cmp.Ordering.{Ordering}
 use Rattle.std.specs.declared.cmp.Ordering.TheVariants.{Less, Equal, Greater}
@@ -81,6 +81,18 @@ none_after P (x ∷ xs) (suc i) h = none_after P xs i (omega arith)
 
 pub each_all : {A : Type 0} (P : A → Type 0) (xs : List A) (i : ℕ) (Q : Type 0) → length xs ≤ i → IsAlike (AllAre P (drop i xs)) Q → Q
 each_all P xs i Q h s = s.to (none_after P xs i h)
+
+-- two lists that are compared element by element
+pub same_more : {A : Type 0} (xs ys : List A) (k : ℕ) (a b : A) → k < length xs → length xs ≡ length ys → a ≡ get_or xs k a → b ≡ get_or ys k b → a ≡ b → take k xs ≡ take k ys → take (k + 1) xs ≡ take (k + 1) ys
+same_more {A} xs ys k a b l n ea eb e h =
+    let r : k < length ys = omega arith in
+    take_more xs k a l ∙ (ap (λ (z : A). take k xs ++ z ∷ []) (sym ea ∙ e) ∙ (ap (λ (zs : List A). zs ++ b ∷ []) h ∙ (ap (λ (z : A). take k ys ++ z ∷ []) eb ∙ sym (take_more ys k b r))))
+
+pub same_at : {A : Type 0} (xs ys : List A) (k : ℕ) (a b : A) → k < length xs → a ≡ get_or xs k a → b ≡ get_or ys k b → xs ≡ ys → a ≡ b
+same_at {A} xs ys k a b l ea eb e = ea ∙ (get_or_default xs k a b l ∙ (ap (λ (zs : List A). get_or zs k b) e ∙ sym eb))
+
+pub same_all : {A : Type 0} (xs ys : List A) (k : ℕ) → length xs ≤ k → length xs ≡ length ys → take k xs ≡ take k ys → xs ≡ ys
+same_all xs ys k l n h = let r : length ys ≤ k = omega arith in sym (take_all k xs l) ∙ (h ∙ take_all k ys r)
 
 -- needs one after another
 pub needs_more : (nodes : List NodeFacts) (xs : List Need) (i : ℕ) (x : Need) (Q : Type 0) → i < length xs → x ≡ get_or xs i x → IsNeedAfter nodes (take i xs) x

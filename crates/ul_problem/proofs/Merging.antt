@@ -1,5 +1,5 @@
 -- The merge of two lists of terms, and that a resolvent is the only one.
-use Rattle.std.proofs.Common.{◌≡◌, ℕ, suc, ◌+◌, List, [], ◌∷◌, ◌++◌, Bool, true, false, cond, Option, Some, None, refl, ap, ◌∙◌, sym, ◌<◌, ◌≤◌, ◌⊎◌, inl, inr, length, arith, nat_eq, nat_lt, eq-eqb, subst, drop, take, ◌-◌, length-drop, drop-drop}
+use Rattle.std.proofs.Common.{◌≡◌, ℕ, zero, suc, ◌+◌, List, [], ◌∷◌, ◌++◌, Bool, true, false, cond, Option, Some, None, refl, ap, ◌∙◌, sym, ◌<◌, ◌≤◌, ◌⊎◌, inl, inr, length, arith, nat_eq, nat_lt, eq-eqb, subst, drop, take, ◌-◌, length-drop, drop-drop}
 use Rattle.std.proofs.lemmas.Bool.{eqb-true, eqb-false, ne_eqb, ltb-true, ltb-false, cases_order}
 use Rattle.std.proofs.lemmas.Option.{none-some, same_Some}
 use Rattle.std.proofs.lemmas.List.{append-nil, take_all}
@@ -338,3 +338,21 @@ pub merges_more : (m : ℕ) (left right out more : List Term) (i j : ℕ) (a b :
     → Merges m left right more (i + turn.left) (j + turn.right)
 merges_more m left right out more i j a b turn s e f g h =
     subst (λ (x : List Term). Merges m left right x (i + turn.left) (j + turn.right)) (sym h) (merges_turn m left right out i j a b turn s e f g)
+
+-- the merge begins with nothing written, and ends where nothing is left
+pub merges_start : (m : ℕ) (left right out : List Term) → out ≡ [] → IsOrdered left → IsOrdered right → Merges m left right out 0 0
+merges_start m left right out e a b = record {
+  within_left = omega arith;
+  within_right = omega arith;
+  merging = subst (λ (ts : List Term). IsMerging m left right ts left right) (sym e) (merging_starts m left right a b);
+}
+
+none_dropped : (ts : List Term) (i : ℕ) → length ts ≤ i → drop i ts ≡ []
+none_dropped [] zero h = refl
+none_dropped [] (suc i) h = refl
+none_dropped (t ∷ ts) zero h = absurd (omega arith)
+none_dropped (t ∷ ts) (suc i) h = none_dropped ts i (omega arith)
+
+pub merges_end : (m : ℕ) (left right out : List Term) (i j : ℕ) → Merges m left right out i j → length left ≤ i → length right ≤ j → IsResolvent m left right out
+merges_end m left right out i j s a b =
+    merging_ends m left right out (subst (IsMerging m left right out []) (none_dropped right j b) (subst (λ (ts : List Term). IsMerging m left right out ts (drop j right)) (none_dropped left i a) s.merging))

@@ -1,6 +1,7 @@
 -- What the rules of a problem give.
 use Rattle.std.proofs.Common.{◌≡◌, ℕ, zero, suc, List, [], ◌∷◌, ◌++◌, Option, Some, None, ◌<◌, inl, inr, length, arith, refl, sym, ap, subst, ◌∙◌, slice_get, get_or, append_assoc}
-use Rattle.std.proofs.lemmas.Option.{none-some, same_Some, slice_get_within}
+use Rattle.std.proofs.lemmas.List.{get_or_default}
+use Rattle.std.proofs.lemmas.Option.{none-some, same_Some, slice_get_within, slice_get_read}
 use Rattle.ul_problem.proofs.Members.{at_head, in_rest, head_or_rest, in_none, one_place, one_left}
 use Rattle.ul_problem.specs.Plain.{Plain, node_at, size_in, size_of, base_in, base_of, barred_in, barred_of, needs_in, needs_of}
 use Rattle.std.specs.List.{Contains}
@@ -131,3 +132,16 @@ base_fits p n b wf e =
     in_base : (q : NodeFacts) (o : Option NodeFacts) → IsBaseIn o q → (g : NodeFacts) × (o ≡ Some g) × IsBaseOf g q
     in_base q None h = absurd h
     in_base q (Some g) h = (g, refl, h)
+
+-- the needs of a version, as they are read
+pub needs_read : (p : Plain) (nodes : List NodeFacts) (n v : ℕ) (f : NodeFacts) (rows : List (List Need)) (row : List Need) → IsWellFormed p → nodes ≡ p.nodes → n < length p.nodes → f ≡ get_or nodes n f → v < size_of p n
+    → rows ≡ f.needs → (v < length rows) × (row ≡ get_or rows v row → row ≡ needs_of p n v)
+needs_read p nodes n v f rows row wf en l is h er =
+    let e : slice_get p.nodes n ≡ Some f = slice_get_read p.nodes (length p.nodes) n f refl l (is ∙ ap (λ (ns : List NodeFacts). get_or ns n f) en) in
+    let w = node_whole p n f wf e in
+    let count : length f.needs ≡ length f.versions = w.rows in
+    let size : size_of p n ≡ length f.versions = ap size_in e in
+    let within : v < length f.needs = omega arith in (
+      subst (λ (rs : List (List Need)). v < length rs) (sym er) within,
+      λ r. r ∙ (ap (λ (rs : List (List Need)). get_or rs v row) er ∙ (get_or_default f.needs v row [] within ∙ sym (ap (λ (o : Option NodeFacts). needs_in o v) e))),
+    )
