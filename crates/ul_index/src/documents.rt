@@ -87,8 +87,7 @@ fn is_new(alloc: Global, seen: &mut Seen, entry: &Entry) -> Result<bool, AllocEr
     ensures { IfOk result (Tells seen.old seen.new entry.now.version) }
 {
     let version: &Option<Version> = &entry.version;
-    let answer = is_new_version(alloc, seen, version)?;
-    Ok(answer)
+    is_new_version(alloc, seen, version)
 }
 
 // The release of an entry behind those that were met.

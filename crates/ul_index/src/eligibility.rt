@@ -144,8 +144,7 @@ pub fn eligible(alloc: Global, catalog: &Catalog, name: &Name) -> Result<Vec<u32
 {
     let releases = catalog.releases_of(name);
     let order = order(alloc, catalog.directs(), name, releases)?;
-    let places = order.places(alloc)?;
-    Ok(places)
+    order.places(alloc)
 }
 
 /// The places of the eligible releases of a name on which the project has no requirement: those of [`eligible`], found without a
@@ -161,6 +160,5 @@ pub fn eligible_indirect(
 {
     let releases = catalog.releases_of(name);
     let order = order(alloc, &[], name, releases)?;
-    let places = order.places(alloc)?;
-    Ok(places)
+    order.places(alloc)
 }

@@ -4,7 +4,7 @@ use crate::Place;
 use std::alloc::{AllocError, AllocFailed};
 
 /// Why bytes are no index document of a name.
-#[derive(Clone, Copy, PartialEq, Eq, Debug)]
+#[derive(Clone, Copy)]
 pub enum IndexFault {
     /// `serde_json` doesn't read the bytes.
     NotJson,

@@ -47,8 +47,7 @@ impl FileSet {
         ensures rises { IfOk result (λ v. FilesRise v.items) }
     {
         let _size = self.keys.len();
-        let files = listed(alloc, self)?;
-        Ok(files)
+        listed(alloc, self)
     }
 }
 

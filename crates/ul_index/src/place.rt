@@ -6,7 +6,7 @@ ghost use Rattle.ul_index.specs.Places.{key_text, place_text};
 use std::alloc::{AllocError, Global};
 
 /// A key of an entry of `versions`.
-#[derive(Clone, Copy, PartialEq, Eq, Debug)]
+#[derive(Clone, Copy)]
 pub enum EntryKey {
     Version,
     RequiresPython,
@@ -16,7 +16,7 @@ pub enum EntryKey {
 }
 
 /// A place of an index document. Entries and files count from 0.
-#[derive(Clone, Copy, PartialEq, Eq, Debug)]
+#[derive(Clone, Copy)]
 pub enum Place {
     /// The document itself, which isn't an object.
     Document,
@@ -52,16 +52,23 @@ impl Place {
     pub fn text(self, alloc: Global) -> Result<String, AllocError>
         ensures { IfOk result (λ t. string_bytes t ≡ place_text self) }
     {
-        let text = match self {
-            Place::Document => String::from_str(alloc, "document")?,
-            Place::Name => String::from_str(alloc, "name")?,
-            Place::Versions => String::from_str(alloc, "versions")?,
-            Place::Entry(entry) => format!(in alloc; "versions[{entry}]")?,
-            Place::Key(entry, key) => key_path(alloc, entry, key)?,
-            Place::File(entry, file) => format!(in alloc; "versions[{entry}].files[{file}]")?,
-        };
-        Ok(text)
+        match self {
+            Place::Document => String::from_str(alloc, "document"),
+            Place::Name => String::from_str(alloc, "name"),
+            Place::Versions => String::from_str(alloc, "versions"),
+            Place::Entry(entry) => entry_path(alloc, entry),
+            Place::Key(entry, key) => key_path(alloc, entry, key),
+            Place::File(entry, file) => file_path(alloc, entry, file),
+        }
     }
+}
+
+// The path of an entry.
+fn entry_path(alloc: Global, entry: u64) -> Result<String, AllocError>
+    ensures { IfOk result (λ t. string_bytes t ≡ place_text (Place.Entry entry)) }
+{
+    let text = format!(in alloc; "versions[{entry}]")?;
+    Ok(text)
 }
 
 // The path of a key of an entry.
@@ -70,5 +77,13 @@ fn key_path(alloc: Global, entry: u64, key: EntryKey) -> Result<String, AllocErr
 {
     let key = key.text();
     let text = format!(in alloc; "versions[{entry}].{key}")?;
+    Ok(text)
+}
+
+// The path of a file of an entry.
+fn file_path(alloc: Global, entry: u64, file: u64) -> Result<String, AllocError>
+    ensures { IfOk result (λ t. string_bytes t ≡ place_text (Place.File entry file)) }
+{
+    let text = format!(in alloc; "versions[{entry}].files[{file}]")?;
     Ok(text)
 }
