@@ -6,6 +6,7 @@ mod FilesRead
 mod Packages
 mod Values
 mod Faults
+mod EntryParts
 mod UsableReleases
 mod Ordered
 mod Orders

@@ -56,19 +56,14 @@ impl Place {
             Place::Document => String::from_str(alloc, "document"),
             Place::Name => String::from_str(alloc, "name"),
             Place::Versions => String::from_str(alloc, "versions"),
-            Place::Entry(entry) => entry_path(alloc, entry),
+            Place::Entry(entry) => {
+                let text = format!(in alloc; "versions[{entry}]")?;
+                Ok(text)
+            }
             Place::Key(entry, key) => key_path(alloc, entry, key),
             Place::File(entry, file) => file_path(alloc, entry, file),
         }
     }
-}
-
-// The path of an entry.
-fn entry_path(alloc: Global, entry: u64) -> Result<String, AllocError>
-    ensures { IfOk result (λ t. string_bytes t ≡ place_text (Place.Entry entry)) }
-{
-    let text = format!(in alloc; "versions[{entry}]")?;
-    Ok(text)
 }
 
 // The path of a key of an entry.
