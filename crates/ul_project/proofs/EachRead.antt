@@ -1,6 +1,7 @@
 -- What was read, before what is left to read; and parts that are refused.
 use Rattle.std.proofs.Common.{◌≡◌, ◌++◌, ◌+◌, ℕ, List, [], ◌∷◌, refl, ap, sym, append_assoc, append-nil}
-use Rattle.std.specs.Prelude.{Result, Ok, Err}
+use Rattle.std.proofs.lemmas.Result.{err_from_is_err_and}
+use Rattle.std.specs.Prelude.{Result, Ok, Err, IsErrAnd}
 use Rattle.ul_project.specs.Answers.{Gives}
 use Rattle.ul_project.specs.Kept.{IsFaultOf}
 use Rattle.ul_project.specs.Results.{◌>>=◌, each_from}
@@ -32,6 +33,19 @@ read-err view view' read (Unsupported path) part whole is given refused =
 read-err view view' read EmptyRegion part whole is given refused =
     let same : read ≡ Err EmptyRegion = is (λ n. cc) in Gives-err view view' EmptyRegion part whole refused (rw same at given)
 read-err view view' read NoMemory part whole is given refused = tt
+
+-- the same, where the fault is handed on by `?`
+pub handed_on : {X Y X' Y' : Type 0} (view : X → Y) (view' : X' → Y') (fault : ProjectFault) (answer : Result X' ProjectFault) (part : Reading Y) (whole : Reading Y')
+    → IsErrAnd answer (λ e. e ≡ fault) → ((f : Fault) → part ≡ Err f → whole ≡ Err f) → Gives view (Err fault) part → Gives view' answer whole
+handed_on view view' fault answer part whole is refused given =
+    let p = err_from_is_err_and answer is in rw (p.1, p.2) (Gives-err view view' fault part whole refused given)
+
+-- the same, where it was read beside what is kept
+pub read_handed_on : {X Y X' Y' : Type 0} (view : X → Y) (view' : X' → Y') (read : Result X ProjectFault) (fault : ProjectFault) (answer : Result X' ProjectFault)
+    (part : Reading Y) (whole : Reading Y') → IsErrAnd answer (λ e. e ≡ fault) → IsFaultOf read fault → Gives view read part → ((f : Fault) → part ≡ Err f → whole ≡ Err f)
+    → Gives view' answer whole
+read_handed_on view view' read fault answer part whole is of given refused =
+    let p = err_from_is_err_and answer is in rw (p.1, p.2) (read-err view view' read fault part whole of given refused)
 
 -- values found, and then those that are read of the rest
 abbrev pub behind : {B : Type 0} → List B → Reading (List B) → Reading (List B)

@@ -10,6 +10,7 @@ mod Regions
 mod ProjectRegions
 mod NoFiles
 mod NamedLists
+mod Mapped
 mod Environments
 mod ProjectExamples
 mod ProjectLaws

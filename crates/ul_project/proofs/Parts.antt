@@ -51,6 +51,37 @@ choices-fault document uv cs os es f are c =
     (three_err (mode_at (get_member (codes "resolution") uv)) (prerelease_at (get_member (codes "prerelease") uv))
     (λ _. strategy_at (get_member (codes "fork-strategy") uv)) f (λ m _ s. (m, s)) (chosen cs os es) c)
 
+-- `tool` or `tool.uv` is refused
+pub uv-fault : (document : Members) (f : Fault) → uv_at document ≡ Err f → settings_in document ≡ Err f
+unfolding settings_in
+uv-fault document f e = rw e refl
+
+-- a key that isn't supported says something
+pub silent-fault : (document uv : Members) (f : Fault) → uv_at document ≡ Ok uv → all_silent uv ≡ Err f → settings_in document ≡ Err f
+unfolding settings_in
+silent-fault document uv f t e = rw (t, e) refl
+
+-- a constraint is refused
+pub constraints-fault : (document uv : Members) (f : Fault) → uv_at document ≡ Ok uv → all_silent uv ≡ Ok tt
+    → bounds_at (Key key.ConstraintDependencies) (get_member (codes "constraint-dependencies") uv) ≡ Err f → settings_in document ≡ Err f
+unfolding settings_in
+constraints-fault document uv f t s e = rw (t, s, e) refl
+
+-- an override is refused
+pub overrides-fault : (document uv : Members) (cs : List RequirementFields) (f : Fault) → uv_at document ≡ Ok uv → all_silent uv ≡ Ok tt
+    → bounds_at (Key key.ConstraintDependencies) (get_member (codes "constraint-dependencies") uv) ≡ Ok cs
+    → bounds_at (Key key.OverrideDependencies) (get_member (codes "override-dependencies") uv) ≡ Err f → settings_in document ≡ Err f
+unfolding settings_in
+overrides-fault document uv cs f t s c e = rw (t, s, c, e) refl
+
+-- an environment is refused
+pub environments-fault : (document uv : Members) (cs os : List RequirementFields) (f : Fault) → uv_at document ≡ Ok uv → all_silent uv ≡ Ok tt
+    → bounds_at (Key key.ConstraintDependencies) (get_member (codes "constraint-dependencies") uv) ≡ Ok cs
+    → bounds_at (Key key.OverrideDependencies) (get_member (codes "override-dependencies") uv) ≡ Ok os
+    → environments_at (get_member (codes "environments") uv) ≡ Err f → settings_in document ≡ Err f
+unfolding settings_in
+environments-fault document uv cs os f t s c o e = rw (t, s, c, o, e) refl
+
 -- ---- the file
 
 -- the file, but for what is asked of the resolver

@@ -1,13 +1,13 @@
 -- The project of a file and a region; and a region that is false.
 use Rattle.std.proofs.Common.{◌≡◌, ◌∙◌, ℕ, List, [], true, false, sym, ap, subst}
-use Rattle.std.specs.Prelude.{Err}
+use Rattle.std.specs.Prelude.{Result, Ok, Err}
 use Rattle.ul_comparison.specs.Worlds.{WorldFields, IsWorld}
 use Rattle.ul_nodes.specs.Plain.{Plain, truth}
 use Rattle.ul_tree.specs.Regions.{HasTruth}
 use Rattle.ul_tree.specs.FirstParts.{is_false}
 use Rattle.ul_tree.specs.Values.{tree_holds}
 use Rattle.ul_tree.proofs.ForCallers.{false_is, holds_somewhere, no_extra, region_tree}
-use Rattle.ul_project.specs.Answers.{Gives}
+use Rattle.ul_project.specs.Answers.{Gives, IsAnswerOf}
 use Rattle.ul_project.specs.Fields.{ProjectFields}
 use Rattle.ul_project.specs.Headline.{IsAnswer, IsNowhere, IsOf, supported_by}
 use Rattle.ul_project.specs.ProjectFile.{FileFields, file_of, project_with}
@@ -42,3 +42,13 @@ is_fault view bytes (Requirement path) h = h
 is_fault view bytes (Unsupported path) h = h
 is_fault view bytes EmptyRegion h = absurd h
 is_fault view bytes NoMemory h = tt
+
+-- what is answered of the file that the bytes say is the answer
+pub is_answer : (bytes : List ℕ) (file : FileFields) (r : Result ProjectFields ProjectFault) → file_of bytes ≡ Ok file → IsAnswerOf file r → IsAnswer bytes r
+is_answer bytes file (Ok p) said h = record { file = file; said = said; project = h }
+is_answer bytes file (Err NotToml) said h = absurd h
+is_answer bytes file (Err (Shape path)) said h = absurd h
+is_answer bytes file (Err (Requirement path)) said h = absurd h
+is_answer bytes file (Err (Unsupported path)) said h = absurd h
+is_answer bytes file (Err EmptyRegion) said h = record { file = file; said = said; nowhere = h }
+is_answer bytes file (Err NoMemory) said h = tt

@@ -4,7 +4,7 @@ use crate::ProjectPath;
 use std::alloc::{AllocError, AllocFailed};
 
 /// Why bytes are no project: the first fault of the file, in the order of its checks.
-#[derive(PartialEq, Eq, Debug, Drop)]
+#[derive(Drop)]
 pub enum ProjectFault {
     /// `toml` doesn't read the bytes.
     NotToml,

@@ -74,8 +74,7 @@ fn included(alloc: Global, table: &Table) -> Result<Option<Name>, AllocError>
     if !is_single(table) {
         return Ok(None);
     }
-    let name = name_in(alloc, value_at(table, "include-group"))?;
-    Ok(name)
+    name_in(alloc, value_at(table, "include-group"))
 }
 
 // The group that an entry includes.
@@ -158,8 +157,7 @@ fn group_lists_at(
     if !are_names(alloc, extras, table)? {
         return Err(ProjectFault::Shape(at_key(ProjectKey::DependencyGroups)));
     }
-    let lists = ordered_lists(alloc, ProjectKey::DependencyGroups, table)?;
-    Ok(lists)
+    ordered_lists(alloc, ProjectKey::DependencyGroups, table)
 }
 
 // Lists as groups.

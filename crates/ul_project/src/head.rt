@@ -141,8 +141,7 @@ fn python_in(alloc: Global, project: &Table) -> Result<Specifiers, ProjectFault>
     ensures { Gives (λ s. s) result (spec.python_in (table_view project.now)) }
 {
     dynamic_at(alloc, value_at(project, "dynamic"))?;
-    let python = python_at(alloc, value_at(project, "requires-python"))?;
-    Ok(python)
+    python_at(alloc, value_at(project, "requires-python"))
 }
 
 // What `project` says of them, in the order of the checks.

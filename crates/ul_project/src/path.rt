@@ -8,7 +8,7 @@ use std::alloc::{AllocError, Global};
 use ul_base::Name;
 
 /// A key of a project file that has a fixed place.
-#[derive(Clone, Copy, PartialEq, Eq, Debug)]
+#[derive(Clone, Copy)]
 pub enum ProjectKey {
     /// `project`
     Project,
@@ -59,7 +59,7 @@ pub enum ProjectKey {
 }
 
 /// What stands at a place of a project file as a whole.
-#[derive(PartialEq, Eq, Debug, Drop)]
+#[derive(Drop)]
 pub enum Place {
     /// The value of a key.
     Key(ProjectKey),
@@ -80,7 +80,7 @@ pub(crate) enum ArrayPlace<'a> {
 }
 
 /// A path of a project file: a place, or an entry of the array there. Entries count from 0.
-#[derive(PartialEq, Eq, Debug, Drop)]
+#[derive(Drop)]
 pub enum ProjectPath {
     Whole(Place),
     Entry(Place, u64),
@@ -124,12 +124,11 @@ impl Place {
     pub fn text(&self, alloc: Global) -> Result<String, AllocError>
         ensures { IfOk result (λ t. string_bytes t ≡ place_text self.now) }
     {
-        let text = match self {
-            Place::Key(key) => String::from_str(alloc, key.text())?,
-            Place::Extra(name) => extra_text(alloc, name)?,
-            Place::Group(name) => group_text(alloc, name)?,
-        };
-        Ok(text)
+        match self {
+            Place::Key(key) => String::from_str(alloc, key.text()),
+            Place::Extra(name) => extra_text(alloc, name),
+            Place::Group(name) => group_text(alloc, name),
+        }
     }
 }
 
@@ -185,11 +184,10 @@ impl ProjectPath {
     pub fn text(&self, alloc: Global) -> Result<String, AllocError>
         ensures { IfOk result (λ t. string_bytes t ≡ path_text self.now) }
     {
-        let text = match self {
-            ProjectPath::Whole(place) => place.text(alloc)?,
-            ProjectPath::Entry(place, entry) => entry_text(alloc, place, *entry)?,
-        };
-        Ok(text)
+        match self {
+            ProjectPath::Whole(place) => place.text(alloc),
+            ProjectPath::Entry(place, entry) => entry_text(alloc, place, *entry),
+        }
     }
 }
 

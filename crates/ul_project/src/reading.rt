@@ -219,8 +219,7 @@ fn region_of(alloc: Global, file: &File) -> Result<Tree, AllocError>
     let settings: &Settings = &file.settings;
     let python: &Specifiers = &head.python;
     let environments: &Vec<Marker> = &settings.environments;
-    let tree = region(alloc, python, environments.as_slice())?;
-    Ok(tree)
+    region(alloc, python, environments.as_slice())
 }
 
 // The project that a file says, unless it supports no world.
@@ -269,6 +268,5 @@ pub fn project(alloc: Global, bytes: &[u8]) -> Result<Project, ProjectFault>
     ensures { IsAnswer bytes.now result }
 {
     let file = file_of(alloc, bytes)?;
-    let project = project_of(alloc, file)?;
-    Ok(project)
+    project_of(alloc, file)
 }

@@ -23,8 +23,7 @@ fn environment_tree(alloc: Global, marker: &Marker) -> Result<Tree, AllocError>
     ensures truth { IfOk result (λ t. HoldsAtWorlds t (λ w x. holds_bare w (marker_view marker.now))) }
 {
     let marked = of_marker(alloc, marker)?;
-    let tree = made_from(plain_at_extra(alloc, &marked, ""), marked)?;
-    Ok(tree)
+    made_from(plain_at_extra(alloc, &marked, ""), marked)
 }
 
 // The trees of environments, in order.
@@ -47,8 +46,7 @@ fn some_environment(alloc: Global, environments: &[Marker]) -> Result<Tree, Allo
     ensures truth { IfOk result (λ t. HoldsAtWorlds t (λ w x. some_holds (map marker_view environments.now) w)) }
 {
     let trees = environment_trees(alloc, environments)?;
-    let tree = joined(alloc, false, trees)?;
-    Ok(tree)
+    joined(alloc, false, trees)
 }
 
 // The tree of the worlds that a project supports.
@@ -66,6 +64,5 @@ pub(crate) fn region(
     }
     let (python, some) = beside(python, some_environment(alloc, environments))?;
     let region = plain_and(alloc, &python, &some);
-    let region = made_from(region, (python, some))?;
-    Ok(region)
+    made_from(region, (python, some))
 }

@@ -64,8 +64,7 @@ pub(crate) fn requirements_at(
     ensures { Gives list_view result (Requirements.requirements_at (place_of place.entry) (value_view value.entry)) }
 {
     let items = optional_items_at(alloc, place, value)?;
-    let list = requirements(alloc, place, items)?;
-    Ok(list)
+    requirements(alloc, place, items)
 }
 
 // Whether a comparison with `extra` stands in a marker.
@@ -132,6 +131,5 @@ pub(crate) fn bounds_at(
     ensures { Gives list_view result (Requirements.bounds_at (place_of place.entry) (value_view value.entry)) }
 {
     let items = optional_items_at(alloc, place, value)?;
-    let list = bounds(alloc, place, items)?;
-    Ok(list)
+    bounds(alloc, place, items)
 }

@@ -57,8 +57,7 @@ fn uv_at(document: &Table) -> Result<Option<&Table>, ProjectFault>
     ensures { Gives members_view result (spec.uv_at (table_view document.now)) }
 {
     let tool = optional_table_at(ProjectKey::Tool, value_at(document, "tool"))?;
-    let uv = optional_table_at(ProjectKey::Uv, value_in(tool, "uv"))?;
-    Ok(uv)
+    optional_table_at(ProjectKey::Uv, value_in(tool, "uv"))
 }
 
 // The key says nothing.
@@ -86,8 +85,7 @@ fn all_silent(uv: Option<&Table>) -> Result<(), ProjectFault>
     silent_at(
         ProjectKey::DevDependencies,
         value_in(uv, "dev-dependencies"),
-    )?;
-    Ok(())
+    )
 }
 
 // The marker that a text at a key is.
@@ -163,8 +161,7 @@ fn environments_at(alloc: Global, value: Option<&Value>) -> Result<Vec<Marker>, 
         None => Ok(Vec::new(alloc)),
         Some(Value::String(text)) => {
             let marker = environment_of(alloc, text.as_str())?;
-            let list = only(alloc, marker)?;
-            Ok(list)
+            only(alloc, marker)
         }
         Some(value) => {
             let items = items_at(
@@ -172,8 +169,7 @@ fn environments_at(alloc: Global, value: Option<&Value>) -> Result<Vec<Marker>, 
                 ArrayPlace::Key(ProjectKey::Environments),
                 Some(value),
             )?;
-            let list = environments(alloc, items)?;
-            Ok(list)
+            environments(alloc, items)
         }
     }
 }
