@@ -1,11 +1,11 @@
 -- Lists that were put in order, before those that are left to read.
-use Rattle.std.proofs.Common.{◌≡◌, ◌||◌, ℕ, List, [], ◌∷◌, fold, Bool, true, false, Option, Some, refl, ap, sym, is_some, cond}
+use Rattle.std.proofs.Common.{◌≡◌, ◌||◌, ◌∙◌, not, ℕ, List, [], ◌∷◌, fold, Bool, true, false, Option, Some, refl, ap, sym, is_some, cond}
 use Rattle.std.specs.Prelude.{Ok, Err}
 use Rattle.std.specs.BTreeMap.{is_at}
 use Rattle.std.specs.Map.{lookup}
 use Rattle.toml.specs.Data.{Data, Members, no_members, member}
 use Rattle.ul_base.specs.Names.{name_cmp, name_of}
-use Rattle.ul_project.specs.Lists.{Named, are_new, has_name, is_new, list_at, lists_in, names_of, put_list, with_name}
+use Rattle.ul_project.specs.Lists.{Named, are_new, group_extra, has_name, is_new, list_at, lists_in, names_of, put_list, with_name}
 use Rattle.ul_project.specs.Results.{◌>>=◌}
 use Rattle.ul_project.specs.Shapes.{Fault, Reading}
 
@@ -50,6 +50,15 @@ found_or_not false list rest more e = e
 pub list_found : {L : Type 0} (name : List ℕ) (lists : List (Named L)) → is_some (lookup (is_at (name_cmp name)) lists) ≡ has_name (names_of lists) name
 list_found name [] = refl
 list_found name (list ∷ lists) = found_or_not (is_at (name_cmp name) list.0) list.1 _ _ (list_found name lists)
+
+not_other : (here : Bool) → not here ≡ not (here || false)
+not_other true = refl
+not_other false = refl
+
+-- a key whose name wasn't there, and whose extra as a group isn't there, is new
+pub name_new : (extras earlier : List (List ℕ)) (name : List ℕ) (said : Option (List ℕ)) (added : Bool) → said ≡ Some name
+    → has_name extras (group_extra name) ≡ false → added ≡ not (has_name earlier name) → added ≡ is_new extras earlier said
+name_new extras earlier name said added s t a = rw (s, t) (a ∙ not_other (has_name earlier name))
 
 -- a key that isn't new ends the keys
 pub key-old : (extras earlier : List (List ℕ)) (key : List ℕ) (d : Data) (ms : Members) → is_new extras earlier (name_of key) ≡ false → are_new extras earlier (member key d ms) ≡ false

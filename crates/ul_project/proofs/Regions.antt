@@ -1,7 +1,7 @@
 -- The truths of environments and of the region.
-use Rattle.std.proofs.Common.{◌≡◌, ◌&&◌, ◌||◌, ◌==◌, ◌∙◌, ℕ, List, [], ◌∷◌, map, length, Bool, true, false, true≢false, refl, ap, ap₂, sym, subst, ◌++◌, ◌+◌, ◌<◌, drop, get_or, append_assoc}
-use Rattle.std.proofs.lemmas.List.{drop_more, map-append}
-use Rattle.ul_comparison.specs.Formulas.{AreFormulas}
+use Rattle.std.proofs.Common.{◌≡◌, ◌&&◌, ◌||◌, ◌==◌, ◌∙◌, ℕ, List, [], ◌∷◌, map, length, Bool, true, false, true≢false, refl, ap, ap₂, sym, subst, ◌++◌, ◌+◌, ◌<◌, ◌≤◌, drop, get_or, append_assoc, append-nil}
+use Rattle.std.proofs.lemmas.List.{drop_all, drop_more, map-append}
+use Rattle.ul_comparison.specs.Formulas.{AreFormulas, IsFormula}
 use Rattle.ul_marker.specs.Views.{markers_view}
 use Rattle.ul_tree.specs.Joining.{truths_of}
 use Rattle.std.specs.List.{list_any}
@@ -68,6 +68,21 @@ bare_truth w m = holds_bare w (marker_view m)
 -- the environments behind one that was taken
 pub left_next : (ms : List Marker) (i : ℕ) (m : Marker) → i < length ms → AreFormulas (markers_view (drop i ms)) → AreFormulas (markers_view (drop (i + 1) ms))
 left_next ms i m lt h = let f = subst (λ l. AreFormulas (markers_view l)) (drop_more ms i m lt) h in f.1
+
+-- the first of the environments that are left
+pub left_here : (ms : List Marker) (i : ℕ) (m : Marker) → i < length ms → m ≡ get_or ms i m → AreFormulas (markers_view (drop i ms)) → IsFormula (marker_view m)
+left_here ms i m lt at h =
+    let f = subst (λ l. AreFormulas (markers_view l)) (drop_more ms i m lt) h in subst (λ k. IsFormula (marker_view k)) (sym at) f.0
+
+-- no trees before all environments
+pub truths_start : (ms : List Marker) (ts : List Tree) (w : WorldFields) (x : List ℕ) → ts ≡ [] → truths_of ts w x ++ map (bare_truth w) ms ≡ map (bare_truth w) ms
+truths_start ms ts w x e = ap (λ l. truths_of l w x ++ map (bare_truth w) ms) e
+
+-- the trees, where no environment is left
+pub truths_end : (ms : List Marker) (i : ℕ) (ts : List Tree) (w : WorldFields) (x : List ℕ) → length ms ≤ i
+    → truths_of ts w x ++ map (bare_truth w) (drop i ms) ≡ map (bare_truth w) ms → truths_of ts w x ≡ map (bare_truth w) ms
+truths_end ms i ts w x le before =
+    sym (append-nil (truths_of ts w x)) ∙ ap (λ l. truths_of ts w x ++ map (bare_truth w) l) (sym (drop_all i ms le)) ∙ before
 
 -- the trees, and one more, before the environments that are left
 pub truths_next : (ms : List Marker) (i : ℕ) (m : Marker) (ts after : List Tree) (t : Tree) (w : WorldFields) (x : List ℕ) → i < length ms → m ≡ get_or ms i m → after ≡ ts ++ t ∷ []

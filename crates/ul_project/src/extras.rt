@@ -1,6 +1,6 @@
 //! What a project requires by its extras.
 
-ghost use Rattle.std.specs.Prelude.{◌≡◌, ◌++◌, ◌∷◌, [], IfOk, OnOk, length, map, option_map};
+ghost use Rattle.std.specs.Prelude.{◌≡◌, ◌++◌, IfOk, OnOk, map, option_map};
 ghost use Rattle.std.specs.List.Sorted.{IsStrictlySortedBy};
 ghost use Rattle.toml.specs.View.{view};
 ghost use Rattle.ul_base.specs.Names.{name_cmp};
@@ -175,26 +175,6 @@ fn add_list(
     Ok(())
 }
 
-// Puts the requirements of an extra, as the project's, behind others, and its name and its size behind those of others.
-fn add_extra(
-    alloc: Global,
-    requirements: &mut Vec<Requirement>,
-    extras: &mut Vec<Name>,
-    sizes: &mut Vec<u64>,
-    name: Name,
-    list: Vec<Requirement>,
-) -> Result<(), AllocError>
-    ensures requirements { OnOk result (requirements.new.items
-        ≡ requirements.old.items ++ map (Extras.of_extra name) list.items) }
-    ensures extras { OnOk result (extras.new.items ≡ extras.old.items ++ name ∷ []) }
-    ensures sizes { OnOk result (sizes.new.items ≡ sizes.old.items ++ length list.items ∷ []) }
-{
-    sizes.push(list.len() as u64)?;
-    add_list(alloc, requirements, &name, list)?;
-    extras.push(name)?;
-    Ok(())
-}
-
 // Puts the requirements of all extras, as the project's, behind others; answers the extras, and how many requirements
 // each has.
 fn add_lists(
@@ -212,14 +192,9 @@ fn add_lists(
     let mut extras = Vec::new(alloc);
     let mut sizes = Vec::new(alloc);
     for (name, list) in lists {
-        add_extra(
-            alloc,
-            requirements,
-            &mut extras,
-            &mut sizes,
-            name,
-            list.list,
-        )?;
+        sizes.push(list.list.len() as u64)?;
+        add_list(alloc, requirements, &name, list.list)?;
+        extras.push(name)?;
     }
     Ok((extras, sizes))
 }
