@@ -14,10 +14,10 @@ if_handed made (Err e) P q p = tt
 pub twice_handed : {A : Type 0} (made between : Result A AllocError) (x : A) (P : A → Type 0) → between ≡ Ok x → IfOk between (λ y. made ≡ Ok y) → IfOk made P → P x
 twice_handed made between x P e f p = made_holds made x P (made_holds between x (λ y. made ≡ Ok y) e f) p
 
--- places that are put into a row of their own
-pub placed : (r : Result (List ℕ) AllocError) (xs ys : List ℕ) → IfOk r (λ x. x ≡ xs) → xs ≡ ys → IfOk r (λ x. x ≡ ys)
-placed (Ok x) xs ys h e = h ∙ e
-placed (Err q) xs ys h e = tt
+-- what is equal to one thing where it was made is equal to another that equals it
+pub made_equal : {A : Type 0} (r : Result A AllocError) (x y : A) → IfOk r (λ z. z ≡ x) → x ≡ y → IfOk r (λ z. z ≡ y)
+made_equal (Ok z) x y h e = h ∙ e
+made_equal (Err q) x y h e = tt
 
 -- images of what was found are those of what was read
 pub images_more : {A B C : Type 0} (f : A → C) (g : B → C) (done now : List A) (xs : List B) (i : ℕ) (a : A) (x : B) → now ≡ done ++ a ∷ [] → map f done ≡ map g (take i xs) → f a ≡ g x → i < length xs → x ≡ get_or xs i x

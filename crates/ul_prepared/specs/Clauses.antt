@@ -7,7 +7,10 @@ use Rattle.ul_specifier.specs.Clauses.{ClauseFields, has_local}
 use Rattle.ul_specifier.specs.Meaning.{meets_clause}
 use Rattle.ul_specifier.specs.declared.clause.Op.{Op}
 use Rattle.ul_specifier.specs.declared.clause.Op.TheVariants.{Equal, Unequal, AtLeast, AtMost, More, Less, Compatible}
+use Rattle.ul_ranges.specs.Flags.{both, either, less}
 use Rattle.ul_prepared.specs.Parts.{side}
+use Rattle.ul_prepared.specs.declared.clauses.Operation.{Operation}
+use Rattle.ul_prepared.specs.declared.clauses.Operation.TheVariants as operation
 use Rattle.ul_prepared.specs.declared.parts.Part.{Part}
 use Rattle.ul_prepared.specs.declared.parts.Part.TheVariants.{Whole, Public, Prefix}
 
@@ -59,6 +62,12 @@ is_met s (Some c) = meets_clause s c
 -- whether the version at a place meets the clause
 abbrev pub is_met_at : ClauseFields → List Fields → ℕ → Bool
 is_met_at s versions place = is_met s (slice_get versions place)
+
+-- what an operation makes of two sets
+abbrev pub made_by : Operation → List Bool → List Bool → List Bool
+made_by operation.Meet = both
+made_by operation.Join = either
+made_by operation.Less = less
 
 -- a set that an operation makes of a set and another one, which was made
 abbrev pub IsMadeWith : (List Bool → List Bool → List Bool) → List Bool → Result (List Bool) AllocError → List Bool → Type 0

@@ -142,8 +142,9 @@ fn with_need(
 {
     let (held, need) = beside(row, made)?;
     let mut row = held;
-    row.push(alloc, need)?;
-    Ok(row)
+    let put = row.push(alloc, need);
+    let both = beside(row, put)?;
+    Ok(both.0)
 }
 
 // The needs of each requirement, in order.

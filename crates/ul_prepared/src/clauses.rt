@@ -4,10 +4,10 @@
 ghost use Rattle.std.specs.Prelude.{◌≡◌, ◌<◌, ◌≤◌, ◌-◌, ◌^◌, IfOk, cond, filter, length, map, not, true};
 ghost use Rattle.std.specs.List.{range_with_len};
 ghost use Rattle.ul_problem.specs.Problems.{Increases, VersionBefore};
-ghost use Rattle.ul_ranges.specs.Flags.{both, either, front, less};
+ghost use Rattle.ul_ranges.specs.Flags.{front, less};
 ghost use Rattle.ul_specifier.specs.Meaning.{meets_clause, meets_list};
 ghost use Rattle.ul_prepared.specs.Clauses;
-ghost use Rattle.ul_prepared.specs.Clauses.{IsMadeWith, equals_by, is_compatible_with, is_met_at, is_from, is_strict, is_up_to};
+ghost use Rattle.ul_prepared.specs.Clauses.{IsMadeWith, equals_by, is_compatible_with, is_from, is_met_at, is_strict, is_up_to, made_by};
 
 use crate::parts::{Part, count_before, count_through};
 use std::alloc::{AllocError, Global};
@@ -16,50 +16,44 @@ use ul_ranges::Ordinals;
 use ul_specifier::{Clause, Op, Specifiers};
 use ul_version::Version;
 
-// The members of a set that another one lacks, if that was made.
-fn difference(
-    alloc: Global,
-    set: Ordinals,
-    made: Result<Ordinals, AllocError>,
-) -> Result<Ordinals, AllocError>
-    requires { IfOk made (λ others. length set ≡ length others) }
-    ensures { IfOk result (IsMadeWith less set made) }
-{
-    let (own, others) = beside(set, made)?;
-    let mut set = own;
-    let put = set.put_less(alloc, &others);
-    let both = beside(set, made_from(put, others))?;
-    Ok(both.0)
+// An operation on two sets: the members of both, of either, or of the first alone.
+#[derive(Clone, Copy)]
+enum Operation {
+    Meet,
+    Join,
+    Less,
 }
 
-// The members of a set that another one has too, if that was made.
-fn intersection(
+// Puts what an operation makes of two sets in place of the first.
+fn put_made(
     alloc: Global,
-    set: Ordinals,
-    made: Result<Ordinals, AllocError>,
-) -> Result<Ordinals, AllocError>
-    requires { IfOk made (λ others. length set ≡ length others) }
-    ensures { IfOk result (IsMadeWith both set made) }
+    operation: Operation,
+    set: &mut Ordinals,
+    others: &Ordinals,
+) -> Result<(), AllocError>
+    requires { length set.old ≡ length others.now }
+    ensures { IfOk result (λ _. set.new ≡ made_by operation set.old others.now) }
 {
-    let (own, others) = beside(set, made)?;
-    let mut set = own;
-    let put = set.put_meet(alloc, &others);
-    let both = beside(set, made_from(put, others))?;
-    Ok(both.0)
+    match operation {
+        Operation::Meet => set.put_meet(alloc, others),
+        Operation::Join => set.put_join(alloc, others),
+        Operation::Less => set.put_less(alloc, others),
+    }
 }
 
-// The members of a set and of another one, if that was made.
-fn union(
+// What an operation makes of a set and another one, if that was made.
+fn combined_set(
     alloc: Global,
+    operation: Operation,
     set: Ordinals,
     made: Result<Ordinals, AllocError>,
 ) -> Result<Ordinals, AllocError>
     requires { IfOk made (λ others. length set ≡ length others) }
-    ensures { IfOk result (IsMadeWith either set made) }
+    ensures { IfOk result (IsMadeWith (made_by operation) set made) }
 {
     let (own, others) = beside(set, made)?;
     let mut set = own;
-    let put = set.put_join(alloc, &others);
+    let put = put_made(alloc, operation, &mut set, &others);
     let both = beside(set, made_from(put, others))?;
     Ok(both.0)
 }
@@ -71,7 +65,12 @@ fn between(alloc: Global, size: u32, low: u32, high: u32) -> Result<Ordinals, Al
     ensures { IfOk result (λ s. s ≡ less (front size high) (front size low)) }
 {
     let set = Ordinals::front(alloc, size, high)?;
-    difference(alloc, set, Ordinals::front(alloc, size, low))
+    combined_set(
+        alloc,
+        Operation::Less,
+        set,
+        Ordinals::front(alloc, size, low),
+    )
 }
 
 // Which of rising versions equal a version by a part.
@@ -88,8 +87,7 @@ fn equal_set(
     let size = versions.len() as u32;
     let low = count_before(part, version, versions) as u32;
     let high = count_through(part, version, versions) as u32;
-    let set = between(alloc, size, low, high)?;
-    Ok(set)
+    between(alloc, size, low, high)
 }
 
 // Which of rising versions don't equal a version by a part.
@@ -104,7 +102,8 @@ fn unequal_set(
     ensures { IfOk result (λ s. s ≡ map (λ c. not (equals_by part version.now c)) versions.now) }
 {
     let set = Ordinals::all(alloc, versions.len() as u32)?;
-    difference(alloc, set, equal_set(alloc, part, version, versions))
+    let others = equal_set(alloc, part, version, versions);
+    combined_set(alloc, Operation::Less, set, others)
 }
 
 // Which of rising versions, without their local parts, are at least a version.
@@ -115,8 +114,7 @@ fn set_from(alloc: Global, version: &Version, versions: &[Version]) -> Result<Or
 {
     let size = versions.len() as u32;
     let low = count_before(Part::Public, version, versions) as u32;
-    let set = between(alloc, size, low, size)?;
-    Ok(set)
+    between(alloc, size, low, size)
 }
 
 // Which of rising versions, without their local parts, are at most a version.
@@ -127,8 +125,7 @@ fn set_up_to(alloc: Global, version: &Version, versions: &[Version]) -> Result<O
 {
     let size = versions.len() as u32;
     let high = count_through(Part::Public, version, versions) as u32;
-    let set = Ordinals::front(alloc, size, high)?;
-    Ok(set)
+    Ordinals::front(alloc, size, high)
 }
 
 // Which of rising versions are compatible with a version: at least it, and equal to it up to the last number of its
@@ -145,7 +142,7 @@ fn compatible_set(
     let count = version.release.len().saturating_sub(1);
     let set = set_from(alloc, version, versions)?;
     let series = equal_set(alloc, Part::Prefix(count), version, versions);
-    intersection(alloc, set, series)
+    combined_set(alloc, Operation::Meet, set, series)
 }
 
 // By which part `==` and `!=` compare: with `.*` by as many numbers as the version has, and without it by the local part
@@ -221,7 +218,7 @@ fn strict_set(alloc: Global, clause: &Clause, versions: &[Version]) -> Result<Or
         chosen(after, high, 0),
         chosen(after, size, low),
     );
-    union(alloc, set, others)
+    combined_set(alloc, Operation::Join, set, others)
 }
 
 // Which of rising versions meet a clause.
@@ -253,7 +250,8 @@ fn clauses_set(
 {
     let mut set = Ordinals::all(alloc, versions.len() as u32)?;
     for clause in clauses {
-        set = intersection(alloc, set, clause_set(alloc, clause, versions))?;
+        let met = clause_set(alloc, clause, versions);
+        set = combined_set(alloc, Operation::Meet, set, met)?;
     }
     Ok(set)
 }
@@ -272,6 +270,5 @@ pub(crate) fn permitted(
     requires rising { Increases VersionBefore versions.now }
     ensures { IfOk result (λ s. s ≡ map (meets_list specifiers.now) versions.now) }
 {
-    let set = clauses_set(alloc, specifiers.clauses.as_slice(), versions)?;
-    Ok(set)
+    clauses_set(alloc, specifiers.clauses.as_slice(), versions)
 }

@@ -121,7 +121,7 @@ impl<'a> Gathered<'a> {
             name: start.name.copy(alloc)?,
             extra: None,
         };
-        self.meet(alloc, sources, &base)?;
+        made_from(self.meet(alloc, sources, &base), base)?;
         self.meet(alloc, sources, start)
     }
 

@@ -7,6 +7,7 @@ use crate::clauses::permitted;
 use crate::prepared::NameFacts;
 use std::alloc::{AllocError, Global};
 use std::collections::HashMap;
+use ul_base::owned::beside;
 use ul_ranges::Ordinals;
 use ul_specifier::{Clause, Op, Specifiers};
 use ul_version::Version;
@@ -35,8 +36,7 @@ fn permitted_of(
     requires { IsRising facts.now }
     ensures { IfOk result (λ s. s ≡ map (meets_list specifiers.now) facts.now.versions) }
 {
-    let set = permitted(alloc, specifiers, facts.versions.as_slice())?;
-    Ok(set)
+    permitted(alloc, specifiers, facts.versions.as_slice())
 }
 
 fn same_clause(one: &Clause, other: &Clause) -> bool
@@ -178,14 +178,15 @@ impl<'a> Sets<'a> {
             let set = set.copy(alloc)?;
             return Ok(set);
         }
-        let set = permitted_of(alloc, &names[name], specifiers)?;
-        let copy = set.copy(alloc)?;
+        let made = permitted_of(alloc, &names[name], specifiers)?;
+        let copied = made.copy(alloc);
+        let (own, copy) = beside(made, copied)?;
         let one = SetOf {
             name,
             specifiers,
             set: copy,
         };
-        self.put(names, key, one)?;
-        Ok(set)
+        let both = beside(own, self.put(names, key, one))?;
+        Ok(both.0)
     }
 }

@@ -3,7 +3,7 @@ ghost use Rattle.std.specs.Prelude.{◌≡◌, All, IfOk, Some, map, slice_get};
 ghost use Rattle.ul_algebra.specs.Answers.{IsDiagram};
 ghost use Rattle.ul_region.specs.Rows.{IsRow};
 ghost use Rattle.ul_region.specs.Truths.{IsGrown};
-ghost use Rattle.ul_prepared.specs.Gathered.{AreSameNodes, HasBaseFor, HasOwnRows, HasRows, IsNamed};
+ghost use Rattle.ul_prepared.specs.Gathered.{AreSameNodes, HasBaseFor, HasOwnRows, IsNamed};
 ghost use Rattle.ul_prepared.specs.Gathered.{node_in, release_in};
 ghost use Rattle.ul_prepared.specs.Permitted.{IsRising, IsSetOf};
 ghost use Rattle.ul_prepared.specs.Prepared.{AreNodesAt};
@@ -69,44 +69,6 @@ fn base_of(
     Ok(Some(place as u64))
 }
 
-// A node with the rows of releases, and their needs.
-fn planned_at<'a, R: Wait>(
-    rt: &R,
-    alloc: Global,
-    algebra: &mut Algebra<'_>,
-    truths: &mut Truths,
-    sets: &mut Sets<'a>,
-    index: &HashMap<Node, usize>,
-    names: &[NameFacts],
-    nodes: &[Planned<'_>],
-    planned: &Planned<'_>,
-    releases: &[&'a Release],
-) -> Result<Planned<'a>, AllocError>
-    requires truths { All (IsDiagram algebra.old) truths.old.marks.items }
-    requires rising { All IsRising names.now }
-    requires sets { All (IsSetOf names.now) sets.old.list.items }
-    requires named { IsNamed names.now planned.now }
-    ensures grown { IsGrown algebra.old truths.old.marks.items algebra.new truths.new.marks.items }
-    ensures sets { All (IsSetOf names.now) sets.new.list.items }
-    ensures node { IfOk result (λ p. node_in p ≡ node_in planned.now) }
-    ensures rows { IfOk result (HasRows algebra.new names.now nodes.now truths.new.marks.items
-        (map (λ r. r.now) releases.now)) }
-{
-    let base = base_of(alloc, index, names, nodes, planned)?;
-    let rows = rows_of(rt, alloc, algebra, truths, &planned.node, releases)?;
-    let aims = release_aims(alloc, sets, index, names, nodes, releases);
-    let asked = beside(rows, aims)?;
-    let (kept, node) = beside(asked, planned.node.copy(alloc))?;
-    let (rows, aims) = kept;
-    Ok(Planned {
-        node,
-        base,
-        name: planned.name,
-        rows,
-        aims,
-    })
-}
-
 // The releases of the name at a place.
 fn own_releases<'r, 'a>(
     releases: &'r [Releases<'a>],
@@ -120,8 +82,8 @@ fn own_releases<'r, 'a>(
     }
 }
 
-// A node with the rows of its name's releases.
-fn own_rows<'a, R: Wait>(
+// A node with the rows of its name's releases, and their needs.
+fn planned_at<'a, R: Wait>(
     rt: &R,
     alloc: Global,
     algebra: &mut Algebra<'_>,
@@ -144,10 +106,19 @@ fn own_rows<'a, R: Wait>(
 {
     let own = own_releases(releases, planned.name)?;
     let own: &[&'a Release] = own.list.as_slice();
-    let made = planned_at(
-        rt, alloc, algebra, truths, sets, index, names, nodes, planned, own,
-    )?;
-    Ok(made)
+    let base = base_of(alloc, index, names, nodes, planned)?;
+    let rows = rows_of(rt, alloc, algebra, truths, &planned.node, own)?;
+    let aims = release_aims(alloc, sets, index, names, nodes, own);
+    let asked = beside(rows, aims)?;
+    let (kept, node) = beside(asked, planned.node.copy(alloc))?;
+    let (rows, aims) = kept;
+    Ok(Planned {
+        node,
+        base,
+        name: planned.name,
+        rows,
+        aims,
+    })
 }
 
 // The nodes with their rows, in the order of the bare ones; `sets` is what was found of specifiers so far.
@@ -173,7 +144,7 @@ fn planned_nodes<'a, R: Wait>(
 {
     let mut nodes = Vec::with_capacity(alloc, bare.len())?;
     for one in bare {
-        let made = own_rows(
+        let made = planned_at(
             rt, alloc, algebra, truths, sets, index, names, bare, releases, one,
         );
         nodes = with_made(nodes, made)?;

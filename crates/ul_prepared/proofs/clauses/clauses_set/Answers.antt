@@ -9,14 +9,14 @@ use Rattle.ul_prepared.proofs.clauses.clauses_set.Goals as goal
 pub loop-clause-init : goal.loop-clause-init
 loop-clause-init c = c.in_ok-set.ensures ∙ no_clauses c.args.versions.now
 
-pub intersection-requires : goal.intersection-requires
-intersection-requires c =
+pub combined_set-requires : goal.combined_set-requires
+combined_set-requires c =
     let met = meets_list (take c.loop-clause.clause-index c.args.clauses.now) in
-    IfOk-weaker c.clause_set.result (λ s. s ≡ map (meets_clause c.clause-item.result) c.args.versions.now) (λ s. length c.loop-clause.set ≡ length s)
-    (λ s e. ap length c.loop-clause.invariant ∙ length-map c.args.versions.now met ∙ sym (ap length e ∙ length-map c.args.versions.now (meets_clause c.clause-item.result))) c.clause_set.ensures
+    IfOk-weaker c.clause_set-met.result (λ s. s ≡ map (meets_clause c.clause-item.result) c.args.versions.now) (λ s. length c.loop-clause.set ≡ length s)
+    (λ s e. ap length c.loop-clause.invariant ∙ length-map c.args.versions.now met ∙ sym (ap length e ∙ length-map c.args.versions.now (meets_clause c.clause-item.result))) c.clause_set-met.ensures
 
 pub loop-clause-preserved : goal.loop-clause-preserved
 loop-clause-preserved c =
     let more = c.in_ok-set-2.ensures in
     clause_more c.args.clauses.now c.loop-clause.clause-index c.clause-item.result c.args.versions.now c.loop-clause.set more.0 c.in_ok-set-2.set
-    c.loop-clause-test.true c.clause-item.is c.loop-clause.invariant (made_holds c.clause_set.result more.0 (λ z. z ≡ map (meets_clause c.clause-item.result) c.args.versions.now) more.1 c.clause_set.ensures) more.2
+    c.loop-clause-test.true c.clause-item.is c.loop-clause.invariant (made_holds c.clause_set-met.result more.0 (λ z. z ≡ map (meets_clause c.clause-item.result) c.args.versions.now) more.1 c.clause_set-met.ensures) more.2

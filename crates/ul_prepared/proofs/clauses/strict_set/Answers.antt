@@ -25,12 +25,12 @@ of_list-requires c =
 made : (c : In_ok-set) → c.in_ok-set.set ≡ set_of (length c.args.versions.now) c.in_ok-members.members.items
 made c = made_holds c.of_list.result c.in_ok-set.set (λ z. z ≡ set_of (length c.args.versions.now) c.in_ok-members.members.items) c.in_ok-set.ensures c.of_list.ensures
 
-pub union-requires : goal.union-requires
-union-requires c =
+pub combined_set-requires : goal.combined_set-requires
+combined_set-requires c =
     let size : ℕ = length c.args.versions.now in
     let others = less (front size c.chosen-2.result) (front size c.chosen.result) in
     IfOk-weaker c.between-others.result (λ s. s ≡ others) (λ s. length c.in_ok-set.set ≡ length s)
-    (λ s e. ap length (made (goal.at.union-requires c).In_ok-set) ∙ length-set_of size c.in_ok-members.members.items
+    (λ s e. ap length (made (goal.at.combined_set-requires c).In_ok-set) ∙ length-set_of size c.in_ok-members.members.items
     ∙ sym (ap length e ∙ length-less (front size c.chosen-2.result) (front size c.chosen.result) ∙ length-front size c.chosen-2.result)) c.between-others.ensures
 
 pub returns : goal.returns
@@ -47,5 +47,5 @@ returns c =
     let is = strict_is c.args.clause.now c.args.versions.now c.count_before-low.result c.count_through-high.result c.chosen.result c.chosen-2.result (c.count_through-high.result - c.count_before-low.result) c.requires.strict
     (subst (λ (v : Fields). CountsBefore Release v c.args.versions.now c.count_before-low.result) version c.count_before-low.ensures)
     (subst (λ (v : Fields). CountsThrough Release v c.args.versions.now c.count_through-high.result) version c.count_through-high.ensures) from to refl in
-    IfOk-weaker c.union.result (IsMadeWith either c.in_ok-set.set c.between-others.result) (λ s. s ≡ map (meets_clause c.args.clause.now) c.args.versions.now)
-    (λ s h. combined either _ _ _ _ _ h.2 members (made_holds c.between-others.result h.0 (λ z. z ≡ others) h.1 c.between-others.ensures) ∙ is) c.union.ensures
+    IfOk-weaker c.combined_set.result (IsMadeWith either c.in_ok-set.set c.between-others.result) (λ s. s ≡ map (meets_clause c.args.clause.now) c.args.versions.now)
+    (λ s h. combined either _ _ _ _ _ h.2 members (made_holds c.between-others.result h.0 (λ z. z ≡ others) h.1 c.between-others.ensures) ∙ is) c.combined_set.ensures

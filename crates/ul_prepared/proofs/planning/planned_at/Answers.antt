@@ -6,9 +6,10 @@ use Rattle.ul_problem.specs.declared.problem.Need.{Need as PlaceNeed}
 use Rattle.ul_region.specs.Rows.{IsRow}
 use Rattle.ul_region.specs.declared.rows.Row.{Row}
 use Rattle.ul_prepared.specs.Aims.{AreReleaseAims}
-use Rattle.ul_prepared.specs.Gathered.{HasName, release_in}
+use Rattle.ul_prepared.specs.Gathered.{HasName, HasRows, release_in}
 use Rattle.ul_prepared.specs.Prepared.{HasBaseAt}
 use Rattle.ul_prepared.specs.declared.prepared.NameFacts.{NameFacts}
+use Rattle.ul_prepared.specs.declared.prepared.Planned.{Planned}
 use Rattle.ul_prepared.proofs.planning.planned_at.Goals as goal
 use Rattle.ul_prepared.proofs.planning.planned_at.Goals.{In_ok-kept}
 
@@ -24,16 +25,22 @@ returns-clause-rows g c =
     let nodes = c.args.nodes.now in
     let h = c.rows_of.new.algebra in
     let truths = c.rows_of.new.truths.marks.items in
-    let releases = map (λ r. r.now) c.args.releases.now in
+    let own = c.as_slice-own.result.now in
+    let releases = map (λ r. r.now) own in
     let name = c.args.planned.now.name in
     let base = c.in_ok-base.base in
     let same = sym (same_node g (goal.at.returns-clause-rows g c).In_ok-kept) in
     let rows = ap (λ z. z.0) c.in_ok-kept.ensures.0 ∙ c.in_ok-asked.ensures.0 in
     let aims = made_holds c.release_aims-aims.result c.in_ok-asked.asked.1 (λ v. AreReleaseAims names nodes v.items releases) c.in_ok-asked.ensures.1 c.release_aims-aims.ensures.aims in
-    record {
+    let p : Planned = record { node = c.in_ok-kept.node; base = base; name = name; rows = c.in_ok-kept.kept.0; aims = c.in_ok-kept.kept.1 } in
+    let has : HasRows h names nodes truths releases p = record {
       named = subst (λ (n : Node). HasName names n.name name) same c.requires.named;
       base = subst (λ (n : Node). (f : NameFacts) × (slice_get names name ≡ Some f) × HasBaseAt names nodes n base f) same c.in_ok-base.ensures;
       rows = subst (λ (n : Node). All (IsRow h n truths) c.in_ok-kept.kept.0.items) same (subst (λ (z : Vec Row Global). All (IsRow h c.args.planned.now.node truths) z.items) (sym rows) c.in_ok-rows.ensures.rows);
       releases = ap (λ z. map release_in z.items) rows ∙ c.in_ok-rows.ensures.releases;
       aims = subst (λ (z : Vec (List (List PlaceNeed)) Global). AreReleaseAims names nodes z.items releases) (ap (λ z. z.1) (sym c.in_ok-kept.ensures.0)) aims;
-    }
+    } in (
+      c.in_ok-own.own.now,
+      c.in_ok-own.ensures,
+      subst (λ ls. HasRows h names nodes truths (map (λ l. l.now) ls) p) c.as_slice-own.ensures.value has,
+    )
