@@ -1,4 +1,5 @@
 mod Loops
+mod Flagged
 mod TriedPlaces
 mod NameReleases
 mod NameOrders
@@ -7,6 +8,8 @@ mod Sides
 mod Admitted
 mod ClauseSets
 mod Aiming
+mod Bases
+mod NameSets
 pub mod ForCallers
 mod Still
 mod KeptPlaces

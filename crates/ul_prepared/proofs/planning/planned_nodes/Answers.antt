@@ -1,4 +1,5 @@
-use Rattle.std.proofs.Common.{sym, subst}
+use Rattle.std.proofs.lemmas.List.{take_all}
+use Rattle.std.proofs.Common.{ap, map, sym, subst, ◌∙◌}
 use Rattle.std.proofs.lemmas.List.Elements.{All-get_or}
 use Rattle.ul_region.proofs.ForCallers.{grown_then}
 use Rattle.ul_prepared.specs.Gathered.{IsNamed, node_in}
@@ -28,3 +29,6 @@ loop-one-preserved g c =
 pub planned_at-made-requires-clause-named : goal.planned_at-made-requires-clause-named
 planned_at-made-requires-clause-named g c =
     subst (IsNamed c.args.names.now) (sym c.one-item.is) (All-get_or (IsNamed c.args.names.now) c.args.bare.now c.loop-one.one-index c.one-item.result c.loop-one-test.true c.requires.named)
+
+pub returns-clause-same : goal.returns-clause-same
+returns-clause-same g c = c.loop-one.invariant.same ∙ ap (map node_in) (take_all c.loop-one.one-index c.args.bare.now c.loop-one-test.false)

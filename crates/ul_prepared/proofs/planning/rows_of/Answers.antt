@@ -1,3 +1,5 @@
+use Rattle.std.proofs.lemmas.List.{take_all}
+use Rattle.std.proofs.Common.{ap, map, ◌∙◌}
 use Rattle.ul_region.proofs.ForCallers.{grown_then}
 use Rattle.ul_prepared.specs.Gathered.{release_in}
 use Rattle.ul_prepared.proofs.Loops.{images_more}
@@ -21,3 +23,6 @@ loop-release-preserved g c =
       releases = images_more release_in (λ r. r.now) before after c.args.releases.now c.loop-release.release-index one c.release-item.result
           more.2 c.loop-release.invariant.releases (made_holds c.row_of-row.result one _ more.1 c.row_of-row.ensures.release) c.loop-release-test.true c.release-item.is;
     }
+
+pub returns-clause-releases : goal.returns-clause-releases
+returns-clause-releases g c = c.loop-release.invariant.releases ∙ ap (map (λ r. r.now)) (take_all c.loop-release.release-index c.args.releases.now c.loop-release-test.false)
