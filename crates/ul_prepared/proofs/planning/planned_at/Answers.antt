@@ -13,6 +13,48 @@ use Rattle.ul_prepared.specs.declared.prepared.Planned.{Planned}
 use Rattle.ul_prepared.proofs.planning.planned_at.Goals as goal
 use Rattle.ul_prepared.proofs.planning.planned_at.Goals.{In_ok-kept}
 
+pub base_of-requires : goal.base_of-requires
+base_of-requires g c = c.requires.named
+
+pub rows_of-requires : goal.rows_of-requires
+rows_of-requires g c = c.requires.truths
+
+pub release_aims-aims-requires-clause-rising : goal.release_aims-aims-requires-clause-rising
+release_aims-aims-requires-clause-rising g c = c.requires.rising
+
+pub release_aims-aims-requires-clause-sets : goal.release_aims-aims-requires-clause-sets
+release_aims-aims-requires-clause-sets g c = c.requires.sets
+
+pub returns-in_err-rows-clause-grown : goal.returns-in_err-rows-clause-grown
+returns-in_err-rows-clause-grown g c = c.rows_of.ensures.grown
+
+pub returns-in_err-asked-clause-grown : goal.returns-in_err-asked-clause-grown
+returns-in_err-asked-clause-grown g c = c.rows_of.ensures.grown
+
+pub returns-in_err-kept-clause-grown : goal.returns-in_err-kept-clause-grown
+returns-in_err-kept-clause-grown g c = c.rows_of.ensures.grown
+
+pub returns-clause-grown : goal.returns-clause-grown
+returns-clause-grown g c = c.rows_of.ensures.grown
+
+pub returns-in_err-own-clause-sets : goal.returns-in_err-own-clause-sets
+returns-in_err-own-clause-sets g c = c.requires.sets
+
+pub returns-in_err-base-clause-sets : goal.returns-in_err-base-clause-sets
+returns-in_err-base-clause-sets g c = c.requires.sets
+
+pub returns-in_err-rows-clause-sets : goal.returns-in_err-rows-clause-sets
+returns-in_err-rows-clause-sets g c = c.requires.sets
+
+pub returns-in_err-asked-clause-sets : goal.returns-in_err-asked-clause-sets
+returns-in_err-asked-clause-sets g c = c.release_aims-aims.ensures.sets
+
+pub returns-in_err-kept-clause-sets : goal.returns-in_err-kept-clause-sets
+returns-in_err-kept-clause-sets g c = c.release_aims-aims.ensures.sets
+
+pub returns-clause-sets : goal.returns-clause-sets
+returns-clause-sets g c = c.release_aims-aims.ensures.sets
+
 same_node : (g : _) (c : In_ok-kept g) → c.in_ok-kept.node ≡ c.args.planned.now.node
 same_node g c = made_holds c.copy.result c.in_ok-kept.node (λ n. n ≡ c.args.planned.now.node) c.in_ok-kept.ensures.1 c.copy.ensures
 
