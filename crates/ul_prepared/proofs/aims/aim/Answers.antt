@@ -1,9 +1,29 @@
-use Rattle.std.proofs.Common.{Some, sym, ap, subst, ◌∙◌}
+use Rattle.std.proofs.Common.{◌<◌, Some, length, sym, ap, subst, ◌∙◌}
 use Rattle.ul_prepared.specs.Permitted.{IsPermitted}
 use Rattle.ul_prepared.specs.declared.prepared.Planned.{Planned}
-use Rattle.std.proofs.lemmas.Option.{slice_get_within, slice_get-get_or}
+use Rattle.std.proofs.lemmas.Option.{get_or_from_slice_get, slice_get_within, slice_get-get_or}
 use Rattle.ul_prepared.proofs.Aiming.{aim_is}
 use Rattle.ul_prepared.proofs.aims.aim.Goals as goal
+
+pub of-requires-clause-name : goal.of-requires-clause-name
+of-requires-clause-name c = let h = c.in_ok-place.ensures in
+    subst (λ (q : Planned). q.name < length c.args.names.now) (sym (get_or_from_slice_get c.args.nodes.now c.in_ok-place.place h.1.planned c.index-nodes-place.result h.1.at))
+    (slice_get_within c.args.names.now h.1.planned.name h.0 h.1.facts)
+
+pub of-requires-clause-rising : goal.of-requires-clause-rising
+of-requires-clause-rising c = c.requires.rising
+
+pub of-requires-clause-sets : goal.of-requires-clause-sets
+of-requires-clause-sets c = c.requires.sets
+
+pub returns-in_err-place-clause-sets : goal.returns-in_err-place-clause-sets
+returns-in_err-place-clause-sets c = c.requires.sets
+
+pub returns-in_err-permitted-clause-sets : goal.returns-in_err-permitted-clause-sets
+returns-in_err-permitted-clause-sets c = c.of.ensures.sets
+
+pub returns-clause-sets : goal.returns-clause-sets
+returns-clause-sets c = c.of.ensures.sets
 
 pub returns-clause-aim : goal.returns-clause-aim
 returns-clause-aim c = let h = c.in_ok-place.ensures in
