@@ -4,6 +4,7 @@ use Rattle.std.specs.List.{list_any}
 use Rattle.std.specs.Str.{bytes_eq}
 use Rattle.std.proofs.lemmas.List.Folds.{list_any_more}
 
+-- a choice with true on one side, as a disjunction
 either : (b x : Bool) → cond b true x ≡ (x || b)
 either true true = refl
 either true false = refl
