@@ -12,6 +12,7 @@ use std::alloc::{AllocError, Global};
 use std::sync::Wait;
 use ul_algebra::Algebra;
 use ul_base::Node;
+use ul_base::owned::with_made;
 use ul_requirement::{Release, Requirement};
 
 // A requirement at a node, with the number of its name and the place of the next one on it.
@@ -72,8 +73,8 @@ fn ask_all<'a, R: Wait>(
             requirement,
             numbers[place],
             nexts[place],
-        )?;
-        asked.push(one)?;
+        );
+        asked = with_made(asked, one)?;
     }
     Ok(asked)
 }

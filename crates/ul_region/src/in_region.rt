@@ -8,6 +8,7 @@ ghost use Rattle.ul_region.specs.Asked.{IsInRegion};
 use std::alloc::{AllocError, Global};
 use std::sync::Wait;
 use ul_algebra::{Algebra, Diagram};
+use ul_base::owned::with_made;
 
 /// Truths, and where in a region they hold.
 #[derive(Drop)]
@@ -40,8 +41,8 @@ impl<'a> InRegion<'a> {
     {
         let mut within = Vec::with_capacity(alloc, truths.len())?;
         for truth in truths {
-            let holds = algebra.and(rt, alloc, region, truth)?;
-            within.push(holds)?;
+            let holds = algebra.and(rt, alloc, region, truth);
+            within = with_made(within, holds)?;
         }
         Ok(InRegion {
             region,

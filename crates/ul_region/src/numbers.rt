@@ -45,10 +45,11 @@ fn number_of(requirements: &[Requirement], requirement: &Requirement) -> usize
 fn few_numbers(alloc: Global, requirements: &[Requirement]) -> Result<Vec<usize>, AllocError>
     ensures { IfOk result (λ v. v.items ≡ numbers_of requirements.now) }
 {
-    requirements
-        .iter()
-        .map(|requirement| number_of(requirements, requirement))
-        .collect(alloc)
+    let mut numbers = Vec::with_capacity(alloc, requirements.len())?;
+    for requirement in requirements {
+        numbers.push(number_of(requirements, requirement))?;
+    }
+    Ok(numbers)
 }
 
 fn own_name(alloc: Global, requirement: &Requirement) -> Result<Name, AllocError>

@@ -15,6 +15,7 @@ use std::alloc::{AllocError, Global};
 use std::sync::Wait;
 use ul_algebra::{Algebra, Diagram};
 use ul_base::Node;
+use ul_base::owned::made_from;
 use ul_marker::Marker;
 use ul_requirement::{Release, Requirement};
 use ul_specifier::Specifiers;
@@ -28,10 +29,7 @@ fn marker_tree(alloc: Global, marker: &Option<Marker>) -> Result<Tree, AllocErro
 {
     match marker {
         None => Ok(Tree::Truth(true)),
-        Some(marker) => {
-            let tree = of_marker(alloc, marker)?;
-            Ok(tree)
-        }
+        Some(marker) => of_marker(alloc, marker),
     }
 }
 
@@ -47,8 +45,7 @@ fn marker_diagram<R: Wait>(
     ensures truth { IfOk result (λ d. HoldsAs d (may_hold requirement.now.marker)) }
 {
     let tree = marker_tree(alloc, &requirement.marker)?;
-    let d = algebra.of_tree(rt, alloc, &tree)?;
-    Ok(d)
+    made_from(algebra.of_tree(rt, alloc, &tree), tree)
 }
 
 // The diagram that is true where the first is and the second isn't.
@@ -66,8 +63,7 @@ fn first_alone<R: Wait>(
     ensures tree { IfOk result (λ d. tree_of d ≡ and_of (tree_of first.now) (not_of (tree_of second.now))) }
 {
     let fails = algebra.not(rt, alloc, second)?;
-    let d = algebra.and(rt, alloc, first, &fails)?;
-    Ok(d)
+    algebra.and(rt, alloc, first, &fails)
 }
 
 // The diagram of an extra, where the whole marker's is given: it holds with the extra, and not with the empty one.
@@ -86,8 +82,7 @@ fn extra_diagram<R: Wait>(
 {
     let with = algebra.at_extra(whole, extra)?;
     let without = algebra.at_extra(whole, "")?;
-    let d = first_alone(rt, alloc, algebra, &with, &without)?;
-    Ok(d)
+    first_alone(rt, alloc, algebra, &with, &without)
 }
 
 /// The diagram of a requirement's truth at a node.
@@ -107,14 +102,8 @@ pub fn truth_at<R: Wait>(
 {
     let whole = marker_diagram(rt, alloc, algebra, requirement)?;
     match &node.extra {
-        None => {
-            let d = algebra.at_extra(&whole, "")?;
-            Ok(d)
-        }
-        Some(extra) => {
-            let d = extra_diagram(rt, alloc, algebra, &whole, extra.text())?;
-            Ok(d)
-        }
+        None => algebra.at_extra(&whole, ""),
+        Some(extra) => extra_diagram(rt, alloc, algebra, &whole, extra.text()),
     }
 }
 
@@ -134,7 +123,6 @@ pub fn fit_truth<R: Wait>(
 {
     let python: &Specifiers = &release.python;
     let lower = python.lower_part(alloc)?;
-    let tree = of_python(alloc, &lower)?;
-    let d = algebra.of_tree(rt, alloc, &tree)?;
-    Ok(d)
+    let tree = made_from(of_python(alloc, &lower), lower)?;
+    made_from(algebra.of_tree(rt, alloc, &tree), tree)
 }

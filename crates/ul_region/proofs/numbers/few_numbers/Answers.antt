@@ -1,0 +1,7 @@
+use Rattle.ul_region.proofs.NameNumbers.{number_more}
+use Rattle.ul_region.proofs.numbers.few_numbers.Goals as goal
+
+pub loop-requirement-preserved : goal.loop-requirement-preserved
+loop-requirement-preserved c =
+    number_more c.args.requirements.now c.loop-requirement.requirement-index c.requirement-item.result c.loop-requirement.numbers.items c.push.new.self.items c.number_of.result c.in_ok-push.ensures.items c.loop-requirement.invariant
+    c.number_of.ensures c.loop-requirement-test.true c.requirement-item.is
