@@ -1,5 +1,7 @@
-use Rattle.std.proofs.Common.{arith}
+use Rattle.std.proofs.Common.{ℕ, List, arith, map, subst, sym, ◌∙◌}
+use Rattle.std.proofs.lemmas.List.{take_all}
 use Rattle.ul_base.proofs.ForCallers.{made_holds}
+use Rattle.ul_region.specs.Numbers.{AreNexts}
 use Rattle.ul_region.specs.Rows.{IsAsked, next_in, number_in, requirement_of}
 use Rattle.ul_region.proofs.RowFacts.{grown_then, asked_grown, all_more, taken_more}
 use Rattle.ul_region.proofs.asking.ask_all.Goals as goal
@@ -23,3 +25,17 @@ loop-place-preserved g c =
       numbers = taken_more number_in before after one c.in_ok-numbers.numbers.items c.loop-place.place c.index.result.now more.2 c.loop-place.invariant.numbers (made_holds c.ask-one.result one _ more.1 told.name) (omega (arith, c.loop-place-test.true, c.in_ok-numbers.ensures.count)) c.index.ensures;
       next = taken_more next_in before after one c.in_ok-nexts.nexts.items c.loop-place.place c.index-in-loop-place.result.now more.2 c.loop-place.invariant.next (made_holds c.ask-one.result one _ more.1 told.next) (omega (arith, c.loop-place-test.true, c.in_ok-numbers.ensures.count, c.in_ok-nexts.ensures.count)) c.index-in-loop-place.ensures;
     }
+
+pub returns-clause-same : goal.returns-clause-same
+returns-clause-same g c = c.loop-place.invariant.same ∙ take_all c.loop-place.place c.args.requirements.now c.loop-place-test.false
+
+pub returns-clause-numbers : goal.returns-clause-numbers
+returns-clause-numbers g c =
+    c.loop-place.invariant.numbers
+    ∙ (take_all c.loop-place.place c.in_ok-numbers.numbers.items (omega (arith, c.loop-place-test.false, c.in_ok-numbers.ensures.count)) ∙ c.in_ok-numbers.ensures.numbers)
+
+pub returns-clause-next : goal.returns-clause-next
+returns-clause-next g c =
+    let all = take_all c.loop-place.place c.in_ok-nexts.nexts.items (omega (arith, c.loop-place-test.false, c.in_ok-numbers.ensures.count, c.in_ok-nexts.ensures.count)) in
+    subst (λ (z : List ℕ). AreNexts z (map next_in c.loop-place.asked.items)) (c.as_slice.ensures.value ∙ c.in_ok-numbers.ensures.numbers)
+    (subst (AreNexts c.as_slice.result.now) (sym (c.loop-place.invariant.next ∙ all)) c.in_ok-nexts.ensures.next)
