@@ -15,7 +15,7 @@ use std::alloc::{AllocError, Global};
 use std::sync::Wait;
 use ul_algebra::{Algebra, Diagram};
 use ul_base::Node;
-use ul_base::owned::beside;
+use ul_base::owned::{beside, made_from};
 use ul_lock_lines::{Edge, Region};
 use ul_region::truth_at;
 use ul_requirement::Requirement;
@@ -34,8 +34,7 @@ fn part_in<R: Wait>(
     ensures knows { Knows algebra.old algebra.new }
     ensures truth { IfOk result (IsPartIn algebra.new region.now truth.now) }
 {
-    let d = algebra.and(rt, alloc, region, truth)?;
-    Ok(d)
+    algebra.and(rt, alloc, region, truth)
 }
 
 // An edge to a target.
@@ -132,8 +131,7 @@ fn truth_in<R: Wait>(
 {
     let region = union_of(rt, alloc, algebra, regions, uses)?;
     let truth = union_of(rt, alloc, algebra, truths, uses)?;
-    let d = part_in(rt, alloc, algebra, &region, &truth)?;
-    Ok(d)
+    part_in(rt, alloc, algebra, &region, &truth)
 }
 
 // The edge to a target that leaves chose.
@@ -155,18 +153,19 @@ fn edge_of<R: Wait>(
 {
     let uses: &Vec<Use> = &group.values;
     let mine = regions_at(alloc, regions, uses.as_slice())?;
-    let holds = truths_at(alloc, truths, uses.as_slice())?;
+    let (kept, holds) = beside(mine, truths_at(alloc, truths, uses.as_slice()))?;
     let truth = truth_in(
         rt,
         alloc,
         algebra,
-        mine.as_slice(),
+        kept.as_slice(),
         holds.as_slice(),
         uses.as_slice(),
-    )?;
+    );
+    let truth = made_from(truth, (kept, holds))?;
     let key = &group.key;
-    let edge = edge_to(rt, alloc, algebra, key.node, key.version, &truth, supported)?;
-    Ok(edge)
+    let edge = edge_to(rt, alloc, algebra, key.node, key.version, &truth, supported);
+    made_from(edge, truth)
 }
 
 // Adds an edge, if there is one.

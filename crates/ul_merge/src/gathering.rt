@@ -13,6 +13,7 @@ ghost use Rattle.ul_merge.specs.Gathered.{AreGroups, AreRuns, HasPlace, HoldBund
 use std::alloc::{AllocError, Global};
 use std::cmp::Ordering;
 use std::collections::HashMap;
+use ul_base::owned::made_from;
 
 /// What entries are gathered by.
 pub(crate) trait Key: Copy {
@@ -98,14 +99,8 @@ fn put<K: Key + Drop, V: Copy + Drop>(
     ensures { OnOk result (IsPut K.cmp groups.old.items (entry_bundle entry.now) groups.new.items) }
 {
     match place {
-        Some(place) => {
-            grow_group(groups, place, entry)?;
-            Ok(())
-        }
-        None => {
-            open_group(alloc, groups, entry)?;
-            Ok(())
-        }
+        Some(place) => grow_group(groups, place, entry),
+        None => open_group(alloc, groups, entry),
     }
 }
 
@@ -195,11 +190,9 @@ fn put_run<K: Key + Drop, V: Copy + Drop>(
     ensures { OnOk result (IsRun K.cmp runs.old.items (group_bundle group.now) runs.new.items) }
 {
     if is_above(runs.as_slice(), &group.key) {
-        open_run(alloc, runs, group)?;
-        return Ok(());
+        return open_run(alloc, runs, group);
     }
-    grow_run(runs, group)?;
-    Ok(())
+    grow_run(runs, group)
 }
 
 // Groups in order, each with the values of all whose keys are level.
@@ -224,8 +217,7 @@ pub(crate) fn groups_of<K: Key + Drop, V: Copy + Drop>(
 ) -> Result<Vec<Group<K, V>>, AllocError>
     ensures { IfOk result (λ gs. AreGroups K.cmp entries.items gs.items) }
 {
-    let mut groups = held_of(alloc, entries.as_slice())?;
+    let mut groups = made_from(held_of(alloc, entries.as_slice()), entries)?;
     groups.sort_by(|a, b| a.key.order(&b.key))?;
-    let runs = runs_of(alloc, groups.as_slice())?;
-    Ok(runs)
+    made_from(runs_of(alloc, groups.as_slice()), groups)
 }

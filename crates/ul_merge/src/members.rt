@@ -79,8 +79,7 @@ pub(crate) fn members_of<'a>(
     ensures { IfOk result (λ v. AreMembers choices.now v.items) }
 {
     let entries = member_entries(alloc, choices)?;
-    let groups = groups_of(alloc, entries)?;
-    Ok(groups)
+    groups_of(alloc, entries)
 }
 
 // Adds the leaf of a member that is a base.

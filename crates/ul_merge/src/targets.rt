@@ -151,6 +151,5 @@ pub(crate) fn uses_of<'a>(
     ensures { IfOk result (λ v. AreUses choices.now users.now (map aim_of aims.now) v.items) }
 {
     let entries = use_entries(alloc, choices, users, aims)?;
-    let groups = groups_of(alloc, entries)?;
-    Ok(groups)
+    groups_of(alloc, entries)
 }

@@ -55,8 +55,7 @@ fn either<R: Wait>(
     ensures knows { Knows algebra.old algebra.new }
     ensures truth { IfOk result (λ d. IsTruth algebra.new d (λ w. region_at first.now w || region_at second.now w)) }
 {
-    let d = algebra.or(rt, alloc, first, second)?;
-    Ok(d)
+    algebra.or(rt, alloc, first, second)
 }
 
 // How many uses lie before those whose leaves' places agree with the last one's, and not with the first one's, in the
@@ -120,6 +119,5 @@ pub(crate) fn union_of<R: Wait>(
     let (front_uses, back_uses) = cut_at(uses, cut);
     let first = union_of(rt, alloc, algebra, front, front_uses)?;
     let second = union_of(rt, alloc, algebra, back, back_uses)?;
-    let d = either(rt, alloc, algebra, &first, &second)?;
-    Ok(d)
+    either(rt, alloc, algebra, &first, &second)
 }

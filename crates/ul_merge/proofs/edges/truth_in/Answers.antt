@@ -1,3 +1,4 @@
+use Rattle.std.proofs.lemmas.Result.{IfOk-weaker}
 use Rattle.ul_interner.proofs.ForCallers.{knows_then}
 use Rattle.ul_region.proofs.ForCallers.{is_region, truth_still}
 use Rattle.ul_merge.proofs.EdgeFacts.{both_truth, regions_still}
@@ -15,11 +16,8 @@ part_in-requires-clause-region g c = truth_still _ _ _ _ c.in_ok-truth.ensures.k
 pub part_in-requires-clause-truth : goal.part_in-requires-clause-truth
 part_in-requires-clause-truth g c = is_region _ _ _ c.in_ok-truth.ensures.truth
 
-pub returns-in_err-d-clause-knows : goal.returns-in_err-d-clause-knows
-returns-in_err-d-clause-knows g c = knows_then _ _ _ (knows_then _ _ _ c.in_ok-region.ensures.knows c.in_ok-truth.ensures.knows) c.in_err-d.ensures.knows
-
 pub returns-clause-knows : goal.returns-clause-knows
-returns-clause-knows g c = knows_then _ _ _ (knows_then _ _ _ c.in_ok-region.ensures.knows c.in_ok-truth.ensures.knows) c.in_ok-d.ensures.knows
+returns-clause-knows g c = knows_then _ _ _ (knows_then _ _ _ c.in_ok-region.ensures.knows c.in_ok-truth.ensures.knows) c.part_in.ensures.knows
 
 pub returns-clause-truth : goal.returns-clause-truth
-returns-clause-truth g c = both_truth _ _ _ _ _ _ _ _ c.in_ok-region.ensures.truth c.in_ok-truth.ensures.truth c.in_ok-d.ensures.truth
+returns-clause-truth g c = IfOk-weaker c.part_in.result _ _ (λ d t. both_truth _ _ _ _ _ d _ _ c.in_ok-region.ensures.truth c.in_ok-truth.ensures.truth t) c.part_in.ensures.truth

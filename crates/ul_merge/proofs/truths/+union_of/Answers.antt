@@ -1,4 +1,5 @@
 use Rattle.std.proofs.Common.{arith}
+use Rattle.std.proofs.lemmas.Result.{IfOk-weaker}
 use Rattle.ul_interner.proofs.ForCallers.{knows_then}
 use Rattle.ul_region.proofs.ForCallers.{is_region, truth_still}
 use Rattle.ul_merge.proofs.Unions.{none_union, one_union, both_union, back_still}
@@ -19,14 +20,11 @@ either-requires-clause-first g t c = truth_still _ _ _ _ c.in_ok-second.ensures.
 pub either-requires-clause-second : goal.either-requires-clause-second
 either-requires-clause-second g t c = is_region _ _ _ c.in_ok-second.ensures.truth
 
-pub returns-in_err-d-3-clause-knows : goal.returns-in_err-d-3-clause-knows
-returns-in_err-d-3-clause-knows g t c = knows_then _ _ _ (knows_then _ _ _ c.in_ok-first.ensures.knows c.in_ok-second.ensures.knows) c.in_err-d-3.ensures.knows
-
 pub returns-clause-knows : goal.returns-clause-knows
-returns-clause-knows g t c = knows_then _ _ _ (knows_then _ _ _ c.in_ok-first.ensures.knows c.in_ok-second.ensures.knows) c.in_ok-d-3.ensures.knows
+returns-clause-knows g t c = knows_then _ _ _ (knows_then _ _ _ c.in_ok-first.ensures.knows c.in_ok-second.ensures.knows) c.either.ensures.knows
 
 pub returns-clause-truth : goal.returns-clause-truth
-returns-clause-truth g t c = both_union _ _ _ _ _ _ _ _ _ c.split_at.ensures.by_index.0 c.in_ok-first.ensures.truth c.in_ok-second.ensures.truth c.in_ok-d-3.ensures.truth
+returns-clause-truth g t c = IfOk-weaker c.either.result _ _ (λ d u. both_union _ _ _ d _ _ _ _ _ c.split_at.ensures.by_index.0 c.in_ok-first.ensures.truth c.in_ok-second.ensures.truth u) c.either.ensures.truth
 
 pub union_of-requires-2 : goal.union_of-requires-2
 union_of-requires-2 g t c = let d = c.decreases in λ κs within. (
