@@ -3,7 +3,7 @@ use Rattle.std.proofs.Common.{◌≡◌, ◌⊎◌, ℕ, zero, suc, ◌+◌, ◌
 use Rattle.std.specs.Prelude.{All}
 use Rattle.std.specs.List.{slice_get}
 use Rattle.std.specs.Option.{MatchOption}
-use Rattle.std.proofs.lemmas.List.{take_more}
+use Rattle.std.proofs.lemmas.List.{append-nil, take_more}
 use Rattle.std.proofs.lemmas.List.Elements.{All-cons, All-contains, All-nil, All-weaker}
 use Rattle.ul_base.specs.declared.node.Node.{Node}
 use Rattle.ul_version.specs.Fields.{Fields}
@@ -28,6 +28,10 @@ regions_still g h ms k all = All-weaker (IsRegion g) (IsRegion h) (λ m t. truth
 picked_one : (P : DiagramMark → Type 0) (ms : List DiagramMark) (k : ℕ) (o : Option DiagramMark) (rest : List DiagramMark) → slice_get ms k ≡ o → All P ms → All P rest → All P (at_most_one o ++ rest)
 picked_one P ms k None rest e all more = more
 picked_one P ms k (Some m) rest e all more = All-cons P m rest (All-contains P ms m all (place_in ms k m e)) more
+
+-- the diagrams at a place, and at the others
+pub picked_first : (ms : List DiagramMark) (k : ℕ) (ks : List ℕ) → picked ms (k ∷ ks) ≡ picked ms (k ∷ []) ++ picked ms ks
+picked_first ms k ks = ap (λ xs. xs ++ picked ms ks) (sym (append-nil (at_most_one (slice_get ms k))))
 
 -- what holds of each holds of each at some places
 pub all_picked : (P : DiagramMark → Type 0) (ms : List DiagramMark) (ks : List ℕ) → All P ms → All P (picked ms ks)

@@ -1,6 +1,6 @@
 -- Lists that are made element by element.
-use Rattle.std.proofs.Common.{◌≡◌, ◌⊎◌, ℕ, ◌<◌, ◌+◌, List, [], ◌∷◌, ◌++◌, length, get_or, take, Bool, true, Option, Some, None, Contains, refl, sym, ap, ap₂, ◌∙◌, subst, inl, inr, ⊎_elim}
-use Rattle.std.proofs.lemmas.List.{take_more}
+use Rattle.std.proofs.Common.{◌≡◌, ◌⊎◌, ℕ, ◌<◌, ◌≤◌, ◌+◌, List, [], ◌∷◌, ◌++◌, length, get_or, take, Bool, true, Option, Some, None, Contains, refl, sym, ap, ap₂, ◌∙◌, subst, inl, inr, ⊎_elim}
+use Rattle.std.proofs.lemmas.List.{take_all, take_more}
 use Rattle.std.proofs.lemmas.List.Elements.{Contains-append_right, Contains-append_cases}
 use Rattle.ul_lock_walk.specs.Increasing.{Before, Rising}
 use Rattle.ul_sound.specs.Indexes.{IsIndex}
@@ -26,6 +26,10 @@ module _ {A B : Type 0} (Makes : A → Option B → Type 0) where
       → AreMade Makes (take (i + 1) us) now
   made_more us i a bs now o lt at m h is = subst (λ (xs : List A). AreMade Makes xs now) (sym (take_more us i a lt ∙ ap (λ (x : A). take i us ++ x ∷ []) (sym at)))
       (subst (AreMade Makes (take i us ++ a ∷ [])) (sym is) (made_last (take i us) bs a o m h))
+
+  -- a loop's end
+  pub made_all : (us : List A) (i : ℕ) (bs : List B) → length us ≤ i → AreMade Makes (take i us) bs → AreMade Makes us bs
+  made_all us i bs past m = subst (λ (xs : List A). AreMade Makes xs bs) (take_all i us past) m
 
   -- what was made, and of what
   pub made_from : (us : List A) (bs : List B) (b : B) → AreMade Makes us bs → Contains bs b → (a : A) × Contains us a × Makes a (Some b)

@@ -1,5 +1,6 @@
-use Rattle.std.proofs.Common.{ℕ, List, ap, subst}
+use Rattle.std.proofs.Common.{ℕ, List, ap, subst, sym, ◌∙◌}
 use Rattle.std.specs.Prelude.{IfOk}
+use Rattle.ul_index.specs.Catalogs.{requirements}
 use Rattle.ul_requirement.specs.Truth.{base}
 use Rattle.ul_sound.specs.Merged.{AreEdgesOf}
 use Rattle.ul_merge.specs.Blocks.{catalog_in, leaves_in, supported_in}
@@ -17,3 +18,12 @@ returns-clause-edges g c =
     let version = c.args.group.now.key.version.now in
     if_handed c.edges_of-edges.result c.made_from.result (AreEdgesOf (catalog_in s) (leaves_in s) (supported_in s) (base c.args.group.now.key.name.now, version)) c.made_from.ensures
     (subst (λ (n : List ℕ). IfOk c.edges_of-edges.result (AreEdgesOf (catalog_in s) (leaves_in s) (supported_in s) (base n, version))) c.in_ok-copy.ensures c.edges_of-edges.ensures.edges)
+
+pub edges_of-edges-requires-clause-sources : goal.edges_of-edges-requires-clause-sources
+edges_of-edges-requires-clause-sources g c = c.requires.sources
+
+pub edges_of-edges-requires-clause-required : goal.edges_of-edges-requires-clause-required
+edges_of-edges-requires-clause-required g c = c.requires.required ∙ ap (λ (n : List ℕ). requirements (catalog_in c.args.sources.now) n c.args.group.now.key.version.now) (sym c.in_ok-copy.ensures)
+
+pub returns-clause-knows : goal.returns-clause-knows
+returns-clause-knows g c = c.edges_of-edges.ensures.knows

@@ -1,6 +1,7 @@
 use Rattle.std.proofs.Common.{◌≡◌, ℕ, List, ap, sym, subst, ◌∙◌}
 use Rattle.ul_base.specs.declared.node.Node.{Node}
 use Rattle.ul_base.proofs.ForCallers.{made_holds}
+use Rattle.ul_index.specs.Catalogs.{requirements}
 use Rattle.ul_requirement.specs.Truth.{with_extra}
 use Rattle.ul_sound.specs.Merged.{AreEdgesOf}
 use Rattle.ul_merge.specs.Blocks.{AreUsers, catalog_in, leaves_in, supported_in}
@@ -27,3 +28,12 @@ returns-clause-extra g c =
       edges = subst (λ z. AreEdgesOf (catalog_in s) (leaves_in s) (supported_in s) (with_extra c.args.pair.now.name.now c.args.group.now.key.name.now, version) z) (sym c.in_ok-out.ensures.0)
           (subst (λ (n : Node). AreEdgesOf (catalog_in s) (leaves_in s) (supported_in s) (n, version) c.in_ok-edges.edges) same edges);
     }
+
+pub edges_of-edges-requires-clause-sources : goal.edges_of-edges-requires-clause-sources
+edges_of-edges-requires-clause-sources g c = c.requires.sources
+
+pub edges_of-edges-requires-clause-required : goal.edges_of-edges-requires-clause-required
+edges_of-edges-requires-clause-required g c = c.requires.required ∙ ap (λ (n : List ℕ). requirements (catalog_in c.args.sources.now) n c.args.pair.now.version.now) (sym c.in_ok-name.ensures)
+
+pub returns-clause-knows : goal.returns-clause-knows
+returns-clause-knows g c = c.edges_of-edges.ensures.knows

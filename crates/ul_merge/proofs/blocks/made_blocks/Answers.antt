@@ -1,9 +1,9 @@
-use Rattle.std.proofs.Common.{Some}
-use Rattle.ul_interner.proofs.ForCallers.{knows_then}
-use Rattle.ul_merge.specs.Blocks.{MakesBlock, catalog_in, leaves_in, supported_in}
+use Rattle.std.proofs.Common.{Some, subst, sym}
+use Rattle.ul_interner.proofs.ForCallers.{knows_itself, knows_then}
+use Rattle.ul_merge.specs.Blocks.{IsPairGroup, MakesBlock, catalog_in, leaves_in, supported_in}
 use Rattle.ul_base.proofs.ForCallers.{made_holds}
 use Rattle.ul_merge.proofs.BlockFacts.{sources_still}
-use Rattle.ul_merge.proofs.Makes.{made_more}
+use Rattle.ul_merge.proofs.Makes.{made_all, made_more}
 use Rattle.ul_merge.proofs.blocks.made_blocks.Goals as goal
 
 pub block_of-block-requires-clause-sources : goal.block_of-block-requires-clause-sources
@@ -20,3 +20,18 @@ loop-group-preserved g c =
       made = made_more (MakesBlock (catalog_in c.args.sources.now) (leaves_in c.args.sources.now) (supported_in c.args.sources.now)) _ _ _ _ _ (Some more.0)
           c.loop-group-test.true c.group-item.is c.loop-group.invariant.made (made_holds c.block_of-block.result more.0 _ more.1 c.block_of-block.ensures.block) more.2;
     }
+
+pub loop-group-init : goal.loop-group-init
+loop-group-init g c = record {
+  knows = knows_itself _;
+  made = c.in_ok-blocks.ensures.items;
+}
+
+pub block_of-block-requires-clause-group : goal.block_of-block-requires-clause-group
+block_of-block-requires-clause-group g c = subst (IsPairGroup c.args.sources.now.choices.now) (sym c.group-item.is) (c.requires.groups c.loop-group.group-index c.group-item.result c.loop-group-test.true)
+
+pub returns-clause-knows : goal.returns-clause-knows
+returns-clause-knows g c = c.loop-group.invariant.knows
+
+pub returns-clause-blocks : goal.returns-clause-blocks
+returns-clause-blocks g c = made_all (MakesBlock (catalog_in c.args.sources.now) (leaves_in c.args.sources.now) (supported_in c.args.sources.now)) c.args.groups.now c.loop-group.group-index _ c.loop-group-test.false c.loop-group.invariant.made

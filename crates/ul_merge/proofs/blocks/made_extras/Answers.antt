@@ -1,10 +1,13 @@
-use Rattle.ul_interner.proofs.ForCallers.{knows_then}
-use Rattle.ul_merge.specs.Blocks.{MakesExtra, catalog_in, leaves_in, supported_in}
+use Rattle.std.proofs.Common.{ℕ, Some, subst, sym}
+use Rattle.ul_interner.proofs.ForCallers.{knows_itself, knows_then}
+use Rattle.ul_requirement.specs.Truth.{with_extra}
+use Rattle.ul_merge.specs.declared.gathering.Group.{Group}
+use Rattle.ul_merge.specs.declared.keys.ExtraKey.{ExtraKey}
+use Rattle.ul_merge.specs.Blocks.{AreUsers, MakesExtra, catalog_in, leaves_in, supported_in}
 use Rattle.ul_merge.specs.Keys.{pair_of}
 use Rattle.ul_base.proofs.ForCallers.{made_holds}
 use Rattle.ul_merge.proofs.BlockFacts.{sources_still}
-use Rattle.ul_merge.proofs.Makes.{made_more}
-use Rattle.std.proofs.Common.{Some}
+use Rattle.ul_merge.proofs.Makes.{made_all, made_more}
 use Rattle.ul_merge.proofs.blocks.made_extras.Goals as goal
 
 pub extra_of-extra-requires-clause-sources : goal.extra_of-extra-requires-clause-sources
@@ -21,3 +24,20 @@ loop-group-preserved g c =
       made = made_more (MakesExtra (catalog_in c.args.sources.now) (leaves_in c.args.sources.now) (supported_in c.args.sources.now) (pair_of c.args.pair.now)) _ _ _ _ _ (Some more.0)
           c.loop-group-test.true c.group-item.is c.loop-group.invariant.made (made_holds c.extra_of-extra.result more.0 _ more.1 c.extra_of-extra.ensures.extra) more.2;
     }
+
+pub loop-group-init : goal.loop-group-init
+loop-group-init g c = record {
+  knows = knows_itself _;
+  made = c.in_ok-extras.ensures.items;
+}
+
+pub extra_of-extra-requires-clause-users : goal.extra_of-extra-requires-clause-users
+extra_of-extra-requires-clause-users g c =
+    let pair = c.args.pair.now in
+    subst (λ (h : Group ExtraKey ℕ). AreUsers c.args.sources.now.choices.now (with_extra pair.name.now h.key.name.now, pair.version.now) h.values.items) (sym c.group-item.is) (c.requires.users c.loop-group.group-index c.group-item.result c.loop-group-test.true)
+
+pub returns-clause-knows : goal.returns-clause-knows
+returns-clause-knows g c = c.loop-group.invariant.knows
+
+pub returns-clause-extras : goal.returns-clause-extras
+returns-clause-extras g c = made_all (MakesExtra (catalog_in c.args.sources.now) (leaves_in c.args.sources.now) (supported_in c.args.sources.now) (pair_of c.args.pair.now)) c.args.groups.now c.loop-group.group-index _ c.loop-group-test.false c.loop-group.invariant.made

@@ -1,9 +1,9 @@
-use Rattle.ul_interner.proofs.ForCallers.{knows_then}
+use Rattle.ul_interner.proofs.ForCallers.{knows_itself, knows_then}
 use Rattle.ul_region.proofs.ForCallers.{still}
 use Rattle.ul_algebra.specs.Spelled.{tree_of}
 use Rattle.ul_merge.specs.Edges.{MakesEdge}
 use Rattle.ul_merge.proofs.EdgeFacts.{regions_still}
-use Rattle.ul_merge.proofs.Makes.{made_more}
+use Rattle.ul_merge.proofs.Makes.{made_all, made_more}
 use Rattle.ul_merge.proofs.edges.made_edges.Goals as goal
 
 pub edge_of-requires-clause-supported : goal.edge_of-requires-clause-supported
@@ -26,3 +26,15 @@ loop-group-preserved g c = record {
   knows = knows_then _ _ _ c.loop-group.invariant.knows c.in_ok-edge.ensures.knows;
   made = made_more (MakesEdge c.args.regions.now c.args.truths.now (tree_of c.args.supported.now)) _ _ _ _ _ _ c.loop-group-test.true c.group-item.is c.loop-group.invariant.made c.in_ok-edge.ensures.edge c.in_ok-put_edge.ensures;
 }
+
+pub loop-group-init : goal.loop-group-init
+loop-group-init g c = record {
+  knows = knows_itself _;
+  made = c.new-edges.ensures.items;
+}
+
+pub returns-clause-knows : goal.returns-clause-knows
+returns-clause-knows g c = c.loop-group.invariant.knows
+
+pub returns-clause-edges : goal.returns-clause-edges
+returns-clause-edges g c = made_all (MakesEdge c.args.regions.now c.args.truths.now (tree_of c.args.supported.now)) c.args.groups.now c.loop-group.group-index _ c.loop-group-test.false c.loop-group.invariant.made

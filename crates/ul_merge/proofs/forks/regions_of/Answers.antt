@@ -1,5 +1,5 @@
-use Rattle.std.proofs.Common.{◌≡◌, ◌+◌, List, map, take, sym, subst}
-use Rattle.ul_interner.proofs.ForCallers.{knows_then}
+use Rattle.std.proofs.Common.{◌≡◌, ◌+◌, List, map, take, sym, subst, arith}
+use Rattle.ul_interner.proofs.ForCallers.{knows_itself, knows_then}
 use Rattle.ul_nodes.specs.Plain.{Plain}
 use Rattle.ul_algebra.specs.Spelled.{tree_of}
 use Rattle.ul_merge.specs.Views.{ForkLeaf, leaf_of}
@@ -7,6 +7,7 @@ use Rattle.ul_region.proofs.ForCallers.{still, truth_still}
 use Rattle.ul_sound.specs.Merged.{AreSimplified}
 use Rattle.ul_merge.specs.Unions.{IsForkIn}
 use Rattle.ul_merge.proofs.ForkSteps.{one_more}
+use Rattle.ul_merge.proofs.Walks.{of_all}
 use Rattle.ul_merge.proofs.forks.regions_of.Goals as goal
 
 pub simplified-requires-clause-truth : goal.simplified-requires-clause-truth
@@ -28,3 +29,18 @@ loop-leaf-preserved g c = record {
   forks = subst (λ (ts : List Plain). AreSimplified (tree_of c.args.supported.now) (map leaf_of (take (c.loop-leaf.leaf-index + 1) c.args.leaves.now)) ts) (sym c.in_ok-push.ensures.items)
       (one_more (tree_of c.args.supported.now) c.args.leaves.now c.loop-leaf.leaf-index c.leaf-item.result c.loop-leaf.regions.items c.in_ok-region.region c.loop-leaf-test.true c.leaf-item.is c.loop-leaf.invariant.forks c.in_ok-region.ensures.rule);
 }
+
+pub loop-leaf-init : goal.loop-leaf-init
+loop-leaf-init g c = record {
+  knows = knows_itself _;
+  forks = c.in_ok-regions.ensures.items;
+}
+
+pub returns-clause-knows : goal.returns-clause-knows
+returns-clause-knows g c = c.loop-leaf.invariant.knows
+
+pub returns-clause-forks : goal.returns-clause-forks
+returns-clause-forks g c =
+    let supported = tree_of c.args.supported.now in
+    subst (λ (ts : List Plain). AreSimplified supported (map leaf_of c.args.leaves.now) ts) (sym c.of.ensures)
+    (of_all (λ (ls : List ForkLeaf). AreSimplified supported (map leaf_of ls) c.loop-leaf.regions.items) c.args.leaves.now c.loop-leaf.leaf-index c.loop-leaf-test.false c.loop-leaf.invariant.forks)

@@ -22,3 +22,6 @@ returns-clause-packages g c = packages_are c.eligible_rises.ensures c.eligible_s
     (c.as_slice-2.ensures.value ∙ c.in_ok-regions.ensures) (c.as_slice-3.ensures.value ∙ c.in_ok-choices.ensures) c.all_differ.ensures)
     c.requires.region (c.as_slice-2.ensures.value ∙ c.in_ok-regions.ensures) (c.as_slice-3.ensures.value ∙ c.in_ok-choices.ensures)
     (c.as_slice.ensures.value ∙ sym c.as_slice-3.ensures.value) c.in_ok-groups.ensures c.as_slice-4.ensures.value (made_holds c.made_blocks-blocks.result c.in_ok-blocks.blocks _ c.in_ok-blocks.ensures c.made_blocks-blocks.ensures.blocks) c.of.ensures
+
+pub returns-clause-knows : goal.returns-clause-knows
+returns-clause-knows g c = c.made_blocks-blocks.ensures.knows

@@ -1,0 +1,15 @@
+use Rattle.std.proofs.Common.{ap, map, ◌∙◌}
+use Rattle.std.proofs.lemmas.List.{take_all}
+use Rattle.ul_merge.specs.Views.{ForkLeaf}
+use Rattle.ul_merge.proofs.Walks.{mapped_more}
+use Rattle.ul_merge.proofs.merging.regions_of.Goals as goal
+
+pub loop-leaf-init : goal.loop-leaf-init
+loop-leaf-init c = c.in_ok-regions.ensures.items
+
+pub loop-leaf-preserved : goal.loop-leaf-preserved
+loop-leaf-preserved c =
+    mapped_more (λ (l : ForkLeaf). l.region) c.args.leaves.now c.loop-leaf.leaf-index c.leaf-item.result _ _ c.in_ok-region.region c.loop-leaf-test.true c.leaf-item.is c.in_ok-region.ensures c.in_ok-push.ensures.items c.loop-leaf.invariant
+
+pub returns : goal.returns
+returns c = c.loop-leaf.invariant ∙ ap (map (λ (l : ForkLeaf). l.region)) (take_all c.loop-leaf.leaf-index c.args.leaves.now c.loop-leaf-test.false)
