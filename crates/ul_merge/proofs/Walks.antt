@@ -1,6 +1,6 @@
 -- Lists that a loop makes piece by piece.
 use Rattle.std.proofs.Common.{◌≡◌, ℕ, ◌<◌, ◌≤◌, ◌+◌, List, [], ◌∷◌, ◌++◌, length, get_or, take, drop, map, sym, ap, subst, ◌∙◌}
-use Rattle.std.proofs.lemmas.List.{append-nil, append_assoc, drop_all, drop_more, get_or_default, map_more, take_all}
+use Rattle.std.proofs.lemmas.List.{append-nil, append_assoc, drop_all, drop_more, get_or_default, map_more, take_all, take_more}
 
 -- a piece more
 pub piece_more : {X : Type 0} (before now piece rest all : List X) → now ≡ before ++ piece → before ++ (piece ++ rest) ≡ all → now ++ rest ≡ all
@@ -35,6 +35,10 @@ module _ {A X : Type 0} where
   pub mapped_more : (f : A → X) (xs : List A) (i : ℕ) (x : A) (before now : List X) (y : X) → i < length xs → x ≡ get_or xs i x → y ≡ f x → now ≡ before ++ y ∷ [] → before ≡ map f (take i xs)
       → now ≡ map f (take (i + 1) xs)
   mapped_more f xs i x before now y lt at made is have = is ∙ (λ j. have j ++ (made ∙ ap f at) j ∷ []) ∙ sym (map_more f xs i x lt)
+
+-- one more of what stays as it is
+pub taken_more : {A : Type 0} (xs : List A) (i : ℕ) (x : A) (before now : List A) (y : A) → i < length xs → x ≡ get_or xs i x → y ≡ x → now ≡ before ++ y ∷ [] → before ≡ take i xs → now ≡ take (i + 1) xs
+taken_more xs i x before now y lt at made is have = is ∙ (λ j. have j ++ (made ∙ at) j ∷ []) ∙ sym (take_more xs i x lt)
 
 -- what holds of as many as there are holds of all
 pub of_all : {A : Type 0} (P : List A → Type 0) (xs : List A) (i : ℕ) → length xs ≤ i → P (take i xs) → P xs

@@ -9,6 +9,7 @@ use std::collections::HashMap;
 use std::marker::Model;
 use ul_algebra::Diagram;
 use ul_base::Node;
+use ul_base::owned::with_made;
 use ul_generations::Leaf;
 use ul_version::Version;
 
@@ -92,8 +93,8 @@ pub(crate) fn choices_of<'a>(
 {
     let mut choices = Vec::with_capacity(alloc, leaves.len())?;
     for leaf in leaves {
-        let one = Choices::of(alloc, leaf.done.as_slice())?;
-        choices.push(one)?;
+        let one = Choices::of(alloc, leaf.done.as_slice());
+        choices = with_made(choices, one)?;
     }
     Ok(choices)
 }

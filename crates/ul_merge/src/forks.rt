@@ -12,6 +12,7 @@ use std::alloc::{AllocError, Global};
 use std::sync::Wait;
 use ul_algebra::{Algebra, Diagram};
 use ul_base::Node;
+use ul_base::owned::with_made;
 use ul_generations::Leaf;
 use ul_lock_lines::Regions;
 use ul_version::Version;
@@ -31,8 +32,8 @@ fn regions_of<R: Wait>(
 {
     let mut regions = Vec::with_capacity(alloc, leaves.len())?;
     for leaf in leaves {
-        let region = simplified(rt, alloc, algebra, &leaf.region, supported)?;
-        regions.push(region)?;
+        let region = simplified(rt, alloc, algebra, &leaf.region, supported);
+        regions = with_made(regions, region)?;
     }
     Ok(Regions::of(regions))
 }

@@ -17,7 +17,7 @@ use crate::sources::Sources;
 use std::alloc::{AllocError, Global};
 use std::sync::Wait;
 use ul_algebra::{Algebra, Diagram};
-use ul_base::owned::{beside, made_from};
+use ul_base::owned::{beside, made_from, with_made};
 use ul_base::{Name, Node};
 use ul_generations::Leaf;
 use ul_index::Catalog;
@@ -35,8 +35,8 @@ fn regions_of(
 {
     let mut regions = Vec::with_capacity(alloc, leaves.len())?;
     for leaf in leaves {
-        let region = leaf.region.share()?;
-        regions.push(region)?;
+        let region = leaf.region.share();
+        regions = with_made(regions, region)?;
     }
     Ok(regions)
 }

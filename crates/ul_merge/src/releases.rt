@@ -8,6 +8,7 @@ ghost use Rattle.ul_sound.specs.Merged.{files_in};
 
 use std::alloc::{AllocError, Global};
 use ul_base::Name;
+use ul_base::owned::with_made;
 use ul_index::Catalog;
 use ul_lock_lines::Files;
 use ul_requirement::{FileEntry, Package, Release, Requirement};
@@ -65,7 +66,7 @@ fn copied_files(alloc: Global, files: &[FileEntry]) -> Result<Vec<FileEntry>, Al
 {
     let mut list = Vec::with_capacity(alloc, files.len())?;
     for file in files {
-        list.push(file.copy(alloc)?)?;
+        list = with_made(list, file.copy(alloc))?;
     }
     Ok(list)
 }

@@ -2,6 +2,7 @@ use Rattle.std.proofs.Common.{◌≡◌, ◌+◌, List, map, take, sym, subst, a
 use Rattle.ul_interner.proofs.ForCallers.{knows_itself, knows_then}
 use Rattle.ul_nodes.specs.Plain.{Plain}
 use Rattle.ul_algebra.specs.Spelled.{tree_of}
+use Rattle.ul_base.proofs.ForCallers.{made_holds}
 use Rattle.ul_merge.specs.Views.{ForkLeaf, leaf_of}
 use Rattle.ul_region.proofs.ForCallers.{still, truth_still}
 use Rattle.ul_sound.specs.Merged.{AreSimplified}
@@ -10,24 +11,21 @@ use Rattle.ul_merge.proofs.ForkSteps.{one_more}
 use Rattle.ul_merge.proofs.Walks.{of_all}
 use Rattle.ul_merge.proofs.forks.regions_of.Goals as goal
 
-pub simplified-requires-clause-truth : goal.simplified-requires-clause-truth
-simplified-requires-clause-truth g c = truth_still _ _ _ _ c.loop-leaf.invariant.knows
+pub simplified-region-requires-clause-truth : goal.simplified-region-requires-clause-truth
+simplified-region-requires-clause-truth g c = truth_still _ _ _ _ c.loop-leaf.invariant.knows
     (subst (λ (l : ForkLeaf). IsForkIn c.args.algebra.now c.args.supported.now l) (sym c.leaf-item.is) (c.requires.leaves c.loop-leaf.leaf-index c.leaf-item.result c.loop-leaf-test.true)).0
 
-pub simplified-requires-clause-supported : goal.simplified-requires-clause-supported
-simplified-requires-clause-supported g c = still _ _ _ c.loop-leaf.invariant.knows c.requires.supported
+pub simplified-region-requires-clause-supported : goal.simplified-region-requires-clause-supported
+simplified-region-requires-clause-supported g c = still _ _ _ c.loop-leaf.invariant.knows c.requires.supported
 
-pub returns-in_err-region-clause-knows : goal.returns-in_err-region-clause-knows
-returns-in_err-region-clause-knows g c = knows_then _ _ _ c.loop-leaf.invariant.knows c.in_err-region.ensures.knows
-
-pub returns-in_err-push-clause-knows : goal.returns-in_err-push-clause-knows
-returns-in_err-push-clause-knows g c = knows_then _ _ _ c.loop-leaf.invariant.knows c.in_ok-region.ensures.knows
+pub returns-in_err-regions-2-clause-knows : goal.returns-in_err-regions-2-clause-knows
+returns-in_err-regions-2-clause-knows g c = knows_then _ _ _ c.loop-leaf.invariant.knows c.simplified-region.ensures.knows
 
 pub loop-leaf-preserved : goal.loop-leaf-preserved
-loop-leaf-preserved g c = record {
-  knows = knows_then _ _ _ c.loop-leaf.invariant.knows c.in_ok-region.ensures.knows;
-  forks = subst (λ (ts : List Plain). AreSimplified (tree_of c.args.supported.now) (map leaf_of (take (c.loop-leaf.leaf-index + 1) c.args.leaves.now)) ts) (sym c.in_ok-push.ensures.items)
-      (one_more (tree_of c.args.supported.now) c.args.leaves.now c.loop-leaf.leaf-index c.leaf-item.result c.loop-leaf.regions.items c.in_ok-region.region c.loop-leaf-test.true c.leaf-item.is c.loop-leaf.invariant.forks c.in_ok-region.ensures.rule);
+loop-leaf-preserved g c = let more = c.in_ok-regions-2.ensures in record {
+  knows = knows_then _ _ _ c.loop-leaf.invariant.knows c.simplified-region.ensures.knows;
+  forks = subst (λ (ts : List Plain). AreSimplified (tree_of c.args.supported.now) (map leaf_of (take (c.loop-leaf.leaf-index + 1) c.args.leaves.now)) ts) (sym more.2)
+      (one_more (tree_of c.args.supported.now) c.args.leaves.now c.loop-leaf.leaf-index c.leaf-item.result c.loop-leaf.regions.items more.0 c.loop-leaf-test.true c.leaf-item.is c.loop-leaf.invariant.forks (made_holds c.simplified-region.result more.0 _ more.1 c.simplified-region.ensures.rule));
 }
 
 pub loop-leaf-init : goal.loop-leaf-init
