@@ -41,3 +41,6 @@ returns-clause-knows g c = c.loop-group.invariant.knows
 
 pub returns-clause-extras : goal.returns-clause-extras
 returns-clause-extras g c = made_all (MakesExtra (catalog_in c.args.sources.now) (leaves_in c.args.sources.now) (supported_in c.args.sources.now) (pair_of c.args.pair.now)) c.args.groups.now c.loop-group.group-index _ c.loop-group-test.false c.loop-group.invariant.made
+
+pub extra_of-extra-requires-clause-required : goal.extra_of-extra-requires-clause-required
+extra_of-extra-requires-clause-required g c = c.requires.required

@@ -38,3 +38,6 @@ returns-clause-knows g c = c.loop-group.invariant.knows
 
 pub returns-clause-edges : goal.returns-clause-edges
 returns-clause-edges g c = made_all (MakesEdge c.args.regions.now c.args.truths.now (tree_of c.args.supported.now)) c.args.groups.now c.loop-group.group-index _ c.loop-group-test.false c.loop-group.invariant.made
+
+pub edge_of-requires-clause-within : goal.edge_of-requires-clause-within
+edge_of-requires-clause-within g c = c.requires.within

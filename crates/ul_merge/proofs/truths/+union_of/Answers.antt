@@ -1,6 +1,9 @@
-use Rattle.std.proofs.Common.{arith}
+use Rattle.std.proofs.Common.{arith, subst, sym}
+use Rattle.std.specs.Prelude.{All}
+use Rattle.std.proofs.lemmas.List.Elements.{All-take}
 use Rattle.std.proofs.lemmas.Result.{IfOk-weaker}
 use Rattle.ul_interner.proofs.ForCallers.{knows_then}
+use Rattle.ul_region.specs.Truths.{IsRegion}
 use Rattle.ul_region.proofs.ForCallers.{is_region, truth_still}
 use Rattle.ul_merge.proofs.Unions.{none_union, one_union, both_union, back_still}
 use Rattle.ul_merge.proofs.truths.+union_of.Goals as goal
@@ -30,4 +33,10 @@ pub union_of-requires-2 : goal.union_of-requires-2
 union_of-requires-2 g t c = let d = c.decreases in λ κs within. (
   omega (arith, d, c.split_at.ensures.back_len, c.cut_of-cut.ensures.low, c.cut_of-cut.ensures.high),
   (within, back_still _ _ _ _ _ c.in_ok-first.ensures.knows c.split_at.ensures.back c.requires),
+)
+
+pub union_of-requires : goal.union_of-requires
+union_of-requires g t c = let d = c.decreases in λ κs within. (
+  omega (arith, d, c.split_at.ensures.front_len, c.cut_of-cut.ensures.high),
+  (within, subst (All (IsRegion c.args.algebra.now)) (sym c.split_at.ensures.front) (All-take (IsRegion c.args.algebra.now) c.cut_of-cut.result c.args.parts.now c.requires)),
 )
