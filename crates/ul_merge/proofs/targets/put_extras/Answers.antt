@@ -16,6 +16,7 @@ aims_more r name extras i x start before now target lt at made is have =
     ∙ append_assoc start (aims_at r (map (with_extra name) (take i extras))) ((with_extra name (get_or extras i x), r) ∷ [])
     ∙ ap (λ (zs : List (Node × ℕ)). start ++ zs) (sym (ap (aims_at r) (map_more (with_extra name) extras i x lt) ∙ map_push (λ (n : Node). (n, r)) (map (with_extra name) (take i extras)) (with_extra name (get_or extras i x))))
 
+-- an extra of a name, in other words
 same_node : (n m x y : List ℕ) → n ≡ m → x ≡ y → with_extra n x ≡ with_extra m y
 same_node n m x y e f = ap (λ (z : List ℕ). with_extra z x) e ∙ ap (with_extra m) f
 
