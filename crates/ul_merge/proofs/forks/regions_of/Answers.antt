@@ -1,4 +1,4 @@
-use Rattle.std.proofs.Common.{◌≡◌, ◌+◌, List, map, take, sym, subst, arith}
+use Rattle.std.proofs.Common.{◌+◌, List, map, take, sym, subst}
 use Rattle.ul_interner.proofs.ForCallers.{knows_itself, knows_then}
 use Rattle.ul_nodes.specs.Plain.{Plain}
 use Rattle.ul_algebra.specs.Spelled.{tree_of}

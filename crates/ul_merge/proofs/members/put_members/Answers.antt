@@ -1,4 +1,4 @@
-use Rattle.std.proofs.Common.{ℕ, ◌++◌, map, refl, ap, ◌∙◌}
+use Rattle.std.proofs.Common.{◌++◌, map, refl, ap, ◌∙◌}
 use Rattle.ul_index.specs.Serves.{Selection, choice_of}
 use Rattle.ul_merge.specs.Rows.{chosen_member, leaf_members, member_row}
 use Rattle.ul_merge.proofs.Walks.{walk_more}
