@@ -67,6 +67,9 @@ sheet_if : (s : State) (b : Bool) (x y : Sheet) → (b ≡ true → Ends s x) �
 sheet_if s true x y k e = sheet_is s x y (k refl) e
 sheet_if s false x y k e = absurd cc
 
+no_sheet : (s : State) (x : Sheet) → None ≡ Some x → Ends s x
+no_sheet s x e = absurd cc
+
 whole_sheet : (h : Head) (bs : List Locked) → Between h bs → IsSheet (sheet_of h bs)
 whole_sheet h bs g = record { forks = g.forks; blocks = g.blocks; each = g.each; allowed = g.allowed }
 
@@ -78,7 +81,7 @@ ends (versed h bs n v) x g e = sheet_is _ (sheet_of h (bs ++ plain_block n v [] 
 ends (fresh h bs n v fs) x g e = sheet_is _ (sheet_of h (bs ++ plain_block n v fs [] [] ∷ [])) x (record { lines = body-top h bs n v fs; good = whole_sheet _ _ (Between-snoc h bs (plain_block n v fs [] []) g) }) e
 ends (whole h bs n v fs es) x g e = sheet_is _ (sheet_of h (bs ++ plain_block n v fs es [] ∷ [])) x (record { lines = body-plain h bs n v fs es; good = whole_sheet _ _ (Between-snoc h bs (plain_block n v fs es []) g) }) e
 ends (tabled h bs n v fs es xs) x g e = sheet_if _ (filled xs) (sheet_of h (bs ++ plain_block n v fs es xs ∷ [])) x (λ q. record { lines = body-table h bs n v fs es xs q; good = whole_sheet _ _ (Between-snoc h bs (plain_block n v fs es xs) g) }) e
-ends s x g e = absurd cc
+ends s x g e = no_sheet s x e
 
 -- lines from here to an end
 pub record Finishes (s : State) : Type 0 where

@@ -235,4 +235,4 @@ kept (tabled h bs n v fs es xs) (opens x) t e = moved_if _ _ (tops extra_less xs
 kept (tabled h bs n v fs es xs) gap t e = moved_if _ _ (filled xs) (gapped h (bs ++ plain_block n v fs es xs ∷ [])) t (λ q. record { lines = ap (λ ls. ls ++ gap ∷ []) (body-table h bs n v fs es xs q); good = λ g. Between-snoc h bs (plain_block n v fs es xs) g }) e
 kept (listing h bs n v fs es xs x ls) (edge y) t e = moved_if _ _ (tops edge_less ls y) (listing h bs n v fs es xs x (ls ++ y ∷ [])) t (λ q. record { lines = ap (λ k. body_lines h bs ++ (block_front n v fs es ++ gap ∷ table ∷ (flat_map extra_lines xs ++ opens x ∷ k))) (map-append edge ls (y ∷ [])) ∙ regroup4 (body_lines h bs) (block_front n v fs es) (flat_map extra_lines xs) (opens x ∷ map edge ls) (edge y ∷ []); good = λ g. (g.0, g.1, Rising-snoc edge_less ls y g.2 q) }) e
 kept (listing h bs n v fs es xs x ls) close t e = moved_if _ _ (filled ls) (tabled h bs n v fs es (xs ++ record { name = x; edges = ls } ∷ [])) t (λ q. record { lines = ap (λ k. body_lines h bs ++ (block_front n v fs es ++ gap ∷ table ∷ k)) (extras-snoc xs (record { name = x; edges = ls }) ∙ ap (λ k. flat_map extra_lines xs ++ k) (listed_are x ls q)) ∙ regroup4 (body_lines h bs) (block_front n v fs es) (flat_map extra_lines xs) (opens x ∷ map edge ls) (close ∷ []); good = λ g. record { forks = g.0.forks; blocks = g.0.blocks; each = g.0.each; allowed = g.0.allowed; top = g.0.top; may_have = g.0.may_have; files = g.0.files; edges = g.0.edges; extras = Rising-snoc extra_less xs (record { name = x; edges = ls }) g.0.extras (extra_top xs x ls ∙ g.1); each_extra = Each-snoc IsExtra xs (record { name = x; edges = ls }) g.0.each_extra g.2 } }) e
-kept s l t e = absurd cc
+kept s l t e = no_state s l t e

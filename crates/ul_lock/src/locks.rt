@@ -14,7 +14,7 @@ use ul_lock_lines::Lock;
 use ul_lock_text::{Head, Sheet};
 
 /// Why a text is no lock's.
-#[derive(Debug, Drop)]
+#[derive(Drop)]
 pub enum LockFault {
     /// The first line that no shaped text has there, from 1; one more than there are, if the text only ends too early.
     Line(u64),

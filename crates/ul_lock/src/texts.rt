@@ -14,7 +14,7 @@ use ul_lock_lines::{Line, line};
 use ul_lock_text::Sheet;
 
 /// Why a text has no shape.
-#[derive(Debug, Drop)]
+#[derive(Drop)]
 pub enum ShapeFault {
     /// The first line that no shaped text has there, from 1.
     Line(u64),
