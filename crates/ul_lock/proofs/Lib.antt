@@ -1,3 +1,4 @@
+mod Steps
 mod Rising
 mod Kept
 mod Above
