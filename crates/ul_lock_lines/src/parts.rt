@@ -10,6 +10,7 @@ ghost use Rattle.ul_tree.specs.Views.{tree_view};
 
 use std::alloc::{AllocError, Global};
 use std::marker::Model;
+use ul_base::owned::with_one;
 use ul_base::{Name, Node};
 use ul_requirement::FileEntry;
 use ul_tree::Tree;
@@ -178,8 +179,8 @@ impl Regions {
     pub fn with(self, item: Region) -> Result<Regions, AllocError>
         ensures { IfOk result (λ v. v ≡ self ++ item ∷ []) }
     {
-        let Regions { mut items } = self;
-        items.push(item)?;
+        let Regions { items } = self;
+        let items = with_one(items, item)?;
         Ok(Regions { items })
     }
 
@@ -235,8 +236,8 @@ impl Files {
     pub fn with(self, item: FileEntry) -> Result<Files, AllocError>
         ensures { IfOk result (λ v. v ≡ self ++ item ∷ []) }
     {
-        let Files { mut items } = self;
-        items.push(item)?;
+        let Files { items } = self;
+        let items = with_one(items, item)?;
         Ok(Files { items })
     }
 
@@ -296,8 +297,8 @@ impl Edges {
     pub fn with(self, item: Edge) -> Result<Edges, AllocError>
         ensures { IfOk result (λ v. v ≡ self ++ item ∷ []) }
     {
-        let Edges { mut items } = self;
-        items.push(item)?;
+        let Edges { items } = self;
+        let items = with_one(items, item)?;
         Ok(Edges { items })
     }
 
@@ -357,8 +358,8 @@ impl Extras {
     pub fn with(self, item: Extra) -> Result<Extras, AllocError>
         ensures { IfOk result (λ v. v ≡ self ++ item ∷ []) }
     {
-        let Extras { mut items } = self;
-        items.push(item)?;
+        let Extras { items } = self;
+        let items = with_one(items, item)?;
         Ok(Extras { items })
     }
 
@@ -418,8 +419,8 @@ impl Packages {
     pub fn with(self, item: Locked) -> Result<Packages, AllocError>
         ensures { IfOk result (λ v. v ≡ self ++ item ∷ []) }
     {
-        let Packages { mut items } = self;
-        items.push(item)?;
+        let Packages { items } = self;
+        let items = with_one(items, item)?;
         Ok(Packages { items })
     }
 

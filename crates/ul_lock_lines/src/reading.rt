@@ -5,6 +5,7 @@ ghost use Rattle.ul_lock_lines.specs.LineReading.{fixed_of, item_of, edge_of, fi
 
 use crate::lines::{Edition, RawEdge, RawFile, RawLine, Text};
 use std::alloc::{AllocError, Global};
+use ul_base::owned::refused;
 use ul_lines::{divided, enclosed_text, inside_text, optional_text, same, stripped};
 
 fn fixed(bytes: &[u8]) -> Option<RawLine>
@@ -118,16 +119,17 @@ fn edge(alloc: Global, bytes: &[u8]) -> Result<Option<RawLine>, AllocError>
 fn pair(alloc: Global, key: &[u8], text: &[u8]) -> Result<Option<RawLine>, AllocError>
     ensures { IfOk result (λ found. found ≡ pair_of key.now text.now) }
 {
+    let text = Text::of(alloc, text)?;
     if same(key, b"root") {
-        Ok(Some(RawLine::Root(Text::of(alloc, text)?)))
+        Ok(Some(RawLine::Root(text)))
     } else if same(key, b"supported-markers") {
-        Ok(Some(RawLine::Supported(Text::of(alloc, text)?)))
+        Ok(Some(RawLine::Supported(text)))
     } else if same(key, b"name") {
-        Ok(Some(RawLine::Name(Text::of(alloc, text)?)))
+        Ok(Some(RawLine::Name(text)))
     } else if same(key, b"version") {
-        Ok(Some(RawLine::Version(Text::of(alloc, text)?)))
+        Ok(Some(RawLine::Version(text)))
     } else {
-        Ok(None)
+        Ok(refused(text))
     }
 }
 

@@ -301,12 +301,12 @@ fn named(alloc: Global, text: &Text) -> Result<Option<Name>, AllocError>
     name(alloc, text.as_bytes())
 }
 
-fn values(alloc: Global, raw: RawLine) -> Result<Option<Line>, AllocError>
-    ensures { IfOk result (λ found. found ≡ typed raw) }
+fn values(alloc: Global, raw: &RawLine) -> Result<Option<Line>, AllocError>
+    ensures { IfOk result (λ found. found ≡ typed raw.now) }
 {
     match raw {
-        RawLine::First(edition) => Ok(Some(Line::First(edition))),
-        RawLine::Root(text) => match named(alloc, &text)? {
+        RawLine::First(edition) => Ok(Some(Line::First(*edition))),
+        RawLine::Root(text) => match named(alloc, text)? {
             None => Ok(None),
             Some(name) => Ok(Some(Line::Root(name))),
         },
@@ -321,7 +321,7 @@ fn values(alloc: Global, raw: RawLine) -> Result<Option<Line>, AllocError>
         RawLine::Close => Ok(Some(Line::Close)),
         RawLine::Gap => Ok(Some(Line::Gap)),
         RawLine::Entry => Ok(Some(Line::Entry)),
-        RawLine::Name(text) => match named(alloc, &text)? {
+        RawLine::Name(text) => match named(alloc, text)? {
             None => Ok(None),
             Some(name) => Ok(Some(Line::Name(name))),
         },
@@ -329,14 +329,14 @@ fn values(alloc: Global, raw: RawLine) -> Result<Option<Line>, AllocError>
             None => Ok(None),
             Some(version) => Ok(Some(Line::Version(version))),
         },
-        RawLine::File(raw) => file(alloc, &raw),
-        RawLine::Edge(raw) => edge(alloc, &raw),
+        RawLine::File(raw) => file(alloc, raw),
+        RawLine::Edge(raw) => edge(alloc, raw),
         RawLine::Table => Ok(Some(Line::Table)),
-        RawLine::Opens(text) => match named(alloc, &text)? {
+        RawLine::Opens(text) => match named(alloc, text)? {
             None => Ok(None),
             Some(name) => Ok(Some(Line::Opens(name))),
         },
-        RawLine::Bare(text) => match named(alloc, &text)? {
+        RawLine::Bare(text) => match named(alloc, text)? {
             None => Ok(None),
             Some(name) => Ok(Some(Line::Bare(name))),
         },
@@ -350,6 +350,6 @@ pub fn line(alloc: Global, bytes: &[u8]) -> Result<Option<Line>, AllocError>
 {
     match any(alloc, bytes)? {
         None => Ok(None),
-        Some(raw) => values(alloc, raw),
+        Some(raw) => values(alloc, &raw),
     }
 }
