@@ -1,5 +1,5 @@
 //! Locks that are read, and what an old one keeps.
-ghost use Rattle.std.specs.Prelude.{◌≡◌, Some, IfOk, bytes_eq, option_map};
+ghost use Rattle.std.specs.Prelude.{◌≡◌, Some, IfOk, Ok, bytes_eq, option_map};
 ghost use Rattle.ul_base.specs.Files.{Told};
 ghost use Rattle.ul_lock_walk.specs.WellFormed.{IsWellFormed};
 ghost use Rattle.ul_inputs.specs.Inputs.{only};
@@ -9,6 +9,7 @@ ghost use Rattle.ul_inputs.specs.Refusals.{Answers, Cause, IsRefusalFor};
 use crate::files::large_file;
 use crate::refusal::{Refusal, malformed, malformed_at};
 use std::alloc::{AllocError, Global};
+use ul_base::owned::with_made;
 use ul_base::{Files, Name};
 use ul_lock::{Lock, LockFault, Locked, read};
 use ul_version::Version;
@@ -47,7 +48,6 @@ fn lock_in(alloc: Global, path: &str, bytes: &[u8]) -> Result<Lock, Refusal>
 }
 
 /// The lock of the lock file at a path, which is well formed.
-#[tactic(auto, using(crate::proofs::ForCallers::refuses, crate::proofs::ForCallers::goes_on))]
 pub fn lock_file<F: Files>(alloc: Global, files: &mut F, path: &str) -> Result<Lock, Refusal>
     ensures told { Told (F.map files.old) (λ m. Answers (λ l. l) result (spec.lock_at path.now m)) }
     ensures same { F.map files.new ≡ F.map files.old }
@@ -85,21 +85,21 @@ fn kept_in(
     let mut kept = Vec::new(alloc);
     for one in packages {
         if !is_root(root, one) {
-            kept.push(kept_one(alloc, one)?)?;
+            kept = with_made(kept, kept_one(alloc, one))?;
         }
     }
     Ok(kept)
 }
 
 // What a lock keeps.
-fn kept(alloc: Global, lock: &Lock) -> Result<Vec<(Name, Version)>, AllocError>
-    ensures { IfOk result (λ k. k.items ≡ spec.kept_of lock.now) }
+fn kept(alloc: Global, lock: &Lock) -> Result<Vec<(Name, Version)>, Refusal>
+    ensures { Answers (λ k. k.items) result (only (λ r. r ≡ Ok (spec.kept_of lock.now))) }
 {
-    kept_in(alloc, &lock.root, lock.packages.as_slice())
+    let kept = kept_in(alloc, &lock.root, lock.packages.as_slice())?;
+    Ok(kept)
 }
 
 // What the lock at a path keeps.
-#[tactic(auto, using(crate::proofs::ForCallers::refuses, crate::proofs::ForCallers::goes_on))]
 fn kept_at<F: Files>(
     alloc: Global,
     files: &mut F,
@@ -110,8 +110,9 @@ fn kept_at<F: Files>(
     ensures cause { Cause (F.faults files.old) (F.faults files.new) (F.last_failed files.new) result }
 {
     let lock = lock_file(alloc, files, path)?;
-    let kept = kept(alloc, &lock)?;
-    Ok(kept)
+    let kept = kept(alloc, &lock);
+    drop(lock);
+    kept
 }
 
 // What an old lock keeps, if there is one.

@@ -27,10 +27,12 @@ fn place(alloc: Global, word: &str, path: &ProjectPath) -> Result<String, AllocE
 }
 
 // The refusal of a project file at a place.
-fn refused_at(alloc: Global, file: &str, word: &str, path: &ProjectPath) -> Refusal
-    ensures { IsRefusalFor (Some (refused.malformed file.now (word.now ++ path_text path.now))) result }
+fn refused_at(alloc: Global, file: &str, word: &str, path: ProjectPath) -> Refusal
+    ensures { IsRefusalFor (Some (refused.malformed file.now (word.now ++ path_text path))) result }
 {
-    match place(alloc, word, path) {
+    let place = place(alloc, word, &path);
+    drop(path);
+    match place {
         Ok(place) => malformed(alloc, file, place),
         Err(_) => Refusal::NoMemory,
     }
@@ -42,9 +44,9 @@ fn refusal(alloc: Global, file: &str, fault: ProjectFault) -> Refusal
 {
     match fault {
         ProjectFault::NotToml => malformed_at(alloc, file, "not TOML"),
-        ProjectFault::Shape(path) => refused_at(alloc, file, "", &path),
-        ProjectFault::Requirement(path) => refused_at(alloc, file, "requirement ", &path),
-        ProjectFault::Unsupported(path) => refused_at(alloc, file, "unsupported ", &path),
+        ProjectFault::Shape(path) => refused_at(alloc, file, "", path),
+        ProjectFault::Requirement(path) => refused_at(alloc, file, "requirement ", path),
+        ProjectFault::Unsupported(path) => refused_at(alloc, file, "unsupported ", path),
         ProjectFault::EmptyRegion => malformed_at(alloc, file, "empty region"),
         ProjectFault::NoMemory => Refusal::NoMemory,
     }
@@ -83,7 +85,10 @@ fn built(found: Project) -> Result<Project, Refusal>
     match found.strategy {
         Strategy::Fewest => Ok(found),
         Strategy::RequiresPython => Ok(found),
-        Strategy::Deep => Err(Refusal::NotBuilt("fork-strategy deep")),
+        Strategy::Deep => {
+            drop(found);
+            Err(Refusal::NotBuilt("fork-strategy deep"))
+        }
     }
 }
 

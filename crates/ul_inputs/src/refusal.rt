@@ -6,7 +6,7 @@ ghost use Rattle.ul_inputs.specs.Refusals.{IsRefusalFor};
 use std::alloc::{AllocError, AllocFailed, Global};
 
 /// Why an input is refused.
-#[derive(Debug, Drop)]
+#[derive(Drop)]
 pub enum Refusal {
     /// The input has a form that isn't built yet: the form's name.
     NotBuilt(&'static str),

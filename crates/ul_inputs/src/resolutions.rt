@@ -35,7 +35,7 @@ fn wish_of(project: &Project, kept: Vec<(Name, Version)>) -> Wish
 }
 
 /// What a project says, with what an old lock keeps and the index folder's documents, which are read.
-#[tactic(auto, using(crate::proofs::ForCallers::refuses, crate::proofs::ForCallers::goes_on, crate::proofs::Usable::is_resolution))]
+#[tactic(auto, using(crate::proofs::Usable::is_resolution))]
 pub fn resolution_with<F: Files>(
     alloc: Global,
     files: &mut F,
@@ -50,17 +50,24 @@ pub fn resolution_with<F: Files>(
     ensures cause { Cause (F.faults files.old) (F.faults files.new) (F.last_failed files.new) result }
     ensures resolution { IfOk result (λ r. spec.IsResolution (spec.view r)) }
 {
-    let catalog = catalog_in(alloc, files, folder, &project)?;
-    let wish = wish_of(&project, kept);
-    Ok(Resolution {
-        project,
-        catalog,
-        wish,
-    })
+    match catalog_in(alloc, files, folder, &project) {
+        Ok(catalog) => {
+            let wish = wish_of(&project, kept);
+            Ok(Resolution {
+                project,
+                catalog,
+                wish,
+            })
+        }
+        Err(refusal) => {
+            drop(project);
+            drop(kept);
+            Err(refusal)
+        }
+    }
 }
 
 /// What a project file, an old lock and an index folder say, read in this order.
-#[tactic(auto, using(crate::proofs::ForCallers::refuses, crate::proofs::ForCallers::goes_on))]
 pub fn resolution_in<F: Files>(
     alloc: Global,
     files: &mut F,
@@ -76,6 +83,11 @@ pub fn resolution_in<F: Files>(
     ensures resolution { IfOk result (λ r. spec.IsResolution (spec.view r)) }
 {
     let project = project_file(alloc, files, project)?;
-    let kept = old_lock(alloc, files, old)?;
-    resolution_with(alloc, files, folder, project, kept)
+    match old_lock(alloc, files, old) {
+        Ok(kept) => resolution_with(alloc, files, folder, project, kept),
+        Err(refusal) => {
+            drop(project);
+            Err(refusal)
+        }
+    }
 }
