@@ -1,5 +1,5 @@
 -- The counts of a generated project's lock.
-use Rattle.std.proofs.Common.{◌≡◌, ℕ, List, ◌≤◌, Option, Some, None, IfSome, Result, Ok, Err, refl, arith}
+use Rattle.std.proofs.Common.{◌≡◌, ℕ, List, ◌≤◌, Option, Some, None, IfOk, IfSome, Result, Ok, Err, refl, subst, sym, arith}
 use Rattle.ul_inputs.specs.Inputs.{Said, only}
 use Rattle.ul_inputs.specs.Refusals.{Answers, Cause}
 use Rattle.ul_inputs.specs.declared.refusal.Refusal.{Refusal}
@@ -32,17 +32,23 @@ counted_refusal locks (Limit name number) h s = (record { found = Err _; gave = 
 counted_refusal locks (ReadFault path) h s = absurd s
 counted_refusal locks NoMemory h s = (tt, tt)
 
+-- with counts in the place of a lock an answer isn't that the words aren't a command, where it wasn't
+still_answering : (x : answer.Answer) → IsAnswering x → IfOk (counted_for (Ok x)) IsAnswering
+still_answering answer.usage h = h
+still_answering (answer.locked lock forks) h = tt
+still_answering (answer.counted lock forks) h = tt
+still_answering (answer.no_selection path region) h = tt
+still_answering (answer.derived path region steps) h = tt
+still_answering answer.none_refused h = tt
+still_answering (answer.environment text) h = tt
+still_answering answer.outside h = tt
+still_answering (answer.no_extra name) h = tt
+still_answering answer.accepted h = tt
+still_answering (answer.rejected step) h = tt
+
 -- the counts aren't that the words aren't a command
 pub counted_answers : (a b : Answer) → IsAnswering (view a) → (let r : Result answer.Answer _ = Ok (view b) in r) ≡ counted_for (Ok (view a)) → IsAnswering (view b)
-counted_answers a b h is = by (view a) (view b) h is
-  where
-    by : (x y : answer.Answer) → IsAnswering x → (let r : Result answer.Answer _ = Ok y in r) ≡ counted_for (Ok x) → IsAnswering y
-    by x answer.usage h is = absurd (other x h is)
-      where
-        other : (x : answer.Answer) → IsAnswering x → (let r : Result answer.Answer _ = Ok answer.usage in r) ≡ counted_for (Ok x) → ⊥
-        other answer.usage h is = h
-        other x h is = grind arith
-    by x y h is = grind arith
+counted_answers a b h is = subst (λ r. IfOk r IsAnswering) (sym is) (still_answering (view a) h)
 
 -- where no read failed, no count of failed reads rose
 pub sure_cause : (n : ℕ) (last : Option (List ℕ)) (r : Result Answer Refusal) → IsSure r → Cause n n last r

@@ -1,4 +1,3 @@
-mod Steps
 mod Words
 mod ProofFaults
 mod Mergeable
@@ -6,3 +5,4 @@ mod Answering
 mod Served
 mod Counting
 mod Accepted
+mod ForkAnswers

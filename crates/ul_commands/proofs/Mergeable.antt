@@ -73,7 +73,7 @@ all_inside region (l ∷ ls) most = (
 )
 
 -- the leaf of marks, as one of trees
-abbrev tree_leaf : ForkLeaf → TreeLeaf
+abbrev pub tree_leaf : ForkLeaf → TreeLeaf
 tree_leaf l = leaf_seen tree_of (λ d. d.items) l
 
 -- a leaf that can be merged

@@ -13,12 +13,11 @@ use crate::reasons::problem_at;
 use std::alloc::{AllocError, Global};
 use std::sync::Wait;
 use ul_algebra::Algebra;
-use ul_answers::Answer;
+use ul_answers::{Answer, leave};
 use ul_base::Files;
 use ul_derivation::AcceptFault;
 use ul_inputs::{Refusal, Resolution, large_file, malformed};
 use ul_interner::Interner;
-use ul_lock_lines::Region;
 use ul_problem::Problem;
 use ul_report_judge::judge;
 use ul_report_read::{Proof, ProofFault, read};
@@ -48,7 +47,6 @@ fn proof_in(alloc: Global, path: &str, bytes: &[u8]) -> Result<Proof, Refusal>
 }
 
 /// The derivation of the derivation file at a path.
-#[tactic(auto, using(crate::proofs::Steps::refuses, crate::proofs::Steps::goes_on))]
 pub(crate) fn proof_file<F: Files>(
     alloc: Global,
     files: &mut F,
@@ -60,23 +58,6 @@ pub(crate) fn proof_file<F: Files>(
 {
     let bytes = large_file(alloc, files, path)?;
     proof_in(alloc, path, &bytes)
-}
-
-// The problem of a derivation's region.
-fn problem_in<R: Wait>(
-    rt: &R,
-    alloc: Global,
-    resolution: &Resolution,
-    region: &Region,
-) -> Result<Problem, AllocError>
-    requires { IsResolution (view resolution.now) }
-    ensures { IfOk result (IsProblemIn (view resolution.now) region.now) }
-{
-    ul_tree::laws::no_extra();
-    let (interner, pass) = Interner::begin(alloc)?;
-    let mut algebra = Algebra::begin(alloc, &interner, pass);
-    let region = algebra.of_tree(rt, alloc, region.as_tree())?;
-    problem_at(rt, alloc, &mut algebra, resolution, &region)
 }
 
 // The judgement of a derivation on the problem of its region.
@@ -96,16 +77,39 @@ fn judged(
     }
 }
 
-/// The answer of `check` to a resolution and a derivation.
-pub(crate) fn check<R: Wait>(
+// The answer to a resolution and a derivation, by an algebra.
+fn answer_for<R: Wait>(
     rt: &R,
     alloc: Global,
+    algebra: &mut Algebra<'_>,
     resolution: &Resolution,
     proof: &Proof,
 ) -> Result<Answer, AllocError>
     requires { IsResolution (view resolution.now) }
     ensures { IfOk result (λ a. spec.IsCheckAnswer (view resolution.now) proof.now (Ok (answer_view a))) }
 {
-    let problem = problem_in(rt, alloc, resolution, &proof.region)?;
-    judged(alloc, resolution, &problem, proof)
+    ul_tree::laws::no_extra();
+    let region = algebra.of_tree(rt, alloc, proof.region.as_tree())?;
+    let problem = problem_at(rt, alloc, algebra, resolution, &region)?;
+    let answer = judged(alloc, resolution, &problem, proof);
+    leave(problem);
+    answer
+}
+
+/// The answer of `check` to a resolution and a derivation. What it is found with is left to the end of the process.
+pub(crate) fn check<R: Wait>(
+    rt: &R,
+    alloc: Global,
+    resolution: &Resolution,
+    proof: &Proof,
+) -> Result<Answer, Refusal>
+    requires { IsResolution (view resolution.now) }
+    ensures { Answers answer_view result (only (spec.IsCheckAnswer (view resolution.now) proof.now)) }
+{
+    let (interner, pass) = Interner::begin(alloc)?;
+    let mut algebra = Algebra::begin(alloc, &interner, pass);
+    let answer = answer_for(rt, alloc, &mut algebra, resolution, proof);
+    leave(algebra);
+    leave(interner);
+    Ok(answer?)
 }

@@ -29,7 +29,6 @@ use ul_project::Project;
 use ul_report_read::Proof;
 
 // The lock of a project.
-#[tactic(auto, using(crate::proofs::Steps::refuses, crate::proofs::Steps::goes_on, crate::proofs::Answering::lock_answers))]
 fn lock_files<R: Threads + Wait + Sync, F: Files, G: Gate + Sync>(
     rt: &R,
     alloc: Global,
@@ -54,7 +53,6 @@ fn lock_files<R: Threads + Wait + Sync, F: Files, G: Gate + Sync>(
 }
 
 // Why a project has no lock.
-#[tactic(auto, using(crate::proofs::Steps::refuses, crate::proofs::Steps::goes_on, crate::proofs::Answering::why_answers))]
 fn why_files<R: Threads + Wait + Sync, F: Files, G: Gate + Sync>(
     rt: &R,
     alloc: Global,
@@ -79,7 +77,6 @@ fn why_files<R: Threads + Wait + Sync, F: Files, G: Gate + Sync>(
 }
 
 // The counts of a generated project's lock.
-#[tactic(auto, using(crate::proofs::Counting::counted_answer, crate::proofs::Counting::counted_refusal, crate::proofs::Counting::refusal_sure, crate::proofs::Counting::counted_answers))]
 fn gen_files<R: Threads + Wait + Sync, G: Gate + Sync>(
     rt: &R,
     alloc: Global,
@@ -96,14 +93,15 @@ fn gen_files<R: Threads + Wait + Sync, G: Gate + Sync>(
 {
     let list = files(alloc, seed, size)?;
     let mut files = SureFiles::of(alloc, list);
-    match lock_files(rt, alloc, &mut files, gate, PROJECT, INDEX, workers, None) {
+    let answer = lock_files(rt, alloc, &mut files, gate, PROJECT, INDEX, workers, None);
+    leave(files);
+    match answer {
         Ok(answer) => Ok(counted(answer)),
         Err(refusal) => Err(refusal),
     }
 }
 
 // What a lock that is read gives on a machine.
-#[tactic(auto, using(crate::proofs::Steps::refuses, crate::proofs::Steps::goes_on, crate::proofs::Answering::env_answers))]
 fn env_on<F: Files>(
     alloc: Global,
     files: &mut F,
@@ -119,12 +117,12 @@ fn env_on<F: Files>(
     ensures answering { GivesAnswer result }
 {
     let machine = machine_file(alloc, files, machine)?;
-    let answer = env(alloc, lock, &machine, extras)?;
-    Ok(answer)
+    let answer = env(alloc, lock, &machine, extras);
+    leave(machine);
+    answer
 }
 
 // What a lock gives on a machine.
-#[tactic(auto, using(crate::proofs::Steps::refuses, crate::proofs::Steps::goes_on))]
 fn env_files<F: Files>(
     alloc: Global,
     files: &mut F,
@@ -139,11 +137,12 @@ fn env_files<F: Files>(
     ensures answering { GivesAnswer result }
 {
     let lock = lock_file(alloc, files, lock)?;
-    env_on(alloc, files, machine, extras, &lock)
+    let answer = env_on(alloc, files, machine, extras, &lock);
+    leave(lock);
+    answer
 }
 
 // Whether a derivation is accepted, for a project that is read.
-#[tactic(auto, using(crate::proofs::Steps::refuses, crate::proofs::Steps::goes_on, crate::proofs::Answering::check_answers))]
 fn check_with<R: Wait, F: Files>(
     rt: &R,
     alloc: Global,
@@ -160,12 +159,12 @@ fn check_with<R: Wait, F: Files>(
     ensures answering { GivesAnswer result }
 {
     let resolution = resolution_with(alloc, files, folder, project, Vec::new(alloc))?;
-    let answer = check(rt, alloc, &resolution, proof)?;
-    Ok(answer)
+    let answer = check(rt, alloc, &resolution, proof);
+    leave(resolution);
+    answer
 }
 
 // Whether the derivation of a file is accepted, for a project that is read.
-#[tactic(auto, using(crate::proofs::Steps::refuses, crate::proofs::Steps::goes_on))]
 fn check_on<R: Wait, F: Files>(
     rt: &R,
     alloc: Global,
@@ -181,12 +180,20 @@ fn check_on<R: Wait, F: Files>(
     ensures cause { Cause (F.faults files.old) (F.faults files.new) (F.last_failed files.new) result }
     ensures answering { GivesAnswer result }
 {
-    let proof = proof_file(alloc, files, derivation)?;
-    check_with(rt, alloc, files, folder, project, &proof)
+    match proof_file(alloc, files, derivation) {
+        Ok(proof) => {
+            let answer = check_with(rt, alloc, files, folder, project, &proof);
+            leave(proof);
+            answer
+        }
+        Err(refusal) => {
+            leave(project);
+            Err(refusal)
+        }
+    }
 }
 
 // Whether a derivation is accepted.
-#[tactic(auto, using(crate::proofs::Steps::refuses, crate::proofs::Steps::goes_on))]
 fn check_files<R: Wait, F: Files>(
     rt: &R,
     alloc: Global,

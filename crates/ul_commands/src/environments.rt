@@ -5,12 +5,15 @@ ghost use Rattle.ul_lock_walk.specs.WellFormed.{IsWellFormed};
 ghost use Rattle.ul_filter.specs.Comparisons.{machine_world};
 ghost use Rattle.ul_filter.specs.Headline as given;
 ghost use Rattle.ul_answers.specs.Views.{view as answer_view};
+ghost use Rattle.ul_inputs.specs.Inputs.{only};
+ghost use Rattle.ul_inputs.specs.Refusals.{Answers};
 ghost use Rattle.ul_commands.specs.Environments as spec;
 
 use std::alloc::{AllocError, Global};
 use ul_answers::Answer;
 use ul_base::{Name, NameFault};
 use ul_filter::{WalkFault, atoms, environment, root_lists};
+use ul_inputs::Refusal;
 use ul_lock_lines::{Lock, Locked};
 use ul_marker::{Machine, World, world_of};
 use ul_tree::holds;
@@ -118,8 +121,9 @@ fn answer_for(
         Some(word) => Ok(Answer::NoExtra(String::from_str(alloc, word)?)),
         None => {
             let extras = names_of(alloc, words)?;
-            let text = given(alloc, lock, machine, extras.as_slice())?;
-            Ok(Answer::Environment(text))
+            let text = given(alloc, lock, machine, extras.as_slice());
+            drop(extras);
+            Ok(Answer::Environment(text?))
         }
     }
 }
@@ -130,13 +134,13 @@ pub(crate) fn env(
     lock: &Lock,
     machine: &Machine,
     words: &[String],
-) -> Result<Answer, AllocError>
+) -> Result<Answer, Refusal>
     requires { IsWellFormed lock.now }
-    ensures { IfOk result (λ a. spec.IsEnvAnswer lock.now machine.now (map string_bytes words.now)
-        (Ok (answer_view a))) }
+    ensures { Answers answer_view result (only (spec.IsEnvAnswer lock.now machine.now (map string_bytes words.now))) }
 {
     if is_for(alloc, lock, machine)? {
-        answer_for(alloc, lock, machine, words)
+        let answer = answer_for(alloc, lock, machine, words)?;
+        Ok(answer)
     } else {
         Ok(Answer::Outside)
     }

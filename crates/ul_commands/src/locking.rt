@@ -63,16 +63,16 @@ fn merged<R: Wait>(
 }
 
 // The answer to a fork answer.
-#[tactic(auto, using(crate::proofs::Mergeable::leaves_merge, crate::proofs::Mergeable::refused_not_false, crate::proofs::Mergeable::locked_answer, crate::proofs::Mergeable::refused_answer))]
+#[tactic(auto, using(crate::proofs::Mergeable::refused_answer))]
 fn answer_for<R: Wait>(
     rt: &R,
     alloc: Global,
-    mut algebra: Algebra<'_>,
+    algebra: &mut Algebra<'_>,
     resolution: &Resolution,
     forked: &ForkAnswer,
 ) -> Result<Answer, AllocError>
     requires resolution { IsResolution (view resolution.now) }
-    requires forks { AreForksOf (view resolution.now) algebra forked.now }
+    requires forks { AreForksOf (view resolution.now) algebra.old forked.now }
     ensures { IfOk result (λ a. IsLockAnswer (view resolution.now) (Ok (answer_view a))) }
 {
     ul_forks::laws::fork_laws();
@@ -80,7 +80,7 @@ fn answer_for<R: Wait>(
     ul_tree::laws::no_extra();
     match forked {
         Forked::Leaves(leaves) => {
-            let lock = merged(rt, alloc, &mut algebra, resolution, leaves.as_slice())?;
+            let lock = merged(rt, alloc, algebra, resolution, leaves.as_slice())?;
             Ok(Answer::Locked {
                 lock,
                 forks: leaves.len() as u64,
@@ -91,14 +91,14 @@ fn answer_for<R: Wait>(
             region,
             refusal: _,
         } => {
-            let region = region_in(alloc, &algebra, region)?;
             let path = Vec::from_slice(alloc, path.digits())?;
+            let region = region_in(alloc, &*algebra, region)?;
             Ok(Answer::NoSelection { path, region })
         }
     }
 }
 
-/// The answer of `lock` to a resolution.
+/// The answer of `lock` to a resolution. What it is found with is left to the end of the process.
 pub(crate) fn lock<R: Threads + Wait + Sync, G: Gate + Sync>(
     rt: &R,
     alloc: Global,
@@ -111,9 +111,17 @@ pub(crate) fn lock<R: Threads + Wait + Sync, G: Gate + Sync>(
     ensures { Answers answer_view result (only (IsLockAnswer (view resolution.now))) }
 {
     let (interner, pass) = Interner::begin(alloc)?;
-    let (forked, algebra) = forks_of(rt, alloc, &interner, pass, workers, resolution, gate)?;
-    let answer = answer_for(rt, alloc, algebra, resolution, &forked)?;
-    leave(forked);
-    leave(interner);
-    Ok(answer)
+    match forks_of(rt, alloc, &interner, pass, workers, resolution, gate) {
+        Ok((forked, mut algebra)) => {
+            let answer = answer_for(rt, alloc, &mut algebra, resolution, &forked);
+            leave(forked);
+            leave(algebra);
+            leave(interner);
+            Ok(answer?)
+        }
+        Err(refusal) => {
+            leave(interner);
+            Err(refusal)
+        }
+    }
 }

@@ -72,20 +72,21 @@ fn steps_at<R: Wait>(
     ul_report::laws::right_steps_have_names();
     ul_placing::laws::equal_problems();
     let problem = problem_at(rt, alloc, algebra, resolution, region)?;
-    steps(alloc, &problem, derivation)
+    let lines = steps(alloc, &problem, derivation);
+    leave(problem);
+    lines
 }
 
 // The answer to a fork answer.
-#[tactic(auto, using(crate::proofs::Mergeable::refused_not_false))]
 fn answer_for<R: Wait>(
     rt: &R,
     alloc: Global,
-    mut algebra: Algebra<'_>,
+    algebra: &mut Algebra<'_>,
     resolution: &Resolution,
     forked: &ForkAnswer,
 ) -> Result<Answer, AllocError>
     requires resolution { IsResolution (view resolution.now) }
-    requires forks { AreForksOf (view resolution.now) algebra forked.now }
+    requires forks { AreForksOf (view resolution.now) algebra.old forked.now }
     ensures { IfOk result (λ a. IsWhyAnswer (view resolution.now) (Ok (answer_view a))) }
 {
     ul_forks::laws::fork_laws();
@@ -98,19 +99,19 @@ fn answer_for<R: Wait>(
             region,
             refusal,
         } => {
-            let tree = region_in(alloc, &algebra, region)?;
-            let steps = steps_at(rt, alloc, &mut algebra, resolution, region, refusal)?;
             let path = Vec::from_slice(alloc, path.digits())?;
+            let steps = steps_at(rt, alloc, algebra, resolution, region, refusal)?;
+            let region = region_in(alloc, &*algebra, region)?;
             Ok(Answer::Derived {
                 path,
-                region: tree,
+                region,
                 steps,
             })
         }
     }
 }
 
-/// The answer of `why` to a resolution.
+/// The answer of `why` to a resolution. What it is found with is left to the end of the process.
 pub(crate) fn why<R: Threads + Wait + Sync, G: Gate + Sync>(
     rt: &R,
     alloc: Global,
@@ -123,9 +124,17 @@ pub(crate) fn why<R: Threads + Wait + Sync, G: Gate + Sync>(
     ensures { Answers answer_view result (only (IsWhyAnswer (view resolution.now))) }
 {
     let (interner, pass) = Interner::begin(alloc)?;
-    let (forked, algebra) = forks_of(rt, alloc, &interner, pass, workers, resolution, gate)?;
-    let answer = answer_for(rt, alloc, algebra, resolution, &forked)?;
-    leave(forked);
-    leave(interner);
-    Ok(answer)
+    match forks_of(rt, alloc, &interner, pass, workers, resolution, gate) {
+        Ok((forked, mut algebra)) => {
+            let answer = answer_for(rt, alloc, &mut algebra, resolution, &forked);
+            leave(forked);
+            leave(algebra);
+            leave(interner);
+            Ok(answer?)
+        }
+        Err(refusal) => {
+            leave(interner);
+            Err(refusal)
+        }
+    }
 }

@@ -14,5 +14,5 @@ returns-in_err-lock-clause-told g c m e =
 
 pub returns-clause-told : goal.returns-clause-told
 returns-clause-told g c m e =
-    goes_on view c.env_on.result c.in_ok-lock.lock (lock_at c.args.lock.now m) (λ x. env_on c.args.machine.now (map string_bytes c.args.extras.now) x m)
-    (c.in_ok-lock.ensures.told m e) (c.env_on.ensures.told m (c.in_ok-lock.ensures.same ∙ e))
+    goes_on view c.env_on-answer.result c.in_ok-lock.lock (lock_at c.args.lock.now m) (λ x. env_on c.args.machine.now (map string_bytes c.args.extras.now) x m)
+    (c.in_ok-lock.ensures.told m e) (c.env_on-answer.ensures.told m (c.in_ok-lock.ensures.same ∙ e))

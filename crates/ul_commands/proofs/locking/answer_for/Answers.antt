@@ -7,16 +7,16 @@ use Rattle.ul_commands.proofs.locking.answer_for.Goals as goal
 
 pub merged-requires : goal.merged-requires
 merged-requires g c =
-    let forks = subst (λ f. AreForksOf (view c.args.resolution.now) c.args.algebra f) c.in-Leaves.is c.requires.forks in
-    record { leaves = rw c.as_slice.ensures.value (leaves_merge c.fork_laws.ensures c.has_world.ensures c.no_extra.ensures (view c.args.resolution.now) c.args.algebra c.in-Leaves.leaves c.requires.resolution forks) }
+    let forks = subst (λ f. AreForksOf (view c.args.resolution.now) c.args.algebra.now f) c.in-Leaves.is c.requires.forks in
+    record { leaves = rw c.as_slice.ensures.value (leaves_merge c.fork_laws.ensures c.has_world.ensures c.no_extra.ensures (view c.args.resolution.now) c.args.algebra.now c.in-Leaves.leaves c.requires.resolution forks) }
 
-pub returns-in-Leaves : goal.returns-in-Leaves
-returns-in-Leaves g c =
-    let forks = subst (λ f. AreForksOf (view c.args.resolution.now) c.args.algebra f) c.in-Leaves.is c.requires.forks in
+pub returns-in_ok-lock-in-Leaves : goal.returns-in_ok-lock-in-Leaves
+returns-in_ok-lock-in-Leaves g c =
+    let forks = subst (λ f. AreForksOf (view c.args.resolution.now) c.args.algebra.now f) c.in-Leaves.is c.requires.forks in
     let merged = c.in_ok-lock-in-Leaves.ensures in
-    locked_answer (view c.args.resolution.now) c.args.algebra c.in-Leaves.leaves c.in_ok-lock-in-Leaves.lock _ forks (rw c.as_slice.ensures.value at merged) (omega (arith, c.len.ensures, c.in-Leaves.leaves.ok))
+    locked_answer (view c.args.resolution.now) c.args.algebra.now c.in-Leaves.leaves c.in_ok-lock-in-Leaves.lock _ forks (rw c.as_slice.ensures.value at merged) (omega (arith, c.len.ensures, c.in-Leaves.leaves.ok))
 
 pub region_in-requires-clause-some : goal.region_in-requires-clause-some
 region_in-requires-clause-some g c =
-    let forks = subst (λ f. AreForksOf (view c.args.resolution.now) c.args.algebra f) c.in-Refused.is c.requires.forks in
-    refused_not_false c.fork_laws.ensures c.has_world.ensures c.no_extra.ensures (view c.args.resolution.now) c.args.algebra _ c.in-Refused.region c.in-Refused.refusal c.requires.resolution forks
+    let forks = subst (λ f. AreForksOf (view c.args.resolution.now) c.args.algebra.now f) c.in-Refused.is c.requires.forks in
+    refused_not_false c.fork_laws.ensures c.has_world.ensures c.no_extra.ensures (view c.args.resolution.now) c.args.algebra.now _ c.in-Refused.region c.in-Refused.refusal c.requires.resolution forks
