@@ -4,6 +4,7 @@ ghost use Rattle.ul_conflict.specs.Headline.{IsOutcome};
 
 use crate::runs::{decided, run};
 use crate::shapes::problem_of;
+use crate::told::put;
 use std::alloc::{AllocError, Global};
 use ul_conflict::{Outcome, resolve};
 use ul_derivation::accepts;
@@ -20,91 +21,101 @@ const ROWS: &str = "crossed: 0 decisions, back to 0 by 1 steps with 0 cuts, 3 de
     opposed: 0 decisions, closed by 3 steps with 1 cuts;\
     hopeless: 0 decisions, closed by 3 steps with 1 cuts";
 
-fn cuts(steps: &[Step]) -> usize {
-    steps
-        .iter()
-        .filter(|step| matches!(step, Step::Cut { .. }))
-        .count()
-}
-
-fn closed(
-    alloc: Global,
-    problem: &Problem,
-    derivation: &Derivation,
-    count: u64,
-) -> Result<String, AllocError> {
-    let steps = derivation.as_slice();
-    if accepts(alloc, problem, derivation).is_err() {
-        return String::from_str(alloc, "not accepted");
+fn cuts(steps: &[Step]) -> u64 {
+    let mut count = 0u64;
+    for step in steps {
+        if let Step::Cut { .. } = step {
+            count = count.saturating_add(1);
+        }
     }
-    format!(in alloc;
-        "{count} decisions, closed by {} steps with {} cuts",
-        steps.len(),
-        cuts(steps)
-    )
+    count
 }
 
-fn told(
+// Tells how many steps there are, and how many cuts among them.
+fn tell_steps(steps: &[Step], told: &mut String) {
+    put(told, " by ", steps.len() as u64);
+    put(told, " steps with ", cuts(steps));
+    let _ = told.push_str(" cuts");
+}
+
+fn tell_closed(alloc: Global, problem: &Problem, derivation: &Derivation, told: &mut String) {
+    if accepts(alloc, problem, derivation).is_ok() {
+        let _ = told.push_str(" decisions, closed");
+        tell_steps(derivation.as_slice(), told);
+    }
+}
+
+fn tell_outcome(
     alloc: Global,
     problem: &Problem,
     trail: &mut Trail,
     outcome: Outcome,
-    count: u64,
-) -> Result<String, AllocError>
+    told: &mut String,
+) -> Result<(), AllocError>
     requires right { IsTrailOf problem.now trail.old }
     requires outcome { IsOutcome problem.now trail.old outcome }
 {
     match outcome {
-        Outcome::Closed(derivation) => closed(alloc, problem, &derivation, count),
+        Outcome::Closed(derivation) => {
+            tell_closed(alloc, problem, &derivation, told);
+            drop(derivation);
+        }
         Outcome::Backjump { level, learned } => {
-            let (steps, cuts) = (learned.len(), cuts(learned.as_slice()));
+            put(told, " decisions, back to ", level);
+            tell_steps(learned.as_slice(), told);
             trail.back(alloc, problem, level, learned)?;
-            let after = run(alloc, problem, trail, 100)?.count;
-            format!(in alloc;
-                "{count} decisions, back to {level} by {steps} steps with {cuts} cuts, {after} decisions"
-            )
+            put(told, ", ", run(alloc, problem, trail, 100)?.count);
+            let _ = told.push_str(" decisions");
         }
     }
+    Ok(())
 }
 
-// Where there is a wish, the first decision comes before any propagation.
-fn first_conflict(
+// Tells the first conflict. Where there is a wish, the first decision comes before any propagation.
+fn tell_conflict(
     alloc: Global,
     problem: &Problem,
     trail: &mut Trail,
     wish: Option<u32>,
-) -> Result<String, AllocError>
+    told: &mut String,
+) -> Result<(), AllocError>
     requires { IsTrailOf problem.now trail.old }
 {
     if wish.is_some() {
         let _ = decided(alloc, problem, trail, wish)?;
     }
     let before = run(alloc, problem, trail, 100)?;
+    put(told, "", before.count);
     match before.conflict {
-        None => String::from_str(alloc, "no conflict"),
+        None => Ok(()),
         Some(place) => {
             let outcome = resolve(alloc, problem, trail, place)?;
-            told(alloc, problem, trail, outcome, before.count)
+            tell_outcome(alloc, problem, trail, outcome, told)
         }
     }
 }
 
-fn clash(alloc: Global, problem: &Problem, wish: Option<u32>) -> Result<String, AllocError> {
-    let mut trail = Trail::begin(alloc, problem)?;
-    first_conflict(alloc, problem, &mut trail, wish)
+fn told(alloc: Global, problem: &Problem, wish: Option<u32>) -> String {
+    let mut told = String::new(alloc);
+    if let Ok(trail) = Trail::begin(alloc, problem) {
+        let mut trail = trail;
+        let _ = tell_conflict(alloc, problem, &mut trail, wish, &mut told);
+    }
+    told
 }
 
-fn is_row(alloc: Global, line: &str) -> Option<bool> {
-    let (shape, want) = line.split_once(": ")?;
-    let problem = problem_of(alloc, shape, "newest")?;
+fn is_row(alloc: Global, line: &str) -> bool {
+    let (shape, want) = line.split_once(": ").unwrap_or((line, ""));
     let wish = if shape == "crossed" { Some(1) } else { None };
-    let told = clash(alloc, &problem, wish).ok()?;
-    Some(told.as_str() == want)
+    match problem_of(alloc, shape, "newest") {
+        Some(problem) => told(alloc, &problem, wish).as_str() == want,
+        None => false,
+    }
 }
 
 #[test]
 fn a_conflict_is_learned_from_or_closes(rt: HostRuntime) {
     for line in ROWS.split(';') {
-        assert!(rt; is_row(rt.alloc(), line) == Some(true), "{line}");
+        assert!(rt; is_row(rt.alloc(), line), "{line}");
     }
 }

@@ -14,4 +14,6 @@ mod shapes;
 #[cfg(test)]
 mod solver;
 #[cfg(test)]
+mod told;
+#[cfg(test)]
 mod trail;

@@ -3,11 +3,13 @@
 //! A problem is its root, and after a blank its nodes between semicolons. A node is `NAME`, or `NAME/EXTRA` of the base
 //! at place 1, after a blank the first version that isn't fit, if there is one, and behind bars what each of its
 //! versions needs: after commas `TARGET SIZE LOW HIGH`, the versions of the target from `LOW` to before `HIGH`.
+//!
+//! What finds no memory is left out.
 ghost use Rattle.std.specs.Prelude.{◌<◌, All};
 
 use std::alloc::{AllocError, Global};
-use ul_base::owned::{with_made, with_one};
-use ul_base::{Name, NameFault, Node};
+use ul_base::owned::{beside, refused};
+use ul_base::{Name, Node};
 use ul_problem::{Need, NeedRow, NeedRows, NodeFacts, Places, Problem, Versions};
 use ul_ranges::Ordinals;
 use ul_version::Version;
@@ -25,44 +27,50 @@ fn set(alloc: Global, size: u32, low: u32, high: u32) -> Result<Ordinals, AllocE
     Ordinals::of_list(alloc, size, &members)
 }
 
-// The numbers of a text between blanks.
-fn numbers(alloc: Global, text: &str) -> Result<Vec<u32>, AllocError> {
-    let mut numbers = Vec::new(alloc);
-    for word in text.split(' ') {
-        numbers.push(number(word).unwrap_or(0))?;
+// The first word of a text as a number, or 0, and what comes after the blank behind it.
+fn front(text: &str) -> (u32, &str) {
+    let (word, rest) = text.split_once(' ').unwrap_or((text, ""));
+    (word.parse::<u32>().unwrap_or(0), rest)
+}
+
+fn push_need(alloc: Global, needs: &mut Vec<Need>, text: &str) {
+    let (node, rest) = front(text);
+    let (size, rest) = front(rest);
+    let (low, rest) = front(rest);
+    let (high, _) = front(rest);
+    if let Ok(permitted) = set(alloc, size, low, high) {
+        let node = node as u64;
+        let _ = needs.push(Need { node, permitted });
     }
-    Ok(numbers)
 }
 
-fn need(alloc: Global, text: &str) -> Result<Need, AllocError> {
-    let row = numbers(alloc, text)?;
-    let (node, permitted) = match row.as_slice() {
-        [node, size, low, high] => (*node as u64, set(alloc, *size, *low, *high)?),
-        _ => (0, Ordinals::none(alloc, 0)?),
-    };
-    Ok(Need { node, permitted })
-}
-
-fn need_row(alloc: Global, text: &str) -> Result<NeedRow, AllocError> {
+fn need_row(alloc: Global, text: &str) -> NeedRow {
     let mut needs = Vec::new(alloc);
     for part in text.split(',') {
         if !part.is_empty() {
-            needs = with_made(needs, need(alloc, part))?;
+            push_need(alloc, &mut needs, part);
         }
     }
-    Ok(NeedRow::of(needs))
+    NeedRow::of(needs)
 }
 
 // The rows of a text between bars.
-fn need_rows(alloc: Global, text: Option<&str>) -> Result<Vec<NeedRow>, AllocError> {
+fn need_rows(alloc: Global, text: Option<&str>) -> NeedRows {
     let mut rows = Vec::new(alloc);
-    let Some(text) = text else {
-        return Ok(rows);
-    };
-    for part in text.split('|') {
-        rows = with_made(rows, need_row(alloc, part))?;
+    if let Some(text) = text {
+        for part in text.split('|') {
+            let _ = rows.push(need_row(alloc, part));
+        }
     }
-    Ok(rows)
+    NeedRows::of(rows)
+}
+
+// How many rows a text has.
+fn count(text: Option<&str>) -> u32 {
+    match text {
+        Some(text) => text.split('|').count().min(100000) as u32,
+        None => 0,
+    }
 }
 
 // The version that comes in an order after `k` others: the newest first, the oldest, or the one of this number and then
@@ -81,87 +89,95 @@ fn version_after(order: &str, size: u32, k: u32) -> u32 {
 fn places(alloc: Global, size: u32, order: &str) -> Result<Places, AllocError> {
     let mut places = Vec::new(alloc);
     for k in 0..size {
-        places.push(version_after(order, size, k))?;
+        let _ = places.push(version_after(order, size, k));
     }
     Places::of(alloc, places)
 }
 
-fn version(alloc: Global, number: u32) -> Result<Version, AllocError> {
-    let release = vec![in alloc; number as u64 + 1]?;
-    Ok(Version::plain_of(alloc, release))
+// Pushes the version whose release is one number.
+fn push_version(alloc: Global, versions: &mut Vec<Version>, number: u64) {
+    if let Ok(release) = vec![in alloc; number] {
+        let _ = versions.push(Version::plain_of(alloc, release));
+    }
 }
 
 // The versions 1, 2 and so on.
 fn versions(alloc: Global, size: u32) -> Result<Versions, AllocError> {
     let mut versions = Vec::new(alloc);
     for k in 0..size {
-        versions = with_made(versions, version(alloc, k))?;
+        push_version(alloc, &mut versions, k as u64 + 1);
     }
     Versions::of(alloc, versions)
 }
 
-fn node(alloc: Global, text: &str) -> Result<Node, NameFault> {
+// A node, `NAME` or `NAME/EXTRA`.
+fn node(alloc: Global, text: &str) -> Option<Node> {
     let (name, extra) = text.split_once('/').unwrap_or((text, ""));
-    let name = Name::read(alloc, name)?;
+    let name = Name::read(alloc, name).ok()?;
     let extra = Name::read(alloc, extra).ok();
-    Ok(Node { name, extra })
+    Some(Node { name, extra })
 }
 
-fn facts(
+// The versions of a node, their order, and those that aren't fit.
+fn sized(
     alloc: Global,
-    node: Node,
-    barred: Option<u32>,
+    size: u32,
     order: &str,
-    rows: Vec<NeedRow>,
-) -> Result<NodeFacts, AllocError> {
-    let size = rows.len().min(100000) as u32;
-    let base = if node.extra.is_some() { Some(1) } else { None };
-    let versions = versions(alloc, size)?;
-    let order = places(alloc, size, order)?;
-    let barred = set(alloc, size, barred.unwrap_or(size), size)?;
-    Ok(NodeFacts {
-        node,
-        base,
-        versions,
-        order,
-        barred,
-        needs: NeedRows::of(rows),
-    })
+    barred: u32,
+) -> Result<((Versions, Places), Ordinals), AllocError> {
+    let lists = beside(versions(alloc, size)?, places(alloc, size, order))?;
+    beside(lists, set(alloc, size, barred, size))
 }
 
-fn read_facts(alloc: Global, text: &str, order: &str) -> Option<NodeFacts> {
+fn facts(alloc: Global, text: &str, order: &str) -> Option<NodeFacts> {
     let (head, rows) = match text.split_once('|') {
         Some((head, rows)) => (head, Some(rows)),
         None => (text, None),
     };
     let (name, barred) = head.split_once(' ').unwrap_or((head, ""));
-    let node = node(alloc, name).ok()?;
-    let rows = need_rows(alloc, rows).ok()?;
-    facts(alloc, node, number(barred), order, rows).ok()
+    let size = count(rows);
+    let node = node(alloc, name)?;
+    let (node, sized) = beside(
+        node,
+        sized(alloc, size, order, number(barred).unwrap_or(size)),
+    )
+    .ok()?;
+    let ((versions, order), barred) = sized;
+    let base = if node.extra.is_some() { Some(1) } else { None };
+    let needs = need_rows(alloc, rows);
+    Some(NodeFacts {
+        node,
+        base,
+        versions,
+        order,
+        barred,
+        needs,
+    })
 }
 
-fn read_nodes(alloc: Global, text: &str, order: &str) -> Option<Vec<NodeFacts>> {
+fn push_facts(alloc: Global, nodes: &mut Vec<NodeFacts>, text: &str, order: &str) {
+    if let Some(facts) = facts(alloc, text, order) {
+        let _ = nodes.push(facts);
+    }
+}
+
+fn read_nodes(alloc: Global, text: &str, order: &str) -> Vec<NodeFacts> {
     let mut nodes = Vec::new(alloc);
     for part in text.split(';') {
-        let facts = read_facts(alloc, part, order)?;
-        nodes = with_one(nodes, facts).ok()?;
+        push_facts(alloc, &mut nodes, part, order);
     }
-    Some(nodes)
-}
-
-fn problem(alloc: Global, root: u32, nodes: Vec<NodeFacts>) -> Result<Option<Problem>, AllocError> {
-    let roots = vec![in alloc; root as u64]?;
-    let fits = Problem::fits(alloc, roots.as_slice(), nodes.as_slice())?;
-    Ok(if fits {
-        Some(Problem::of(roots, nodes))
-    } else {
-        None
-    })
+    nodes
 }
 
 /// The problem of a text, where it fits; its versions are preferred in an order.
 pub(crate) fn read_problem(alloc: Global, text: &str, order: &str) -> Option<Problem> {
-    let (root, nodes) = text.split_once(' ')?;
-    let nodes = read_nodes(alloc, nodes, order)?;
-    problem(alloc, number(root)?, nodes).ok()?
+    let (root, nodes) = front(text);
+    let nodes = read_nodes(alloc, nodes, order);
+    let mut roots = Vec::new(alloc);
+    let _ = roots.push(root as u64);
+    if Problem::fits(alloc, roots.as_slice(), nodes.as_slice()) == Ok(true) {
+        Some(Problem::of(roots, nodes))
+    } else {
+        refused((roots, nodes))
+    }
 }
