@@ -95,20 +95,20 @@ fn tell_conflict(
     }
 }
 
-fn told(alloc: Global, problem: &Problem, wish: Option<u32>) -> String {
+fn is_told(alloc: Global, problem: &Problem, wish: Option<u32>, want: &str) -> bool {
     let mut told = String::new(alloc);
     if let Ok(trail) = Trail::begin(alloc, problem) {
         let mut trail = trail;
         let _ = tell_conflict(alloc, problem, &mut trail, wish, &mut told);
     }
-    told
+    told.as_str() == want
 }
 
 fn is_row(alloc: Global, line: &str) -> bool {
     let (shape, want) = line.split_once(": ").unwrap_or((line, ""));
     let wish = if shape == "crossed" { Some(1) } else { None };
     match problem_of(alloc, shape, "newest") {
-        Some(problem) => told(alloc, &problem, wish).as_str() == want,
+        Some(problem) => is_told(alloc, &problem, wish, want),
         None => false,
     }
 }

@@ -7,6 +7,7 @@
 //! What finds no memory is left out.
 ghost use Rattle.std.specs.Prelude.{◌<◌, All};
 
+use crate::told::cells;
 use std::alloc::{AllocError, Global};
 use ul_base::owned::{beside, refused};
 use ul_base::{Name, Node};
@@ -29,48 +30,51 @@ fn set(alloc: Global, size: u32, low: u32, high: u32) -> Result<Ordinals, AllocE
 
 // The first word of a text as a number, or 0, and what comes after the blank behind it.
 fn front(text: &str) -> (u32, &str) {
-    let (word, rest) = text.split_once(' ').unwrap_or((text, ""));
+    let (word, rest) = cells(text, ' ');
     (word.parse::<u32>().unwrap_or(0), rest)
 }
 
-fn push_need(alloc: Global, needs: &mut Vec<Need>, text: &str) {
+// Pushes what was made.
+fn push_made<T: Drop>(row: &mut Vec<T>, made: Option<T>) {
+    if let Some(item) = made {
+        let _ = row.push(item);
+    }
+}
+
+fn need(alloc: Global, text: &str) -> Option<Need> {
     let (node, rest) = front(text);
     let (size, rest) = front(rest);
     let (low, rest) = front(rest);
     let (high, _) = front(rest);
-    if let Ok(permitted) = set(alloc, size, low, high) {
-        let node = node as u64;
-        let _ = needs.push(Need { node, permitted });
-    }
+    let permitted = set(alloc, size, low, high).ok()?;
+    let node = node as u64;
+    Some(Need { node, permitted })
 }
 
 fn need_row(alloc: Global, text: &str) -> NeedRow {
     let mut needs = Vec::new(alloc);
     for part in text.split(',') {
         if !part.is_empty() {
-            push_need(alloc, &mut needs, part);
+            push_made(&mut needs, need(alloc, part));
         }
     }
     NeedRow::of(needs)
 }
 
-// The rows of a text between bars.
-fn need_rows(alloc: Global, text: Option<&str>) -> NeedRows {
+// The rows of a node's text, each behind a bar.
+fn need_rows(alloc: Global, text: &str) -> NeedRows {
     let mut rows = Vec::new(alloc);
-    if let Some(text) = text {
-        for part in text.split('|') {
+    if let Some((_, rest)) = text.split_once('|') {
+        for part in rest.split('|') {
             let _ = rows.push(need_row(alloc, part));
         }
     }
     NeedRows::of(rows)
 }
 
-// How many rows a text has.
-fn count(text: Option<&str>) -> u32 {
-    match text {
-        Some(text) => text.split('|').count().min(100000) as u32,
-        None => 0,
-    }
+// How many rows a node's text has.
+fn count(text: &str) -> u32 {
+    text.split('|').count().saturating_sub(1).min(100000) as u32
 }
 
 // The version that comes in an order after `k` others: the newest first, the oldest, or the one of this number and then
@@ -112,7 +116,7 @@ fn versions(alloc: Global, size: u32) -> Result<Versions, AllocError> {
 
 // A node, `NAME` or `NAME/EXTRA`.
 fn node(alloc: Global, text: &str) -> Option<Node> {
-    let (name, extra) = text.split_once('/').unwrap_or((text, ""));
+    let (name, extra) = cells(text, '/');
     let name = Name::read(alloc, name).ok()?;
     let extra = Name::read(alloc, extra).ok();
     Some(Node { name, extra })
@@ -130,21 +134,15 @@ fn sized(
 }
 
 fn facts(alloc: Global, text: &str, order: &str) -> Option<NodeFacts> {
-    let (head, rows) = match text.split_once('|') {
-        Some((head, rows)) => (head, Some(rows)),
-        None => (text, None),
-    };
-    let (name, barred) = head.split_once(' ').unwrap_or((head, ""));
-    let size = count(rows);
+    let (head, _) = cells(text, '|');
+    let (name, barred) = cells(head, ' ');
+    let size = count(text);
+    let barred = number(barred).unwrap_or(size);
     let node = node(alloc, name)?;
-    let (node, sized) = beside(
-        node,
-        sized(alloc, size, order, number(barred).unwrap_or(size)),
-    )
-    .ok()?;
+    let (node, sized) = beside(node, sized(alloc, size, order, barred)).ok()?;
     let ((versions, order), barred) = sized;
     let base = if node.extra.is_some() { Some(1) } else { None };
-    let needs = need_rows(alloc, rows);
+    let needs = need_rows(alloc, text);
     Some(NodeFacts {
         node,
         base,
@@ -155,16 +153,10 @@ fn facts(alloc: Global, text: &str, order: &str) -> Option<NodeFacts> {
     })
 }
 
-fn push_facts(alloc: Global, nodes: &mut Vec<NodeFacts>, text: &str, order: &str) {
-    if let Some(facts) = facts(alloc, text, order) {
-        let _ = nodes.push(facts);
-    }
-}
-
 fn read_nodes(alloc: Global, text: &str, order: &str) -> Vec<NodeFacts> {
     let mut nodes = Vec::new(alloc);
     for part in text.split(';') {
-        push_facts(alloc, &mut nodes, part, order);
+        push_made(&mut nodes, facts(alloc, part, order));
     }
     nodes
 }

@@ -1,7 +1,7 @@
 //! The problems that the tests are about. A node's versions are written 1, 2 and so on, and `a 2 (c>=2)` is version 2
 //! of a, which needs c.
 use crate::problems::read_problem;
-use crate::told::put;
+use crate::told::{cells, put};
 use std::alloc::Global;
 use std::fmt::Write;
 use ul_problem::Problem;
@@ -100,7 +100,7 @@ fn pins(alloc: Global) -> String {
 // The row of a name, if there is one.
 fn row_of(shape: &str) -> Option<&'static str> {
     for row in SHAPES.split('\n') {
-        let (name, text) = row.split_once(' ').unwrap_or((row, ""));
+        let (name, text) = cells(row, ' ');
         if name == shape {
             return Some(text);
         }

@@ -1,6 +1,6 @@
 //! The solver on problems.
 use crate::shapes::problem_of;
-use crate::told::put;
+use crate::told::{cells, put};
 use std::alloc::Global;
 use ul_derivation::accepts;
 use ul_problem::Problem;
@@ -78,8 +78,8 @@ fn is_answer(alloc: Global, problem: &Problem, want: &str) -> bool {
 }
 
 fn is_row(alloc: Global, line: &str) -> bool {
-    let (order, rest) = line.split_once(' ').unwrap_or((line, ""));
-    let (shape, want) = rest.split_once(' ').unwrap_or((rest, ""));
+    let (order, rest) = cells(line, ' ');
+    let (shape, want) = cells(rest, ' ');
     match problem_of(alloc, shape, order) {
         Some(problem) => is_answer(alloc, &problem, want),
         None => false,

@@ -4,7 +4,7 @@ ghost use Rattle.ul_trail.specs.Propagation.{IsTrailOf};
 
 use crate::runs::run;
 use crate::shapes::problem_of;
-use crate::told::put;
+use crate::told::{cells, put};
 use std::alloc::{AllocError, Global};
 use ul_problem::{Problem, Step, Term};
 use ul_trail::{Fact, Progress, Trail};
@@ -164,20 +164,20 @@ fn tell(alloc: Global, problem: &Problem, trail: &mut Trail, word: &str, told: &
     };
 }
 
-fn told(alloc: Global, problem: &Problem, word: &str) -> String {
+fn is_told(alloc: Global, problem: &Problem, word: &str, want: &str) -> bool {
     let mut told = String::new(alloc);
     if let Ok(trail) = Trail::begin(alloc, problem) {
         let mut trail = trail;
         tell(alloc, problem, &mut trail, word, &mut told);
     }
-    told
+    told.as_str() == want
 }
 
 fn is_row(alloc: Global, line: &str) -> bool {
     let (case, want) = line.split_once(": ").unwrap_or((line, ""));
-    let (shape, word) = case.split_once(' ').unwrap_or((case, ""));
+    let (shape, word) = cells(case, ' ');
     match problem_of(alloc, shape, "newest") {
-        Some(problem) => told(alloc, &problem, word).as_str() == want,
+        Some(problem) => is_told(alloc, &problem, word, want),
         None => false,
     }
 }
