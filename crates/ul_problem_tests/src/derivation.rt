@@ -1,7 +1,8 @@
 //! Derivations over small problems, and large ones.
 
-use crate::texts::{number, problem_of, set_of, term};
+use crate::texts::{number, problem_of, push_made, set_of, term};
 use std::alloc::{AllocError, Global};
+use ul_base::owned::beside;
 use ul_derivation::{AcceptFault, accepts};
 use ul_problem::{Derivation, Problem, Step, Term, Terms};
 use ul_test_rows::{cells, letter, put, put_number};
@@ -67,17 +68,11 @@ const ROWS: &str = "needs 0 cut 1 2 1,in 0 1 0 1\n\
     wide 1 need 0 1 0 1>0 2 0 0\n\
     long 0 ";
 
-fn push_term(alloc: Global, terms: &mut Vec<Term>, text: &str) {
-    if let Ok(term) = term(alloc, text) {
-        let _ = terms.push(term);
-    }
-}
-
 fn terms(alloc: Global, text: &str) -> Terms {
     let mut terms = Vec::new(alloc);
     for part in text.split(',') {
         if !part.is_empty() {
-            push_term(alloc, &mut terms, part);
+            push_made(&mut terms, term(alloc, part).ok());
         }
     }
     Terms::of(terms)
@@ -99,8 +94,7 @@ fn need(alloc: Global, text: &str) -> Result<Step, AllocError> {
     let (from, to) = cells(text, '>');
     let (node, from) = cells(from, ' ');
     let (target, to) = cells(to, ' ');
-    let versions = set_of(alloc, from)?;
-    let permitted = set_of(alloc, to)?;
+    let (versions, permitted) = beside(set_of(alloc, from)?, set_of(alloc, to))?;
     Ok(Step::Need {
         node: number(node) as u64,
         versions,
@@ -131,11 +125,8 @@ fn step(alloc: Global, text: &str) -> Result<Step, AllocError> {
 
 // Pushes a step of a text, if there is one.
 fn push_step(alloc: Global, steps: &mut Vec<Step>, text: &str) {
-    if text.is_empty() {
-        return;
-    }
-    if let Ok(step) = step(alloc, text) {
-        let _ = steps.push(step);
+    if !text.is_empty() {
+        push_made(steps, step(alloc, text).ok());
     }
 }
 

@@ -3,6 +3,7 @@ ghost use Rattle.std.specs.Prelude.{◌<◌};
 
 use crate::texts::{node, number, problem_of, read_nodes, term};
 use std::alloc::{AllocError, Global};
+use ul_base::owned::made_from;
 use ul_problem::{Incompat, NodeFacts, Problem, Relation, Step, Term, same_terms};
 use ul_ranges::Ordinals;
 use ul_test_rows::{cells, letter, put, put_number};
@@ -162,8 +163,8 @@ fn said(alloc: Global, problem: &Problem) -> Result<Incompat, AllocError> {
     }
     let versions = Ordinals::all(alloc, problem.size_at(0))?;
     let step = Step::Python { node: 0, versions };
-    let copy = step.copy(alloc)?;
-    copy.says(alloc, problem)
+    let copy = made_from(step.copy(alloc), step)?;
+    made_from(copy.says(alloc, problem), copy)
 }
 
 fn is_copied(alloc: Global, said: &Incompat) -> bool {

@@ -19,6 +19,13 @@ pub(crate) fn number(word: &str) -> u32 {
     word.parse::<u32>().unwrap_or(0)
 }
 
+/// Pushes what was made.
+pub(crate) fn push_made<T: Drop>(row: &mut Vec<T>, made: Option<T>) {
+    if let Some(item) = made {
+        let _ = row.push(item);
+    }
+}
+
 // The numbers from `low` to before `high`, below a size.
 fn set(alloc: Global, size: u32, low: u32, high: u32) -> Result<Ordinals, AllocError> {
     let mut members = Vec::new(alloc);
@@ -81,19 +88,18 @@ fn places(alloc: Global, size: u32) -> Result<Places, AllocError> {
     Places::of(alloc, places)
 }
 
-fn push_need(alloc: Global, needs: &mut Vec<Need>, text: &str) {
+fn need(alloc: Global, text: &str) -> Option<Need> {
     let (node, rest) = cells(text, ' ');
+    let permitted = set_of(alloc, rest).ok()?;
     let node = number(node) as u64;
-    if let Ok(permitted) = set_of(alloc, rest) {
-        let _ = needs.push(Need { node, permitted });
-    }
+    Some(Need { node, permitted })
 }
 
 fn need_row(alloc: Global, text: &str) -> NeedRow {
     let mut needs = Vec::new(alloc);
     for part in text.split(',') {
         if !part.is_empty() {
-            push_need(alloc, &mut needs, part);
+            push_made(&mut needs, need(alloc, part));
         }
     }
     NeedRow::of(needs)
@@ -118,9 +124,9 @@ fn facts(alloc: Global, text: &str) -> Option<NodeFacts> {
     let (head, needs) = cells(text, ',');
     let (name, size) = cells(head, ' ');
     let size = number(size);
-    let (lists, barred) = sized(alloc, size).ok()?;
-    let (versions, order) = lists;
     let node = node(alloc, name)?;
+    let (node, sized) = beside(node, sized(alloc, size)).ok()?;
+    let ((versions, order), barred) = sized;
     let base = if node.extra.is_some() { Some(1) } else { None };
     let needs = need_rows(alloc, needs, size);
     Some(NodeFacts {
@@ -133,17 +139,11 @@ fn facts(alloc: Global, text: &str) -> Option<NodeFacts> {
     })
 }
 
-fn push_facts(alloc: Global, nodes: &mut Vec<NodeFacts>, text: &str) {
-    if let Some(facts) = facts(alloc, text) {
-        let _ = nodes.push(facts);
-    }
-}
-
 /// The nodes of a text.
 pub(crate) fn read_nodes(alloc: Global, text: &str) -> Vec<NodeFacts> {
     let mut nodes = Vec::new(alloc);
     for part in text.split(';') {
-        push_facts(alloc, &mut nodes, part);
+        push_made(&mut nodes, facts(alloc, part));
     }
     nodes
 }
