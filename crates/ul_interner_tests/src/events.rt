@@ -4,9 +4,9 @@ ghost use Rattle.std.specs.Prelude.{◌≡◌, ◌≤◌, IfOk};
 use crate::labels::{Number, Word};
 use std::alloc::{AllocError, Global};
 use ul_core::{CoreState, Event, EventFault, Label, Plant, hash_step, is_same, structural_hash};
-use ul_test_rows::cells;
+use ul_test_rows::{cells, letter};
 
-// What is tried, a case a row. The first word says what the others are:
+// What is tried, a case a row. The first word, by its letter, says what the others are:
 //
 // hash LABEL|LEAVES|HASH: a tree and its structural hash, as another program computes it.
 // same LABEL|LEAVES|TOLD: whether a tree is `p` with the leaves `one` and `two`.
@@ -14,7 +14,7 @@ use ul_test_rows::cells;
 // copy: whether the copy of a label is the same.
 // answers, runs: whether the events of the script are answered, and are run, on 1 to 17 shards.
 // levels: hashing, comparing and dropping recur once for each of 2,000 levels.
-// leaves: whether each of 300 leaves is taken once.
+// many: whether each of 300 leaves is taken once.
 const ROWS: &str = "hash ||0\n\
     hash seven..||7\n\
     hash p|part-one|6364136223846793014\n\
@@ -34,13 +34,13 @@ const ROWS: &str = "hash ||0\n\
     answers\n\
     runs\n\
     levels\n\
-    leaves";
+    many";
 
-// A row with one item more, if that was made.
-fn with_made<T: Drop>(row: Vec<T>, made: Result<T, AllocError>) -> Result<Vec<T>, AllocError> {
-    let (mut row, item) = (row, made?);
-    row.push(item)?;
-    Ok(row)
+// Pushes what was made; what finds no memory is left out.
+fn push_made<T: Drop>(row: &mut Vec<T>, made: Result<T, AllocError>) {
+    if let Ok(item) = made {
+        let _ = row.push(item);
+    }
 }
 
 fn leaf(alloc: Global, text: &str) -> Result<Plant<Word>, AllocError> {
@@ -51,18 +51,18 @@ fn leaf(alloc: Global, text: &str) -> Result<Plant<Word>, AllocError> {
     })
 }
 
-fn leaves_of(alloc: Global, leaves: &str) -> Result<Vec<Plant<Word>>, AllocError> {
+fn leaves_of(alloc: Global, leaves: &str) -> Vec<Plant<Word>> {
     let mut parts = Vec::new(alloc);
     for text in leaves.split_whitespace() {
-        parts = with_made(parts, leaf(alloc, text))?;
+        push_made(&mut parts, leaf(alloc, text));
     }
-    Ok(parts)
+    parts
 }
 
 // The tree of a label and leaves, which the text lists with blanks between them.
 fn tree(alloc: Global, label: &str, leaves: &str) -> Result<Plant<Word>, AllocError> {
     let label = Word::new(alloc, label)?;
-    let parts = leaves_of(alloc, leaves)?;
+    let parts = leaves_of(alloc, leaves);
     Ok(Plant { label, parts })
 }
 
@@ -71,19 +71,30 @@ fn number(word: &str) -> u64 {
     word.parse::<u64>().unwrap_or(1)
 }
 
-fn is_hashed(alloc: Global, label: &str, rest: &str) -> Result<bool, AllocError> {
+fn is_hashed(alloc: Global, label: &str, rest: &str) -> bool {
     let (leaves, want) = cells(rest, '|');
     let want = number(want);
-    let plant = tree(alloc, label, leaves)?;
-    Ok(structural_hash(&plant) == want)
+    match tree(alloc, label, leaves) {
+        Ok(plant) => structural_hash(&plant) == want,
+        Err(_) => false,
+    }
 }
 
-fn is_compared(alloc: Global, label: &str, rest: &str) -> Result<bool, AllocError> {
+// Whether a tree is, or isn't, `p` with the leaves `one` and `two`.
+fn is_first(alloc: Global, plant: &Plant<Word>, want: bool) -> bool {
+    match tree(alloc, "p", "one two") {
+        Ok(first) => is_same(&first, plant) == want,
+        Err(_) => false,
+    }
+}
+
+fn is_compared(alloc: Global, label: &str, rest: &str) -> bool {
     let (leaves, want) = cells(rest, '|');
     let want = want == "same";
-    let plant = tree(alloc, label, leaves)?;
-    let first = tree(alloc, "p", "one two")?;
-    Ok(is_same(&first, &plant) == want)
+    match tree(alloc, label, leaves) {
+        Ok(plant) => is_first(alloc, &plant, want),
+        Err(_) => false,
+    }
 }
 
 fn is_next(hash: &str, rest: &str) -> bool {
@@ -91,10 +102,18 @@ fn is_next(hash: &str, rest: &str) -> bool {
     hash_step(number(hash), number(part)) == number(want)
 }
 
-fn is_copied(alloc: Global) -> Result<bool, AllocError> {
-    let label = Word::new(alloc, "label")?;
-    let copied = label.copy(alloc)?;
-    Ok(copied.same(&label))
+fn is_own_copy(alloc: Global, label: &Word) -> bool {
+    match label.copy(alloc) {
+        Ok(copied) => copied.same(label),
+        Err(_) => false,
+    }
+}
+
+fn is_copied(alloc: Global) -> bool {
+    match Word::new(alloc, "label") {
+        Ok(label) => is_own_copy(alloc, &label),
+        Err(_) => false,
+    }
 }
 
 // The events in turn, and what is answered on any number of shards: a tree `LABEL LEAVES` is published in its own shard,
@@ -138,46 +157,45 @@ fn told(answer: Result<Option<u64>, EventFault>) -> &'static str {
     }
 }
 
-fn is_answered(
-    alloc: Global,
-    state: &mut CoreState<Word>,
-    shards: u8,
-    line: &str,
-) -> Result<bool, AllocError>
+fn is_answered(alloc: Global, state: &mut CoreState<Word>, shards: u8, line: &str) -> bool
     requires { 1 ≤ shards }
 {
     let (text, want) = cells(line, '|');
-    let event = event(alloc, shards, text)?;
-    Ok(told(state.step(alloc, event)) == want)
+    match event(alloc, shards, text) {
+        Ok(event) => told(state.step(alloc, event)) == want,
+        Err(_) => false,
+    }
 }
 
 fn script_holds(alloc: Global, state: &mut CoreState<Word>, shards: u8) -> bool
     requires { 1 ≤ shards }
 {
     for line in SCRIPT.split('\n') {
-        if is_answered(alloc, state, shards, line) != Ok(true) {
+        if !is_answered(alloc, state, shards, line) {
             return false;
         }
     }
     true
 }
 
-fn are_answered(alloc: Global, shards: u8) -> Result<bool, AllocError>
+fn are_answered(alloc: Global, shards: u8) -> bool
     requires { 1 ≤ shards }
 {
-    let mut state = CoreState::begin(alloc, shards)?;
-    Ok(script_holds(alloc, &mut state, shards))
+    match CoreState::begin(alloc, shards) {
+        Ok(mut state) => script_holds(alloc, &mut state, shards),
+        Err(_) => false,
+    }
 }
 
-fn events(alloc: Global, shards: u8) -> Result<Vec<Event<Word>>, AllocError>
+fn events(alloc: Global, shards: u8) -> Vec<Event<Word>>
     requires { 1 ≤ shards }
 {
     let mut events = Vec::new(alloc);
     for line in SCRIPT.split('\n') {
         let (text, _) = cells(line, '|');
-        events = with_made(events, event(alloc, shards, text))?;
+        push_made(&mut events, event(alloc, shards, text));
     }
-    Ok(events)
+    events
 }
 
 fn is_taken(alloc: Global, state: &mut CoreState<Word>, events: Vec<Event<Word>>) -> bool {
@@ -185,26 +203,27 @@ fn is_taken(alloc: Global, state: &mut CoreState<Word>, events: Vec<Event<Word>>
 }
 
 // Whether the script takes six of its events, and the next number drawn is 2.
-fn is_run(alloc: Global, shards: u8) -> Result<bool, AllocError>
+fn is_run(alloc: Global, shards: u8) -> bool
     requires { 1 ≤ shards }
 {
-    let mut state = CoreState::begin(alloc, shards)?;
-    let events = events(alloc, shards)?;
-    Ok(is_taken(alloc, &mut state, events))
+    match CoreState::begin(alloc, shards) {
+        Ok(mut state) => is_taken(alloc, &mut state, events(alloc, shards)),
+        Err(_) => false,
+    }
 }
 
-fn is_script(alloc: Global, kind: &str) -> Result<bool, AllocError> {
+fn is_script(alloc: Global, runs: bool) -> bool {
     for shards in 1..18 {
-        let holds = if kind == "runs" {
-            is_run(alloc, shards)?
+        let holds = if runs {
+            is_run(alloc, shards)
         } else {
-            are_answered(alloc, shards)?
+            are_answered(alloc, shards)
         };
         if !holds {
-            return Ok(false);
+            return false;
         }
     }
-    Ok(true)
+    true
 }
 
 fn number_leaf(alloc: Global, number: u64) -> Plant<Number> {
@@ -232,61 +251,67 @@ fn chain(alloc: Global, levels: u64) -> Result<Plant<Number>, AllocError> {
     Ok(plant)
 }
 
-fn is_chain(alloc: Global, plant: &Plant<Number>, levels: u64) -> Result<bool, AllocError> {
-    let chain = chain(alloc, levels)?;
-    Ok(is_same(plant, &chain))
+// Whether a tree is, or isn't, the chain of so many levels.
+fn is_chain(alloc: Global, plant: &Plant<Number>, levels: u64, want: bool) -> bool {
+    match chain(alloc, levels) {
+        Ok(chain) => is_same(plant, &chain) == want,
+        Err(_) => false,
+    }
 }
 
-fn levels_are_no_depth(alloc: Global) -> Result<bool, AllocError> {
-    let deep = chain(alloc, 2_000)?;
-    let again = is_chain(alloc, &deep, 2_000)?;
-    let less = is_chain(alloc, &deep, 1_999)?;
-    Ok(structural_hash(&deep) == 580571504687712903 && again && !less)
+fn levels_are_no_depth(alloc: Global) -> bool {
+    match chain(alloc, 2_000) {
+        Ok(deep) => {
+            structural_hash(&deep) == 580571504687712903
+                && is_chain(alloc, &deep, 2_000, true)
+                && is_chain(alloc, &deep, 1_999, false)
+        }
+        Err(_) => false,
+    }
 }
 
 // Publishes so many leaves, each in its own shard.
-fn leaves(alloc: Global, shards: u8, count: u64) -> Result<Vec<Event<Number>>, AllocError>
+fn leaves(alloc: Global, shards: u8, count: u64) -> Vec<Event<Number>>
     requires { 1 ≤ shards }
 {
     let mut events = Vec::new(alloc);
     for number in 0..count {
         let plant = number_leaf(alloc, number);
         let shard = (structural_hash(&plant) % shards as u64) as u8;
-        events.push(Event::Publish { shard, plant })?;
+        let _ = events.push(Event::Publish { shard, plant });
     }
-    Ok(events)
+    events
 }
 
-fn taken(alloc: Global, state: &mut CoreState<Number>, count: u64) -> Result<u64, AllocError> {
-    let events = leaves(alloc, 16, count)?;
-    let taken = state.run(alloc, events)?;
-    Ok(taken)
+fn are_taken(alloc: Global, state: &mut CoreState<Number>) -> bool {
+    state.run(alloc, leaves(alloc, 16, 300)) == Ok(300)
+        && state.run(alloc, leaves(alloc, 16, 300)) == Ok(0)
 }
 
-fn each_leaf_is_taken_once(alloc: Global) -> Result<bool, AllocError> {
-    let mut state = CoreState::begin(alloc, 16)?;
-    let first = taken(alloc, &mut state, 300)?;
-    let second = taken(alloc, &mut state, 300)?;
-    Ok(first == 300 && second == 0)
+fn each_leaf_is_taken_once(alloc: Global) -> bool {
+    match CoreState::begin(alloc, 16) {
+        Ok(mut state) => are_taken(alloc, &mut state),
+        Err(_) => false,
+    }
 }
 
-fn is_row(alloc: Global, line: &str) -> Result<bool, AllocError> {
-    let (kind, row) = line.split_once(' ').unwrap_or((line, ""));
+fn is_row(alloc: Global, line: &str) -> bool {
+    let (kind, row) = cells(line, ' ');
     let (first, rest) = cells(row, '|');
-    match kind {
-        "hash" => is_hashed(alloc, first, rest),
-        "same" => is_compared(alloc, first, rest),
-        "next" => Ok(is_next(first, rest)),
-        "copy" => is_copied(alloc),
-        "levels" => levels_are_no_depth(alloc),
-        "leaves" => each_leaf_is_taken_once(alloc),
-        _ => is_script(alloc, kind),
+    match letter(kind) {
+        b'h' => is_hashed(alloc, first, rest),
+        b's' => is_compared(alloc, first, rest),
+        b'n' => is_next(first, rest),
+        b'c' => is_copied(alloc),
+        b'l' => levels_are_no_depth(alloc),
+        b'm' => each_leaf_is_taken_once(alloc),
+        kind => is_script(alloc, kind == b'r'),
     }
 }
 
 #[test]
 fn trees_and_events_of_the_core(rt: HostRuntime) {
     for line in ROWS.split('\n') {
-        assert!(rt; is_row(rt.alloc(), line) == Ok(true), "{line}");
+        assert!(rt; is_row(rt.alloc(), line), "{line}");
     }
 }
