@@ -6,5 +6,6 @@ mod ExtraLists
 mod GroupExamples
 mod GroupLists
 mod GroupMaps
+mod MadeLists
 mod NameLists
 mod TakenLists
