@@ -1,11 +1,13 @@
 mod AdjustedExamples
 mod AdjustedLists
 mod AdjustedPackages
+mod ExtendedPackages
 mod ExtendedProjects
 mod ExtraLists
 mod GroupExamples
 mod GroupLists
 mod GroupMaps
+mod LeftLists
 mod MadeLists
 mod NameLists
 mod TakenLists
