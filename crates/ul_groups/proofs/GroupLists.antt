@@ -1,5 +1,5 @@
 -- Entries that were added before those that are left, and lists of groups that were made before those of others.
-use Rattle.std.proofs.Common.{◌≡◌, ◌+◌, ◌<◌, ◌≤◌, ◌++◌, ◌∙◌, ℕ, suc, List, [], ◌∷◌, length, drop, get_or, refl, ap, sym, subst, append_assoc, append-nil, add-one, drop-cons}
+use Rattle.std.proofs.Common.{◌≡◌, ◌+◌, ◌-◌, ◌<◌, ◌≤◌, ◌++◌, ◌∙◌, ℕ, zero, suc, List, [], ◌∷◌, length, drop, get_or, refl, ap, sym, subst, append_assoc, append-nil, add-one, arith, drop-cons}
 use Rattle.std.proofs.Math.ListN.{drop_of_length-le}
 use Rattle.std.specs.Prelude.{Result, Ok, Err}
 use Rattle.ul_requirement.specs.Fields.{RequirementFields}
@@ -9,7 +9,7 @@ use Rattle.ul_project.specs.declared.fault.ProjectFault.{ProjectFault}
 use Rattle.ul_project.specs.declared.fault.ProjectFault.TheVariants.{NotToml, Shape, Requirement, Unsupported, EmptyRegion, NoMemory}
 use Rattle.ul_project.specs.declared.group.GroupEntry.{GroupEntry}
 use Rattle.ul_groups.specs.Answers.{Gives}
-use Rattle.ul_groups.specs.Expanded.{Expand, Expanding, ExtraLists, GroupByName, ListFields, Stop, extra_list, group_lists, refused, with_entries, with_entry}
+use Rattle.ul_groups.specs.Expanded.{Expand, Expanding, ExtraLists, GroupByName, ListFields, Stop, extra_list, group_lists, refused, with_entries, with_entry, with_group}
 
 -- what stops a part stops the whole
 pub stops : {X Y X' Y' : Type 0} (view : X → Y) (view' : X' → Y') (fault : ProjectFault) (part : Expanding Y) (whole : Expanding Y')
@@ -45,6 +45,15 @@ pub entries_stop : (groups : GroupByName) (expand : Expand) (group : List ℕ) (
 entries_stop groups expand group i es n e list stop lt is h =
     ap (λ (rest : List GroupEntry). with_entries groups expand group i rest list) (left es n e lt is)
     ∙ entries_ahead groups expand group i e (drop (n + 1) es) list (Err stop) h
+
+-- a group's entries are added through one level less
+pub group_entries : (depth : ℕ) (groups : GroupByName) (g : GroupFields) (list : ListFields) → (depth ≡ 0 → ⊥)
+    → with_group depth groups g list ≡ with_entries groups (with_group (depth - 1) groups) g.name 0 g.entries list
+unfolding with_group
+group_entries zero groups g list some = absurd (some refl)
+group_entries (suc depth) groups g list some =
+    let less : depth ≡ suc depth - 1 = omega arith in
+    ap (λ (d : ℕ). with_entries groups (with_group d groups) g.name 0 g.entries list) less
 
 -- no entry is left
 pub entries_end : (groups : GroupByName) (expand : Expand) (group : List ℕ) (i : ℕ) (list : ListFields) → with_entries groups expand group i [] list ≡ Ok list
