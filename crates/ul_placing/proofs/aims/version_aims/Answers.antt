@@ -2,7 +2,7 @@ use Rattle.std.proofs.Common.{◌≡◌, ◌<◌, ◌≤◌, ◌++◌, List, len
 use Rattle.ul_problem.specs.declared.problem.Need.{Need}
 use Rattle.ul_region.specs.Asked.{region_asked}
 use Rattle.ul_region.specs.declared.rows.Asked.{Asked}
-use Rattle.ul_placing.specs.Aims.{IsFirmIn, AreFirmNeeds}
+use Rattle.ul_placing.specs.Aims.{IsFirmIn}
 use Rattle.ul_placing.proofs.Aiming.{collected_more, collected_same, collected_all, none_so}
 use Rattle.ul_placing.proofs.aims.version_aims.Goals as goal
 
