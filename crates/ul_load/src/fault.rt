@@ -4,7 +4,7 @@ use std::alloc::{AllocError, AllocFailed};
 use ul_index::IndexFault;
 
 /// Why there is no catalog: the first cause in the order in which documents are read.
-#[derive(Debug, Drop)]
+#[derive(Drop)]
 pub enum LoadFault {
     /// The read of the file at this path failed.
     Read(String),
