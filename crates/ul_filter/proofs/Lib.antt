@@ -5,6 +5,7 @@ pub mod WalkSteps
 pub mod Strict
 pub mod Apart
 pub mod Ends
+pub mod Added
 pub mod PickFacts
 pub mod Agree
 pub mod Machines
