@@ -6,6 +6,7 @@ pub mod Strict
 pub mod Apart
 pub mod Ends
 pub mod Added
+pub mod TreeAtoms
 pub mod PickFacts
 pub mod Agree
 pub mod Machines
