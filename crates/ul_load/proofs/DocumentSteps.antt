@@ -1,10 +1,13 @@
 -- One document, and what its definition says of it.
-use Rattle.std.proofs.Common.{◌≡◌, ℕ, List, Option, Some, None, IfSome, Result, Ok, Err, ap, ◌∙◌}
+use Rattle.std.proofs.Common.{◌≡◌, ℕ, List, Option, Some, None, IfSome, Result, Ok, Err, Vec, Global, cond, length, ap, ◌∙◌}
+use Rattle.std.specs.Option.{option_map}
+use Rattle.ul_base.specs.Files.{FileMap, Tells, content}
 use Rattle.ul_requirement.specs.Fields.{PackageFields}
 use Rattle.ul_index.specs.Documents.{DocumentFault}
 use Rattle.ul_load.specs.Faults.{Gives, fault_of}
-use Rattle.ul_load.specs.Loading.{Fault, Found, ◌>>=◌, document_answer}
+use Rattle.ul_load.specs.Loading.{Fault, Found, ◌>>=◌, document_answer, file_bytes, file_content, too_long}
 use Rattle.ul_load.specs.declared.fault.LoadFault.{LoadFault}
+use Rattle.ul_load.proofs.Limits.{is_past}
 
 -- a fact on an option, from another
 pub some_fault : {X : Type 0} (o : Option X) (P Q : X → Type 0) → ((p : X) → P p → Q p) → IfSome o P → IfSome o Q
@@ -29,3 +32,9 @@ step_gives view (Err e) d f a went h = some_fault (fault_of e) _ _ (λ x same. s
 pub document_read : (path : List ℕ) (r : Result PackageFields DocumentFault) (p : PackageFields) → document_answer path r ≡ Ok p → r ≡ Ok p
 document_read path (Ok q) p h = let same : q ≡ p = cc in ap Ok same
 document_read path (Err f) p h = cc
+
+-- a file that is read, or isn't there
+pub file_read : (m : FileMap) (path : List ℕ) (found : Option (Vec ℕ Global)) → Tells m path file_bytes (Ok found) → file_content path (content m path) ≡ Ok (option_map (λ v. v.items) found)
+file_read m path None h = ap (file_content path) h
+file_read m path (Some bytes) h =
+    ap (file_content path) h.0 ∙ ap (λ b. cond b (Err (too_long path)) (Ok (Some bytes.items))) (is_past file_bytes (length bytes.items) h.1)

@@ -1,8 +1,9 @@
-use Rattle.std.proofs.Common.{◌≡◌, ◌∙◌}
+use Rattle.std.proofs.Common.{◌≡◌, ◌∙◌, arith}
 use Rattle.std.proofs.lemmas.Result.{err_from_is_err_and}
 use Rattle.ul_base.specs.Files.{content}
 use Rattle.ul_load.specs.Loading.{file_content, document_path, package_at, package_from}
 use Rattle.ul_load.proofs.DocumentSteps.{step_gives, step_refuses}
+use Rattle.ul_load.proofs.FaultCauses.{no_failed_path, same_count}
 use Rattle.ul_load.proofs.documents.package_at.Goals as goal
 
 pub returns-in_err-found-clause-told : goal.returns-in_err-found-clause-told
@@ -21,3 +22,34 @@ returns-clause-told g c m e =
     let again : c.as_str-2.result.now ≡ path = c.as_str-2.ensures.value ∙ c.in_ok-path.ensures in
     step_gives (λ p. p) c.package_of.result (file_content path (content m path)) (package_from path c.args.name.now c.args.before) _
     (rw path_is at (c.in_ok-found.ensures.told m e)) (rw again at c.package_of.ensures.told)
+
+pub returns-in_err-path-clause-told : goal.returns-in_err-path-clause-told
+returns-in_err-path-clause-told g c m e =
+    let p = err_from_is_err_and c.from_residual.result c.from_residual.ensures.1 in
+    rw (p.1, p.2) tt
+
+pub returns-in_err-path-clause-cause : goal.returns-in_err-path-clause-cause
+returns-in_err-path-clause-cause g c =
+    let p = err_from_is_err_and c.from_residual.result c.from_residual.ensures.1 in
+    rw (p.1, p.2) (omega arith)
+
+pub returns-in_err-found-clause-same : goal.returns-in_err-found-clause-same
+returns-in_err-found-clause-same g c = c.in_err-found.ensures.same
+
+pub returns-in_err-found-clause-failed : goal.returns-in_err-found-clause-failed
+returns-in_err-found-clause-failed g c =
+    let p = err_from_is_err_and c.from_residual-in_err-found.result c.from_residual-in_err-found.ensures.1 in
+    let path_is : c.as_str.result.now ≡ document_path c.args.folder.now c.args.name.now = c.as_str.ensures.value ∙ c.in_ok-path.ensures in
+    rw (p.1, p.2) (rw path_is at c.in_err-found.ensures.failed)
+
+pub returns-clause-same : goal.returns-clause-same
+returns-clause-same g c = c.in_ok-found.ensures.same
+
+pub returns-clause-cause : goal.returns-clause-cause
+returns-clause-cause g c = same_count _ _ _ c.package_of.result c.in_ok-found.ensures.cause c.package_of.ensures.bytes
+
+pub returns-clause-failed : goal.returns-clause-failed
+returns-clause-failed g c = no_failed_path c.package_of.result _ c.package_of.ensures.bytes
+
+pub returns-clause-next : goal.returns-clause-next
+returns-clause-next g c = c.package_of.ensures.next

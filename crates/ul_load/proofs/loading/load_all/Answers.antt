@@ -1,8 +1,10 @@
-use Rattle.std.proofs.Common.{◌∙◌, map, refl, rules}
+use Rattle.std.proofs.Common.{◌∙◌, map, refl, rules, arith, Err}
 use Rattle.std.proofs.lemmas.Result.{err_from_is_err_and}
 use Rattle.ul_marker.specs.Views.{marker_view}
 use Rattle.ul_load.specs.Loading.{beginning_of}
 use Rattle.ul_load.specs.Views.{progress_view}
+use Rattle.ul_index.specs.Catalogs.{Packages}
+use Rattle.ul_load.proofs.FaultCauses.{cause_from, same_count}
 use Rattle.ul_load.proofs.Loads.{begin_refuses, follow_refuses, loaded_whole}
 use Rattle.ul_load.proofs.Turns.{loads_first, loads_on}
 use Rattle.ul_load.proofs.loading.load_all.Goals as goal
@@ -51,3 +53,44 @@ loop-turn-preserved g c = record {
 pub returns-then-not-has_next-clause-first : goal.returns-then-not-has_next-clause-first
 returns-then-not-has_next-clause-first g c =
     rw c.in_ok-catalog.ensures c.loop-turn.invariant.first
+
+pub returns-in_err-progress-clause-cause : goal.returns-in_err-progress-clause-cause
+returns-in_err-progress-clause-cause g c =
+    let p = err_from_is_err_and c.from_residual.result c.from_residual.ensures.1 in
+    rw (p.1, p.2) (same_count {T = Packages} _ _ _ (Err c.in_err-progress.field-0.0) refl c.in_err-progress.ensures.bytes)
+
+pub returns-in_err-catalog-clause-told : goal.returns-in_err-catalog-clause-told
+returns-in_err-catalog-clause-told g c m e =
+    let p = err_from_is_err_and c.from_residual-in_err-catalog.result c.from_residual-in_err-catalog.ensures.1 in
+    rw (p.1, p.2) (tt, tt)
+
+pub returns-in_err-catalog-clause-cause : goal.returns-in_err-catalog-clause-cause
+returns-in_err-catalog-clause-cause g c =
+    let p = err_from_is_err_and c.from_residual-in_err-catalog.result c.from_residual-in_err-catalog.ensures.1 in
+    rw (p.1, p.2) (omega (arith, c.loop-turn.invariant.faults))
+
+pub returns-then-not-has_next-clause-same : goal.returns-then-not-has_next-clause-same
+returns-then-not-has_next-clause-same g c = c.loop-turn.invariant.files
+
+pub returns-then-not-has_next-clause-cause : goal.returns-then-not-has_next-clause-cause
+returns-then-not-has_next-clause-cause g c = c.loop-turn.invariant.faults
+
+pub returns-in_err-follow-clause-same : goal.returns-in_err-follow-clause-same
+returns-in_err-follow-clause-same g c = c.in_err-follow.ensures.same ∙ c.loop-turn.invariant.files
+
+pub returns-in_err-follow-clause-cause : goal.returns-in_err-follow-clause-cause
+returns-in_err-follow-clause-cause g c =
+    let p = err_from_is_err_and c.from_residual-in_err-follow.result c.from_residual-in_err-follow.ensures.1 in
+    rw (p.1, p.2) (cause_from (Unit {0}) Packages _ _ _ _ c.in_err-follow.field-0.0 c.loop-turn.invariant.faults c.in_err-follow.ensures.cause)
+
+pub returns-clause-same : goal.returns-clause-same
+returns-clause-same g c = c.loop-turn.invariant.files
+
+pub returns-clause-told : goal.returns-clause-told
+returns-clause-told g c m e = (tt, tt)
+
+pub returns-clause-cause : goal.returns-clause-cause
+returns-clause-cause g c = omega (arith, c.loop-turn.invariant.faults)
+
+pub follow-requires-clause-kept : goal.follow-requires-clause-kept
+follow-requires-clause-kept g c = c.loop-turn.invariant.kept
