@@ -7,3 +7,4 @@ pub mod Picking
 pub mod Judging
 pub mod Forking
 pub mod Sharing
+pub mod Starting
