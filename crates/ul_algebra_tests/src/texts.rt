@@ -4,7 +4,7 @@ ghost use Rattle.ul_tree.specs.TreeFacts.{IsTree};
 ghost use Rattle.ul_interner.specs.Known.{Knows};
 ghost use Rattle.ul_algebra.specs.Answers.{IsDiagram};
 
-use std::alloc::Global;
+use std::alloc::{AllocError, Global};
 use std::sync::Wait;
 use std::test::Fail;
 use ul_algebra::{Algebra, Diagram};
@@ -15,7 +15,7 @@ use ul_tree::{Tree, of_marker};
 pub(crate) fn tree_of(alloc: Global, text: &str) -> Result<Tree, Fail>
     ensures { IfOk result IsTree }
 {
-    let marker = Marker::read(alloc, text)?;
+    let marker = Marker::read(alloc, text).ok().ok_or(AllocError)?;
     let tree = of_marker(alloc, &marker)?;
     Ok(tree)
 }

@@ -230,6 +230,6 @@ pub fn is_told_in<R: Wait, F: Files>(
     marker: &str,
     want: &str,
 ) -> Result<bool, Fail> {
-    let project = project(alloc, file.as_bytes())?;
+    let project = project(alloc, file.as_bytes()).ok().ok_or(AllocError)?;
     is_told_over(rt, alloc, &project, files, kept, marker, want)
 }

@@ -120,7 +120,7 @@ fn counts_in<R: Wait>(
     files: &mut Numbered,
     marker: &str,
 ) -> Result<(usize, usize), Fail> {
-    let project = project(alloc, FILE.as_bytes())?;
+    let project = project(alloc, FILE.as_bytes()).ok().ok_or(AllocError)?;
     let catalog = catalog_of(alloc, files, &project)?;
     let wish = wish_of(alloc, &project, "")?;
     let problem = problem_in(rt, alloc, &catalog, &wish, marker)?;
