@@ -4,7 +4,7 @@ use Rattle.ul_inputs.specs.Inputs.{Said, only, said_on}
 use Rattle.ul_inputs.specs.Refused.{Refused}
 use Rattle.ul_inputs.specs.Refusals.{Answers, IsRefusalFor, failed_path, refused_of}
 use Rattle.ul_inputs.specs.declared.refusal.Refusal.{Refusal}
-use Rattle.ul_inputs.specs.declared.refusal.Refusal.TheVariants.{NotBuilt, Malformed, Limit, ReadFault, NoMemory}
+use Rattle.ul_inputs.specs.declared.refusal.Refusal.TheVariants.{Malformed, Limit, ReadFault, NoMemory}
 
 -- a fact on what there is, from another
 some_from : {X : Type 0} (o : Option X) (P Q : X → Type 0) → ((x : X) → P x → Q x) → IfSome o P → IfSome o Q
@@ -34,7 +34,6 @@ some_same x y e = cc
 -- a refusal that says what is an answer
 pub refused_by : {T A : Type 0} (view : T → A) (f : Refused) (e : Refusal) (said : Said A) → IsRefusalFor (Some f) e → said.gives (Err f)
     → Answers view (Err e) said
-refused_by view f (NotBuilt form) said is gives = (subst (λ x. said.gives (Err x)) (some_same _ _ is) gives, tt)
 refused_by view f (Malformed file place) said is gives = (subst (λ x. said.gives (Err x)) (some_same _ _ is) gives, tt)
 refused_by view f (Limit name number) said is gives = (subst (λ x. said.gives (Err x)) (some_same _ _ is) gives, tt)
 refused_by view f (ReadFault path) said is gives = absurd is
@@ -42,7 +41,6 @@ refused_by view f NoMemory said is gives = (tt, tt)
 
 -- a refusal that says nothing
 pub refused_none : {T A : Type 0} (view : T → A) (e : Refusal) (said : Said A) → IsRefusalFor None e → Answers view (Err e) said
-refused_none view (NotBuilt form) said is = absurd (cc)
 refused_none view (Malformed file place) said is = absurd (cc)
 refused_none view (Limit name number) said is = absurd (cc)
 refused_none view (ReadFault path) said is = absurd is

@@ -1,5 +1,5 @@
 -- The catalog of a project from its index folder, adjusted by its constraints and overrides.
-use Rattle.std.specs.Prelude.{◌≡◌, ℕ, List, ◌∷◌, codes, option_map, Option, Some, None, Result, Ok, Err}
+use Rattle.std.specs.Prelude.{◌≡◌, ℕ, List, ◌∷◌, ◌++◌, codes, option_map, Option, Some, None, Result, Ok, Err}
 use Rattle.ul_index.specs.Catalogs.{Packages}
 use Rattle.ul_index.specs.Documents.{DocumentFault, not_json, shape, wrong_name}
 use Rattle.ul_index.specs.Places.{place_text}
@@ -20,7 +20,7 @@ use Rattle.ul_inputs.specs.Refused.{Refused, malformed, limit}
 -- the place of a document's fault, as it is printed
 abbrev pub document_fault_text : DocumentFault → List ℕ
 document_fault_text not_json = codes "not JSON"
-document_fault_text (shape place) = place_text place
+document_fault_text (shape place) = codes "shape " ++ place_text place
 document_fault_text wrong_name = codes "name"
 
 -- a fault of loading, as a refusal
@@ -35,7 +35,7 @@ refused_load too_many_comparisons = limit (codes "comparisons") 256
 -- what a document's fault of the code says, if it isn't want of memory
 abbrev pub refused_document : List ℕ → IndexFault → Option Refused
 refused_document path NotJson = Some (malformed path (codes "not JSON"))
-refused_document path (Shape place) = Some (malformed path (place_text place))
+refused_document path (Shape place) = Some (malformed path (codes "shape " ++ place_text place))
 refused_document path WrongName = Some (malformed path (codes "name"))
 refused_document path NoMemory = None
 

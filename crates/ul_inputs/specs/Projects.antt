@@ -1,7 +1,5 @@
 -- The project of a project file, with its groups as extras.
 use Rattle.std.specs.Prelude.{◌≡◌, ◌⊎◌, ℕ, List, ◌++◌, codes, Option, Some, None, Result, Ok, Err}
-use Rattle.ul_requirement.specs.declared.wish.Strategy.{Strategy}
-use Rattle.ul_requirement.specs.declared.wish.Strategy.TheVariants.{Fewest, RequiresPython, Deep}
 use Rattle.ul_project.specs.Fields.{ProjectFields}
 use Rattle.ul_project.specs.Headline.{IsSaid, SaysNowhere}
 use Rattle.ul_project.specs.Paths.{path_text}
@@ -10,20 +8,20 @@ use Rattle.ul_project.specs.Shapes.{Fault, not_toml, requirement_fault, shape, u
 use Rattle.ul_project.specs.declared.fault.ProjectFault.{ProjectFault}
 use Rattle.ul_project.specs.declared.fault.ProjectFault.TheVariants.{NotToml, Shape, Requirement, Unsupported, EmptyRegion, NoMemory}
 use Rattle.ul_groups.specs.Expanded.{Expanding, expanded_project, refused, too_deep}
-use Rattle.ul_inputs.specs.Inputs.{Input, ◌>>=◌, answer, just, small_file}
-use Rattle.ul_inputs.specs.Refused.{Refused, not_built, malformed}
+use Rattle.ul_inputs.specs.Inputs.{Input, ◌>>=◌, answer, small_file}
+use Rattle.ul_inputs.specs.Refused.{Refused, malformed}
 
 -- the place of a fault, as it is printed
 abbrev pub fault_text : Fault → List ℕ
 fault_text not_toml = codes "not TOML"
-fault_text (shape path) = path_text path
+fault_text (shape path) = codes "shape " ++ path_text path
 fault_text (requirement_fault path) = codes "requirement " ++ path_text path
 fault_text (unsupported path) = codes "unsupported " ++ path_text path
 
 -- what a fault of the code says, if it isn't want of memory
 abbrev pub refused_project : List ℕ → ProjectFault → Option Refused
 refused_project path NotToml = Some (malformed path (codes "not TOML"))
-refused_project path (Shape place) = Some (malformed path (path_text place))
+refused_project path (Shape place) = Some (malformed path (codes "shape " ++ path_text place))
 refused_project path (Requirement place) = Some (malformed path (codes "requirement " ++ path_text place))
 refused_project path (Unsupported place) = Some (malformed path (codes "unsupported " ++ path_text place))
 refused_project path EmptyRegion = Some (malformed path (codes "empty region"))
@@ -48,21 +46,14 @@ IsProjectOf path bytes (Err e) = HasFault path bytes e ⊎ HasNoWorld path bytes
 -- the project with its groups as extras; groups that nest too deep have no answer
 abbrev pub IsExpanded : List ℕ → Expanding ProjectFields → Result ProjectFields Refused → Type 0
 IsExpanded path (Ok p) r = r ≡ Ok p
-IsExpanded path (Err (refused place)) r = r ≡ Err (malformed path (path_text place))
+IsExpanded path (Err (refused place)) r = r ≡ Err (malformed path (codes "shape " ++ path_text place))
 IsExpanded path (Err too_deep) r = ⊥
-
--- the strategies that are built
-abbrev pub built : Strategy → ProjectFields → Result ProjectFields Refused
-built Fewest p = Ok p
-built RequiresPython p = Ok p
-built Deep p = Err (not_built (codes "fork-strategy deep"))
 
 -- the project of bytes: what they say, with its groups as extras
 abbrev pub project_said : (path bytes : List ℕ) → Input ProjectFields
 project_said path bytes =
     answer (IsProjectOf path bytes)
     >>= λ p. answer (IsExpanded path (expanded_project p))
-    >>= λ q. just (built q.strategy q)
 
 -- the project of a project file
 abbrev pub project_at : List ℕ → Input ProjectFields

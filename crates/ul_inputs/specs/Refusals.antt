@@ -2,13 +2,12 @@
 use Rattle.std.specs.Prelude.{◌≡◌, ◌≤◌, ℕ, List, Option, Some, None, Result, Ok, Err, IfSome, string_bytes}
 use Rattle.ul_base.specs.Causes.{Rose}
 use Rattle.ul_inputs.specs.Inputs.{Said}
-use Rattle.ul_inputs.specs.Refused.{Refused, not_built, malformed, limit}
+use Rattle.ul_inputs.specs.Refused.{Refused, malformed, limit}
 use Rattle.ul_inputs.specs.declared.refusal.Refusal.{Refusal}
-use Rattle.ul_inputs.specs.declared.refusal.Refusal.TheVariants.{NotBuilt, Malformed, Limit, ReadFault, NoMemory}
+use Rattle.ul_inputs.specs.declared.refusal.Refusal.TheVariants.{Malformed, Limit, ReadFault, NoMemory}
 
 -- what a refusal says of the files' contents; a read that failed and want of memory say nothing
 abbrev pub refused_of : Refusal → Option Refused
-refused_of (NotBuilt form) = Some (not_built form.now)
 refused_of (Malformed file place) = Some (malformed (string_bytes file) (string_bytes place))
 refused_of (Limit name number) = Some (limit name.now number)
 refused_of (ReadFault path) = None
@@ -28,7 +27,6 @@ Answers view (Err e) said = IfSome (refused_of e) (λ f. said.gives (Err f)) × 
 -- count rose, and nothing else comes where it rose.
 abbrev pub Cause : {T : Type 0} → ℕ → ℕ → Option (List ℕ) → Result T Refusal → Type 0
 Cause before now last (Ok _) = now ≡ before
-Cause before now last (Err (NotBuilt form)) = now ≡ before
 Cause before now last (Err (Malformed file place)) = now ≡ before
 Cause before now last (Err (Limit name number)) = now ≡ before
 Cause before now last (Err (ReadFault path)) = Rose before now × (before ≤ now) × ((p : List ℕ) → last ≡ Some p → string_bytes path ≡ p)
@@ -36,7 +34,6 @@ Cause before now last (Err NoMemory) = before ≤ now
 
 -- it says just this of the files' contents, unless memory ran out
 abbrev pub IsRefusalFor : Option Refused → Refusal → Type 0
-IsRefusalFor wanted (NotBuilt form) = wanted ≡ Some (not_built form.now)
 IsRefusalFor wanted (Malformed file place) = wanted ≡ Some (malformed (string_bytes file) (string_bytes place))
 IsRefusalFor wanted (Limit name number) = wanted ≡ Some (limit name.now number)
 IsRefusalFor wanted (ReadFault path) = ⊥

@@ -1,18 +1,28 @@
 //! The catalog of a project from its index folder.
-ghost use Rattle.std.specs.Prelude.{◌≡◌, IfOk};
+ghost use Rattle.std.specs.Prelude.{◌≡◌, ◌++◌, IfOk, codes, string_bytes};
 ghost use Rattle.ul_base.specs.Files.{Told};
+ghost use Rattle.ul_index.specs.Places.{place_text};
 ghost use Rattle.ul_load.specs.Begun.{BeginsWith};
 ghost use Rattle.ul_inputs.specs.Catalogs as spec;
 ghost use Rattle.ul_inputs.specs.Refusals.{Answers, Cause, IsRefusalFor};
 
 use crate::files::FILE_BYTES;
 use crate::refusal::{Refusal, malformed, malformed_at};
-use std::alloc::Global;
+use std::alloc::{AllocError, Global};
 use ul_base::Files;
 use ul_groups::adjust;
-use ul_index::{Catalog, IndexFault};
+use ul_index::{Catalog, IndexFault, Place};
 use ul_load::{COMPARISONS, LoadFault, PACKAGES, RELEASES, TOTAL_BYTES, load_project};
 use ul_project::Project;
+
+// A place of another shape, behind the word on it.
+fn shape_text(alloc: Global, place: Place) -> Result<String, AllocError>
+    ensures { IfOk result (λ t. string_bytes t ≡ codes "shape " ++ place_text place) }
+{
+    let path = place.text(alloc)?;
+    let text = format!(in alloc; "shape {path}")?;
+    Ok(text)
+}
 
 // The refusal of a document for its fault.
 fn document_refusal(alloc: Global, path: &str, fault: IndexFault) -> Refusal
@@ -20,7 +30,7 @@ fn document_refusal(alloc: Global, path: &str, fault: IndexFault) -> Refusal
 {
     match fault {
         IndexFault::NotJson => malformed_at(alloc, path, "not JSON"),
-        IndexFault::Shape(place) => match place.text(alloc) {
+        IndexFault::Shape(place) => match shape_text(alloc, place) {
             Ok(place) => malformed(alloc, path, place),
             Err(_) => Refusal::NoMemory,
         },

@@ -15,7 +15,6 @@ use std::alloc::{AllocError, Global};
 use ul_base::Files;
 use ul_groups::expand;
 use ul_project::{Project, ProjectFault, ProjectPath, project};
-use ul_requirement::Strategy;
 
 // The place of a fault, behind a word on it.
 fn place(alloc: Global, word: &str, path: &ProjectPath) -> Result<String, AllocError>
@@ -44,7 +43,7 @@ fn refusal(alloc: Global, file: &str, fault: ProjectFault) -> Refusal
 {
     match fault {
         ProjectFault::NotToml => malformed_at(alloc, file, "not TOML"),
-        ProjectFault::Shape(path) => refused_at(alloc, file, "", path),
+        ProjectFault::Shape(path) => refused_at(alloc, file, "shape ", path),
         ProjectFault::Requirement(path) => refused_at(alloc, file, "requirement ", path),
         ProjectFault::Unsupported(path) => refused_at(alloc, file, "unsupported ", path),
         ProjectFault::EmptyRegion => malformed_at(alloc, file, "empty region"),
@@ -77,21 +76,6 @@ fn expanded(alloc: Global, path: &str, found: Project) -> Result<Project, Refusa
     }
 }
 
-// A project whose strategy is built.
-fn built(found: Project) -> Result<Project, Refusal>
-    ensures answers { Answers (λ p. p) result (only (λ r. r ≡ spec.built found.strategy found)) }
-    ensures same { IfOk result (λ p. p ≡ found) }
-{
-    match found.strategy {
-        Strategy::Fewest => Ok(found),
-        Strategy::RequiresPython => Ok(found),
-        Strategy::Deep => {
-            drop(found);
-            Err(Refusal::NotBuilt("fork-strategy deep"))
-        }
-    }
-}
-
 // The project of bytes.
 #[tactic(auto, using(crate::proofs::ForCallers::refuses, crate::proofs::ForCallers::goes_on))]
 fn project_in(alloc: Global, path: &str, bytes: &[u8]) -> Result<Project, Refusal>
@@ -99,8 +83,7 @@ fn project_in(alloc: Global, path: &str, bytes: &[u8]) -> Result<Project, Refusa
     ensures usable { IfOk result (λ p. HasUsable p.package) }
 {
     let found = said(alloc, path, bytes)?;
-    let found = expanded(alloc, path, found)?;
-    built(found)
+    expanded(alloc, path, found)
 }
 
 /// The project of the project file at a path, with its groups as extras.

@@ -8,8 +8,6 @@ use std::alloc::{AllocError, AllocFailed, Global};
 /// Why an input is refused.
 #[derive(Drop)]
 pub enum Refusal {
-    /// The input has a form that isn't built yet: the form's name.
-    NotBuilt(&'static str),
     /// A file has no reading: its path, and the place in it.
     Malformed(String, String),
     /// A count is above its limit: the limit's name and number.

@@ -7,6 +7,7 @@ mod paths;
 mod sheets;
 mod writing;
 
+pub use paths::too_many;
 pub use sheets::{Head, Sheet};
 pub use ul_lock_lines::{
     Edge, Edges, Extra, Extras, Files, Lock, Locked, Packages, Region, Regions,

@@ -9,8 +9,9 @@ use ul_tree::paths;
 // The most paths to true of a marker that is printed.
 const MARKER_PATHS: u128 = 4096;
 
+/// How many paths to true a marker has, if these are too many for it to be printed: more than 4,096.
 #[tactic(auto, unfolding(crate::specs::Markers::over))]
-fn too_many(region: &Region) -> Option<u128>
+pub fn too_many(region: &Region) -> Option<u128>
     ensures { result ≡ over region.now }
 {
     let count = paths(region.as_tree());

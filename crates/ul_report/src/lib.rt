@@ -10,6 +10,6 @@ mod step_lines;
 mod text_steps;
 
 pub use naming::fits;
-pub use refusals::{refusal, sample_text};
-pub use step_lines::steps;
+pub use refusals::{push_number, refusal, sample_text};
+pub use step_lines::{push_node, push_placed, steps};
 pub use text_steps::{Steps, Terms, TextStep, TextTerm, Versions};

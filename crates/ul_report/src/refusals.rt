@@ -20,7 +20,7 @@ use ul_tree::{Tree, sample};
 
 // ---- a world
 
-// Writes a number.
+/// Writes a number in decimal.
 pub fn push_number(out: &mut String, number: u64) -> Result<(), AllocError>
     ensures { OnOk result (string_bytes out.new ≡ string_bytes out.old ++ decimal number) }
 {

@@ -25,8 +25,9 @@ fn facts_at<'a>(problem: &'a Problem, node: u64) -> &'a NodeFacts
     &problem.nodes()[node as usize]
 }
 
+/// Writes a node: `name` or `name[extra]`.
 #[tactic(auto, unfolding(crate::specs::Texts::node_text))]
-fn push_node(out: &mut String, node: &Node) -> Result<(), AllocError>
+pub fn push_node(out: &mut String, node: &Node) -> Result<(), AllocError>
     ensures { OnOk result (string_bytes out.new ≡ string_bytes out.old ++ node_text node.now) }
 {
     out.push_str(node.name.text())?;
@@ -88,9 +89,9 @@ fn push_versions(
     Ok(())
 }
 
-// Writes a node and a set of its versions in braces.
+/// Writes a node and a set of its versions in braces.
 #[tactic(auto, unfolding(crate::specs::Texts::placed_text))]
-fn push_placed(
+pub fn push_placed(
     alloc: Global,
     out: &mut String,
     problem: &Problem,

@@ -24,12 +24,12 @@ use Rattle.ul_solver.proofs.Room.{chain_room, in_range}
 abbrev pub Decided : Type 0 → Type 0
 Decided A = A ⊎ (A → ⊥)
 
-both_decided : {A B : Type 0} → Decided A → Decided B → Decided (A × B)
+pub both_decided : {A B : Type 0} → Decided A → Decided B → Decided (A × B)
 both_decided (inl a) (inl b) = inl (a, b)
 both_decided (inl a) (inr z) = inr (λ h. z h.1)
 both_decided (inr z) d = inr (λ h. z h.0)
 
-bool_decided : (b c : Bool) → Decided (b ≡ c)
+pub bool_decided : (b c : Bool) → Decided (b ≡ c)
 bool_decided true true = inl refl
 bool_decided true false = inr (λ e. true≢false e)
 bool_decided false true = inr (λ e. true≢false (sym e))
@@ -38,7 +38,7 @@ bool_decided false false = inl refl
 below_decided : (m n : ℕ) → Decided (m < n)
 below_decided m n = elim (cases_lt m n) [ inl h ↦ inl h | inr h ↦ inr (λ l. omega arith) ]
 
-some_decided : (o : Option ℕ) (v : ℕ) → Decided (o ≡ Some v)
+pub some_decided : (o : Option ℕ) (v : ℕ) → Decided (o ≡ Some v)
 some_decided None v = inr (λ e. none-some v e)
 some_decided (Some w) v = elim (cases_eq w v) [ inl e ↦ inl (ap Some e) | inr d ↦ inr (λ e. d (same_Some w v e)) ]
 
@@ -61,7 +61,7 @@ some_below P d (suc n) = step (d n) (some_below P d n)
     step (inr z) (inl h) = inl (h.0, (let l = h.1 in omega arith), h.2)
     step (inr z) (inr x) = inr (λ h. elim (cases_eq h.0 n) [ inl e ↦ z (subst P e h.2) | inr y ↦ x (h.0, (let l = h.1 in omega arith), h.2) ])
 
-all_members : {A : Type 0} (P : A → Type 0) → ((x : A) → Decided (P x)) → (xs : List A) → Decided ((x : A) → Contains xs x → P x)
+pub all_members : {A : Type 0} (P : A → Type 0) → ((x : A) → Decided (P x)) → (xs : List A) → Decided ((x : A) → Contains xs x → P x)
 all_members P d [] = inl (λ x h. absurd (in_none x h))
 all_members {A} P d (y ∷ ys) = step (d y) (all_members P d ys)
   where
@@ -89,13 +89,13 @@ selection_of [] n = None
 selection_of (o ∷ os) zero = o
 selection_of (o ∷ os) (suc n) = selection_of os n
 
-outside : (os : List (Option ℕ)) (n : ℕ) → length os ≤ n → selection_of os n ≡ None
+pub outside : (os : List (Option ℕ)) (n : ℕ) → length os ≤ n → selection_of os n ≡ None
 outside [] n h = refl
 outside (o ∷ os) zero h = absurd (omega arith)
 outside (o ∷ os) (suc n) h = outside os n (omega arith)
 
 -- of each node with a version
-picked : (σ : Selection) (N : ℕ) → ((n : ℕ) → N ≤ n → σ n ≡ None) → (P : ℕ → ℕ → Type 0) → ((n v : ℕ) → Decided (P n v)) → Decided ((n v : ℕ) → σ n ≡ Some v → P n v)
+pub picked : (σ : Selection) (N : ℕ) → ((n : ℕ) → N ≤ n → σ n ≡ None) → (P : ℕ → ℕ → Type 0) → ((n v : ℕ) → Decided (P n v)) → Decided ((n v : ℕ) → σ n ≡ Some v → P n v)
 picked σ N out P d = elim (all_below (λ (n : ℕ). (v : ℕ) → σ n ≡ Some v → P n v) (λ n. at n (σ n) refl) N) [
   | inl h ↦ inl (λ n v e. elim (cases_lt n N) [ inl l ↦ h n l v e | inr g ↦ absurd (none-some v (sym (out n g) ∙ e)) ])
   | inr z ↦ inr (λ h. z (λ n l v e. h n v e))
@@ -116,7 +116,7 @@ based_decided p σ n v = at (base_of p n) refl
     at None e = inl (λ b f. absurd (none-some b (sym e ∙ f)))
     at (Some c) e = elim (some_decided (σ c) v) [ inl h ↦ inl (λ b f. subst (λ (k : ℕ). σ k ≡ Some v) (same_Some c b (sym e ∙ f)) h) | inr z ↦ inr (λ h. z (h c e)) ]
 
-serves_decided : (p : Plain) (σ : Selection) (N : ℕ) → ((n : ℕ) → N ≤ n → σ n ≡ None) → Decided (Serves p σ)
+pub serves_decided : (p : Plain) (σ : Selection) (N : ℕ) → ((n : ℕ) → N ≤ n → σ n ≡ None) → Decided (Serves p σ)
 serves_decided p σ N out =
     let a = picked σ N out (λ n v. v < size_of p n) (λ n v. below_decided v (size_of p n)) in
     let b = all_members (λ (n : ℕ). (v : ℕ) × (σ n ≡ Some v)) (λ n. has_pick (σ n)) p.roots in
@@ -151,7 +151,7 @@ option_decided s P d = step (d None) (some_below (λ (k : ℕ). P (Some k)) (λ 
         which (None, i, h) = z h
         which (Some k, i, h) = x (k, i, h)
 
-options_decided : (ss : List ℕ) (P : List (Option ℕ) → Type 0) → ((os : List (Option ℕ)) → Decided (P os)) → Decided ((os : List (Option ℕ)) × AreOptions ss os × P os)
+pub options_decided : (ss : List ℕ) (P : List (Option ℕ) → Type 0) → ((os : List (Option ℕ)) → Decided (P os)) → Decided ((os : List (Option ℕ)) × AreOptions ss os × P os)
 options_decided [] P d = elim (d []) [ inl h ↦ inl ([], refl, h) | inr z ↦ inr (λ x. z (subst P x.1 x.2)) ]
 options_decided (s ∷ ss) P d =
     elim (option_decided s (λ (o : Option ℕ). (os : List (Option ℕ)) × AreOptions ss os × P (o ∷ os)) (λ o. options_decided ss (λ (os : List (Option ℕ)). P (o ∷ os)) (λ os. d (o ∷ os)))) [
@@ -168,7 +168,7 @@ abbrev pub options_of : Selection → List ℕ → ℕ → List (Option ℕ)
 options_of σ [] n = []
 options_of σ (s ∷ ss) n = σ n ∷ options_of σ ss (suc n)
 
-are_options : (σ : Selection) (ss : List ℕ) (n : ℕ) → ((k : ℕ) → IsOption (get_or ss k 0) (σ (n + k)) ⊎ (length ss ≤ k)) → AreOptions ss (options_of σ ss n)
+pub are_options : (σ : Selection) (ss : List ℕ) (n : ℕ) → ((k : ℕ) → IsOption (get_or ss k 0) (σ (n + k)) ⊎ (length ss ≤ k)) → AreOptions ss (options_of σ ss n)
 are_options σ [] n h = refl
 are_options σ (s ∷ ss) n h = (
   elim (h 0) [ inl i ↦ subst (λ (k : ℕ). IsOption s (σ k)) (omega arith) i | inr l ↦ absurd (omega arith) ],
@@ -185,7 +185,7 @@ options_length σ [] n = refl
 options_length σ (s ∷ ss) n = ap suc (options_length σ ss (suc n))
 
 -- equal selections serve and agree alike
-serves_same : (p : Plain) (σ τ : Selection) → ((n : ℕ) → σ n ≡ τ n) → Serves p σ → Serves p τ
+pub serves_same : (p : Plain) (σ τ : Selection) → ((n : ℕ) → σ n ≡ τ n) → Serves p σ → Serves p τ
 serves_same p σ τ same s = record {
   within = λ n v e. s.within n v (same n ∙ e);
   has_roots = λ n h. (let r = s.has_roots n h in (r.0, sym (same n) ∙ r.1));
@@ -198,14 +198,14 @@ agrees_same : (σ τ : Selection) (d : Picks) → ((n : ℕ) → σ n ≡ τ n) 
 agrees_same σ τ [] same a = tt
 agrees_same σ τ (e ∷ d) same a = (sym (same e.0) ∙ a.0, agrees_same σ τ d same a.1)
 
-option_of : (p : Plain) (σ : Selection) (n : ℕ) (o : Option ℕ) → Serves p σ → σ n ≡ o → IsOption (size_of p n) o
+pub option_of : (p : Plain) (σ : Selection) (n : ℕ) (o : Option ℕ) → Serves p σ → σ n ≡ o → IsOption (size_of p n) o
 option_of p σ n None s e = tt
 option_of p σ n (Some v) s e = s.within n v e
 
-from_zero : (n : ℕ) → 0 + n ≡ n
+pub from_zero : (n : ℕ) → 0 + n ≡ n
 from_zero n = omega arith
 
-same_listed : (p : Plain) (σ : Selection) → Serves p σ → (n : ℕ) → σ n ≡ selection_of (options_of σ (sizes_of p) 0) n
+pub same_listed : (p : Plain) (σ : Selection) → Serves p σ → (n : ℕ) → σ n ≡ selection_of (options_of σ (sizes_of p) 0) n
 same_listed p σ s n = elim (cases_lt n (length (sizes_of p))) [
   | inl l ↦ subst (λ (j : ℕ). σ j ≡ selection_of (options_of σ (sizes_of p) 0) n) (from_zero n) (listed σ (sizes_of p) 0 n l)
   | inr g ↦ (none_here (σ n) refl g ∙ sym (outside (options_of σ (sizes_of p) 0) n (let e = options_length σ (sizes_of p) 0 in omega arith)))

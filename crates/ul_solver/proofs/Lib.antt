@@ -7,3 +7,4 @@ pub mod Choosing
 pub mod Starting
 pub mod Possible
 pub mod Existing
+pub mod ForCallers
