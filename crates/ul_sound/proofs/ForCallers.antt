@@ -8,3 +8,9 @@ pub use Rattle.ul_sound.proofs.Indexes.{before_all, increasing_same, index_once}
 pub use Rattle.ul_sound.proofs.NoExtra.{simplified_region}
 -- the project has one eligible version
 pub use Rattle.ul_sound.proofs.RootVersion.{only_version}
+-- an eligible version of the project's name is that of its release
+pub use Rattle.ul_sound.proofs.RootVersion.{version_in_first}
+-- a merged lock has the packages and edges of its leaves, and says where they are true
+pub use Rattle.ul_sound.proofs.Reading.{leads_from, leads_to}
+-- such a lock is sound, and what it gives in a world, the leaf of the world chose
+pub use Rattle.ul_sound.proofs.Soundness.{given_chosen, merges_sound}

@@ -43,3 +43,9 @@ only_version law c n b v u h k =
     (subst (λ rs. Contains rs r.0) (first_releases c n b) (passing_in c n r.0 r.1))
     (subst (λ rs. Contains rs s.0) (first_releases c n b) (passing_in c n s.0 s.1)) in
     sym r.2 ∙ ap (λ (x : ReleaseFields). x.version) same ∙ s.2
+
+-- an eligible version of the first package's name is that of one of its releases
+pub version_in_first : EligibleSame → (c : Packages) (n : List ℕ) (b : Begins c n) (v : Fields) → Contains (eligible c n) v → (r : ReleaseFields) × Contains b.first.releases r × (r.version ≡ v)
+version_in_first law c n b v k =
+    let r : (r : ReleaseFields) × Contains (passing c n) r × (r.version ≡ v) = (law c n v).0 k in
+    (r.0, subst (λ rs. Contains rs r.0) (first_releases c n b) (passing_in c n r.0 r.1), r.2)

@@ -124,3 +124,9 @@ module _ (law : EligibleSame) (c : Packages) (p : ProjectFields) (leaves : List 
 
 pub merges_sound : EligibleSame → (c : Packages) (p : ProjectFields) (leaves : List LeafFields) (l : Lock) → AreServed c p leaves → IsMergedLock c p leaves l → IsSound c p l
 merges_sound law c p leaves l h merged w is within xs asked = sound_here law c p leaves l h merged w is within xs asked
+
+-- what the walk has, the leaf of the world chose
+pub given_chosen : EligibleSame → (c : Packages) (p : ProjectFields) (leaves : List LeafFields) (l : Lock) (h : AreServed c p leaves) → IsMergedLock c p leaves l
+    → (w : WorldFields) (is : IsWorld w) (within : supported_by p w ≡ true) (xs : List (List ℕ)) → AreProjectExtras p xs → (n : Node) (v : Fields) → Walk l w xs (n, v) → choice_of (h.cover w is within).0.picks n ≡ Some v
+unfolding here
+given_chosen law c p leaves l h merged w is within xs asked n v r = given law c p leaves l h merged w is within xs asked n v r

@@ -1,0 +1,15 @@
+pub mod Alike
+pub mod Listed
+pub mod Leaving
+pub mod Deciding
+pub mod Flagged
+pub mod Keeping
+pub mod Whole
+pub mod Loops
+pub mod Turning
+pub mod Standing
+pub mod Rows
+pub mod Written
+pub mod Listing
+pub mod Bare
+pub mod ForCallers
