@@ -17,7 +17,7 @@ use Rattle.ul_region.specs.Truths.{PassView, DiagramMark, IsRegion, IsTruth, reg
 use Rattle.ul_region.proofs.ForCallers.{is_region, truth_still}
 use Rattle.ul_merge.specs.Edges.{AreTruths, IsEdgeBy, LiesWithin, both_hold, picked}
 use Rattle.ul_merge.specs.Made.{at_most_one}
-use Rattle.ul_merge.specs.Unions.{some_holds}
+use Rattle.ul_region.specs.Unions.{some_holds}
 use Rattle.ul_merge.specs.declared.targets.Use.{Use}
 use Rattle.ul_merge.proofs.LeafFacts.{HoldsThere, holds_from, place_in}
 

@@ -33,7 +33,7 @@ use Rattle.ul_merge.specs.Gathered.{AreGroups, IsGathered}
 use Rattle.ul_merge.specs.Keys.{pick_cmp, pick_of}
 use Rattle.ul_merge.specs.Made.{AreMade}
 use Rattle.ul_merge.specs.Rows.{aim_rows, all_uses, use_row}
-use Rattle.ul_merge.specs.Unions.{some_holds}
+use Rattle.ul_region.specs.Unions.{some_holds}
 use Rattle.ul_merge.specs.declared.gathering.Entry.{Entry}
 use Rattle.ul_merge.specs.declared.gathering.Group.{Group}
 use Rattle.ul_merge.specs.declared.keys.PickKey.{PickKey}

@@ -8,11 +8,6 @@ pub if_handed : {A : Type 0} (made r : Result A AllocError) (P : A → Type 0) �
 if_handed made (Ok x) P e p = made_holds made x P e p
 if_handed made (Err e) P q p = tt
 
--- what two clauses of a call tell of its answer
-pub if_both : {A : Type 0} (r : Result A AllocError) (P Q R : A → Type 0) → ((x : A) → P x → Q x → R x) → IfOk r P → IfOk r Q → IfOk r R
-if_both (Ok x) P Q R f p q = f x p q
-if_both (Err e) P Q R f p q = tt
-
 -- the same as `if_handed`, of what was handed on twice
 pub twice_handed : {A : Type 0} (made between : Result A AllocError) (x : A) (P : A → Type 0) → between ≡ Ok x → IfOk between (λ y. made ≡ Ok y) → IfOk made P → P x
 twice_handed made between x P e f p = made_holds made x P (made_holds between x (λ y. made ≡ Ok y) e f) p

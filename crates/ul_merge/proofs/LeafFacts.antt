@@ -16,7 +16,7 @@ use Rattle.ul_merge.specs.Blocks.{leaves_by}
 use Rattle.ul_merge.specs.Chosen.{choice_at, choice_in}
 use Rattle.ul_merge.specs.Edges.{AreTruths, picked}
 use Rattle.ul_merge.specs.Made.{at_most_one}
-use Rattle.ul_merge.specs.Unions.{some_holds}
+use Rattle.ul_region.specs.Unions.{some_holds}
 
 -- what stands at a place stands in the list, and the other way round
 pub place_in : {A : Type 0} (xs : List A) (i : ℕ) (x : A) → slice_get xs i ≡ Some x → Contains xs x

@@ -13,7 +13,7 @@ use Rattle.ul_lock_lines.specs.declared.parts.Edge.{Edge}
 use Rattle.ul_region.specs.Truths.{PassView, DiagramMark, IsTruth, region_at, truth_within}
 use Rattle.ul_sound.specs.Merged.{IsSimplified}
 use Rattle.ul_merge.specs.Made.{at_most_one}
-use Rattle.ul_merge.specs.Unions.{some_holds}
+use Rattle.ul_region.specs.Unions.{some_holds}
 use Rattle.ul_merge.specs.declared.gathering.Group.{Group}
 use Rattle.ul_merge.specs.declared.keys.PickKey.{PickKey}
 use Rattle.ul_merge.specs.declared.targets.Use.{Use}

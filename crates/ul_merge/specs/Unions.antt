@@ -1,5 +1,5 @@
--- Regions that are joined and simplified.
-use Rattle.std.specs.Prelude.{◌≡◌, List, [], ◌∷◌, Bool, true, false, ◌||◌}
+-- Regions that are simplified.
+use Rattle.std.specs.Prelude.{◌≡◌, true}
 use Rattle.ul_comparison.specs.Worlds.{WorldFields}
 use Rattle.ul_region.specs.Truths.{PassView, DiagramMark, IsRegion, region_at}
 use Rattle.ul_merge.specs.Views.{ForkLeaf}
@@ -7,11 +7,6 @@ use Rattle.ul_merge.specs.Views.{ForkLeaf}
 -- both regions have some world
 abbrev pub MeetSomewhere : DiagramMark → DiagramMark → Type 0
 MeetSomewhere a b = (w : WorldFields) × (region_at a w ≡ true) × (region_at b w ≡ true)
-
--- some of the regions has the world
-abbrev pub some_holds : List DiagramMark → WorldFields → Bool
-some_holds [] w = false
-some_holds (m ∷ ms) w = region_at m w || some_holds ms w
 
 -- the leaf's diagram stands for a region, which has a world of the supported one
 abbrev pub IsForkIn : PassView → DiagramMark → ForkLeaf → Type 0

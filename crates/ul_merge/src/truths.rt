@@ -1,18 +1,19 @@
 //! Truths of edges: unions of diagrams, and what they become under the supported region.
-ghost use Rattle.std.specs.Prelude.{IfOk, All, false, ◌||◌, ◌<◌, ◌≤◌};
+ghost use Rattle.std.specs.Prelude.{IfOk, All, ◌<◌, ◌≤◌};
 ghost use Rattle.ul_interner.specs.Known.{Knows};
 ghost use Rattle.ul_tree.specs.Simplify.{Simplifies};
 ghost use Rattle.ul_algebra.specs.Answers.{IsDiagram};
 ghost use Rattle.ul_algebra.specs.Spelled.{tree_of};
-ghost use Rattle.ul_region.specs.Truths.{IsRegion, IsTruth, region_at};
-ghost use Rattle.ul_merge.specs.Unions.{MeetSomewhere, some_holds};
+ghost use Rattle.ul_region.specs.Truths.{IsRegion, IsTruth};
+ghost use Rattle.ul_region.specs.Unions.{some_holds};
+ghost use Rattle.ul_merge.specs.Unions.{MeetSomewhere};
 
 use crate::targets::Use;
 use std::alloc::{AllocError, Global};
 use std::sync::Wait;
 use ul_algebra::{Algebra, Diagram};
 use ul_lock_lines::Region;
-use ul_tree::Tree;
+use ul_region::unions::{either, nowhere};
 
 // What a truth becomes under the supported region.
 pub(crate) fn simplified<R: Wait>(
@@ -31,31 +32,6 @@ pub(crate) fn simplified<R: Wait>(
     let simpler = algebra.simplify(rt, alloc, truth, supported)?;
     let tree = algebra.tree(alloc, &simpler)?;
     Ok(Region::of(tree))
-}
-
-// The truth that is true nowhere.
-fn nowhere<R: Wait>(rt: &R, alloc: Global, algebra: &mut Algebra<'_>) -> Result<Diagram, AllocError>
-    ensures knows { Knows algebra.old algebra.new }
-    ensures truth { IfOk result (λ d. IsTruth algebra.new d (λ w. false)) }
-{
-    let d = algebra.of_tree(rt, alloc, &Tree::Truth(false))?;
-    Ok(d)
-}
-
-// The union of two regions.
-fn either<R: Wait>(
-    rt: &R,
-    alloc: Global,
-    algebra: &mut Algebra<'_>,
-    first: &Diagram,
-    second: &Diagram,
-) -> Result<Diagram, AllocError>
-    requires first { IsRegion algebra.old first.now }
-    requires second { IsRegion algebra.old second.now }
-    ensures knows { Knows algebra.old algebra.new }
-    ensures truth { IfOk result (λ d. IsTruth algebra.new d (λ w. region_at first.now w || region_at second.now w)) }
-{
-    algebra.or(rt, alloc, first, second)
 }
 
 // How many uses lie before those whose leaves' places agree with the last one's, and not with the first one's, in the

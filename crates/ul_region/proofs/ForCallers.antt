@@ -9,3 +9,5 @@ pub use Rattle.ul_region.proofs.AskedFacts.{read_at}
 pub use Rattle.ul_region.proofs.RowFacts.{grown_itself, grown_knows, grown_then, truth_grown, row_grown}
 -- a diagram of a truth stands for a region
 pub use Rattle.ul_region.proofs.TruthFacts.{is_region}
+-- unions of regions, a truth in other words, and what two clauses of a call tell
+pub use Rattle.ul_region.proofs.Unions.{if_both, other_words, union_truth, none_union, one_union, both_union, still_region, back_still, some_append}

@@ -8,6 +8,7 @@ pub mod laws;
 mod numbers;
 mod rows;
 mod truths;
+pub mod unions;
 
 pub use asking::row_of;
 pub use at_node::AtNode;

@@ -1,4 +1,4 @@
-use Rattle.ul_merge.proofs.HandedOn.{if_both}
+use Rattle.ul_region.proofs.ForCallers.{if_both}
 use Rattle.ul_merge.proofs.MadeEdges.{part_truth}
 use Rattle.ul_merge.proofs.edges.part_in.Goals as goal
 
