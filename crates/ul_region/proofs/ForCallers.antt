@@ -9,3 +9,11 @@ pub use Rattle.ul_region.proofs.AskedFacts.{read_at}
 pub use Rattle.ul_region.proofs.RowFacts.{grown_itself, grown_knows, grown_then, truth_grown, row_grown}
 -- a diagram of a truth stands for a region
 pub use Rattle.ul_region.proofs.TruthFacts.{is_region}
+-- places for a selection of eligible versions, and how much of the problem they serve: each part by one premise
+pub use Rattle.ul_region.proofs.Placing.{matching}
+pub use Rattle.ul_region.proofs.Bridge.{Picked, picked_at, stands, within_size, rooted, fit_at, base_at, met}
+-- what holds throughout a region or fails somewhere in it, decided
+pub use Rattle.ul_region.proofs.Existing.{everywhere_decided, throughout_decided}
+-- a walk over the requirements of a row
+pub use Rattle.ul_region.proofs.AskedFacts.{asked_at}
+pub use Rattle.ul_region.proofs.Firsts.{fails, item_in}
