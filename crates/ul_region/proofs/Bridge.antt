@@ -79,50 +79,73 @@ module _ (c : Packages) (starts : List Node) (wish : WishFields) (R : Region) (p
   same_version : (f : NodeFacts) (a : Option ℕ) (o : Option Fields) (x : Fields) → o ≡ Some x → (t : Picked f a o) → t.x ≡ x
   same_version f a o x e t = same_Some t.x x (sym t.named ∙ e)
 
-  within_at : (k v : ℕ) (f : NodeFacts) (o : Option Fields) → node_at p k ≡ Some f → σ k ≡ Some v → Picked f (σ k) o → v < size_of p k
-  within_at k v f o at e t = below k v p f t.x at (subst (λ (u : ℕ). slice_get f.versions u ≡ Some t.x) (same_place f k v o e t) t.stands)
+  -- the picked version stands at its place
+  pub stands : (k v : ℕ) (f : NodeFacts) (o : Option Fields) → σ k ≡ Some v → (t : Picked f (σ k) o) → slice_get f.versions v ≡ Some t.x
+  stands k v f o e t = subst (λ (u : ℕ). slice_get f.versions u ≡ Some t.x) (same_place f k v o e t) t.stands
 
-  module _ (h : Serves wish.strategy c starts R s) where
+  within_at : (k v : ℕ) (f : NodeFacts) → node_at p k ≡ Some f → σ k ≡ Some v → Picked f (σ k) (choice_of s f.node) → v < size_of p k
+  within_at k v f at e t = below k v p f t.x at (stands k v f (choice_of s f.node) e t)
+
+  -- a picked place is that of a version
+  pub within_size : (k v : ℕ) → σ k ≡ Some v → v < size_of p k
+  within_size k v e = let w = m.within k v e in within_at k v w.0 w.1 e (picked_at k v w.0 w.1 e)
+
+  -- each root is picked where the selection has the nodes that it starts from
+  module _ (starts_in : (n : Node) → Contains starts n → (x : Fields) × (choice_of s n ≡ Some x)) where
     start_at : (k : ℕ) (n : Node) → Contains starts n → IsAt p k n → (x : Fields) → choice_of s n ≡ Some x → (v : ℕ) × (σ k ≡ Some v)
     start_at k n i at x e = let t = named_at k at.0 x at.1 (ap (choice_of s) at.2 ∙ e) in (t.v, t.placed)
 
     rooted_by : (k : ℕ) → ((n : Node) × Contains starts n × IsAt p k n) → (v : ℕ) × (σ k ≡ Some v)
-    rooted_by k r = let found = h.starts_in r.0 r.1 in start_at k r.0 r.1 r.2 found.0 found.1
+    rooted_by k r = let found = starts_in r.0 r.1 in start_at k r.0 r.1 r.2 found.0 found.1
 
-    fit_at : (k v : ℕ) (f : NodeFacts) → node_at p k ≡ Some f → σ k ≡ Some v → Picked f (σ k) (choice_of s f.node) → has v f.barred ≡ false
-    fit_at k v f at e t = subst (λ (u : ℕ). has u f.barred ≡ false) (same_place f k v (choice_of s f.node) e t)
-        (not_true (has t.v f.barred) (((is.facts k f at).barred t.v t.x t.stands).1 (h.fit_in f.node t.x t.named)))
+    pub rooted : (k : ℕ) → Contains p.roots k → (v : ℕ) × (σ k ≡ Some v)
+    rooted k i = rooted_by k (root_node p p.roots starts k is.roots i)
+
+  -- no picked version is barred where each chosen one suits the strategy
+  module _ (suits : (n : Node) (x : Fields) → choice_of s n ≡ Some x → Suits wish.strategy R (is_fit c n.name x)) where
+    fit_from : (k v : ℕ) (f : NodeFacts) → node_at p k ≡ Some f → σ k ≡ Some v → Picked f (σ k) (choice_of s f.node) → has v f.barred ≡ false
+    fit_from k v f at e t = not_true (has v f.barred) (((is.facts k f at).barred v t.x (stands k v f (choice_of s f.node) e t)).1 (suits f.node t.x t.named))
 
     barred_at : (k v : ℕ) (f : NodeFacts) → node_at p k ≡ Some f → has v f.barred ≡ false → has v (barred_of p k) ≡ false
     barred_at k v f at e = subst (λ (o : Option NodeFacts). has v (barred_in o) ≡ false) (sym at) e
 
+    pub fit_at : (k v : ℕ) → σ k ≡ Some v → has v (barred_of p k) ≡ false
+    fit_at k v e = let w = m.within k v e in barred_at k v w.0 w.1 (fit_from k v w.0 w.1 e (picked_at k v w.0 w.1 e))
+
+  -- an extra's base is picked at the same place where each chosen node's base has its version
+  module _ (bases : (n : Node) (x : Fields) → choice_of s n ≡ Some x → choice_of s (base_of n) ≡ Some x) where
     base_named : (f : NodeFacts) (b : ℕ) (base : Based p f b) (x : Fields) → choice_of s f.node ≡ Some x → choice_of s base.facts.node ≡ Some x
-    base_named f b base x e = ap (choice_of s) base.node ∙ h.base_in f.node x e
+    base_named f b base x e = ap (choice_of s) base.node ∙ bases f.node x e
 
     base_stands : (f : NodeFacts) (b : ℕ) (base : Based p f b) (x : Fields) → choice_of s base.facts.node ≡ Some x → (u : Picked base.facts (σ b) (choice_of s base.facts.node)) → slice_get f.versions u.v ≡ Some x
     base_stands f b base x e u = subst (λ (l : List Fields). slice_get l u.v ≡ Some x) base.versions (subst (λ (y : Fields). slice_get base.facts.versions u.v ≡ Some y) (same_version base.facts (σ b) (choice_of s base.facts.node) x e u) u.stands)
 
     based_by : (k v b : ℕ) (f : NodeFacts) → node_at p k ≡ Some f → σ k ≡ Some v → (t : Picked f (σ k) (choice_of s f.node)) (base : Based p f b) → choice_of s base.facts.node ≡ Some t.x
         → Picked base.facts (σ b) (choice_of s base.facts.node) → σ b ≡ Some v
-    based_by k v b f at e t base n u = u.placed ∙ ap Some (version_place f.versions u.v t.v t.x (node_whole p k f is.well_formed at).increasing (base_stands f b base t.x n u) t.stands ∙ same_place f k v (choice_of s f.node) e t)
+    based_by k v b f at e t base n u = u.placed ∙ ap Some (version_place f.versions u.v v t.x (node_whole p k f is.well_formed at).increasing (base_stands f b base t.x n u) (stands k v f (choice_of s f.node) e t))
 
     based_from : (k v b : ℕ) (f : NodeFacts) → node_at p k ≡ Some f → σ k ≡ Some v → Picked f (σ k) (choice_of s f.node) → Based p f b → σ b ≡ Some v
     based_from k v b f at e t base = let n = base_named f b base t.x t.named in based_by k v b f at e t base n (named_at b base.facts t.x base.at n)
 
-    base_at : (k v b : ℕ) (f : NodeFacts) → node_at p k ≡ Some f → σ k ≡ Some v → base_place p k ≡ Some b → σ b ≡ Some v
-    base_at k v b f at e g = based_from k v b f at e (picked_at k v f at e) (based p f b f.node.extra f.base (node_whole p k f is.well_formed at).has_base (subst (λ (o : Option NodeFacts). base_in o ≡ Some b) at g))
+    based_at : (k v b : ℕ) (f : NodeFacts) → node_at p k ≡ Some f → σ k ≡ Some v → base_place p k ≡ Some b → σ b ≡ Some v
+    based_at k v b f at e g = based_from k v b f at e (picked_at k v f at e) (based p f b f.node.extra f.base (node_whole p k f is.well_formed at).has_base (subst (λ (o : Option NodeFacts). base_in o ≡ Some b) at g))
 
-    aim_named : (need : PlaceNeed) (t : Need) (g : IsNeedAt p need t) (y : Fields) → choice_of s t.node ≡ Some y → choice_of s g.facts.node ≡ Some y
-    aim_named need t g y e = ap (choice_of s) g.node ∙ e
+    pub base_at : (k v b : ℕ) → σ k ≡ Some v → base_place p k ≡ Some b → σ b ≡ Some v
+    base_at k v b e g = let w = m.within k v e in based_at k v b w.0 w.1 e g
 
-    met_by : (need : PlaceNeed) (t : Need) (g : IsNeedAt p need t) (y : Fields) → meets_list t.specifiers y ≡ true → choice_of s g.facts.node ≡ Some y → Picked g.facts (σ need.node) (choice_of s g.facts.node)
-        → is_among (σ need.node) need.permitted ≡ true
-    met_by need t g y meets n u = among (σ need.node) u.v need.permitted u.placed ∙ (g.permitted u.v u.x u.stands
-        ∙ subst (λ (z : Fields). meets_list t.specifiers z ≡ true) (sym (same_version g.facts (σ need.node) (choice_of s g.facts.node) y n u)) meets)
+  aim_named : (need : PlaceNeed) (t : Need) (g : IsNeedAt p need t) (y : Fields) → choice_of s t.node ≡ Some y → choice_of s g.facts.node ≡ Some y
+  aim_named need t g y e = ap (choice_of s) g.node ∙ e
 
-    met_from : (need : PlaceNeed) (t : Need) (g : IsNeedAt p need t) (y : Fields) → meets_list t.specifiers y ≡ true → choice_of s t.node ≡ Some y → is_among (σ need.node) need.permitted ≡ true
-    met_from need t g y meets e = let n = aim_named need t g y e in met_by need t g y meets n (named_at need.node g.facts y g.at n)
+  met_by : (need : PlaceNeed) (t : Need) (g : IsNeedAt p need t) (y : Fields) → meets_list t.specifiers y ≡ true → choice_of s g.facts.node ≡ Some y → Picked g.facts (σ need.node) (choice_of s g.facts.node)
+      → is_among (σ need.node) need.permitted ≡ true
+  met_by need t g y meets n u = among (σ need.node) u.v need.permitted u.placed ∙ (g.permitted u.v u.x u.stands
+      ∙ subst (λ (z : Fields). meets_list t.specifiers z ≡ true) (sym (same_version g.facts (σ need.node) (choice_of s g.facts.node) y n u)) meets)
 
+  -- a need is met where the selection has its node at a version that meets its specifiers
+  pub met : (need : PlaceNeed) (t : Need) (g : IsNeedAt p need t) (y : Fields) → choice_of s t.node ≡ Some y → meets_list t.specifiers y ≡ true → is_among (σ need.node) need.permitted ≡ true
+  met need t g y e meets = let n = aim_named need t g y e in met_by need t g y meets n (named_at need.node g.facts y g.at n)
+
+  module _ (h : Serves wish.strategy c starts R s) where
     -- a need of a decided node is met
     need_met : (n : Node) (x : Fields) (ts : List Need) (are : AreNeeds (requirements c n.name x) R n ts) → choice_of s n ≡ Some x → (t : Need) → Contains ts t → (y : Fields) × (choice_of s t.node ≡ Some y) × (meets_list t.specifiers y ≡ true)
     unfolding need_at
@@ -136,7 +159,7 @@ module _ (c : Packages) (starts : List Node) (wish : WishFields) (R : Region) (p
         by_requirement q = by_target q.0 q.1 (contains_from_map (need_at q.0) (targets q.0) t q.2)
 
     met_said : (need : PlaceNeed) (n : Node) (x : Fields) (ts : List Need) → AreNeeds (requirements c n.name x) R n ts → choice_of s n ≡ Some x → ((t : Need) × Contains ts t × IsNeedAt p need t) → is_among (σ need.node) need.permitted ≡ true
-    met_said need n x ts are e t = let y = need_met n x ts are e t.0 t.1 in met_from need t.0 t.2 y.0 y.2 y.1
+    met_said need n x ts are e t = let y = need_met n x ts are e t.0 t.1 in met need t.0 t.2 y.0 y.1 y.2
 
     met_row : (need : PlaceNeed) (f : NodeFacts) (x : Fields) (ks : List PlaceNeed) → HasNeedsAt c R p f.node x ks → choice_of s f.node ≡ Some x → Contains ks need → is_among (σ need.node) need.permitted ≡ true
     met_row need f x ks here e i = met_said need f.node x here.needs here.are e (need_said p ks here.needs need here.at i)
@@ -150,10 +173,10 @@ module _ (c : Packages) (starts : List Node) (wish : WishFields) (R : Region) (p
 
     pub places_serve : PlacesServe p σ
     places_serve = record {
-      within = λ k v e. let w = m.within k v e in within_at k v w.0 (choice_of s w.0.node) w.1 e (picked_at k v w.0 w.1 e);
-      has_roots = λ k i. rooted_by k (root_node p p.roots starts k is.roots i);
-      fit = λ k v e. let w = m.within k v e in barred_at k v w.0 w.1 (fit_at k v w.0 w.1 e (picked_at k v w.0 w.1 e));
-      same_base = λ k v b e g. let w = m.within k v e in base_at k v b w.0 w.1 e g;
+      within = λ k v e. within_size k v e;
+      has_roots = λ k i. rooted h.starts_in k i;
+      fit = λ k v e. fit_at h.fit_in k v e;
+      same_base = λ k v b e g. base_at h.base_in k v b e g;
       meets = λ k v e need i. let w = m.within k v e in met_at k v w.0 w.1 e need (row_at k v w.0 need w.1 i) (picked_at k v w.0 w.1 e);
     }
 

@@ -11,3 +11,11 @@ pub use Rattle.ul_region.proofs.RowFacts.{grown_itself, grown_knows, grown_then,
 pub use Rattle.ul_region.proofs.TruthFacts.{is_region}
 -- unions of regions, a truth in other words, and what two clauses of a call tell
 pub use Rattle.ul_region.proofs.Unions.{if_both, other_words, union_truth, none_union, one_union, both_union, still_region, back_still, some_append}
+-- places for a selection of eligible versions, and how much of the problem they serve: each part by one premise
+pub use Rattle.ul_region.proofs.Placing.{matching}
+pub use Rattle.ul_region.proofs.Bridge.{Picked, picked_at, stands, within_size, rooted, fit_at, base_at, met}
+-- what holds throughout a region or fails somewhere in it, decided
+pub use Rattle.ul_region.proofs.Existing.{everywhere_decided, throughout_decided}
+-- a walk over the requirements of a row
+pub use Rattle.ul_region.proofs.AskedFacts.{asked_at}
+pub use Rattle.ul_region.proofs.Firsts.{fails, item_in}

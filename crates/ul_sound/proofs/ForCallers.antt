@@ -12,5 +12,5 @@ pub use Rattle.ul_sound.proofs.RootVersion.{only_version}
 pub use Rattle.ul_sound.proofs.RootVersion.{version_in_first}
 -- a merged lock has the packages and edges of its leaves, and says where they are true
 pub use Rattle.ul_sound.proofs.Reading.{leads_from, leads_to}
--- such a lock is sound, and what it gives in a world, the leaf of the world chose
-pub use Rattle.ul_sound.proofs.Soundness.{given_chosen, merges_sound}
+-- such a lock is sound, what it gives in a world, the leaf of the world chose, and what some leaf chose is eligible
+pub use Rattle.ul_sound.proofs.Soundness.{given_chosen, merges_sound, pair_eligible}

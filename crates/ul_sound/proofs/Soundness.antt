@@ -1,9 +1,11 @@
 -- Leaves that are apart and cover the region merge into a sound lock.
 use Rattle.std.proofs.Common.{◌≡◌, ℕ, List, true, Some, Contains, refl, sym, ap, ◌∙◌, subst, inl, inr, ⊎_elim}
+use Rattle.std.specs.Cmp.{tied_itself}
 use Rattle.ul_base.specs.Reached.{begun, led}
 use Rattle.ul_base.specs.declared.node.Node.{Node}
 use Rattle.ul_base.proofs.ForCallers.{some_is, contains_first, contains_later, contains_map, reached_in}
 use Rattle.ul_version.specs.Fields.{Fields}
+use Rattle.ul_version.proofs.ForCallers.{version_total}
 use Rattle.ul_comparison.specs.Worlds.{WorldFields, IsWorld}
 use Rattle.ul_requirement.specs.Fields.{RequirementFields}
 use Rattle.ul_requirement.specs.Truth.{applies_at, base, meets, targets, with_extra}
@@ -19,7 +21,7 @@ use Rattle.ul_lock_walk.specs.Walk.{Pick, HasPackage, Walk, WalkBegins, WalkLead
 use Rattle.ul_sound.specs.Leaves.{LeafFields, worlds_of, supported_by, project_nodes, HasPair}
 use Rattle.ul_sound.specs.Merged.{IsTrueEdge, IsMergedLock}
 use Rattle.ul_sound.specs.Sound.{ClosureBegins, ClosureLeads, Closure, IsSoundAt, IsSound, AreProjectExtras}
-use Rattle.ul_sound.specs.Headline.{AreServed}
+use Rattle.ul_sound.specs.Headline.{AreServed, HasCatalogTexts}
 use Rattle.ul_sound.proofs.RootVersion.{only_version}
 use Rattle.ul_sound.proofs.Reading.{package_from, package_to, leads_from, leads_to}
 
@@ -116,7 +118,7 @@ module _ (law : EligibleSame) (c : Packages) (p : ProjectFields) (leaves : List 
   sound_here : IsSoundAt c p l w xs
   sound_here = record {
     one_version = one_version;
-    eligible_each = λ n v r. served.eligible_in n v (given n v r);
+    eligible_each = λ n v r. (v, served.eligible_in n v (given n v r), tied_itself version_total v);
     closure = λ n. ((λ k. closed n k.0 k.1), covered n);
     specifiers_met = met_on;
     fit = λ n v r. served.fit_in n v (given n v r) w is here.2;
@@ -130,3 +132,11 @@ pub given_chosen : EligibleSame → (c : Packages) (p : ProjectFields) (leaves :
     → (w : WorldFields) (is : IsWorld w) (within : supported_by p w ≡ true) (xs : List (List ℕ)) → AreProjectExtras p xs → (n : Node) (v : Fields) → Walk l w xs (n, v) → choice_of (h.cover w is within).0.picks n ≡ Some v
 unfolding here
 given_chosen law c p leaves l h merged w is within xs asked n v r = given law c p leaves l h merged w is within xs asked n v r
+
+-- what some leaf chose is eligible
+pub pair_eligible : (c : Packages) (p : ProjectFields) (leaves : List LeafFields) → AreServed c p leaves → (n : List ℕ) (v : Fields) → HasPair leaves n v → Contains (eligible c n) v
+pair_eligible c p leaves h n v k = subst (λ (m : List ℕ). Contains (eligible c m) v) k.1 ((h.whole k.2.0 k.2.1).eligible_in k.0 v k.2.2)
+
+-- such a lock has each version as the catalog spells it
+pub has_catalog_texts : (c : Packages) (p : ProjectFields) (leaves : List LeafFields) (l : Lock) → AreServed c p leaves → IsMergedLock c p leaves l → HasCatalogTexts c l
+has_catalog_texts c p leaves l h merged b m = pair_eligible c p leaves h b.name b.version (merged.packages.wanted b m)

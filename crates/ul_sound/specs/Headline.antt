@@ -13,6 +13,7 @@ use Rattle.ul_index.specs.Eligible.{eligible}
 use Rattle.ul_index.specs.Serves.{choice_of}
 use Rattle.ul_project.specs.Fields.{ProjectFields, IsProject}
 use Rattle.ul_lock_lines.specs.declared.parts.Lock.{Lock}
+use Rattle.ul_lock_lines.specs.declared.parts.Locked.{Locked}
 use Rattle.ul_lock_walk.specs.Increasing.{Rising}
 use Rattle.ul_lock_walk.specs.Orders.{file_less}
 use Rattle.ul_lock_walk.specs.WellFormed.{IsWellFormed}
@@ -59,11 +60,18 @@ pub record AreMergeable (c : Packages) (p : ProjectFields) (leaves : List LeafFi
   pub each : (l : LeafFields) → Contains leaves l → IsLeafOf c p l
   pub files : HasRightFiles c
 
+-- each package has one of its name's eligible versions, spelled as the catalog spells it
+abbrev pub HasCatalogTexts : Packages → Lock → Type 0
+HasCatalogTexts c l = (b : Locked) → Contains l.packages b → Contains (eligible c b.name) b.version
+
 -- what a merged lock is
 pub record MergePromises : Type 0 where
   -- it is right in every world
   pub sound : (c : Packages) (p : ProjectFields) (leaves : List LeafFields) (l : Lock)
       → AreServed c p leaves → IsMergedLock c p leaves l → IsSound c p l
+  -- it has each version as the catalog spells it
+  pub texts : (c : Packages) (p : ProjectFields) (leaves : List LeafFields) (l : Lock)
+      → AreServed c p leaves → IsMergedLock c p leaves l → HasCatalogTexts c l
   -- there is at most one
   pub once : (c : Packages) (p : ProjectFields) (leaves : List LeafFields) (l k : Lock)
       → IsMergedLock c p leaves l → IsMergedLock c p leaves k → l ≡ k

@@ -1,9 +1,12 @@
 -- A lock that is right in every world. What it gives is compared with the requirements of the documents, by the rule
--- for the truth of a requirement; its edges count only for what it gives.
+-- for the truth of a requirement; its edges count only for what it gives. Whoever wrote it may spell a version with
+-- other zeros at its end than the catalog does, such as `1.0.0` for `1.0`.
 use Rattle.std.specs.Prelude.{◌≡◌, ◌⊎◌, ◌↔◌, ℕ, List, Contains, true}
+use Rattle.std.specs.declared.cmp.Ordering.TheVariants.{Equal}
 use Rattle.ul_base.specs.Reached.{Reached}
 use Rattle.ul_base.specs.declared.node.Node.{Node}
 use Rattle.ul_version.specs.Fields.{Fields}
+use Rattle.ul_version.specs.Order.{version_cmp}
 use Rattle.ul_comparison.specs.Worlds.{WorldFields, IsWorld}
 use Rattle.ul_requirement.specs.Fields.{RequirementFields}
 use Rattle.ul_requirement.specs.Truth.{applies_at, base, meets, targets, with_extra}
@@ -13,6 +16,14 @@ use Rattle.ul_project.specs.Fields.{ProjectFields}
 use Rattle.ul_lock_lines.specs.declared.parts.Lock.{Lock}
 use Rattle.ul_lock_walk.specs.Walk.{Walk}
 use Rattle.ul_sound.specs.Leaves.{supported_by}
+
+-- two versions are equal: by the order of versions, for which zeros at the end of a release count as nothing
+abbrev pub AreEqual : Fields → Fields → Type 0
+AreEqual v u = version_cmp v u ≡ Equal
+
+-- the version is equal to an eligible one of the name
+abbrev pub IsEligible : Packages → List ℕ → Fields → Type 0
+IsEligible c name v = (u : Fields) × Contains (eligible c name) u × AreEqual u v
 
 -- the project, and its node of one of the extras
 abbrev pub ClosureBegins : ProjectFields → List (List ℕ) → Node → Type 0
@@ -37,7 +48,7 @@ pub record IsSoundAt (c : Packages) (p : ProjectFields) (l : Lock) (w : WorldFie
   -- one version a name
   pub one_version : (n m : Node) (v u : Fields) → Walk l w xs (n, v) → Walk l w xs (m, u) → n.name ≡ m.name → v ≡ u
   -- each version is eligible
-  pub eligible_each : (n : Node) (v : Fields) → Walk l w xs (n, v) → Contains (eligible c n.name) v
+  pub eligible_each : (n : Node) (v : Fields) → Walk l w xs (n, v) → IsEligible c n.name v
   -- exactly the closure of what is required
   pub closure : (n : Node) → ((v : Fields) × Walk l w xs (n, v)) ↔ Closure c p l w xs n
   -- each target of a requirement that is true is given at a version that meets the specifiers

@@ -43,9 +43,10 @@ fit_found : (c : Packages) (n : Node) (v : Fields) (r : ReleaseFields) → relea
 unfolding is_fit
 fit_found c n v r e w = ap (λ (o : Option ReleaseFields). is_fit_in o w) e
 
-requirements_found : (c : Packages) (n : Node) (v : Fields) (r : ReleaseFields) → release_of c n.name v ≡ Some r → requirements c n.name v ≡ r.requirements
+-- the requirements of a version whose release is found
+pub requirements_found : (c : Packages) (name : List ℕ) (v : Fields) (r : ReleaseFields) → release_of c name v ≡ Some r → requirements c name v ≡ r.requirements
 unfolding requirements
-requirements_found c n v r e = ap requirements_in e
+requirements_found c name v r e = ap requirements_in e
 
 or_fails : (b : Bool) → (not b ≡ true → ⊥) → b ≡ true
 or_fails true h = refl
@@ -58,7 +59,7 @@ unsplit_by : (c : Packages) (R : Region) (ds : List Decided) (n : Node) (v : Fie
 unsplit_by c R ds n v name u f g = u.groups f.decided f.listed (
   name,
   subst (λ (m : Node). IsSplitGroup f.decided.release.requirements R m name) (sym f.same)
-      (subst (λ (qs : List RequirementFields). IsSplitGroup qs R n name) (requirements_found c n v f.decided.release f.found) g),
+      (subst (λ (qs : List RequirementFields). IsSplitGroup qs R n name) (requirements_found c n.name v f.decided.release f.found) g),
 )
 
 pub unsplit_serves_whole : UnsplitWhole → UnsplitServesWhole
