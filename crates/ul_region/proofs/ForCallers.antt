@@ -10,7 +10,7 @@ pub use Rattle.ul_region.proofs.RowFacts.{grown_itself, grown_knows, grown_then,
 -- a diagram of a truth stands for a region
 pub use Rattle.ul_region.proofs.TruthFacts.{is_region}
 -- unions of regions, a truth in other words, and what two clauses of a call tell
-pub use Rattle.ul_region.proofs.Unions.{if_both, other_words, union_truth, none_union, one_union, both_union, still_region, back_still, some_append}
+pub use Rattle.ul_region.proofs.UnionFacts.{if_both, other_words, union_truth, none_union, one_union, both_union, still_region, back_still, some_append}
 -- places for a selection of eligible versions, and how much of the problem they serve: each part by one premise
 pub use Rattle.ul_region.proofs.Placing.{matching}
 pub use Rattle.ul_region.proofs.Bridge.{Picked, picked_at, stands, within_size, rooted, fit_at, base_at, met}

@@ -12,5 +12,5 @@ pub mod Firsts
 pub mod NameNumbers
 pub mod RowFacts
 pub mod AskedFacts
-pub mod Unions
+pub mod UnionFacts
 pub mod ForCallers

@@ -5,7 +5,7 @@ use Rattle.std.proofs.lemmas.Result.{IfOk-weaker}
 use Rattle.ul_interner.proofs.ForCallers.{knows_then}
 use Rattle.ul_region.specs.Truths.{IsRegion}
 use Rattle.ul_region.proofs.TruthFacts.{is_region, truth_still}
-use Rattle.ul_region.proofs.Unions.{none_union, one_union, both_union, back_still}
+use Rattle.ul_region.proofs.UnionFacts.{none_union, one_union, both_union, back_still}
 use Rattle.ul_region.proofs.unions.+union_of.Goals as goal
 
 pub returns-then-parts-eq0-clause-truth : goal.returns-then-parts-eq0-clause-truth

@@ -1,4 +1,4 @@
-use Rattle.ul_region.proofs.Unions.{if_both, union_truth}
+use Rattle.ul_region.proofs.UnionFacts.{if_both, union_truth}
 use Rattle.ul_region.proofs.unions.either.Goals as goal
 
 pub returns-clause-truth : goal.returns-clause-truth

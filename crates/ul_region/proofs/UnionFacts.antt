@@ -31,7 +31,7 @@ union_truth g h d a b r s k j = record {
 }
 
 -- a truth in other words
-other_words : (h : PassView) (d : DiagramMark) (p q : WorldFields → Bool) → ((w : WorldFields) → IsWorld w → p w ≡ q w) → IsTruth h d p → IsTruth h d q
+pub other_words : (h : PassView) (d : DiagramMark) (p q : WorldFields → Bool) → ((w : WorldFields) → IsWorld w → p w ≡ q w) → IsTruth h d p → IsTruth h d q
 other_words h d p q same t = record { diagram = t.diagram; truth = record { reduced = t.truth.reduced; truth = λ w x is. t.truth.truth w x is ∙ same w is } }
 
 -- of none
@@ -54,7 +54,7 @@ or_assoc : (a b c : Bool) → (a || (b || c)) ≡ ((a || b) || c)
 or_assoc true b c = refl
 or_assoc false b c = refl
 
-some_append : (ms ns : List DiagramMark) (w : WorldFields) → some_holds (ms ++ ns) w ≡ (some_holds ms w || some_holds ns w)
+pub some_append : (ms ns : List DiagramMark) (w : WorldFields) → some_holds (ms ++ ns) w ≡ (some_holds ms w || some_holds ns w)
 some_append [] ns w = refl
 some_append (m ∷ ms) ns w = ap (λ b. region_at m w || b) (some_append ms ns w) ∙ or_assoc (region_at m w) (some_holds ms w) (some_holds ns w)
 
@@ -65,7 +65,7 @@ both_union f g h d a b ms front back e s t u = other_words h d (λ w. region_at 
     (λ w is. ap₂ ◌||◌ (region_truth (tree_of a) (some_holds front) s.truth w is) (region_truth (tree_of b) (some_holds back) t.truth w is)
     ∙ (sym (some_append front back w) ∙ ap (λ (ns : List DiagramMark). some_holds ns w) (sym e))) u
 
-still_region : (g h : PassView) → Knows g h → (m : DiagramMark) → IsRegion g m → IsRegion h m
+pub still_region : (g h : PassView) → Knows g h → (m : DiagramMark) → IsRegion g m → IsRegion h m
 still_region g h more m r = truth_still g h m (region_at m) more r
 
 -- the regions behind a place are such where more is known
