@@ -14,9 +14,12 @@ use Rattle.ul_answers.specs.Answer as answer
 use Rattle.ul_answers.specs.Views.{view}
 use Rattle.ul_answers.specs.declared.answer.Answer.{Answer}
 use Rattle.ul_commands.specs.Checking.{IsCheckAnswer}
-use Rattle.ul_commands.specs.Environments.{GivesFor, GivesWhere, IsEnvAnswer, first_other}
+use Rattle.ul_lock_commands.specs.Environments.{GivesFor, GivesWhere, IsEnvAnswer}
+use Rattle.ul_lock_commands.specs.Exports.{GivesRows, IsExportAnswer}
+use Rattle.ul_lock_commands.specs.Words.{first_other}
 use Rattle.ul_commands.specs.Locking.{IsLockAnswer, LocksFor}
 use Rattle.ul_commands.specs.Reasons.{GivesReason, IsWhyAnswer}
+use Rattle.ul_commands.specs.Verifying.{IsVerifyAnswer}
 use Rattle.ul_commands.specs.Views.{GivesAnswer, IsAnswering}
 
 -- two answers that are given for one thing are one
@@ -29,7 +32,7 @@ answering a b is h = subst IsAnswering (sym (ok_same a b is)) h
 
 by_fork : (r : ResolutionFields) (f : TreeAnswer) (a : answer.Answer) → LocksFor r f (Ok a) → IsAnswering a
 by_fork r (leaves_are ls) a h = answering a _ h.is tt
-by_fork r (refused_at fork) a h = answering a _ h tt
+by_fork r (refused_at fork) a h = answering a _ h.is tt
 by_fork r (too_many n) a h = absurd (cc)
 
 pub lock_answers : (r : ResolutionFields) (result : Result Answer Refusal) → Answers view result (only (IsLockAnswer r)) → GivesAnswer result
@@ -58,6 +61,14 @@ pub env_answers : (l : Lock) (m : MachineFields) (words : List (List ℕ)) (resu
 env_answers l m words (Ok a) h = by_machine _ l m words (view a) h
 env_answers l m words (Err e) h = tt
 
+by_rows : (l : Lock) (words : List (List ℕ)) (o : Option (List ℕ)) (a : answer.Answer) → GivesRows l words o (Ok a) → IsAnswering a
+by_rows l words None a h = answering a _ h.is tt
+by_rows l words (Some w) a h = answering a _ h tt
+
+pub export_answers : (l : Lock) (words : List (List ℕ)) (result : Result Answer Refusal) → Answers view result (only (IsExportAnswer l words)) → GivesAnswer result
+export_answers l words (Ok a) h = by_rows l words (first_other l words) (view a) h
+export_answers l words (Err e) h = tt
+
 by_judge : (r : ResolutionFields) (x : Proof) (a : answer.Answer) → IsCheckAnswer r x (Ok a) → IsAnswering a
 by_judge r x a (inl h) = answering a _ h.is tt
 by_judge r x a (inr h) = answering a _ h.is tt
@@ -65,3 +76,13 @@ by_judge r x a (inr h) = answering a _ h.is tt
 pub check_answers : (r : ResolutionFields) (x : Proof) (result : Result Answer Refusal) → Answers view result (only (IsCheckAnswer r x)) → GivesAnswer result
 check_answers r x (Ok a) h = by_judge r x (view a) h
 check_answers r x (Err e) h = tt
+
+by_verdict : (r : ResolutionFields) (l : Lock) (a : answer.Answer) → IsVerifyAnswer r l (Ok a) → IsAnswering a
+by_verdict r l a (inl h) = answering a _ h.is tt
+by_verdict r l a (inr (inl h)) = answering a _ h.is tt
+by_verdict r l a (inr (inr (inl h))) = answering a _ h.is tt
+by_verdict r l a (inr (inr (inr h))) = answering a _ h.is tt
+
+pub verify_answers : (r : ResolutionFields) (l : Lock) (result : Result Answer Refusal) → Answers view result (only (IsVerifyAnswer r l)) → GivesAnswer result
+verify_answers r l (Ok a) h = by_verdict r l (view a) h
+verify_answers r l (Err e) h = tt

@@ -8,7 +8,7 @@ use Rattle.ul_inputs.specs.Inputs.{Said, only}
 use Rattle.ul_inputs.specs.Refusals.{Answers}
 use Rattle.ul_inputs.specs.Resolutions.{ResolutionFields}
 use Rattle.ul_inputs.specs.declared.refusal.Refusal.{Refusal}
-use Rattle.ul_inputs.specs.declared.refusal.Refusal.TheVariants.{NotBuilt, Malformed, Limit, ReadFault, NoMemory}
+use Rattle.ul_inputs.specs.declared.refusal.Refusal.TheVariants.{Malformed, Limit, ReadFault, NoMemory}
 use Rattle.ul_inputs.proofs.ForCallers.{refused_by}
 use Rattle.ul_answers.specs.Answer as answer
 use Rattle.ul_answers.specs.Views.{view}
@@ -22,7 +22,6 @@ use Rattle.ul_commands.proofs.Mergeable.{tree_leaf}
 -- where there is no fork answer, the refusal is an answer of those to too many forks
 too_many_answer : (r : ResolutionFields) (e : Refusal) (said : Said answer.Answer)
     → ((count : ℕ) → IsForked r (too_many count) → said.gives (Err too_many_forks)) → IsForkRefusal r e → Answers {T = Answer} view (Err e) said
-too_many_answer r (NotBuilt form) said gives h = refused_by view too_many_forks (NotBuilt form) said h.0 (gives h.1.0 h.1.1)
 too_many_answer r (Malformed file place) said gives h = refused_by view too_many_forks (Malformed file place) said h.0 (gives h.1.0 h.1.1)
 too_many_answer r (Limit name number) said gives h = refused_by view too_many_forks (Limit name number) said h.0 (gives h.1.0 h.1.1)
 too_many_answer r (ReadFault path) said gives h = absurd h.0

@@ -1,4 +1,3 @@
-mod Words
 mod ProofFaults
 mod Mergeable
 mod Answering
@@ -6,3 +5,5 @@ mod Served
 mod Counting
 mod Accepted
 mod ForkAnswers
+mod Verdicts
+pub mod ForCallers

@@ -25,7 +25,7 @@ use Rattle.ul_merge.specs.Views.{ForkLeaf, leaf_of}
 use Rattle.ul_sound.specs.Merged.{IsMergedLock}
 use Rattle.ul_lock_lines.specs.declared.parts.Lock.{Lock}
 use Rattle.ul_answers.specs.Answer.{locked, no_selection}
-use Rattle.ul_commands.specs.Locking.{IsLockAnswer, leaf_fields}
+use Rattle.ul_commands.specs.Locking.{AreCoreLines, IsLockAnswer, leaf_fields}
 use Rattle.ul_inputs.specs.Resolutions.{IsResolution, ResolutionFields}
 use Rattle.ul_commands.specs.Forking.{AreForksOf}
 use Rattle.ul_commands.specs.Questions.{question_of}
@@ -53,7 +53,7 @@ pub not_false : (t : Plain) → HasWorld (region_of t) → t ≢ truth false
 not_false t had is = let bad : tree_holds (truth false) had.0 [] ≡ true = subst (λ x. tree_holds x had.0 [] ≡ true) is had.2 in absurd (cc)
 
 -- a leaf's worlds are the region's
-abbrev IsInside : Plain → TreeLeaf → Type 0
+abbrev pub IsInside : Plain → TreeLeaf → Type 0
 IsInside region l = (w : WorldFields) → IsWorld w → region_of l.region w ≡ true → region_of region w ≡ true
 
 -- what has at most the number of one truth, and 1, is that truth
@@ -62,7 +62,7 @@ one_is true h = refl
 one_is false h = absurd (omega (arith, h))
 
 -- leaves of which at most one holds at a world, and only where the region does, are inside it
-all_inside : (region : Plain) (ls : List TreeLeaf)
+pub all_inside : (region : Plain) (ls : List TreeLeaf)
     → ((w : WorldFields) → IsWorld w → holders (λ t. region_of t w) (map (λ (l : TreeLeaf). l.region) ls) ≤ one_if (region_of region w))
     → AllByRecursion (IsInside region) ls
 all_inside region [] most = tt
@@ -157,9 +157,9 @@ locked_answer r h leaves l number forks merged is = record {
 
 -- a refused fork is answered
 pub refused_answer : (r : ResolutionFields) (h : PassView) (path : List Bool) (region : DiagramMark) (steps : List Step)
-    → AreForksOf r h (Refused path region steps) → IsLockAnswer r (Ok (no_selection path (tree_of region)))
-refused_answer r h path region steps forks = record {
+    (lines : List ℕ) → AreForksOf r h (Refused path region steps) → AreCoreLines r (tree_of region) lines → IsLockAnswer r (Ok (no_selection path (tree_of region) lines))
+refused_answer r h path region steps lines forks core = record {
   forked = refused_at (record { path = path; region = tree_of region; refusal = tt });
   are_forks = forks.is_answer;
-  locks = refl;
+  locks = record { lines = lines; core = core; is = refl };
 }

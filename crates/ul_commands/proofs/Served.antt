@@ -15,12 +15,11 @@ use Rattle.ul_forks.specs.Headline.{ForkLaws, IsAnswer, IsLeaf, TreeAnswer, Tree
 use Rattle.ul_forks.specs.Outcome.{starts_of}
 use Rattle.ul_sound.specs.Headline.{AreServed, MergePromises}
 use Rattle.ul_sound.specs.Leaves.{AreApart, Begins, Cover, LeafFields, ServeWhole, project_nodes, supported_by, worlds_of}
-use Rattle.ul_sound.specs.Sound.{IsSound}
 use Rattle.ul_inputs.specs.Refused.{Refused}
 use Rattle.ul_inputs.specs.Resolutions.{IsResolution, ResolutionFields}
 use Rattle.ul_answers.specs.Answer as answer
-use Rattle.ul_commands.specs.Locking.{IsLockAnswer, IsLocked, LocksFor, leaf_fields}
-use Rattle.ul_commands.specs.Laws.{IsUnserved, LocksAreSound, RefusedAreUnserved}
+use Rattle.ul_commands.specs.Locking.{IsLockAnswer, LocksFor, leaf_fields}
+use Rattle.ul_commands.specs.Laws.{DeepRefusesNone, ForksAreUnserved, IsOfLeaves, IsUnserved, LocksAreOfLeaves, LocksAreSound, RefusedAreUnserved}
 use Rattle.ul_commands.specs.Questions.{question_of}
 use Rattle.ul_commands.proofs.Mergeable.{begins, refused_has_world, supported_has_world}
 
@@ -110,34 +109,60 @@ served laws r counts ls is answer =
 locked_same : (k l : Lock) (m n : ℕ) → (let a : Result answer.Answer Refused = Ok (answer.locked k m) in a) ≡ Ok (answer.locked l n) → k ≡ l
 locked_same k l m n e = cc
 
-by_forks : ForkLaws → MergePromises → (r : ResolutionFields) (l : Lock) (n : ℕ) → IsResolution r → (forked : TreeAnswer) (counts : List ℕ)
-    → IsAnswer (question_of r) r.project.region counts forked → LocksFor r forked (Ok (answer.locked l n)) → IsSound r.catalog r.project l
-by_forks laws merges r l n is (leaves_are ls) counts answer h =
-    subst (IsSound r.catalog r.project) (sym (locked_same l h.lock n (length ls) h.is))
-    (merges.sound r.catalog r.project (map leaf_fields ls) h.lock (served laws r counts ls is answer) h.merged)
-by_forks laws merges r l n is (refused_at fork) counts answer h = absurd (cc)
-by_forks laws merges r l n is (too_many m) counts answer h = absurd (cc)
+of_leaves : ForkLaws → (r : ResolutionFields) (l : Lock) (n : ℕ) → IsResolution r → (forked : TreeAnswer) (counts : List ℕ)
+    → IsAnswer (question_of r) r.project.region counts forked → LocksFor r forked (Ok (answer.locked l n)) → IsOfLeaves r l
+of_leaves laws r l n is (leaves_are ls) counts answer h =
+    subst (IsOfLeaves r) (sym (locked_same l h.lock n (length ls) h.is))
+    (record { leaves = map leaf_fields ls; served = served laws r counts ls is answer; merged = h.merged })
+of_leaves laws r l n is (refused_at fork) counts answer h = let bad = h.is in absurd (cc)
+of_leaves laws r l n is (too_many m) counts answer h = absurd (cc)
+
+pub locks_are_of_leaves : ForkLaws → LocksAreOfLeaves
+locks_are_of_leaves laws r l n is h = of_leaves laws r l n is h.forked h.are_forks.counts h.are_forks.answer h.locks
 
 pub locks_are_sound : ForkLaws → MergePromises → LocksAreSound
-locks_are_sound laws merges r l n is h = by_forks laws merges r l n is h.forked h.are_forks.counts h.are_forks.answer h.locks
+locks_are_sound laws merges r l n is h =
+    let of = locks_are_of_leaves laws r l n is h in
+    merges.sound r.catalog r.project of.leaves l of.served of.merged
 
-fork_same : (p q : List Bool) (t u : Plain) → (let a : Result answer.Answer Refused = Ok (answer.no_selection p t) in a) ≡ Ok (answer.no_selection q u) → t ≡ u
-fork_same p q t u e = cc
+fork_same : (p q : List Bool) (t u : Plain) (xs ys : List ℕ) → (let a : Result answer.Answer Refused = Ok (answer.no_selection p t xs) in a) ≡ Ok (answer.no_selection q u ys) → t ≡ u
+fork_same p q t u xs ys e = cc
 
 unserved : ForkLaws → HoldsSomewhere → NoExtra → (r : ResolutionFields) → IsResolution r → (fork : TreeRefusal) (counts : List ℕ)
     → IsAnswer (question_of r) r.project.region counts (refused_at fork) → IsUnserved r fork.region
 unserved laws somewhere no_extra r is fork counts answer = record {
   world = refused_has_world laws (question_of r) r.project.region counts fork (supported_has_world somewhere no_extra r is) answer;
   none = ((laws.forks (question_of r) r.project.region).refusal counts fork answer).refused;
+  at_worlds = ((laws.forks (question_of r) r.project.region).refusal counts fork answer).at_worlds;
 }
 
-refused_by : ForkLaws → HoldsSomewhere → NoExtra → (r : ResolutionFields) (path : List Bool) (region : Plain) → IsResolution r → (forked : TreeAnswer) (counts : List ℕ)
-    → IsAnswer (question_of r) r.project.region counts forked → LocksFor r forked (Ok (answer.no_selection path region)) → IsUnserved r region
-refused_by laws somewhere no_extra r path region is (leaves_are ls) counts answer h = let bad = h.is in absurd (cc)
-refused_by laws somewhere no_extra r path region is (refused_at fork) counts answer h =
-    subst (IsUnserved r) (sym (fork_same path fork.path region fork.region h)) (unserved laws somewhere no_extra r is fork counts answer)
-refused_by laws somewhere no_extra r path region is (too_many n) counts answer h = absurd (cc)
+refused_by : ForkLaws → HoldsSomewhere → NoExtra → (r : ResolutionFields) (path : List Bool) (region : Plain) (core : List ℕ) → IsResolution r → (forked : TreeAnswer) (counts : List ℕ)
+    → IsAnswer (question_of r) r.project.region counts forked → LocksFor r forked (Ok (answer.no_selection path region core)) → IsUnserved r region
+refused_by laws somewhere no_extra r path region core is (leaves_are ls) counts answer h = let bad = h.is in absurd (cc)
+refused_by laws somewhere no_extra r path region core is (refused_at fork) counts answer h =
+    subst (IsUnserved r) (sym (fork_same path fork.path region fork.region core h.lines h.is)) (unserved laws somewhere no_extra r is fork counts answer)
+refused_by laws somewhere no_extra r path region core is (too_many n) counts answer h = absurd (cc)
 
 pub refused_are_unserved : ForkLaws → HoldsSomewhere → NoExtra → RefusedAreUnserved
-refused_are_unserved laws somewhere no_extra r path region is h =
-    refused_by laws somewhere no_extra r path region is h.forked h.are_forks.counts h.are_forks.answer h.locks
+refused_are_unserved laws somewhere no_extra r path region core is h =
+    refused_by laws somewhere no_extra r path region core is h.forked h.are_forks.counts h.are_forks.answer h.locks
+
+pub forks_are_unserved : ForkLaws → HoldsSomewhere → NoExtra → ForksAreUnserved
+forks_are_unserved laws somewhere no_extra r fork is h = unserved laws somewhere no_extra r is fork h.counts h.answer
+
+-- each world of a refused fork is one that the project supports
+inside_supported : ForkLaws → (r : ResolutionFields) (path : List Bool) (region : Plain) (core : List ℕ) → (forked : TreeAnswer) (counts : List ℕ)
+    → IsAnswer (question_of r) r.project.region counts forked → LocksFor r forked (Ok (answer.no_selection path region core))
+    → (w : WorldFields) → IsWorld w → region_of region w ≡ true → region_of r.project.region w ≡ true
+inside_supported laws r path region core (leaves_are ls) counts answer h w is at = let bad = h.is in absurd (cc)
+inside_supported laws r path region core (refused_at fork) counts answer h w is at =
+    ((laws.forks (question_of r) r.project.region).refusal counts fork answer).inside w is
+    (subst (λ (t : Plain). region_of t w ≡ true) (fork_same path fork.path region fork.region core h.lines h.is) at)
+inside_supported laws r path region core (too_many n) counts answer h w is at = absurd (cc)
+
+pub deep_refuses_none : ForkLaws → HoldsSomewhere → NoExtra → DeepRefusesNone
+deep_refuses_none laws somewhere no_extra r path region core is deep each h =
+    let found = refused_are_unserved laws somewhere no_extra r path region core is h in
+    let w = found.world in
+    let s = each w.0 w.1 (inside_supported laws r path region core h.forked h.are_forks.counts h.are_forks.answer h.locks w.0 w.1 w.2) in
+    found.at_worlds deep w.0 w.1 w.2 s.0 s.1

@@ -14,7 +14,7 @@ use Rattle.ul_inputs.specs.Inputs.{Input, ◌>>=◌, answer, large_file}
 use Rattle.ul_inputs.specs.Refused.{Refused, malformed}
 use Rattle.ul_inputs.specs.Resolutions.{ResolutionFields, resolution_with}
 use Rattle.ul_answers.specs.Answer.{Answer, accepted, rejected}
-use Rattle.ul_commands.specs.Reasons.{IsProblemIn}
+use Rattle.ul_commands.specs.Questions.{IsProblemIn}
 
 -- what a fault of the code says, if it isn't want of memory
 abbrev pub refused_proof : List ℕ → ProofFault → Option Refused

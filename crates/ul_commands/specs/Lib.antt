@@ -4,7 +4,7 @@ pub mod Locking
 pub mod Generating
 pub mod Reasons
 pub mod Checking
-pub mod Environments
+pub mod Verifying
 pub mod Commands
 pub mod Views
 pub mod Forking

@@ -1,15 +1,19 @@
--- What `lock` answers: the lock that the leaves of the fork answer merge into, or the fork that no selection serves.
+-- What `lock` answers: the lock that the leaves of the fork answer merge into, or the fork that no selection serves, with its
+-- core.
 use Rattle.std.specs.Prelude.{◌≡◌, ℕ, List, Option, length, map, Result, Ok, Err}
+use Rattle.ul_nodes.specs.Plain.{Plain}
 use Rattle.ul_lock_lines.specs.declared.parts.Lock.{Lock}
+use Rattle.ul_problem.specs.Plain.{Plain as Problem}
+use Rattle.ul_blame.specs.Texts.{IsCoreText}
 use Rattle.ul_generations.specs.Generations.{leaves_are, refused_at, too_many}
-use Rattle.ul_forks.specs.Headline.{TreeAnswer, TreeLeaf}
+use Rattle.ul_forks.specs.Headline.{TreeAnswer, TreeLeaf, TreeRefusal}
 use Rattle.ul_sound.specs.Leaves.{LeafFields}
 use Rattle.ul_sound.specs.Merged.{IsMergedLock}
 use Rattle.ul_inputs.specs.Inputs.{Input, ◌>>=◌, answer}
 use Rattle.ul_inputs.specs.Refused.{Refused}
 use Rattle.ul_inputs.specs.Resolutions.{ResolutionFields, resolution_in}
 use Rattle.ul_answers.specs.Answer.{Answer, locked, no_selection}
-use Rattle.ul_commands.specs.Questions.{IsForked, too_many_forks}
+use Rattle.ul_commands.specs.Questions.{IsForked, IsProblemIn, too_many_forks}
 
 -- a leaf's region and its selection
 abbrev pub leaf_fields : TreeLeaf → LeafFields
@@ -21,10 +25,22 @@ pub record IsLocked (r : ResolutionFields) (leaves : List TreeLeaf) (a : Result 
   pub merged : IsMergedLock r.catalog r.project (map leaf_fields leaves) lock
   pub is : a ≡ Ok (locked lock (length leaves))
 
+-- the lines of the core of a region's problem
+pub record AreCoreLines (r : ResolutionFields) (region : Plain) (lines : List ℕ) : Type 0 where
+  pub problem : Problem
+  pub of_region : IsProblemIn r region problem
+  pub text : IsCoreText problem lines
+
+-- a fork that no selection serves, with the lines of its core
+pub record IsRefusedFork (r : ResolutionFields) (fork : TreeRefusal) (a : Result Answer Refused) : Type 0 where
+  pub lines : List ℕ
+  pub core : AreCoreLines r fork.region lines
+  pub is : a ≡ Ok (no_selection fork.path fork.region lines)
+
 -- the answer to a fork answer
 abbrev pub LocksFor : ResolutionFields → TreeAnswer → Result Answer Refused → Type 0
 LocksFor r (leaves_are leaves) a = IsLocked r leaves a
-LocksFor r (refused_at fork) a = a ≡ Ok (no_selection fork.path fork.region)
+LocksFor r (refused_at fork) a = IsRefusedFork r fork a
 LocksFor r (too_many count) a = a ≡ Err too_many_forks
 
 -- the answer of `lock` to a resolution

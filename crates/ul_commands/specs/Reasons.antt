@@ -1,24 +1,17 @@
 -- What `why` answers: that no fork is refused, or the fork that no selection serves with a derivation that is accepted.
 use Rattle.std.specs.Prelude.{◌≡◌, ℕ, List, Result, Ok, Err}
 use Rattle.ul_nodes.specs.Plain.{Plain}
-use Rattle.ul_tree.specs.Regions.{region_of}
 use Rattle.ul_problem.specs.Plain.{Plain as Problem}
 use Rattle.ul_problem.specs.Steps.{Accepts}
 use Rattle.ul_problem.specs.declared.step.Step.{Step}
-use Rattle.ul_region.specs.Problem.{IsProblemOf}
 use Rattle.ul_generations.specs.Generations.{leaves_are, refused_at, too_many}
 use Rattle.ul_forks.specs.Headline.{TreeAnswer, TreeRefusal}
-use Rattle.ul_forks.specs.Outcome.{starts_of}
 use Rattle.ul_report.specs.Naming.{named_steps}
 use Rattle.ul_report.specs.Texts.{steps_text}
 use Rattle.ul_inputs.specs.Refused.{Refused}
 use Rattle.ul_inputs.specs.Resolutions.{ResolutionFields}
 use Rattle.ul_answers.specs.Answer.{Answer, derived, none_refused}
-use Rattle.ul_commands.specs.Questions.{IsForked, question_of, too_many_forks}
-
--- the problem of a region
-abbrev pub IsProblemIn : ResolutionFields → Plain → Problem → Type 0
-IsProblemIn r region p = IsProblemOf r.catalog (starts_of (question_of r)) r.wish (region_of region) p
+use Rattle.ul_commands.specs.Questions.{IsForked, IsProblemIn, too_many_forks}
 
 -- the lines of a derivation that the problem of a region accepts
 pub record AreStepsOf (r : ResolutionFields) (region : Plain) (lines : List ℕ) : Type 0 where

@@ -2,7 +2,7 @@
 use Rattle.std.specs.Prelude.{◌≡◌, ◌≤◌, [], map, option_map, string_bytes, IfOk, Result, Ok, Err}
 use Rattle.ul_inputs.specs.Refusals.{Answers}
 use Rattle.ul_inputs.specs.declared.refusal.Refusal.{Refusal}
-use Rattle.ul_inputs.specs.declared.refusal.Refusal.TheVariants.{NotBuilt, ReadFault}
+use Rattle.ul_inputs.specs.declared.refusal.Refusal.TheVariants.{ReadFault}
 use Rattle.ul_answers.specs.Answer as answer
 use Rattle.ul_answers.specs.Views.{view as answer_view}
 use Rattle.ul_answers.specs.declared.answer.Answer.{Answer}
@@ -10,17 +10,18 @@ use Rattle.ul_answers.specs.declared.answer.Answer.TheVariants.{Usage as AnswerU
 use Rattle.ul_commands.specs.Asked as asked
 use Rattle.ul_commands.specs.Generating.{gen_said}
 use Rattle.ul_commands.specs.declared.asked.Asked.{Asked}
-use Rattle.ul_commands.specs.declared.asked.Asked.TheVariants.{Usage, Unbuilt, Lock, Why, Gen, Env, Check}
+use Rattle.ul_commands.specs.declared.asked.Asked.TheVariants.{Usage, Lock, Why, Gen, Env, Export, Check, Verify}
 
 -- what is asked
 abbrev pub view : Asked → asked.Asked
 view Usage = asked.usage
-view (Unbuilt form) = asked.unbuilt form.now
 view (Lock project folder workers old) = asked.lock project.now folder.now workers (option_map (λ p. p.now) old)
 view (Why project folder workers old) = asked.why project.now folder.now workers (option_map (λ p. p.now) old)
 view (Gen seed size workers) = asked.gen seed size workers
 view (Env lock machine extras) = asked.env lock.now machine.now (map string_bytes extras.now)
+view (Export lock extras) = asked.export lock.now (map string_bytes extras.now)
 view (Check project folder derivation) = asked.check project.now folder.now derivation.now
+view (Verify project folder lock) = asked.verify project.now folder.now lock.now
 
 -- there are 1 to 64 workers, and the size of a generated project is 1 to 2,000
 abbrev pub HasWorkers : Asked → Type 0
@@ -46,6 +47,5 @@ IsSure _ = Unit {0}
 -- what the words alone decide, whatever the files tell
 abbrev pub IsByWords : Asked → Result Answer Refusal → Type 0
 IsByWords Usage r = r ≡ Ok AnswerUsage
-IsByWords (Unbuilt form) r = r ≡ Err (NotBuilt form)
 IsByWords (Gen seed size workers) r = GivesAnswer r × (IsSure r × Answers answer_view r (gen_said seed size []))
 IsByWords _ r = GivesAnswer r

@@ -5,8 +5,6 @@
 pub enum Asked<'w> {
     /// The words aren't one of the commands.
     Usage,
-    /// A form that isn't built yet: its name.
-    Unbuilt(&'static str),
     /// The lock of a project file over an index folder, by so many workers, perhaps with an old lock.
     Lock {
         project: &'w str,
@@ -33,10 +31,21 @@ pub enum Asked<'w> {
         machine: &'w str,
         extras: &'w [String],
     },
+    /// In which worlds a lock gives each of its nodes, with the extras of these words.
+    Export {
+        lock: &'w str,
+        extras: &'w [String],
+    },
     /// Whether a derivation is accepted for a project file and an index folder.
     Check {
         project: &'w str,
         folder: &'w str,
         derivation: &'w str,
+    },
+    /// Whether a lock is verified for a project file and an index folder.
+    Verify {
+        project: &'w str,
+        folder: &'w str,
+        lock: &'w str,
     },
 }

@@ -7,7 +7,7 @@ ghost use Rattle.ul_inputs.specs.Inputs.{only};
 ghost use Rattle.ul_inputs.specs.Refusals.{Answers, Cause, IsRefusalFor};
 ghost use Rattle.ul_inputs.specs.Resolutions.{IsResolution, view};
 ghost use Rattle.ul_commands.specs.Checking as spec;
-ghost use Rattle.ul_commands.specs.Reasons.{IsProblemIn};
+ghost use Rattle.ul_commands.specs.Questions.{IsProblemIn};
 
 use crate::reasons::problem_at;
 use std::alloc::{AllocError, Global};

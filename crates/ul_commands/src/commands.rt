@@ -6,24 +6,26 @@ ghost use Rattle.ul_inputs.specs.Refusals.{Answers, Cause};
 ghost use Rattle.ul_inputs.specs.Resolutions.{HasUsable};
 ghost use Rattle.ul_commands.specs.Asked as asked;
 ghost use Rattle.ul_lock_walk.specs.WellFormed.{IsWellFormed};
+ghost use Rattle.ul_lock_commands.specs.Environments as environments;
 ghost use Rattle.ul_commands.specs.Checking as checking;
-ghost use Rattle.ul_commands.specs.Environments as environments;
 ghost use Rattle.ul_commands.specs.Commands as spec;
 ghost use Rattle.ul_commands.specs.Generating.{gen_said};
+ghost use Rattle.ul_commands.specs.Verifying as verifying;
 ghost use Rattle.ul_commands.specs.Views.{GivesAnswer, HasWorkers, IsByWords, IsSure, view};
 
 use crate::asked::Asked;
 use crate::checking::{check, proof_file};
-use crate::environments::env;
 use crate::generating::{INDEX, PROJECT, counted, files};
 use crate::locking::lock;
 use crate::reasons::why;
+use crate::verifying::verify;
 use std::alloc::Global;
 use std::sync::Wait;
 use std::thread::Threads;
 use ul_answers::{Answer, leave};
 use ul_base::{Files, Gate, SureFiles};
 use ul_inputs::{Refusal, lock_file, machine_file, project_file, resolution_in, resolution_with};
+use ul_lock_commands::{env, export};
 use ul_lock_lines::Lock;
 use ul_project::Project;
 use ul_report_read::Proof;
@@ -142,6 +144,26 @@ fn env_files<F: Files>(
     answer
 }
 
+// In which worlds a lock gives each of its nodes.
+fn export_files<R: Wait, F: Files>(
+    rt: &R,
+    alloc: Global,
+    files: &mut F,
+    lock: &str,
+    extras: &[String],
+) -> Result<Answer, Refusal>
+    ensures told { Told (F.map files.old) (λ m. Answers answer_view result
+        (spec.command (asked.export lock.now (map string_bytes extras.now)) m)) }
+    ensures same { F.map files.new ≡ F.map files.old }
+    ensures cause { Cause (F.faults files.old) (F.faults files.new) (F.last_failed files.new) result }
+    ensures answering { GivesAnswer result }
+{
+    let lock = lock_file(alloc, files, lock)?;
+    let answer = export(rt, alloc, &lock, extras);
+    leave(lock);
+    answer
+}
+
 // Whether a derivation is accepted, for a project that is read.
 fn check_with<R: Wait, F: Files>(
     rt: &R,
@@ -212,6 +234,77 @@ fn check_files<R: Wait, F: Files>(
     check_on(rt, alloc, files, folder, project, derivation)
 }
 
+// Whether a lock is verified, for a project that is read.
+fn verify_with<R: Wait, F: Files>(
+    rt: &R,
+    alloc: Global,
+    files: &mut F,
+    folder: &str,
+    project: Project,
+    lock: &Lock,
+) -> Result<Answer, Refusal>
+    requires usable { HasUsable project.package }
+    requires well_formed { IsWellFormed lock.now }
+    ensures told { Told (F.map files.old)
+        (λ m. Answers answer_view result (verifying.verify_with folder.now project lock.now m)) }
+    ensures same { F.map files.new ≡ F.map files.old }
+    ensures cause { Cause (F.faults files.old) (F.faults files.new) (F.last_failed files.new) result }
+    ensures answering { GivesAnswer result }
+{
+    let resolution = resolution_with(alloc, files, folder, project, Vec::new(alloc))?;
+    let answer = verify(rt, alloc, &resolution, lock);
+    leave(resolution);
+    answer
+}
+
+// Whether the lock of a file is verified, for a project that is read.
+fn verify_on<R: Wait, F: Files>(
+    rt: &R,
+    alloc: Global,
+    files: &mut F,
+    folder: &str,
+    project: Project,
+    lock: &str,
+) -> Result<Answer, Refusal>
+    requires { HasUsable project.package }
+    ensures told { Told (F.map files.old)
+        (λ m. Answers answer_view result (verifying.verify_on folder.now lock.now project m)) }
+    ensures same { F.map files.new ≡ F.map files.old }
+    ensures cause { Cause (F.faults files.old) (F.faults files.new) (F.last_failed files.new) result }
+    ensures answering { GivesAnswer result }
+{
+    match lock_file(alloc, files, lock) {
+        Ok(lock) => {
+            let answer = verify_with(rt, alloc, files, folder, project, &lock);
+            leave(lock);
+            answer
+        }
+        Err(refusal) => {
+            leave(project);
+            Err(refusal)
+        }
+    }
+}
+
+// Whether a lock is verified.
+fn verify_files<R: Wait, F: Files>(
+    rt: &R,
+    alloc: Global,
+    files: &mut F,
+    project: &str,
+    folder: &str,
+    lock: &str,
+) -> Result<Answer, Refusal>
+    ensures told { Told (F.map files.old) (λ m. Answers answer_view result
+        (spec.command (asked.verify project.now folder.now lock.now) m)) }
+    ensures same { F.map files.new ≡ F.map files.old }
+    ensures cause { Cause (F.faults files.old) (F.faults files.new) (F.last_failed files.new) result }
+    ensures answering { GivesAnswer result }
+{
+    let project = project_file(alloc, files, project)?;
+    verify_on(rt, alloc, files, folder, project, lock)
+}
+
 /// Answers what is asked: reads the files that it names, in the order in which `specs/Commands.antt` reads them.
 ///
 /// Where the files tell their contents, the answer or the refusal is what they say, whatever the number of workers. A
@@ -232,7 +325,6 @@ pub fn command<R: Threads + Wait + Sync, F: Files, G: Gate + Sync>(
 {
     match question {
         Asked::Usage => Ok(Answer::Usage),
-        Asked::Unbuilt(form) => Err(Refusal::NotBuilt(form)),
         Asked::Lock {
             project,
             folder,
@@ -255,10 +347,16 @@ pub fn command<R: Threads + Wait + Sync, F: Files, G: Gate + Sync>(
             machine,
             extras,
         } => env_files(alloc, files, lock, machine, extras),
+        Asked::Export { lock, extras } => export_files(rt, alloc, files, lock, extras),
         Asked::Check {
             project,
             folder,
             derivation,
         } => check_files(rt, alloc, files, project, folder, derivation),
+        Asked::Verify {
+            project,
+            folder,
+            lock,
+        } => verify_files(rt, alloc, files, project, folder, lock),
     }
 }

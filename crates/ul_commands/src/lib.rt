@@ -6,12 +6,12 @@
 mod asked;
 mod checking;
 mod commands;
-mod environments;
 mod forking;
 mod generating;
 pub mod laws;
 mod locking;
 mod reasons;
+mod verifying;
 
 pub use asked::Asked;
 pub use commands::command;

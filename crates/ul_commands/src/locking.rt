@@ -3,6 +3,10 @@ ghost use Rattle.std.specs.Prelude.{◌≡◌, ◌≢◌, ◌≤◌, IfOk, Ok, f
 ghost use Rattle.ul_region.specs.Truths.{IsRegion};
 ghost use Rattle.ul_nodes.specs.Plain.{truth};
 ghost use Rattle.ul_algebra.specs.Spelled.{tree_of};
+ghost use Rattle.ul_interner.specs.Known.{Knows};
+ghost use Rattle.ul_problem.specs.Serving.{HasNone};
+ghost use Rattle.ul_blame.specs.Texts.{IsCoreText};
+ghost use Rattle.ul_forks.specs.Judged.{IsAccepted};
 ghost use Rattle.ul_merge.specs.Merging.{AreLeaves};
 ghost use Rattle.ul_merge.specs.Views.{leaf_of};
 ghost use Rattle.ul_sound.specs.Merged.{IsMergedLock};
@@ -11,20 +15,24 @@ ghost use Rattle.ul_inputs.specs.Inputs.{only};
 ghost use Rattle.ul_inputs.specs.Refusals.{Answers};
 ghost use Rattle.ul_inputs.specs.Resolutions.{IsResolution, view};
 ghost use Rattle.ul_commands.specs.Forking.{AreForksOf};
-ghost use Rattle.ul_commands.specs.Locking.{IsLockAnswer};
+ghost use Rattle.ul_commands.specs.Locking.{AreCoreLines, IsLockAnswer};
+ghost use Rattle.ul_commands.specs.Questions.{question_of};
 
 use crate::forking::forks_of;
+use crate::reasons::problem_at;
 use std::alloc::{AllocError, Global};
 use std::sync::Wait;
 use std::thread::Threads;
 use ul_algebra::{Algebra, Diagram};
 use ul_answers::{Answer, leave};
 use ul_base::Gate;
+use ul_blame::{core_by, lines};
 use ul_forks::{ForkAnswer, ForkLeaf, Forked};
 use ul_inputs::{Refusal, Resolution};
 use ul_interner::Interner;
 use ul_lock_lines::{Lock, Region};
 use ul_merge::merge;
+use ul_problem::{Derivation, Problem};
 
 // The tree of a region that isn't empty.
 pub(crate) fn region_in(
@@ -62,6 +70,44 @@ fn merged<R: Wait>(
     )
 }
 
+// The lines of the core of a problem that nothing serves, found by a derivation of that.
+fn core_lines(
+    alloc: Global,
+    problem: &Problem,
+    derivation: &Derivation,
+) -> Result<Vec<u8>, AllocError>
+    requires { HasNone problem.now }
+    ensures { IfOk result (λ v. IsCoreText problem.now v.items) }
+{
+    ul_blame::laws::core_laws();
+    let core = core_by(alloc, problem, derivation)?;
+    let text = lines(alloc, problem, core.as_slice())?;
+    Ok(text)
+}
+
+// The lines of the core of a region's problem, which accepts the derivation.
+fn core_at<R: Wait>(
+    rt: &R,
+    alloc: Global,
+    algebra: &mut Algebra<'_>,
+    resolution: &Resolution,
+    region: &Diagram,
+    derivation: &Derivation,
+) -> Result<Vec<u8>, AllocError>
+    requires resolution { IsResolution (view resolution.now) }
+    requires region { IsRegion algebra.old region.now }
+    requires accepted { IsAccepted (question_of (view resolution.now)) region.now derivation.now }
+    ensures lines { IfOk result (λ v. AreCoreLines (view resolution.now) (tree_of region.now) v.items) }
+    ensures knows { Knows algebra.old algebra.new }
+{
+    ul_derivation::laws::accepted_law();
+    ul_placing::laws::equal_problems();
+    let problem = problem_at(rt, alloc, algebra, resolution, region)?;
+    let text = core_lines(alloc, &problem, derivation);
+    leave(problem);
+    text
+}
+
 // The answer to a fork answer.
 #[tactic(auto, using(crate::proofs::Mergeable::refused_answer))]
 fn answer_for<R: Wait>(
@@ -89,11 +135,12 @@ fn answer_for<R: Wait>(
         Forked::Refused {
             path,
             region,
-            refusal: _,
+            refusal,
         } => {
             let path = Vec::from_slice(alloc, path.digits())?;
+            let core = core_at(rt, alloc, algebra, resolution, region, refusal)?;
             let region = region_in(alloc, &*algebra, region)?;
-            Ok(Answer::NoSelection { path, region })
+            Ok(Answer::NoSelection { path, region, core })
         }
     }
 }

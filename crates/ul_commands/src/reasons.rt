@@ -9,8 +9,8 @@ ghost use Rattle.ul_inputs.specs.Inputs.{only};
 ghost use Rattle.ul_inputs.specs.Refusals.{Answers};
 ghost use Rattle.ul_inputs.specs.Resolutions.{IsResolution, view};
 ghost use Rattle.ul_commands.specs.Forking.{AreForksOf};
-ghost use Rattle.ul_commands.specs.Questions.{question_of};
-ghost use Rattle.ul_commands.specs.Reasons.{AreStepsOf, IsProblemIn, IsWhyAnswer};
+ghost use Rattle.ul_commands.specs.Questions.{IsProblemIn, question_of};
+ghost use Rattle.ul_commands.specs.Reasons.{AreStepsOf, IsWhyAnswer};
 
 use crate::forking::forks_of;
 use crate::locking::region_in;

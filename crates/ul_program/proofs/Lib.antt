@@ -1,3 +1,4 @@
 pub mod Headlines
 pub mod Numbers
+mod ExportedText
 pub mod Outputs

@@ -4,7 +4,7 @@ use Rattle.ul_base.specs.Files.{FileMap}
 use Rattle.ul_inputs.specs.Refused.{Refused}
 use Rattle.ul_answers.specs.Answer as answer
 use Rattle.ul_answers.specs.Printed.{Output, printed}
-use Rattle.ul_commands.specs.Asked.{Asked, usage, unbuilt, lock, why, gen, env, check}
+use Rattle.ul_commands.specs.Asked.{Asked, usage, lock, why, gen, env, export, check, verify}
 use Rattle.ul_commands.specs.Commands.{command}
 use Rattle.ul_program.specs.Words.{question}
 
@@ -30,12 +30,13 @@ IsRead words m path = (command (question words) m).reads path
 -- what is asked is answered without any file
 abbrev pub NeedsNoFile : Asked → Type 0
 NeedsNoFile usage = Unit {0}
-NeedsNoFile (unbuilt form) = Unit {0}
 NeedsNoFile (lock project folder workers old) = ⊥
 NeedsNoFile (why project folder workers old) = ⊥
 NeedsNoFile (gen seed size workers) = Unit {0}
 NeedsNoFile (env path machine extras) = ⊥
-NeedsNoFile (check project folder proof) = ⊥
+NeedsNoFile (export path extras) = ⊥
+NeedsNoFile (check project folder derivation) = ⊥
+NeedsNoFile (verify project folder path) = ⊥
 
 -- the words aren't one of the commands
 abbrev pub IsUsage : List (List ℕ) → Type 0

@@ -9,6 +9,7 @@ use Rattle.ul_base.specs.Files.{FileMap, Told}
 use Rattle.ul_base.specs.Causes.{Rose}
 use Rattle.ul_answers.specs.Refusals.{read_fault_text}
 use Rattle.ul_program.specs.Answer.{IsAnswer, IsRead, IsUsage, NeedsNoFile, Answered}
+use Rattle.ul_program.specs.Exported.{SaysWhatIsGiven}
 use Rattle.ul_program.specs.Words.{question}
 
 -- what files tell: their contents, where they tell them; how often a read failed; and the path of the last that did,
@@ -51,6 +52,9 @@ pub record IsOutput (words : List (List ℕ)) (before now : FilesSeen) (status :
   pub answer : status ≢ 5 → Told before.map (λ m. IsAnswer words m status text)
   -- where the words need no file, they are the answer whatever the files tell
   pub no_file : NeedsNoFile (question words) → IsAnswer words [] status text
+  -- with status 0 of `export`: in each world that the lock of the file supports, the lines whose markers hold are exactly what
+  -- the lock gives there, without the root's
+  pub exports : status ≡ 0 → Told before.map (λ m. SaysWhatIsGiven (question words) m text)
   -- status 2 comes only where the words aren't one of the commands
   pub usage : status ≡ 2 → IsUsage words
   -- status 5 comes only where a read failed

@@ -1,3 +1,4 @@
 pub mod Answer
+pub mod Exported
 pub mod Headline
 pub mod Words

@@ -4,7 +4,7 @@ use Rattle.std.specs.Char.{is_ascii_digit}
 use Rattle.std.specs.List.{list_all}
 use Rattle.std.specs.Str.{bytes_eq}
 use Rattle.std.specs.Str.Parse.{digits_value}
-use Rattle.ul_commands.specs.Asked.{Asked, usage, unbuilt, lock, why, gen, env, check}
+use Rattle.ul_commands.specs.Asked.{Asked, usage, lock, why, gen, env, export, check, verify}
 
 -- there is a first digit, and it is no zero, unless it is the only one
 abbrev pub leads_well : List ℕ → Bool
@@ -75,12 +75,12 @@ asked_gen _ = usage
 
 -- export LOCK [EXTRA] [EXTRA] and so on
 abbrev pub asked_export : List (List ℕ) → Asked
-asked_export (lock_file ∷ extras) = unbuilt (codes "export")
+asked_export (lock_file ∷ extras) = export lock_file extras
 asked_export _ = usage
 
 -- verify PROJECT INDEXDIR LOCK
 abbrev pub asked_verify : List (List ℕ) → Asked
-asked_verify (project ∷ folder ∷ lock_file ∷ []) = unbuilt (codes "verify")
+asked_verify (project ∷ folder ∷ lock_file ∷ []) = verify project folder lock_file
 asked_verify _ = usage
 
 -- the command that the first word names, with the words after it

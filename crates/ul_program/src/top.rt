@@ -25,6 +25,7 @@ fn answer<R: Threads + Wait + Sync, F: Files, G: Gate + Sync>(
     ensures same { F.map files.new ≡ F.map files.old }
     ensures count { F.faults files.old ≤ F.faults files.new }
 {
+    ul_lock_commands::laws::exports_are_exact();
     let asked = ask(words);
     match command(rt, alloc, files, gate, &asked) {
         Ok(answer) => answer_output(alloc, answer),

@@ -178,7 +178,10 @@ fn ask_export(rest: &[String]) -> Asked<'_>
     ensures workers { HasWorkers result }
 {
     match rest {
-        [_, ..] => Asked::Unbuilt("export"),
+        [lock, extras @ ..] => Asked::Export {
+            lock: lock.as_str(),
+            extras,
+        },
         _ => Asked::Usage,
     }
 }
@@ -188,7 +191,11 @@ fn ask_verify(rest: &[String]) -> Asked<'_>
     ensures workers { HasWorkers result }
 {
     match rest {
-        [_, _, _] => Asked::Unbuilt("verify"),
+        [project, folder, lock] => Asked::Verify {
+            project: project.as_str(),
+            folder: folder.as_str(),
+            lock: lock.as_str(),
+        },
         _ => Asked::Usage,
     }
 }

@@ -22,3 +22,9 @@ returns-in-Gen-clause-told g c m e = subst (λ q. Answers answer_view c.gen_file
 
 pub returns-in-Gen-clause-by_words : goal.returns-in-Gen-clause-by_words
 returns-in-Gen-clause-by_words g c = subst (λ q. IsByWords q c.gen_files.result) (sym c.in-Gen.is) (c.gen_files.ensures.answering, (c.gen_files.ensures.sure, c.gen_files.ensures.told []))
+
+pub returns-in-Export-clause-told : goal.returns-in-Export-clause-told
+returns-in-Export-clause-told g c m e = subst (λ q. Answers answer_view c.export_files.result (command (view q) m)) (sym c.in-Export.is) (c.export_files.ensures.told m e)
+
+pub returns-in-Verify-clause-told : goal.returns-in-Verify-clause-told
+returns-in-Verify-clause-told g c m e = subst (λ q. Answers answer_view c.verify_files.result (command (view q) m)) (sym c.in-Verify.is) (c.verify_files.ensures.told m e)

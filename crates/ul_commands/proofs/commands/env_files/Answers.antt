@@ -2,7 +2,7 @@ use Rattle.std.proofs.Common.{◌∙◌, map, string_bytes}
 use Rattle.std.proofs.lemmas.Result.{err_from_is_err_and}
 use Rattle.ul_answers.specs.Views.{view}
 use Rattle.ul_inputs.specs.Locks.{lock_at}
-use Rattle.ul_commands.specs.Environments.{env_on}
+use Rattle.ul_lock_commands.specs.Environments.{env_on}
 use Rattle.ul_inputs.proofs.ForCallers.{goes_on, refuses}
 use Rattle.ul_commands.proofs.commands.env_files.Goals as goal
 

@@ -4,7 +4,7 @@ use Rattle.ul_answers.specs.Views.{view}
 use Rattle.ul_inputs.specs.Inputs.{answer}
 use Rattle.ul_inputs.specs.Machines.{machine_at}
 use Rattle.ul_inputs.proofs.ForCallers.{goes_on, refuses}
-use Rattle.ul_commands.specs.Environments.{IsEnvAnswer}
+use Rattle.ul_lock_commands.specs.Environments.{IsEnvAnswer}
 use Rattle.ul_commands.proofs.Answering.{env_answers}
 use Rattle.ul_commands.proofs.commands.env_on.Goals as goal
 

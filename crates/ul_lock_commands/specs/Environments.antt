@@ -1,36 +1,14 @@
 -- What `env` answers: what a lock gives on a machine, with the extras of words.
-use Rattle.std.specs.Prelude.{◌≡◌, ℕ, List, [], ◌∷◌, Bool, true, false, not, find, option_to_list, flat_map, Option, Some, None, Result, Ok, Err}
-use Rattle.ul_base.specs.Names.{name_of}
+use Rattle.std.specs.Prelude.{◌≡◌, ℕ, List, Bool, true, false, Option, Some, None, Result, Ok}
 use Rattle.ul_comparison.specs.Machines.{MachineFields}
 use Rattle.ul_lock_lines.specs.declared.parts.Lock.{Lock}
 use Rattle.ul_filter.specs.Comparisons.{machine_world}
-use Rattle.ul_filter.specs.Headline.{IsEnvironment, is_supported_at, root_lists}
+use Rattle.ul_filter.specs.Headline.{IsEnvironment, is_supported_at}
 use Rattle.ul_inputs.specs.Inputs.{Input, ◌>>=◌, answer}
 use Rattle.ul_inputs.specs.Machines.{machine_at}
 use Rattle.ul_inputs.specs.Refused.{Refused}
 use Rattle.ul_answers.specs.Answer.{Answer, environment, outside, no_extra}
-
--- the root has an extra
-abbrev pub has_extra : Lock → Option (List ℕ) → Bool
-has_extra l None = false
-has_extra l (Some name) = root_lists l name
-
--- the word is the name of one of the root's extras
-abbrev pub is_extra_word : Lock → List ℕ → Bool
-is_extra_word l word = has_extra l (name_of word)
-
--- the first word that isn't
-unfoldable pub first_other : Lock → List (List ℕ) → Option (List ℕ)
-first_other l words = find (λ word. not (is_extra_word l word)) words
-
--- the name of a word, if it is one
-abbrev pub names_in : Option (List ℕ) → List (List ℕ)
-names_in None = []
-names_in (Some name) = name ∷ []
-
--- the names of words
-unfoldable pub names_of : List (List ℕ) → List (List ℕ)
-names_of words = flat_map (λ word. names_in (name_of word)) words
+use Rattle.ul_lock_commands.specs.Words.{first_other, names_of}
 
 -- the lines of what the lock gives in the machine's world with the words' extras
 pub record IsGiven (l : Lock) (m : MachineFields) (words : List (List ℕ)) (a : Result Answer Refused) : Type 0 where

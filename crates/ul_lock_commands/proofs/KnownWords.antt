@@ -2,8 +2,8 @@
 use Rattle.std.proofs.Common.{◌≡◌, ℕ, List, [], ◌∷◌, ◌++◌, Bool, true, false, not, cond, Option, Some, None, refl}
 use Rattle.ul_base.specs.Names.{name_of}
 use Rattle.ul_lock_lines.specs.declared.parts.Lock.{Lock}
-use Rattle.ul_filter.specs.Headline.{first_unknown, root_lists}
-use Rattle.ul_commands.specs.Environments.{first_other, has_extra, names_in, names_of}
+use Rattle.ul_lock_nodes.specs.Roots.{first_unknown, root_lists}
+use Rattle.ul_lock_commands.specs.Words.{first_other, has_extra, names_in, names_of}
 
 -- a name that the root has, in front of others
 known_first : (l : Lock) (name : List ℕ) (names : List (List ℕ)) → root_lists l name ≡ true → first_unknown l names ≡ None

@@ -1,0 +1,6 @@
+-- Lemmas for crates above.
+
+-- the catalog begins with the project, whose region has a world
+pub use Rattle.ul_commands.proofs.Mergeable.{begins, supported_has_world}
+-- the regions of leaves have worlds, and lie in the supported region
+pub use Rattle.ul_commands.proofs.Mergeable.{IsInside, all_inside, leaves_have_worlds}

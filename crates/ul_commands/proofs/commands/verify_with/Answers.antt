@@ -1,0 +1,27 @@
+use Rattle.std.proofs.Common.{[]}
+use Rattle.std.proofs.lemmas.Result.{err_from_is_err_and}
+use Rattle.ul_answers.specs.Views.{view as answer_view}
+use Rattle.ul_inputs.specs.Inputs.{answer}
+use Rattle.ul_inputs.specs.Resolutions.{resolution_with, view}
+use Rattle.ul_inputs.proofs.ForCallers.{goes_on, refuses}
+use Rattle.ul_commands.specs.Verifying.{IsVerifyAnswer}
+use Rattle.ul_commands.proofs.Answering.{verify_answers}
+use Rattle.ul_commands.proofs.commands.verify_with.Goals as goal
+
+pub returns-in_err-resolution-clause-told : goal.returns-in_err-resolution-clause-told
+returns-in_err-resolution-clause-told g c m e =
+    let p = err_from_is_err_and c.from_residual.result c.from_residual.ensures.1 in
+    let told = c.in_err-resolution.ensures.told m e in
+    rw (p.1, p.2) (refuses view answer_view c.in_err-resolution.field-0.0
+    (resolution_with c.args.folder.now c.args.project [] m) (λ x. answer (IsVerifyAnswer x c.args.lock.now) m)
+    (rw c.new.ensures.items at told))
+
+pub returns-clause-told : goal.returns-clause-told
+returns-clause-told g c m e =
+    let told = c.in_ok-resolution.ensures.told m e in
+    goes_on answer_view c.verify-answer.result (view c.in_ok-resolution.resolution)
+    (resolution_with c.args.folder.now c.args.project [] m) (λ x. answer (IsVerifyAnswer x c.args.lock.now) m)
+    (rw c.new.ensures.items at told) c.verify-answer.ensures
+
+pub returns-clause-answering : goal.returns-clause-answering
+returns-clause-answering g c = verify_answers _ _ c.verify-answer.result c.verify-answer.ensures

@@ -1,0 +1,63 @@
+//! The answer of `verify`.
+ghost use Rattle.std.specs.Prelude.{IfOk, Ok};
+ghost use Rattle.ul_lock_walk.specs.WellFormed.{IsWellFormed};
+ghost use Rattle.ul_answers.specs.Views.{view as answer_view};
+ghost use Rattle.ul_inputs.specs.Inputs.{only};
+ghost use Rattle.ul_inputs.specs.Refusals.{Answers};
+ghost use Rattle.ul_inputs.specs.Resolutions.{view};
+ghost use Rattle.ul_commands.specs.Verifying.{IsVerifyAnswer};
+
+use std::alloc::{AllocError, Global};
+use std::sync::Wait;
+use ul_algebra::Algebra;
+use ul_answers::{Answer, leave};
+use ul_inputs::{Refusal, Resolution};
+use ul_interner::Interner;
+use ul_lock_lines::Lock;
+use ul_verify::{VerifyFault, verify as judged};
+
+// The answer, by an algebra.
+#[tactic(auto, using(crate::proofs::Verdicts::verified_answer, crate::proofs::Verdicts::root_answer, crate::proofs::Verdicts::worlds_answer, crate::proofs::Verdicts::package_answer))]
+fn answer_for<R: Wait>(
+    rt: &R,
+    alloc: Global,
+    algebra: &mut Algebra<'_>,
+    resolution: &Resolution,
+    lock: &Lock,
+) -> Result<Answer, AllocError>
+    requires { IsWellFormed lock.now }
+    ensures { IfOk result (λ a. IsVerifyAnswer (view resolution.now) lock.now (Ok (answer_view a))) }
+{
+    match judged(
+        rt,
+        alloc,
+        algebra,
+        lock,
+        &resolution.project,
+        &resolution.catalog,
+    ) {
+        Ok(()) => Ok(Answer::Verified),
+        Err(VerifyFault::Root) => Ok(Answer::RejectedRoot),
+        Err(VerifyFault::Supported) => Ok(Answer::RejectedSupported),
+        Err(VerifyFault::Package(name, version)) => Ok(Answer::RejectedPackage { name, version }),
+        Err(VerifyFault::NoMemory) => Err(AllocError),
+    }
+}
+
+/// The answer of `verify` to a resolution and a lock. What it is found with is left to the end of the process.
+pub(crate) fn verify<R: Wait>(
+    rt: &R,
+    alloc: Global,
+    resolution: &Resolution,
+    lock: &Lock,
+) -> Result<Answer, Refusal>
+    requires { IsWellFormed lock.now }
+    ensures { Answers answer_view result (only (IsVerifyAnswer (view resolution.now) lock.now)) }
+{
+    let (interner, pass) = Interner::begin(alloc)?;
+    let mut algebra = Algebra::begin(alloc, &interner, pass);
+    let answer = answer_for(rt, alloc, &mut algebra, resolution, lock);
+    leave(algebra);
+    leave(interner);
+    Ok(answer?)
+}
