@@ -15,7 +15,11 @@ CASES = [
     ("env web_app/unilock.lock web_app/windows.json", 0, "web_app/windows.txt"),
     ("lock by_python/pyproject.toml by_python/ix 1", 0, "by_python/unilock.lock"),
     ("lock kept/pyproject.toml kept/ix 1 kept/old.lock", 0, "kept/unilock.lock"),
+    ("lock refused/pyproject.toml refused/ix 1", 1, "refused/lock.txt"),
     ("why refused/pyproject.toml refused/ix 1", 1, "refused/why.txt"),
+    ("lock deep/fewest.toml deep/ix 1", 1, "deep/fewest.txt"),
+    ("lock deep/pyproject.toml deep/ix 1", 0, "deep/unilock.lock"),
+    ("export web_app/unilock.lock dev", 0, "web_app/requirements.txt"),
 ]
 
 
@@ -35,6 +39,11 @@ class Examples(unittest.TestCase):
         words = "check refused/pyproject.toml refused/ix refused/why.txt"
         done = subprocess.run([str(PROGRAM), *words.split()], cwd=EXAMPLES, capture_output=True, text=True)
         self.assertEqual((done.returncode, done.stdout), (0, "accepted\n"))
+
+    def test_the_lock_is_verified(self) -> None:
+        words = "verify web_app/pyproject.toml web_app/ix web_app/unilock.lock"
+        done = subprocess.run([str(PROGRAM), *words.split()], cwd=EXAMPLES, capture_output=True, text=True)
+        self.assertEqual((done.returncode, done.stdout), (0, "verified\n"))
 
 
 if __name__ == "__main__":
