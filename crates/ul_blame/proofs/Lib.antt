@@ -10,6 +10,5 @@ pub mod Turning
 pub mod Standing
 pub mod Rows
 pub mod Written
-pub mod Listing
-pub mod Bare
+pub mod Chosen
 pub mod ForCallers

@@ -2,41 +2,134 @@
 //!
 //! Each need is left out where nothing serves without it. That is so where a derivation that nothing serves doesn't use the need; else
 //! the problem without it is solved.
-ghost use Rattle.std.specs.Prelude.{◌≡◌, ◌<◌, ◌+◌, IfOk, length};
+ghost use Rattle.std.specs.Prelude.{◌≡◌, ◌<◌, ◌+◌, IfOk, IsTrue, false, length, set};
 ghost use Rattle.ul_problem.specs.Serving.{HasNone};
 ghost use Rattle.ul_blame.specs.Core.{IsCore};
 ghost use Rattle.ul_blame.specs.Flags.{kept_of};
 ghost use Rattle.ul_blame.specs.Headline.{IsBlamed};
-ghost use Rattle.ul_blame.specs.Turns.{ArePassed, IsTried};
+ghost use Rattle.ul_blame.specs.Needs.{all_needs};
+ghost use Rattle.ul_blame.specs.Serving.{IsServed};
+ghost use Rattle.ul_blame.specs.Turns.{ArePassed, AreSome, IsRefusal, IsTried, left_of};
 
+use crate::choosing::{guess, wish, wish_all};
 use crate::kept::{flag_at, kept_problem};
 use crate::needs::{CoreNeed, all_needs};
+use crate::serving::serves;
 use crate::used::{starts_of, used_by};
 use std::alloc::{AllocError, Global};
 use ul_base::owned::refused;
 use ul_problem::{Derivation, Problem};
 use ul_solver::{Answer, solve};
 
-// Solves the problem with the needs that are left.
-fn tried(alloc: Global, problem: &Problem, flags: &[bool]) -> Result<Option<Derivation>, AllocError>
+// Flags without the one at a place.
+fn without(alloc: Global, flags: &[bool], place: usize) -> Result<Vec<bool>, AllocError>
+    ensures { IfOk result (λ others. others.items ≡ set flags.now place false) }
+{
+    let mut others = Vec::from_slice(alloc, flags)?;
+    if place < others.len() {
+        others[place] = false;
+    }
+    Ok(others)
+}
+
+// Solves the problem with the needs that are left. What is selected is wished for from then on.
+fn tried(
+    alloc: Global,
+    problem: &Problem,
+    flags: &[bool],
+    wishes: &mut Vec<Option<u32>>,
+) -> Result<Option<Derivation>, AllocError>
     ensures { IfOk result (λ o. IsTried problem.now flags.now o) }
 {
     let kept = kept_problem(alloc, problem, flags)?;
     match solve(alloc, &kept)? {
-        Answer::Best { picks, trail } => Ok(refused((picks, trail))),
+        Answer::Best { picks, trail } => {
+            wish_all(wishes, picks.as_slice());
+            Ok(refused((picks, trail)))
+        }
         Answer::Nothing(derivation) => Ok(Some(derivation)),
     }
+}
+
+// The needs by which nothing serves with those that are left, as the solver finds; none where some selection serves.
+fn refusal_by_solving(
+    alloc: Global,
+    problem: &Problem,
+    starts: &[usize],
+    flags: &[bool],
+    wishes: &mut Vec<Option<u32>>,
+) -> Result<Option<Vec<bool>>, AllocError>
+    ensures { IfOk result (λ o. IsRefusal problem.now flags.now o) }
+{
+    match tried(alloc, problem, flags, wishes)? {
+        Some(derivation) => {
+            let used = used_by(alloc, problem, starts, flags, &derivation)?;
+            Ok(Some(used))
+        }
+        None => Ok(None),
+    }
+}
+
+// Whether a choice that is guessed serves with the needs that are left. It is wished for from then on.
+fn is_guessed(
+    alloc: Global,
+    problem: &Problem,
+    all: &[CoreNeed],
+    starts: &[usize],
+    flags: &[bool],
+    wishes: &mut Vec<Option<u32>>,
+) -> Result<bool, AllocError>
+    requires { all.now ≡ all_needs problem.now }
+    ensures { IfOk result (λ b. IsTrue b → IsServed problem.now (left_of problem.now flags.now)) }
+{
+    let choice = guess(alloc, problem, starts, flags, wishes.as_slice())?;
+    let is_guessed = serves(problem, all, flags, choice.as_slice());
+    if is_guessed {
+        *wishes = choice;
+    }
+    Ok(is_guessed)
+}
+
+// The needs by which nothing serves with those that are left; none where some selection serves. First a choice is guessed, then the
+// problem with the other used needs alone is solved, which are few, and only where that doesn't tell the whole one.
+fn refusal(
+    alloc: Global,
+    problem: &Problem,
+    all: &[CoreNeed],
+    starts: &[usize],
+    flags: &[bool],
+    others: &[bool],
+    wishes: &mut Vec<Option<u32>>,
+) -> Result<Option<Vec<bool>>, AllocError>
+    requires all { all.now ≡ all_needs problem.now }
+    requires some { AreSome flags.now others.now }
+    ensures { IfOk result (λ o. IsRefusal problem.now flags.now o) }
+{
+    if is_guessed(alloc, problem, all, starts, flags, wishes)? {
+        return Ok(None);
+    }
+    if let Some(used) = refusal_by_solving(alloc, problem, starts, others, wishes)? {
+        return Ok(Some(used));
+    }
+    if is_guessed(alloc, problem, all, starts, flags, wishes)? {
+        return Ok(None);
+    }
+    let refusal = refusal_by_solving(alloc, problem, starts, flags, wishes)?;
+    Ok(refusal)
 }
 
 // Looks at the need at a place.
 fn look_at(
     alloc: Global,
     problem: &Problem,
+    all: &[CoreNeed],
     starts: &[usize],
     flags: &mut Vec<bool>,
     used: Vec<bool>,
+    wishes: &mut Vec<Option<u32>>,
     place: usize,
 ) -> Result<Vec<bool>, AllocError>
+    requires all { all.now ≡ all_needs problem.now }
     requires there { place < length flags.old.items }
     requires passed { ArePassed problem.now place flags.old.items used.items }
     ensures { IfOk result (λ now. ArePassed problem.now (place + 1) flags.new.items now.items) }
@@ -45,11 +138,18 @@ fn look_at(
     if !flag_at(used.as_slice(), place) {
         return Ok(used);
     }
-    match tried(alloc, problem, flags.as_slice())? {
-        Some(derivation) => {
-            let now = used_by(alloc, problem, starts, flags.as_slice(), &derivation)?;
-            Ok(now)
-        }
+    wish(wishes, all, place);
+    let others = without(alloc, used.as_slice(), place)?;
+    match refusal(
+        alloc,
+        problem,
+        all,
+        starts,
+        flags.as_slice(),
+        others.as_slice(),
+        wishes,
+    )? {
+        Some(now) => Ok(now),
         None => {
             flags[place] = true;
             Ok(used)
@@ -91,8 +191,18 @@ pub fn core_by(
         flags.as_slice(),
         derivation,
     )?;
+    let mut wishes = vec![in alloc; None; problem.nodes().len()]?;
     for place in 0..needs.len() {
-        used = look_at(alloc, problem, starts.as_slice(), &mut flags, used, place)?;
+        used = look_at(
+            alloc,
+            problem,
+            needs,
+            starts.as_slice(),
+            &mut flags,
+            used,
+            &mut wishes,
+            place,
+        )?;
     }
     let core = kept_list(alloc, flags.as_slice(), needs)?;
     Ok(core)

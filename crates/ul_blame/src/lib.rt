@@ -2,10 +2,12 @@
 #![tactic(auto)]
 
 mod blame;
+mod choosing;
 mod core_lines;
 mod kept;
 pub mod laws;
 mod needs;
+mod serving;
 mod used;
 
 pub use blame::{core, core_by};

@@ -1,44 +1,16 @@
 -- Edges that are followed, one after another.
-use Rattle.std.proofs.Common.{◌≡◌, ◌⊎◌, ◌<◌, ◌+◌, ℕ, zero, suc, true, false, List, [], ◌∷◌, ◌++◌, length, take, Some, Contains, refl, sym, ap, ◌∙◌, subst, inl, inr, ⊎_elim, add-one}
-use Rattle.std.specs.List.{slice_get}
-use Rattle.std.proofs.lemmas.Option.{none-some, same_Some, slice_get_within, slice_get_read, get_or_from_slice_get}
-use Rattle.ul_base.proofs.ForCallers.{contains_first, contains_later, contains_cases, none_in}
+use Rattle.std.proofs.Common.{◌≡◌, ◌⊎◌, ◌<◌, ℕ, true, false, List, [], ◌∷◌, ◌++◌, length, Contains, refl, sym, ap, ◌∙◌, subst, inl, inr, ⊎_elim}
+use Rattle.std.proofs.lemmas.Option.{slice_get_within}
+use Rattle.ul_base.proofs.ForCallers.{none_in}
 use Rattle.ul_comparison.specs.Worlds.{WorldFields}
 use Rattle.ul_lock_lines.specs.declared.parts.Edge.{Edge}
 use Rattle.ul_lock_walk.specs.Walk.{Pick as NodeAt, edge_holds}
-use Rattle.ul_filter.specs.Met.{is_flagged, IsFollowed, IsMet, IsMore, LeadsTo, StandsAt}
-use Rattle.ul_filter.specs.Routes.{Route}
+use Rattle.ul_lock_nodes.specs.Flags.{is_flagged, LeadsTo}
+use Rattle.ul_lock_nodes.specs.Places.{StandsAt}
+use Rattle.ul_filter.specs.Met.{IsFollowed, IsMet, IsMore}
+use Rattle.ul_lock_nodes.specs.Routes.{Route}
 use Rattle.ul_filter.specs.declared.walking.Met.{Met}
-use Rattle.ul_filter.proofs.RouteFacts.{clash}
-
--- ---- lists
-
--- what stands at a place of a list is one of its elements, and the other way
-pub contains_at : {A : Type 0} (xs : List A) (k : ℕ) (x : A) → slice_get xs k ≡ Some x → Contains xs x
-contains_at xs k x e = (k, slice_get_within xs k x e, get_or_from_slice_get xs k x x e)
-
-pub stands_in : {A : Type 0} (xs : List A) (x : A) → Contains xs x → (k : ℕ) × (slice_get xs k ≡ Some x)
-stands_in xs x c = (c.0, slice_get_read xs (length xs) c.0 x refl c.1 (sym c.2))
-
-taken_suc : {A : Type 0} (xs : List A) (i : ℕ) (x : A) → slice_get xs i ≡ Some x → take (suc i) xs ≡ take i xs ++ x ∷ []
-taken_suc [] i x e = absurd (none-some x e)
-taken_suc (y ∷ ys) zero x e = ap (λ z. z ∷ []) (same_Some y x e)
-taken_suc (y ∷ ys) (suc i) x e = ap (λ zs. y ∷ zs) (taken_suc ys i x e)
-
-pub taken_more : {A : Type 0} (xs : List A) (i : ℕ) (x : A) → slice_get xs i ≡ Some x → take (i + 1) xs ≡ take i xs ++ x ∷ []
-taken_more xs i x e = ap (λ n. take n xs) (add-one i) ∙ taken_suc xs i x e
-
-pub in_more : {A : Type 0} (xs : List A) (y x : A) → Contains (xs ++ y ∷ []) x → Contains xs x ⊎ (x ≡ y)
-in_more [] y x c = ⊎_elim inr (λ h. absurd (none_in x h)) (contains_cases y [] x c)
-in_more (z ∷ zs) y x c = ⊎_elim (λ e. inl (subst (Contains (z ∷ zs)) (sym e) (contains_first z zs))) (λ h. ⊎_elim (λ k. inl (contains_later z zs x k)) inr (in_more zs y x h)) (contains_cases z (zs ++ y ∷ []) x c)
-
-pub still_in : {A : Type 0} (xs : List A) (y x : A) → Contains xs x → Contains (xs ++ y ∷ []) x
-still_in [] y x c = absurd (none_in x c)
-still_in (z ∷ zs) y x c = ⊎_elim (λ e. subst (Contains (z ∷ zs ++ y ∷ [])) (sym e) (contains_first z (zs ++ y ∷ []))) (λ h. contains_later z (zs ++ y ∷ []) x (still_in zs y x h)) (contains_cases z zs x c)
-
-pub last_in : {A : Type 0} (xs : List A) (y : A) → Contains (xs ++ y ∷ []) y
-last_in [] y = contains_first y []
-last_in (z ∷ zs) y = contains_later z (zs ++ y ∷ []) y (last_in zs y)
+use Rattle.ul_lock_nodes.proofs.ForCallers.{clash, contains_at, in_more, last_in, stands_in, still_in}
 
 -- ---- what was met
 

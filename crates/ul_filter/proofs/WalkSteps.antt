@@ -2,18 +2,19 @@
 use Rattle.std.proofs.Common.{◌≡◌, ◌⊎◌, ◌<◌, ◌≤◌, ◌+◌, ℕ, zero, suc, true, false, List, [], ◌∷◌, length, get_or, Option, Some, None, Contains, refl, sym, ap, ◌∙◌, subst, inl, inr, ⊎_elim, arith, replicate}
 use Rattle.std.specs.List.{slice_get}
 use Rattle.std.proofs.lemmas.Option.{same_Some, slice_get_within, slice_get_read}
-use Rattle.ul_base.specs.Reached.{begun, led}
+use Rattle.ul_base.specs.Reached.{begun}
 use Rattle.ul_base.proofs.ForCallers.{none_in}
 use Rattle.ul_comparison.specs.Worlds.{WorldFields}
 use Rattle.ul_lock_lines.specs.declared.parts.Lock.{Lock}
 use Rattle.ul_lock_walk.specs.Walk.{IsRootNode, Pick as NodeAt, Walk}
-use Rattle.ul_filter.specs.Met.{edges_in, is_flagged, IsFollowed, IsMet, IsMetSomewhere, IsMore, LeadsTo, StandsAt}
-use Rattle.ul_filter.specs.Routes.{Route, routes_of}
-use Rattle.ul_filter.specs.Walked.{IsBegunTo, IsLeft, IsRootAt, IsWalked, IsWalkedAt, IsWalkTo}
+use Rattle.ul_lock_nodes.specs.Flags.{IsLeft, IsRootAt, IsWalkedAt, LeadsTo, is_flagged}
+use Rattle.ul_lock_nodes.specs.Places.{StandsAt}
+use Rattle.ul_lock_nodes.specs.Routes.{Route, routes_of}
+use Rattle.ul_filter.specs.Met.{edges_in, IsFollowed, IsMet, IsMetSomewhere, IsMore}
+use Rattle.ul_filter.specs.Walked.{IsBegunTo, IsWalked, IsWalkTo}
 use Rattle.ul_filter.specs.declared.walking.Met.{Met}
-use Rattle.ul_filter.proofs.RouteFacts.{below_or_at}
-use Rattle.ul_filter.proofs.RouteBlocks.{has_edge, root_begins}
-use Rattle.ul_filter.proofs.Following.{contains_at, front_in, stands_in}
+use Rattle.ul_lock_nodes.proofs.ForCallers.{below_or_at, contains_at, root_begins, stands_in, walked_on}
+use Rattle.ul_filter.proofs.Following.{front_in}
 
 -- ---- the beginning
 
@@ -68,10 +69,6 @@ walk_begun l w xs n m size h = record {
 met_still : (routes : List Route) (a b : Met) (p : NodeAt) → IsMore a b → IsMetSomewhere routes a p → IsMetSomewhere routes b p
 met_still routes a b p m h = λ k s. let z = h k s in (z.0, z.1, m.keeps z.0 z.2)
 
--- what edges of a node that the walk has lead to, the walk has
-walked_on : (l : Lock) (w : WorldFields) (xs : List (List ℕ)) (r : Route) (k : ℕ) (p : NodeAt) → slice_get (routes_of l.packages) k ≡ Some r → Walk l w xs r.0 → LeadsTo w r.1 p → Walk l w xs p
-walked_on l w xs r k p e walk z = led r.0 p walk (z.0, has_edge l r z.0 (contains_at (routes_of l.packages) k r e) z.1, z.2, ap (λ (q : NodeAt). q.0) z.3, ap (λ (q : NodeAt). q.1) z.3)
-
 from_in : (o : Option Route) (w : WorldFields) (p : NodeAt) → LeadsTo w (edges_in o) p → (r : Route) × (o ≡ Some r) × LeadsTo w r.1 p
 from_in None w p z = absurd (none_in z.0 z.1)
 from_in (Some r) w p z = (r, refl, z)
@@ -114,10 +111,10 @@ walk_step l w xs step place a b h at f = record {
             read (n ∷ ns) zero lt = refl
             read (n ∷ ns) (suc j) lt = read ns j (omega (arith, lt))
 
-    old : (j k : ℕ) → slice_get b.queue.items j ≡ Some k → j < step × (slice_get a.queue.items j ≡ Some k) → IsLeft l w b k
+    old : (j k : ℕ) → slice_get b.queue.items j ≡ Some k → j < step × (slice_get a.queue.items j ≡ Some k) → IsLeft l w b.flags.items k
     old j k e z = λ r p at_k lead. met_still R a b p f.more (h.left j k z.0 z.1 r p at_k lead)
 
-    here : (k : ℕ) → k ≡ place → IsLeft l w b k
+    here : (k : ℕ) → k ≡ place → IsLeft l w b.flags.items k
     here k q = λ r p at_k lead. f.all p (subst (λ (o : Option Route). LeadsTo w (edges_in o) p) (sym at_k ∙ ap (slice_get R) q) lead)
 
 -- at the end of the queue all was left

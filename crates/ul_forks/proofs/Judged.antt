@@ -20,11 +20,11 @@ module _ (accepted : AcceptedLaw) (nothing : NothingServes) where
   outcome_of_tree : (q : Question) (region : DiagramMark) (o : Outcome DiagramMark Decisions (List Step)) → IsJudged q region o → IsOutcome q (tree_of region) (outcome_seen tree_of (λ d. d.items) (λ f. tt) o)
   outcome_of_tree q region (Done d) h = h
   outcome_of_tree q region (Split a b) h = h
-  outcome_of_tree q region (Refused f) h = refuses q region f h
+  outcome_of_tree q region (Refused f) h = record { refused = refuses q region f h.0; unsplit = h.1 }
 
   pub judged_laws : JudgedLaws
   judged_laws = record {
     refuses = refuses;
     answers = λ q region counts a h. answer_is_seen tree_of (λ d. d.items) (λ f. tt) (IsJudged q) (IsOutcome q) (outcome_of_tree q) region counts a h;
-    accepted = λ q region counts r h. (refused_is_refused (IsJudged q) region counts r h).outcome;
+    accepted = λ q region counts r h. (refused_is_refused (IsJudged q) region counts r h).outcome.0;
   }

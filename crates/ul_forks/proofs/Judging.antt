@@ -1,5 +1,6 @@
 -- What becomes of a region, by the picks of its problem.
-use Rattle.std.proofs.Common.{ℕ, List, map, not, subst, Result, Ok, Err, IfOk}
+use Rattle.std.proofs.Common.{ℕ, List, Bool, inl, inr, map, not, subst, Result, Ok, Err, IfOk}
+use Rattle.ul_comparison.specs.Worlds.{WorldFields}
 use Rattle.ul_base.specs.declared.node.Node.{Node}
 use Rattle.ul_problem.specs.Best.{Picks, IsBest as IsBestPlaces}
 use Rattle.ul_problem.specs.Plain.{Plain as Problem}
@@ -21,11 +22,12 @@ use Rattle.ul_generations.specs.declared.outcomes.Outcome.{Outcome}
 use Rattle.ul_prepared.proofs.ForCallers.{prepared_still}
 use Rattle.ul_prepared.specs.declared.prepared.Prepared.{Prepared}
 use Rattle.ul_region.proofs.ForCallers.{is_region, truth_still}
-use Rattle.ul_region.specs.Truths.{IsRegion, truth_within}
+use Rattle.ul_region.specs.Truths.{IsRegion, IsTruth, truth_within}
 use Rattle.ul_forks.specs.Children.{PartsBy}
 use Rattle.ul_forks.specs.Judge.{IsProblemIn, IsReady, IsReadyJudge, question_in}
 use Rattle.ul_forks.specs.Judged.{IsAccepted}
-use Rattle.ul_forks.specs.Outcome.{IsDecided, IsDone, IsSplit, starts_of}
+use Rattle.ul_forks.specs.Deeper.{SplitsDeeper}
+use Rattle.ul_forks.specs.Outcome.{Question, IsDecided, IsDone, IsSplit, starts_of}
 use Rattle.ul_forks.specs.Picks.{IsPicked, OneForOne}
 use Rattle.ul_forks.specs.declared.region_judge.RegionJudge.{RegionJudge}
 use Rattle.ul_forks.proofs.Picking.{names_decided, names_there}
@@ -64,18 +66,26 @@ module _ (h : PassView) (j : RegionJudge) (region : DiagramMark) (p : Problem) (
     pub is_split : (g : PassView) (truth first second : DiagramMark) → SplitGives h (region_at region) (map decided_of ds) (Some truth) → PartsBy g region truth first second → IsSplit (question_in j) (tree_of region) (tree_of first) (tree_of second)
     is_split g truth first second split parts = let named = names_there h j.prepared.now.catalog.now j.prepared.now.truths.marks.items p picks ds picked in
         let both = parts split.0 split.2.truth in record {
-          best = named.0;
-          decided = map decided_of ds;
-          are = is_decided named.0 named.1;
           truth = split.0;
-          splits = split.1;
+          splits = inl (record { best = named.0; decided = map decided_of ds; are = is_decided named.0 named.1; splits = split.1 });
           true_in = both.0.truth;
           false_in = both.1.truth;
         }
 
+-- the core of a region that nothing serves splits it
+pub is_deeper : (h g : PassView) (q : Question) (region truth first second : DiagramMark) → SplitsDeeper h q region (Some truth) → PartsBy g region truth first second → IsSplit q (tree_of region) (tree_of first) (tree_of second)
+is_deeper h g q region truth first second d parts = let both = parts d.0 d.2.truth in record { truth = d.0; splits = inr d.1; true_in = both.0.truth; false_in = both.1.truth }
+
+-- the two parts of a region by a truth are regions
+parts_regions : (h g : PassView) (region truth first second : DiagramMark) (p : WorldFields → Bool) → IsTruth h truth p → PartsBy g region truth first second → IsRegion g first × IsRegion g second
+parts_regions h g region truth first second p is parts = let both = parts p is.truth in (
+  is_region g first (truth_within (region_at region) p) both.0,
+  is_region g second (truth_within (region_at region) (λ w. not (p w))) both.1,
+)
+
+pub deeper_regions : (h g : PassView) (q : Question) (region truth first second : DiagramMark) → SplitsDeeper h q region (Some truth) → PartsBy g region truth first second → IsRegion g first × IsRegion g second
+deeper_regions h g q region truth first second d parts = parts_regions h g region truth first second d.0 d.2 parts
+
 -- the two parts of a region are regions
 pub both_regions : (h g : PassView) (region truth first second : DiagramMark) (ds : List Decided) → SplitGives h (region_at region) ds (Some truth) → PartsBy g region truth first second → IsRegion g first × IsRegion g second
-both_regions h g region truth first second ds split parts = let both = parts split.0 split.2.truth in (
-  is_region g first (truth_within (region_at region) split.0) both.0,
-  is_region g second (truth_within (region_at region) (λ w. not (split.0 w))) both.1,
-)
+both_regions h g region truth first second ds split parts = parts_regions h g region truth first second split.0 split.2 parts

@@ -8,3 +8,4 @@ pub mod Judging
 pub mod Forking
 pub mod Sharing
 pub mod Starting
+pub mod Deeper

@@ -120,7 +120,7 @@ named_more_at p es s t i e d grown h k at = named_more p es s t i e d grown h k 
 
 -- ---- with rows that are right
 
-taken_picked : (h : PassView) (shared : Prepared) (R : Region) (p : Problem) (pick : ℕ × ℕ) (d : Chosen) → IsPrepared h shared → IsProblemOf shared.catalog.now shared.starts.now shared.wish.now R p
+pub taken_picked : (h : PassView) (shared : Prepared) (R : Region) (p : Problem) (pick : ℕ × ℕ) (d : Chosen) → IsPrepared h shared → IsProblemOf shared.catalog.now shared.starts.now shared.wish.now R p
     → IsTaken shared p pick d → IsPicked h shared.catalog.now shared.truths.marks.items p pick d
 taken_picked h shared R p pick d is of t = record {
   facts = t.facts;

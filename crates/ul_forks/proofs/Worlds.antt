@@ -1,6 +1,6 @@
 -- Splits cut a region's worlds, and each child of a split has a world.
 use Rattle.std.specs.Prelude.{Contains}
-use Rattle.std.proofs.Common.{◌≡◌, ◌∙◌, ◌+◌, ℕ, List, [], ◌∷◌, ◌++◌, Bool, true, false, not, ◌&&◌, Some, refl, sym, ap₂, subst, ⊎_elim}
+use Rattle.std.proofs.Common.{◌≡◌, ◌∙◌, ◌+◌, ℕ, List, [], ◌∷◌, ◌++◌, Bool, true, false, not, ◌&&◌, Some, inl, inr, refl, sym, ap₂, subst, ⊎_elim}
 use Rattle.ul_base.specs.declared.node.Node.{Node}
 use Rattle.ul_base.proofs.ForCallers.{first_holds, contains_first, contains_later, none_in, contains_cases}
 use Rattle.ul_version.specs.Fields.{Fields}
@@ -18,8 +18,9 @@ use Rattle.ul_region.specs.Best.{CanServe, IsBestFrom}
 use Rattle.ul_generations.specs.Laws.{one_if, Cuts}
 use Rattle.ul_split.specs.Laws.{Children}
 use Rattle.ul_split.specs.Split.{Decided, AreDecided}
+use Rattle.ul_deep.specs.Laws.{CoreChildren}
 use Rattle.ul_forks.specs.Headline.{IsCut}
-use Rattle.ul_forks.specs.Outcome.{Question, starts_of, IsSplit, IsOutcome}
+use Rattle.ul_forks.specs.Outcome.{Question, starts_of, IsSplitByBest, IsSplitBy, IsSplit, IsOutcome}
 
 halves : (a b : Bool) → one_if (a && b) + one_if (a && not b) ≡ one_if a
 halves true true = refl
@@ -68,20 +69,26 @@ both_true a b e h = ap₂ (λ x y. x && y) e h
 child_world : (t : Plain) (R : Region) (p : WorldFields → Bool) → HasTruth t (λ w. R w && p w) → Somewhere R p → HasWorld (region_of t)
 child_world t R p h k = (k.0, k.1, h.truth k.0 [] k.1 ∙ both_true (R k.0) (p k.0) k.2 k.3, refl)
 
--- both children of a split have a world
-children_worlds : Children → (q : Question) (t a b : Plain) → HasWorld (region_of t) → IsSplit q t a b → HasWorld (region_of a) × HasWorld (region_of b)
-children_worlds law q t a b has h = (
-  child_world a (region_of t) h.truth h.true_in both.0,
-  child_world b (region_of t) (λ w. not (h.truth w)) h.false_in both.1,
-)
+-- a truth that splits a region that something serves holds at some world of it, and fails at some
+served_worlds : Children → (q : Question) (t : Plain) (truth : WorldFields → Bool) → HasWorld (region_of t) → IsSplitByBest q t truth → Somewhere (region_of t) truth × Somewhere (region_of t) (λ w. not (truth w))
+served_worlds law q t truth has h = law.have_worlds (region_of t) h.decided truth h.splits fit
   where
     fit : (d : Decided) → Contains h.decided d → Somewhere (region_of t) (is_release_fit d.release)
     fit d m = suits_somewhere q.wish.strategy (region_of t) (is_release_fit d.release) has
         (decided_suits q.wish.strategy q.catalog (region_of t) h.best h.decided h.are.are_decided (best_suits q.catalog (starts_of q) q.wish (region_of t) [] h.best h.are.is_best) d m)
 
-    both : Somewhere (region_of t) h.truth × Somewhere (region_of t) (λ w. not (h.truth w))
-    both = law.have_worlds (region_of t) h.decided h.truth h.splits fit
+-- so does one that splits a region that nothing serves
+split_worlds : Children → CoreChildren → (q : Question) (t : Plain) (truth : WorldFields → Bool) → HasWorld (region_of t) → IsSplitBy q t truth → Somewhere (region_of t) truth × Somewhere (region_of t) (λ w. not (truth w))
+split_worlds law cores q t truth has (inl h) = served_worlds law q t truth has h
+split_worlds law cores q t truth has (inr h) = cores q.catalog (region_of t) h.problem h.core truth h.splits
+
+-- both children of a split have a world
+children_worlds : Children → CoreChildren → (q : Question) (t a b : Plain) → HasWorld (region_of t) → IsSplit q t a b → HasWorld (region_of a) × HasWorld (region_of b)
+children_worlds law cores q t a b has h = let both = split_worlds law cores q t h.truth has h.splits in (
+  child_world a (region_of t) h.truth h.true_in both.0,
+  child_world b (region_of t) (λ w. not (h.truth w)) h.false_in both.1,
+)
 
 -- a split cuts the region's worlds
-pub split_cuts : Children → (q : Question) (t a b : Plain) → IsSplit q t a b → IsCut t a b
-split_cuts law q t a b h = record { part = λ w is. cuts q w is t a b h; have_worlds = λ has. children_worlds law q t a b has h }
+pub split_cuts : Children → CoreChildren → (q : Question) (t a b : Plain) → IsSplit q t a b → IsCut t a b
+split_cuts law cores q t a b h = record { part = λ w is. cuts q w is t a b h; have_worlds = λ has. children_worlds law cores q t a b has h }

@@ -2,11 +2,13 @@
 use Rattle.std.specs.Prelude.{◌≡◌, ℕ, ◌+◌, ◌≤◌, List, map, length, true}
 use Rattle.std.specs.List.{AllByRecursion}
 use Rattle.ul_comparison.specs.Worlds.{WorldFields, IsWorld}
+use Rattle.ul_requirement.specs.declared.wish.Strategy.TheVariants.{Deep}
 use Rattle.ul_nodes.specs.Plain.{Plain}
 use Rattle.ul_tree.specs.Regions.{region_of}
 use Rattle.ul_index.specs.Regions.{HasWorld}
 use Rattle.ul_index.specs.Serves.{Selection, ServesWhole}
 use Rattle.ul_region.specs.Best.{IsBest}
+use Rattle.ul_deep.specs.Worlds.{ServesAt}
 use Rattle.ul_generations.specs.declared.outcomes.Outcome.TheVariants.{Split}
 use Rattle.ul_generations.specs.declared.rows.Leaf.{Leaf}
 use Rattle.ul_generations.specs.Rows.{Refusal}
@@ -39,6 +41,9 @@ pub record IsLeaf (q : Question) (l : TreeLeaf) : Type 0 where
 pub record IsRefusal (q : Question) (region : Plain) (r : TreeRefusal) : Type 0 where
   pub refused : IsRefused q r.region
   pub inside : (w : WorldFields) → IsWorld w → region_of r.region w ≡ true → region_of region w ≡ true
+  -- under `deep` nothing serves a single world of it either
+  pub at_worlds : q.wish.strategy ≡ Deep → (w : WorldFields) → IsWorld w → region_of r.region w ≡ true
+      → (s : Selection) → ServesAt q.catalog (starts_of q) w s → ⊥
 
 -- the two that a region is split into: a world of the region is in one of them, and another world in neither; and where
 -- the region has a world, both have one

@@ -15,7 +15,7 @@ use Rattle.ul_generations.specs.declared.outcomes.Outcome.TheVariants.{Done, Spl
 use Rattle.ul_generations.specs.Rows.{Refusal}
 use Rattle.ul_generations.specs.Generations.{Answer, refused_at, IsForkAnswer}
 use Rattle.ul_generations.specs.Maps.{answer_seen}
-use Rattle.ul_forks.specs.Outcome.{Question, starts_of, IsRefused, IsDone, IsSplit}
+use Rattle.ul_forks.specs.Outcome.{Question, starts_of, IsRefused, IsDone, IsSplit, IsUnsplitByCore}
 use Rattle.ul_forks.specs.Headline.{TreeAnswer, IsAnswer}
 
 -- decisions, in order
@@ -30,11 +30,11 @@ HasProblem q region p = IsProblemOf q.catalog (starts_of q) q.wish (region_at re
 abbrev pub IsAccepted : Question → DiagramMark → List Step → Type 0
 IsAccepted q region steps = (p : Problem) × HasProblem q region p × Accepts p steps
 
--- what becomes of a region; a refused one has an accepted derivation
+-- what becomes of a region; a refused one has an accepted derivation, and no core splits it
 abbrev pub IsJudged : Question → DiagramMark → Outcome DiagramMark Decisions (List Step) → Type 0
 IsJudged q region (Done decisions) = IsDone q (tree_of region) decisions.items
 IsJudged q region (Split first second) = IsSplit q (tree_of region) (tree_of first) (tree_of second)
-IsJudged q region (Refused steps) = IsAccepted q region steps
+IsJudged q region (Refused steps) = IsAccepted q region steps × IsUnsplitByCore q (tree_of region)
 
 -- an answer of diagrams, as one of trees
 abbrev pub answer_of_trees : Answer DiagramMark Decisions (List Step) → TreeAnswer

@@ -5,3 +5,4 @@ pub mod Forked
 pub mod Children
 pub mod Picks
 pub mod Judge
+pub mod Deeper

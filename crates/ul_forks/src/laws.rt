@@ -13,6 +13,12 @@ pub fn fork_laws()
     ul_split::laws::split_once();
     ul_split::laws::children();
     ul_split::laws::unsplit_serves_whole();
+    ul_region::laws::nothing_serves();
+    ul_placing::laws::equal_problems();
+    ul_blame::laws::core_laws();
+    ul_deep::laws::core_split_once();
+    ul_deep::laws::core_children();
+    ul_deep::laws::none_at_worlds();
 }
 
 /// The fork answer over diagrams, each refused region with an accepted derivation, is the fork answer over their trees.

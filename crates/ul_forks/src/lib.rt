@@ -5,6 +5,7 @@
 #![tactic(auto)]
 
 mod children;
+mod core_split;
 mod fork;
 pub mod laws;
 mod picks;

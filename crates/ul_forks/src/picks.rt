@@ -47,7 +47,7 @@ pub(crate) fn named_picks(
 }
 
 // A pick with its row, which stands at the place of its node.
-fn chosen_at<'p>(
+pub(crate) fn chosen_at<'p>(
     prepared: &'p Prepared<'p>,
     placed: &'p Placed,
     node: u64,

@@ -2,6 +2,8 @@
 ghost use Rattle.std.specs.Prelude.{◌≡◌, IfOk};
 ghost use Rattle.ul_interner.specs.Known.{Knows};
 ghost use Rattle.ul_problem.specs.Best.{IsBest as IsBestOf};
+ghost use Rattle.ul_problem.specs.Serving.{HasNone};
+ghost use Rattle.ul_problem.specs.Steps.{Accepts};
 ghost use Rattle.ul_generations.specs.Outcomes.{IsKnown};
 ghost use Rattle.ul_region.specs.Asked.{IsInRegion};
 ghost use Rattle.ul_region.specs.Truths.{IsRegion, region_at};
@@ -10,12 +12,14 @@ ghost use Rattle.ul_forks.specs.Judged.{IsJudged};
 ghost use Rattle.ul_forks.specs.Judge.{IsProblemIn, IsReadyJudge, question_in};
 
 use crate::children::children_of;
+use crate::core_split::deeper_truth;
 use crate::fork::Decisions;
 use crate::picks::{chosen_of, named_picks};
 use std::alloc::{AllocError, Global};
 use std::sync::Wait;
 use ul_algebra::{Algebra, Diagram, DiagramLabel, DiagramPass};
 use ul_base::Name;
+use ul_base::owned::beside;
 use ul_generations::{Judge, Outcome};
 use ul_interner::Interner;
 use ul_placing::{Placed, problem_in};
@@ -71,6 +75,48 @@ fn judge_picks<R: Wait>(
     }
 }
 
+// What becomes of a region that nothing serves, by a derivation: it is split by its core where the strategy says so,
+// and refused otherwise.
+fn judge_refused<R: Wait>(
+    rt: &R,
+    alloc: Global,
+    judge: &RegionJudge<'_>,
+    algebra: &mut Algebra<'_>,
+    place: &InRegion<'_>,
+    placed: &Placed,
+    derivation: Derivation,
+) -> Result<Judged, AllocError>
+    requires ready { IsReadyJudge algebra.old judge.now }
+    requires place { IsInRegion algebra.old place.now }
+    requires truths { place.now.truths.now ≡ judge.now.prepared.now.truths.marks.items }
+    requires problem { IsProblemIn judge.now (region_at place.now.region.now) placed.now.problem }
+    requires places { ArePlaced judge.now.prepared.now placed.now.problem placed.now.places.items }
+    requires none { HasNone placed.now.problem }
+    requires accepted { Accepts placed.now.problem derivation }
+    ensures knows { Knows algebra.old algebra.new }
+    ensures outcome { IfOk result (IsJudged (question_in judge.now) place.now.region.now) }
+    ensures known { IfOk result (IsKnown (IsRegion algebra.new) (λ _. Unit {0}) (λ _. Unit {0})) }
+{
+    let found = deeper_truth(
+        alloc,
+        algebra,
+        judge.prepared,
+        judge.extras,
+        place,
+        placed,
+        &derivation,
+    );
+    let (derivation, found) = beside(derivation, found)?;
+    match found {
+        None => Ok(Outcome::Refused(derivation)),
+        Some(truth) => {
+            drop(derivation);
+            let (first, second) = children_of(rt, alloc, algebra, place.region, &truth)?;
+            Ok(Outcome::Split(first, second))
+        }
+    }
+}
+
 // What becomes of a region, by its problem.
 fn judge_problem<R: Wait>(
     rt: &R,
@@ -90,7 +136,10 @@ fn judge_problem<R: Wait>(
     ensures known { IfOk result (IsKnown (IsRegion algebra.new) (λ _. Unit {0}) (λ _. Unit {0})) }
 {
     match solve(alloc, &placed.problem)? {
-        Answer::Nothing(derivation) => Ok(Outcome::Refused(derivation)),
+        Answer::Nothing(derivation) => {
+            let judged = judge_refused(rt, alloc, judge, algebra, place, placed, derivation)?;
+            Ok(judged)
+        }
         Answer::Best { picks, trail: _ } => {
             let judged = judge_picks(rt, alloc, judge, algebra, place, placed, picks.as_slice())?;
             Ok(judged)

@@ -1,9 +1,11 @@
 use Rattle.std.proofs.Common.{refl, sym, ◌∙◌, subst, map, take, ◌++◌, ◌∷◌, [], List}
 use Rattle.std.proofs.lemmas.Option.{slice_get_read}
 use Rattle.ul_lock_lines.specs.declared.parts.Edge.{Edge}
-use Rattle.ul_filter.specs.Met.{FindsPlace, IsFollowed}
-use Rattle.ul_filter.specs.Routes.{route_of}
-use Rattle.ul_filter.proofs.Following.{taken_more, followed_lost, followed_met, followed_skip}
+use Rattle.ul_lock_nodes.specs.Places.{FindsPlace}
+use Rattle.ul_filter.specs.Met.{IsFollowed}
+use Rattle.ul_lock_nodes.specs.Routes.{route_of}
+use Rattle.ul_lock_nodes.proofs.ForCallers.{taken_more}
+use Rattle.ul_filter.proofs.Following.{followed_lost, followed_met, followed_skip}
 use Rattle.ul_filter.proofs.walking.follow.Goals as goal
 use Rattle.ul_filter.proofs.walking.follow.Goals.{then-edge_holds+in-Some+in_ok-meet-in-Some, then-edge_holds+in-None, else-edge_holds}
 

@@ -1,0 +1,143 @@
+"""The definitions that a statement rests on: the cone of a definition of specs/, by the `use` lines of the files.
+
+python3 tests/cone.py prints, for each tier of docs/HEADLINE.md, the files in an order in which they can be read (each behind those
+that it uses), with how many of their definitions the statement reaches; with --write it puts the lists into that page.
+"""
+
+from __future__ import annotations
+
+import re
+import sys
+from pathlib import Path
+
+TOP = Path(__file__).resolve().parent.parent
+# The two tiers: what a lock is good for, and what every call of the program promises.
+TIERS = [("ul_sound", "Sound", "IsSound"), ("ul_program", "Headline", "Headline")]
+USE = re.compile(r"^use (Rattle\.[\w.+]+?)(?:\.\{([^}]*)\}| as (\w+))?\s*$", re.M)
+HEAD = re.compile(r"^(?:(?:abbrev|unfoldable|record|data|type|pub|module)\s+)*(?:abbrev|unfoldable|record|data)\s+(?:pub\s+)?([^\s:(]+)")
+WORD = re.compile(r"[^\s(){}\[\],;.λ∷]+")
+
+
+def spec_file(module: str) -> str | None:
+    """The file of specs/ that a module's path names, if it is one that is written here."""
+    parts = module.split(".")
+    if len(parts) < 4 or parts[2] != "specs" or "declared" in parts:
+        return None
+    path = f"crates/{parts[1]}/specs/{'/'.join(parts[3:])}.antt"
+    return path if (TOP / path).is_file() else None
+
+
+class SpecFile:
+    """A file of specs/: its definitions with the words of their texts, and where its imported names come from."""
+
+    def __init__(self, path: str) -> None:
+        text = (TOP / path).read_text(encoding="utf-8")
+        self.names: dict[str, str] = {}
+        self.modules: dict[str, str] = {}
+        self.uses: list[str] = []
+        for module, names, alias in USE.findall(text):
+            file = spec_file(module)
+            if file is None:
+                continue
+            if file not in self.uses:
+                self.uses.append(file)
+            for name in filter(None, (it.strip() for it in names.split(","))):
+                self.names[name.split(" as ")[-1]] = file
+            if alias:
+                self.modules[alias] = file
+        self.definitions: dict[str, set[str]] = {}
+        current: str | None = None
+        for line in text.splitlines():
+            if line.startswith("--") or line.startswith("use "):
+                continue
+            found = HEAD.match(line)
+            if found:
+                current = found[1]
+                self.definitions.setdefault(current, set())
+            if current is not None:
+                plain = line.split(" -- ")[0]
+                self.definitions[current].update(WORD.findall(plain))
+                self.definitions[current].update(re.findall(r"\w+\.\w+", plain))
+
+
+class Cone:
+    """All files of specs/ that are reached from a definition, each with its reached names."""
+
+    def __init__(self, crate: str, file: str, name: str) -> None:
+        self.files: dict[str, SpecFile] = {}
+        self.reached: dict[str, set[str]] = {}
+        todo = [(f"crates/{crate}/specs/{file}.antt", name)]
+        while todo:
+            path, word = todo.pop()
+            if path not in self.files:
+                self.files[path] = SpecFile(path)
+            here = self.files[path]
+            if word not in here.definitions or word in self.reached.get(path, set()):
+                continue
+            self.reached.setdefault(path, set()).add(word)
+            for used in here.definitions[word]:
+                base = used.split("◌")[-1] if used.startswith("◌") else used
+                if used in here.definitions:
+                    todo.append((path, used))
+                elif used in here.names:
+                    todo.append((here.names[used], used))
+                elif "." in used and used.split(".")[0] in here.modules:
+                    todo.append((here.modules[used.split(".")[0]], used.split(".")[1]))
+                elif f"◌{base}◌" in here.names:
+                    todo.append((here.names[f"◌{base}◌"], f"◌{base}◌"))
+
+    def in_order(self) -> list[str]:
+        """The files, each behind those that it uses."""
+        done: list[str] = []
+
+        def visit(path: str, above: tuple[str, ...] = ()) -> None:
+            if path in done or path in above or path not in self.reached:
+                return
+            for used in self.files[path].uses:
+                visit(used, (*above, path))
+            done.append(path)
+
+        for path in sorted(self.reached):
+            visit(path)
+        return done
+
+    def count(self) -> int:
+        return sum(len(it) for it in self.reached.values())
+
+
+def lines(cone: Cone) -> list[str]:
+    """The list as docs/HEADLINE.md has it: crate by crate in reading order, a file with how many definitions are reached."""
+    out: list[str] = []
+    crate = ""
+    for path in cone.in_order():
+        _, name, _, *rest = path.split("/")
+        file = "/".join(rest)
+        if name != crate:
+            out.append(f"- `{name}`:")
+            crate = name
+        out[-1] += f" `{file}` ({len(cone.reached[path])})"
+    return out
+
+
+def lists(text: str) -> str:
+    """docs/HEADLINE.md with the lists of its tiers as the sources have them now."""
+    for crate, file, name in TIERS:
+        cone = Cone(crate, file, name)
+        head = f"`{name}` reaches {cone.count()} definitions in {len(cone.reached)} files:"
+        pattern = re.compile(rf"^`{name}` reaches \d+ definitions in \d+ files:\n\n(?:- .*\n)*\n*", re.M)
+        body = "\n".join([head, "", *lines(cone), "", ""])
+        text, count = pattern.subn(lambda _: body, text)
+        if count != 1:
+            raise SystemExit(f"docs/HEADLINE.md has no list of {name}")
+    return text
+
+
+if __name__ == "__main__":
+    page = TOP / "docs" / "HEADLINE.md"
+    if sys.argv[1:] == ["--write"]:
+        page.write_text(lists(page.read_text(encoding="utf-8")), encoding="utf-8")
+    else:
+        for crate, file, name in TIERS:
+            cone = Cone(crate, file, name)
+            print(f"`{name}` reaches {cone.count()} definitions in {len(cone.reached)} files:\n")
+            print("\n".join(lines(cone)))
