@@ -1,5 +1,8 @@
 //! What the program answers.
+use ul_base::Name;
 use ul_lock_lines::{Lock, Region};
+use ul_reach::Reached;
+use ul_version::Version;
 
 /// What the program answers, where its inputs are read.
 #[derive(Drop)]
@@ -16,10 +19,11 @@ pub enum Answer {
         lock: Lock,
         forks: u64,
     },
-    /// The fork at this path, with this region, that no selection serves.
+    /// The fork at this path, with this region, that no selection serves, with the lines of its core.
     NoSelection {
         path: Vec<bool>,
         region: Region,
+        core: Vec<u8>,
     },
     /// Such a fork, with the lines of a derivation.
     Derived {
@@ -31,6 +35,8 @@ pub enum Answer {
     NoneRefused,
     /// The lines of what a lock gives on a machine.
     Environment(Vec<u8>),
+    /// Where a lock gives each of its packages.
+    Exported(Vec<Reached>),
     /// The lock isn't for the machine.
     Outside,
     /// The lock's root doesn't have the extra of this word.
@@ -39,4 +45,15 @@ pub enum Answer {
     Accepted,
     /// A derivation is rejected at this step.
     Rejected(u64),
+    /// A lock is verified.
+    Verified,
+    /// A lock isn't, since its root isn't the project's.
+    RejectedRoot,
+    /// A lock isn't, since it is for other worlds than the project supports.
+    RejectedSupported,
+    /// A lock isn't, since this is its first package that isn't right.
+    RejectedPackage {
+        name: Name,
+        version: Version,
+    },
 }

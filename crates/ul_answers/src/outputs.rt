@@ -9,11 +9,14 @@ use crate::answer::Answer;
 use crate::leaving::leave;
 use crate::refusals::limit_output;
 use std::alloc::{AllocError, Global};
+use ul_base::Name;
 use ul_inputs::TEXT_BYTES;
 use ul_lock_lines::{Lock, Locked, Region};
 use ul_lock_text::{WriteFault, write};
 use ul_marker_text::TextFault;
+use ul_reach::{ExportFault, Reached, export_text};
 use ul_report::refusal;
+use ul_version::Version;
 
 /// What is printed, and with which status the program ends.
 #[derive(Drop)]
@@ -46,6 +49,18 @@ fn lock_output(alloc: Global, lock: &Lock) -> Result<Output, AllocError>
         Err(WriteFault::TooManyPaths { paths: _ }) => too_many_paths(alloc),
         Err(WriteFault::TooLong) => limit_output(alloc, "text-bytes", TEXT_BYTES),
         Err(WriteFault::NoMemory) => Err(AllocError),
+    }
+}
+
+// The requirements file of a lock's rows, or the limit that it passes.
+fn export_output(alloc: Global, rows: &[Reached]) -> Result<Output, AllocError>
+    ensures { IfOk result (λ o. output_view o ≡ spec.exported_output rows.now) }
+{
+    match export_text(alloc, rows) {
+        Ok(text) => Ok(Output { status: 0, text }),
+        Err(ExportFault::TooManyPaths { paths: _ }) => too_many_paths(alloc),
+        Err(ExportFault::TooLong) => limit_output(alloc, "text-bytes", TEXT_BYTES),
+        Err(ExportFault::NoMemory) => Err(AllocError),
     }
 }
 
@@ -114,6 +129,28 @@ fn step_output(alloc: Global, step: u64) -> Result<Output, AllocError>
     })
 }
 
+// The line of a lock that is rejected for one of its packages.
+fn package_line(alloc: Global, name: &Name, version: &Version) -> Result<Vec<u8>, AllocError>
+    ensures { IfOk result (λ v. v.items ≡ spec.package_text name.now version.now) }
+{
+    let version = version.text(alloc)?;
+    let mut line = Vec::new(alloc);
+    line.extend_from_slice(b"rejected: ")?;
+    line.extend_from_slice(name.text().as_bytes())?;
+    line.extend_from_slice(b" ")?;
+    line.extend_from_slice(version.as_str().as_bytes())?;
+    line.extend_from_slice(b"\n")?;
+    Ok(line)
+}
+
+// What is printed for such a lock.
+fn package_output(alloc: Global, name: &Name, version: &Version) -> Result<Output, AllocError>
+    ensures { IfOk result (λ o. output_view o ≡ (9, spec.package_text name.now version.now)) }
+{
+    let text = package_line(alloc, name, version)?;
+    Ok(Output { status: 9, text })
+}
+
 /// What is printed for an answer, and the status that goes with it. A lock or a refused fork that passes a limit of
 /// printing is answered by that limit. A lock that was printed is left to the end of the process.
 ///
@@ -139,7 +176,9 @@ pub fn answer_output(alloc: Global, answer: Answer) -> Result<Output, AllocError
             leave(lock);
             output
         }
-        Answer::NoSelection { path, region } => fork_output(alloc, path.as_slice(), &region, &[]),
+        Answer::NoSelection { path, region, core } => {
+            fork_output(alloc, path.as_slice(), &region, core.as_slice())
+        }
         Answer::Derived {
             path,
             region,
@@ -147,9 +186,18 @@ pub fn answer_output(alloc: Global, answer: Answer) -> Result<Output, AllocError
         } => fork_output(alloc, path.as_slice(), &region, steps.as_slice()),
         Answer::NoneRefused => fixed(alloc, 0, "no fork is refused\n"),
         Answer::Environment(text) => Ok(Output { status: 0, text }),
+        Answer::Exported(rows) => {
+            let output = export_output(alloc, rows.as_slice());
+            leave(rows);
+            output
+        }
         Answer::Outside => fixed(alloc, 8, "outside\n"),
         Answer::NoExtra(name) => extra_output(alloc, name.as_str()),
         Answer::Accepted => fixed(alloc, 0, "accepted\n"),
         Answer::Rejected(step) => step_output(alloc, step),
+        Answer::Verified => fixed(alloc, 0, "verified\n"),
+        Answer::RejectedRoot => fixed(alloc, 9, "rejected: root\n"),
+        Answer::RejectedSupported => fixed(alloc, 9, "rejected: supported\n"),
+        Answer::RejectedPackage { name, version } => package_output(alloc, &name, &version),
     }
 }

@@ -20,17 +20,6 @@ pub(crate) fn limit_output(alloc: Global, name: &str, number: u64) -> Result<Out
     })
 }
 
-// The line of a form that isn't built.
-fn unbuilt_output(alloc: Global, form: &str) -> Result<Output, AllocError>
-    ensures { IfOk result (λ o. output_view o ≡ spec.refused_output (refused.not_built form.now)) }
-{
-    let text = format!(in alloc; "not built: {form}\n")?;
-    Ok(Output {
-        status: 3,
-        text: text.into_bytes(),
-    })
-}
-
 // The line of a file without a reading.
 fn malformed_text(alloc: Global, file: &str, place: &str) -> Result<Vec<u8>, AllocError>
     ensures { IfOk result (λ v. v.items ≡ codes "malformed: " ++ file.now ++ codes ": " ++ place.now ++ codes "\n") }
@@ -67,7 +56,6 @@ pub fn refusal_output(alloc: Global, refusal: &Refusal) -> Result<Output, AllocE
     ensures { IfOk result (λ o. IsRefusalOutput refusal.now (output_view o)) }
 {
     match refusal {
-        Refusal::NotBuilt(form) => unbuilt_output(alloc, form),
         Refusal::Malformed(file, place) => malformed_output(alloc, file.as_str(), place.as_str()),
         Refusal::Limit(name, number) => limit_output(alloc, name, *number),
         Refusal::ReadFault(path) => fault_output(alloc, path.as_str()),

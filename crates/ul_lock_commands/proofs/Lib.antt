@@ -1,0 +1,2 @@
+mod KnownWords
+mod RowsGiven
