@@ -5,19 +5,23 @@ use Rattle.std.specs.Fmt.{decimal}
 use Rattle.ul_base.specs.Files.{FileMap}
 use Rattle.ul_lines.specs.Lines.{lines_of}
 use Rattle.ul_comparison.specs.Machines.{MachineFields}
+use Rattle.ul_nodes.specs.Plain.{Plain as Tree}
 use Rattle.ul_tree.specs.Regions.{region_of}
 use Rattle.ul_problem.specs.Plain.{Plain as Problem}
+use Rattle.ul_blame.specs.Texts.{IsCoreText, core_text}
 use Rattle.ul_project.specs.Laws.{OneProject}
 use Rattle.ul_load.specs.Laws.{TurnsAgree}
 use Rattle.ul_lock.specs.Laws.{OneFault as OneLockFault, OneTextOneLock}
 use Rattle.ul_lock_lines.specs.declared.parts.Lock.{Lock}
 use Rattle.ul_region.specs.Problem.{IsProblemOf}
 use Rattle.ul_generations.specs.Generations.{leaves_are, refused_at, too_many}
-use Rattle.ul_forks.specs.Headline.{ForkLaws, TreeAnswer}
+use Rattle.ul_forks.specs.Headline.{ForkLaws, TreeAnswer, TreeRefusal}
 use Rattle.ul_forks.specs.Outcome.{starts_of}
 use Rattle.ul_filter.specs.Comparisons.{machine_world}
 use Rattle.ul_filter.specs.Headline.{is_supported_at}
 use Rattle.ul_filter.proofs.ForCallers.{one_text}
+use Rattle.ul_reach.specs.Headline.{RowPromises}
+use Rattle.ul_reach.specs.declared.rows.Reached.{Reached}
 use Rattle.ul_report_read.specs.Proofs.{AreProofLines, IsTextOf}
 use Rattle.ul_report_read.specs.declared.proof.Proof.{Proof}
 use Rattle.ul_report_judge.specs.Faults.{AcceptsNames, IsFirstBad}
@@ -29,17 +33,21 @@ use Rattle.ul_inputs.specs.Projects.{project_at}
 use Rattle.ul_inputs.specs.Resolutions.{ResolutionFields, resolution_in, resolution_with}
 use Rattle.ul_answers.specs.Answer as answers
 use Rattle.ul_answers.specs.Answer.{Answer, locked, rejected}
-use Rattle.ul_commands.specs.Asked.{usage, unbuilt, lock, why, gen, env, check}
+use Rattle.ul_lock_commands.specs.Environments.{GivesFor, GivesWhere, IsEnvAnswer}
+use Rattle.ul_lock_commands.specs.Exports.{GivesRows, IsExportAnswer}
+use Rattle.ul_lock_commands.specs.Words.{first_other, names_of}
+use Rattle.ul_commands.specs.Asked.{usage, lock, why, gen, env, export, check, verify}
 use Rattle.ul_commands.specs.Checking.{IsAccepted, IsCheckAnswer, IsProofOf, IsRejected, proof_at, proof_said}
 use Rattle.ul_commands.specs.Commands.{command}
-use Rattle.ul_commands.specs.Environments.{GivesFor, GivesWhere, IsEnvAnswer, first_other, names_of}
 use Rattle.ul_commands.specs.Generating.{IsCounted, counted_for, generated_files, index_folder, project_path}
-use Rattle.ul_commands.specs.Locking.{IsLockAnswer, LocksFor, leaf_fields, lock_of}
+use Rattle.ul_commands.specs.Locking.{AreCoreLines, IsLockAnswer, LocksFor, leaf_fields, lock_of}
 use Rattle.ul_commands.specs.Questions.{question_of}
 use Rattle.ul_commands.specs.Reasons.{GivesReason, IsWhyAnswer}
+use Rattle.ul_commands.specs.Verifying.{IsVerifyAnswer}
 use Rattle.ul_command_laws.specs.Answers.{AnswersAreOne, SameAnswer, WhyFollowsLock, reason_of, without_steps}
 use Rattle.ul_command_laws.specs.Lower.{LowerLaws}
 use Rattle.ul_command_laws.proofs.Inputs.{one_lock_at, one_machine_at, one_project_at, one_resolution_in, one_resolution_with}
+use Rattle.ul_command_laws.proofs.Verified.{verify_once}
 use Rattle.ul_command_laws.proofs.Ones.{IsOne, alike_on, one_file, one_on, related_on}
 
 -- ---- derivation files
@@ -80,12 +88,22 @@ one_resolution laws project folder old m = one_resolution_in laws.projects laws.
 abbrev locked_of : ℕ → Lock → Result Answer Refused
 locked_of n l = Ok (locked l n)
 
--- a fork answer has one lock
+abbrev refused_as : TreeRefusal → List ℕ → Result Answer Refused
+refused_as fork lines = Ok (answers.no_selection fork.path fork.region lines)
+
+-- a region has one core, and so one text of it
+one_core : LowerLaws → (r : ResolutionFields) (region : Tree) (xs ys : List ℕ) → AreCoreLines r region xs → AreCoreLines r region ys → xs ≡ ys
+one_core laws r region xs ys g h =
+    let p : g.problem ≡ h.problem = laws.problems r.catalog (starts_of (question_of r)) r.wish (region_of region) (region_of region) g.problem h.problem (λ w is. refl) g.of_region h.of_region in
+    let t : IsCoreText h.problem xs = subst (λ (q : Problem). IsCoreText q xs) p g.text in
+    t.are ∙ (ap (core_text h.problem) (laws.cores h.problem t.core h.text.core t.is_core h.text.is_core) ∙ sym h.text.are)
+
+-- a fork answer has one lock, or one core
 lock_for : LowerLaws → (r : ResolutionFields) (f : TreeAnswer) (a b : Result Answer Refused) → LocksFor r f a → LocksFor r f b → a ≡ b
 lock_for laws r (leaves_are ls) a b g h =
     let same = laws.merges.once r.catalog r.project (map leaf_fields ls) g.lock h.lock g.merged h.merged in
     g.is ∙ (ap (locked_of (length ls)) same ∙ sym h.is)
-lock_for laws r (refused_at fork) a b g h = g ∙ sym h
+lock_for laws r (refused_at fork) a b g h = g.is ∙ (ap (refused_as fork) (one_core laws r fork.region g.lines h.lines g.core h.core) ∙ sym h.is)
 lock_for laws r (too_many n) a b g h = g ∙ sym h
 
 -- a resolution has one answer of `lock`
@@ -156,6 +174,18 @@ env_where true l m words a b g h = env_for l m words (first_other l words) a b g
 env_once : (l : Lock) (m : MachineFields) (words : List (List ℕ)) (a b : Result Answer Refused) → IsEnvAnswer l m words a → IsEnvAnswer l m words b → a ≡ b
 env_once l m words a b g h = env_where (is_supported_at l (machine_world l m)) l m words a b g h
 
+abbrev exported_of : List Reached → Result Answer Refused
+exported_of rows = Ok (answers.exported rows)
+
+rows_for : RowPromises → (l : Lock) (words : List (List ℕ)) (o : Option (List ℕ)) (a b : Result Answer Refused)
+    → GivesRows l words o a → GivesRows l words o b → a ≡ b
+rows_for rows l words None a b g h = g.is ∙ (ap exported_of (rows.once l (names_of words) g.rows h.rows g.are h.are) ∙ sym h.is)
+rows_for rows l words (Some word) a b g h = g ∙ sym h
+
+-- a lock has one answer of `export`
+export_once : RowPromises → (l : Lock) (words : List (List ℕ)) (a b : Result Answer Refused) → IsExportAnswer l words a → IsExportAnswer l words b → a ≡ b
+export_once rows l words a b g h = rows_for rows l words (first_other l words) a b g h
+
 -- where locks are one, so are their counts
 counts_once : (locks : Said Answer) → IsOne locks → (a b : Result Answer Refused) → IsCounted locks a → IsCounted locks b → a ≡ b
 counts_once locks one a b g h = g.is ∙ (ap counted_for (one g.found h.found g.gave h.gave) ∙ sym h.is)
@@ -165,7 +195,7 @@ counts_once locks one a b g h = g.is ∙ (ap counted_for (one g.found h.found g.
 -- a fork answer has the reason that its lock tells
 reason_with : (r : ResolutionFields) (f : TreeAnswer) (a b : Result Answer Refused) → LocksFor r f a → GivesReason r f b → without_steps b ≡ reason_of a
 reason_with r (leaves_are ls) a b g h = ap without_steps h ∙ sym (ap reason_of g.is)
-reason_with r (refused_at fork) a b g h = ap without_steps h.is ∙ sym (ap reason_of g)
+reason_with r (refused_at fork) a b g h = ap without_steps h.is ∙ sym (ap reason_of g.is)
 reason_with r (too_many n) a b g h = ap without_steps h ∙ sym (ap reason_of g)
 
 why_with : ForkLaws → (r : ResolutionFields) (a b : Result Answer Refused) → IsLockAnswer r a → IsWhyAnswer r b → without_steps b ≡ reason_of a
@@ -186,6 +216,10 @@ one_env laws path machine words m =
     one_on (lock_at path m) (λ l. said_on (machine_at machine m) (λ x. answer (IsEnvAnswer l x words) m)) (one_lock_at laws.locks laws.lock_faults path m)
     (λ l. one_on (machine_at machine m) (λ x. answer (IsEnvAnswer l x words) m) (one_machine_at machine m) (λ x. env_once l x words))
 
+one_export : LowerLaws → (path : List ℕ) (words : List (List ℕ)) (m : FileMap) → IsOne (command (export path words) m)
+one_export laws path words m =
+    one_on (lock_at path m) (λ l. answer (IsExportAnswer l words) m) (one_lock_at laws.locks laws.lock_faults path m) (λ l. export_once laws.rows l words)
+
 one_check : LowerLaws → (project folder derivation : List ℕ) (m : FileMap) → IsOne (command (check project folder derivation) m)
 one_check laws project folder derivation m =
     one_on (project_at project m)
@@ -197,11 +231,22 @@ one_check laws project folder derivation m =
     one_on (resolution_with folder p [] m) (λ r. answer (IsCheckAnswer r x) m) (one_resolution_with laws.turns folder p [] m)
     (λ r. check_once laws r x)))
 
+one_verify : LowerLaws → (project folder path : List ℕ) (m : FileMap) → IsOne (command (verify project folder path) m)
+one_verify laws project folder path m =
+    one_on (project_at project m)
+    (λ p. said_on (lock_at path m) (λ l. said_on (resolution_with folder p [] m) (λ r. answer (IsVerifyAnswer r l) m)))
+    (one_project_at laws.projects project m)
+    (λ p.
+    one_on (lock_at path m) (λ l. said_on (resolution_with folder p [] m) (λ r. answer (IsVerifyAnswer r l) m))
+    (one_lock_at laws.locks laws.lock_faults path m)
+    (λ l.
+    one_on (resolution_with folder p [] m) (λ r. answer (IsVerifyAnswer r l) m) (one_resolution_with laws.turns folder p [] m)
+    (λ r. verify_once r l)))
+
 -- ---- all of them
 
 pub answers_are_one : LowerLaws → AnswersAreOne
 answers_are_one laws usage m a b g h = ap without_steps (g ∙ sym h)
-answers_are_one laws (unbuilt form) m a b g h = ap without_steps (g ∙ sym h)
 answers_are_one laws (lock project folder workers old) m a b g h = ap without_steps (one_lock_of laws project folder old m a b g h)
 answers_are_one laws (why project folder workers old) m a b g h =
     alike_on SameAnswer (λ e. refl) (resolution_in project folder old m) (λ r. answer (IsWhyAnswer r) m) (one_resolution laws project folder old m)
@@ -211,4 +256,6 @@ answers_are_one laws (gen seed size workers) m a b g h =
     ap without_steps
     (counts_once (lock_of project_path index_folder None files) (one_lock_of laws project_path index_folder None files) a b g h)
 answers_are_one laws (env path machine words) m a b g h = ap without_steps (one_env laws path machine words m a b g h)
+answers_are_one laws (export path words) m a b g h = ap without_steps (one_export laws path words m a b g h)
 answers_are_one laws (check project folder derivation) m a b g h = ap without_steps (one_check laws project folder derivation m a b g h)
+answers_are_one laws (verify project folder path) m a b g h = ap without_steps (one_verify laws project folder path m a b g h)

@@ -1,5 +1,5 @@
 -- Inputs that are read are answered, and by which status.
-use Rattle.std.proofs.Common.{◌≡◌, ◌∙◌, ◌≤◌, ℕ, List, [], Bool, true, false, length, Option, Some, None, Result, refl, sym, ap, arith}
+use Rattle.std.proofs.Common.{◌≡◌, ◌∙◌, ◌≤◌, ℕ, List, [], ◌++◌, Bool, true, false, length, Option, Some, None, Result, refl, sym, ap, arith}
 use Rattle.std.specs.Prelude.{nat_le}
 use Rattle.ul_tree.specs.Paths.{paths_of}
 use Rattle.ul_nodes.specs.Plain.{Plain}
@@ -16,11 +16,13 @@ use Rattle.ul_inputs.specs.Refused.{Refused}
 use Rattle.ul_inputs.specs.Resolutions.{ResolutionFields, resolution_in, resolution_with}
 use Rattle.ul_answers.specs.Answer.{Answer}
 use Rattle.ul_answers.specs.Printed.{lock_output, printed, refusal_output, text_output, written}
+use Rattle.ul_lock_commands.specs.Environments.{IsEnvAnswer, env_on}
+use Rattle.ul_lock_commands.specs.Exports.{IsExportAnswer}
 use Rattle.ul_commands.specs.Checking.{IsCheckAnswer, check_on, check_with, proof_at}
-use Rattle.ul_commands.specs.Environments.{IsEnvAnswer, env_on}
 use Rattle.ul_commands.specs.Locking.{IsLockAnswer, IsLocked, LocksFor}
 use Rattle.ul_commands.specs.Questions.{IsForked}
 use Rattle.ul_commands.specs.Reasons.{IsWhyAnswer}
+use Rattle.ul_commands.specs.Verifying.{IsVerifyAnswer, verify_on, verify_with}
 use Rattle.ul_command_laws.specs.Complete.{InputsAreAnswered, IsWithinLimits, LocksWithinLimits}
 use Rattle.ul_command_laws.specs.Lower.{LowerLaws}
 use Rattle.ul_command_laws.proofs.Answers.{one_proof_at, one_resolution}
@@ -38,10 +40,16 @@ inputs_are_answered laws = record {
   env = λ path machine words m l x a has_lock has_machine gives.
       given_on (machine_at machine m) (λ y. answer (IsEnvAnswer l y words) m) (one_machine_at machine m) x has_machine a
       (given_on (lock_at path m) (λ k. env_on machine words k m) (one_lock_at laws.locks laws.lock_faults path m) l has_lock a gives);
+  export = λ path words m l a has_lock gives.
+      given_on (lock_at path m) (λ k. answer (IsExportAnswer k words) m) (one_lock_at laws.locks laws.lock_faults path m) l has_lock a gives;
   check = λ project folder derivation m p x r a has_project has_proof read gives.
       given_on (resolution_with folder p [] m) (λ s. answer (IsCheckAnswer s x) m) (one_resolution_with laws.turns folder p [] m) r read a
       (given_on (proof_at derivation m) (λ y. check_with folder p y m) (one_proof_at laws derivation m) x has_proof a
       (given_on (project_at project m) (λ q. check_on folder derivation q m) (one_project_at laws.projects project m) p has_project a gives));
+  verify = λ project folder path m p l r a has_project has_lock read gives.
+      given_on (resolution_with folder p [] m) (λ s. answer (IsVerifyAnswer s l) m) (one_resolution_with laws.turns folder p [] m) r read a
+      (given_on (lock_at path m) (λ k. verify_with folder p k m) (one_lock_at laws.locks laws.lock_faults path m) l has_lock a
+      (given_on (project_at project m) (λ q. verify_on folder path q m) (one_project_at laws.projects project m) p has_project a gives));
 }
 
 -- ---- the status of `lock`
@@ -85,8 +93,8 @@ zero_where : (r : ResolutionFields) (a : Result Answer Refused) (f : TreeAnswer)
     → IsWithinLimits r a
 zero_where r a (leaves_are leaves) forks h e = served r a leaves forks h e
 zero_where r a (refused_at fork) forks h e =
-    absurd (refused_status (nat_le (paths_of fork.region) 4096) fork.region (refusal_text fork.path fork.region) refl
-    (ap (λ b. (printed b).0) (sym h) ∙ e))
+    absurd (refused_status (nat_le (paths_of fork.region) 4096) fork.region (refusal_text fork.path fork.region ++ h.lines) refl
+    (ap (λ b. (printed b).0) (sym h.is) ∙ e))
 zero_where r a (too_many count) forks h e = absurd (let four : 4 ≡ 0 = ap (λ b. (printed b).0) (sym h) ∙ e in cc)
 
 within_is_zero : (r : ResolutionFields) (a : Result Answer Refused) → IsWithinLimits r a → (printed a).0 ≡ 0

@@ -1,5 +1,5 @@
 -- What `env` prints of a lock that `lock` gives is what the project requires.
-use Rattle.std.proofs.Common.{◌≡◌, ◌≢◌, ◌∙◌, ◌⊎◌, ◌||◌, ℕ, List, [], ◌∷◌, Bool, true, false, length, map, bytes_eq, Option, Some, None, IfSome, Contains, Result, Ok, refl, sym, ap, subst, inl, inr}
+use Rattle.std.proofs.Common.{◌≡◌, ◌≢◌, ◌∙◌, ◌⊎◌, ◌||◌, ℕ, List, [], ◌∷◌, Bool, true, false, map, bytes_eq, Option, Some, None, IfSome, Contains, Result, Ok, refl, sym, ap, subst, inl, inr}
 use Rattle.std.specs.Cmp.{first_so, second_so}
 use Rattle.std.specs.List.{list_all, list_any}
 use Rattle.std.proofs.lemmas.Slice.Eq.{bytes_eq-Decides}
@@ -9,12 +9,14 @@ use Rattle.ul_base.proofs.ForCallers.{contains_cases, contains_first, contains_f
 use Rattle.ul_version.specs.Fields.{Fields}
 use Rattle.ul_version.specs.Laws.{TextTells}
 use Rattle.ul_version.specs.Texts.{version_text}
+use Rattle.ul_comparison.specs.Atoms.{AtomFields}
 use Rattle.ul_comparison.specs.Machines.{MachineFields, world_of}
-use Rattle.ul_comparison.specs.Worlds.{WorldFields}
+use Rattle.ul_comparison.specs.Worlds.{WorldFields, IsWorld}
 use Rattle.ul_requirement.specs.Fields.{RequirementFields}
 use Rattle.ul_requirement.specs.Truth.{base, targets, with_extra}
 use Rattle.ul_nodes.specs.Plain.{Plain}
 use Rattle.ul_tree.specs.Values.{tree_holds}
+use Rattle.ul_index.specs.Catalogs.{Packages}
 use Rattle.ul_index.specs.Eligible.{eligible}
 use Rattle.ul_lines.specs.Reader.{Each}
 use Rattle.ul_lock_lines.specs.Text.{IsEdge}
@@ -25,23 +27,25 @@ use Rattle.ul_lock_lines.specs.declared.parts.Locked.{Locked}
 use Rattle.ul_lock_walk.specs.Targets.{has_target, have_targets, is_named, is_target, lists_option, package_leads_on}
 use Rattle.ul_lock_walk.specs.Walk.{AgreeOnLock, HasEdge, IsEdgeOf, Pick as NodeAt, Walk, WalkBegins, WalkLeads, WalksAgree}
 use Rattle.ul_lock_walk.specs.WellFormed.{IsListed, IsPackage, IsWellFormed}
-use Rattle.ul_generations.specs.Generations.{leaves_are, refused_at, too_many}
-use Rattle.ul_forks.specs.Headline.{TreeAnswer}
+use Rattle.ul_lock_nodes.specs.Routes.{routes_of}
+use Rattle.ul_sound.specs.Headline.{HasCatalogTexts, MergePromises}
 use Rattle.ul_sound.specs.Leaves.{supported_by}
-use Rattle.ul_sound.specs.Sound.{Closure, ClosureBegins, ClosureLeads, IsSoundAt}
-use Rattle.ul_filter.specs.Comparisons.{machine_world}
+use Rattle.ul_sound.specs.Sound.{AreProjectExtras, Closure, ClosureBegins, ClosureLeads, IsEligible, IsSound, IsSoundAt}
+use Rattle.ul_filter.specs.Comparisons.{HasAll, lock_atoms, machine_world}
 use Rattle.ul_filter.specs.Headline.{IsEnvironment, MoreAgrees, is_supported_at}
 use Rattle.ul_filter.specs.Picks.{ArePicks, pick_view, picks_of}
-use Rattle.ul_filter.specs.Routes.{routes_of}
 use Rattle.ul_filter.specs.declared.picks.Pick.{Pick}
 use Rattle.ul_inputs.specs.Refused.{Refused}
 use Rattle.ul_inputs.specs.Resolutions.{ResolutionFields}
-use Rattle.ul_answers.specs.Answer.{Answer, environment, locked}
-use Rattle.ul_commands.specs.Environments.{GivesFor, GivesWhere, first_other, names_of}
-use Rattle.ul_commands.specs.Laws.{LocksAreSound}
-use Rattle.ul_commands.specs.Locking.{LocksFor}
-use Rattle.ul_command_laws.specs.Environments.{EnvironmentsOfLocks, HasNode, IsRequired}
+use Rattle.ul_answers.specs.Answer.{Answer, environment}
+use Rattle.ul_lock_commands.specs.Environments.{GivesFor, GivesWhere, IsEnvAnswer}
+use Rattle.ul_lock_commands.specs.Words.{first_other, names_of}
+use Rattle.ul_commands.specs.Laws.{LocksAreOfLeaves}
+use Rattle.ul_command_laws.specs.Environments.{EnvironmentsOfLocks, HasNode, IsRequired, IsSpelled, ListsExactly}
+use Rattle.ul_command_laws.specs.Verified.{EnvironmentsOfVerified, VerifiedAreSound}
+use Rattle.ul_command_laws.specs.WellFormed.{LocksAreWellFormed}
 use Rattle.ul_command_laws.proofs.Picks.{AreFlags, IsPickOf, ListsExtra, Parts, flags_from, picks_from, picks_have}
+use Rattle.ul_command_laws.proofs.Verified.{verified_lock}
 
 -- ---- lists
 
@@ -201,14 +205,16 @@ has_node line n name version extras same named extra = record {
 
 -- ---- the lines
 
--- what is known of a lock that is given
-record Given (r : ResolutionFields) (l : Lock) (w : WorldFields) (xs : List (List ℕ)) : Type 0 where
+-- what is known of a lock that is given: of what it gives beside the root, the versions can be chosen
+record Given (CanBeChosen : List ℕ → Fields → Type 0) (r : ResolutionFields) (l : Lock) (w : WorldFields) (xs : List (List ℕ))
+    : Type 0 where
   root : l.root ≡ r.project.package.name
   sound : IsSoundAt r.catalog r.project l w xs
   well : IsWellFormed l
+  chosen : (n : Node) (v : Fields) → Walk l w xs (n, v) → n.name ≢ l.root → CanBeChosen n.name v
 
-module _ (tells : TextTells) (r : ResolutionFields) (l : Lock) (w : WorldFields) (xs : List (List ℕ)) (given : Given r l w xs)
-    (ps : List Pick) (are : ArePicks l w xs ps) where
+module _ (tells : TextTells) (CanBeChosen : List ℕ → Fields → Type 0) (r : ResolutionFields) (l : Lock) (w : WorldFields)
+    (xs : List (List ℕ)) (given : Given CanBeChosen r l w xs) (ps : List Pick) (are : ArePicks l w xs ps) where
   flags : AreFlags (Walk l w xs) (routes_of l.packages) are.flags
   flags = flags_from (Walk l w xs) (routes_of l.packages) are.flags are.each are.long
 
@@ -275,24 +281,12 @@ module _ (tells : TextTells) (r : ResolutionFields) (l : Lock) (w : WorldFields)
       let other = line_walks k second in
       given.sound.one_version (record { name = j.name; extra = one.0 }) (record { name = k.name; extra = other.0 }) j.version k.version one.1 other.1 same
 
-  can_be_chosen : (line : Pick) → Contains ps line → Contains (eligible r.catalog line.name) line.version
-  can_be_chosen line at = let one = line_walks line at in given.sound.eligible_each (record { name = line.name; extra = one.0 }) line.version one.1
+  can_be_chosen : (line : Pick) → Contains ps line → CanBeChosen line.name line.version
+  can_be_chosen line at =
+      let one = line_walks line at in
+      given.chosen (record { name = line.name; extra = one.0 }) line.version one.1 (λ same. line_other line at (same ∙ given.root))
 
--- ---- locks that are given
-
-locked_same : (k l : Lock) (m n : ℕ) → (let a : Result Answer Refused = Ok (locked k m) in a) ≡ Ok (locked l n) → k ≡ l
-locked_same k l m n e = cc
-
--- the project is the lock's root, and the lock is for what the project supports
-record IsFor (r : ResolutionFields) (l : Lock) : Type 0 where
-  root : l.root ≡ r.project.package.name
-  supported : l.supported ≡ r.project.region
-
-lock_for : (r : ResolutionFields) (l : Lock) (n : ℕ) (f : TreeAnswer) → LocksFor r f (Ok (locked l n)) → IsFor r l
-lock_for r l n (leaves_are ls) h =
-    subst (IsFor r) (sym (locked_same l h.lock n (length ls) h.is)) (record { root = h.merged.root; supported = h.merged.supported })
-lock_for r l n (refused_at fork) h = absurd (cc)
-lock_for r l n (too_many m) h = absurd (cc)
+-- ---- what is printed
 
 same_environment : (s t : List ℕ) → (let a : Result Answer Refused = Ok (environment s) in a) ≡ Ok (environment t) → s ≡ t
 same_environment s t e = cc
@@ -323,24 +317,90 @@ agreeing_lines walks l w v xs ps agree h = record {
   are = h.are;
 }
 
-pub environments_of_locks : LocksAreSound → TextTells → WalksAgree → MoreAgrees → EnvironmentsOfLocks
-environments_of_locks sound tells walks more r l forks m words text comparisons is gives well all world extras answers =
+-- what is known of a lock for a project: the project is its root, it is for what the project supports, and it is right there
+pub record IsRightLock (CanBeChosen : List ℕ → Fields → Type 0) (r : ResolutionFields) (l : Lock) : Type 0 where
+  pub root : l.root ≡ r.project.package.name
+  pub supported : l.supported ≡ r.project.region
+  pub sound : IsSound r.catalog r.project l
+  pub well : IsWellFormed l
+  pub chosen : (w : WorldFields) (xs : List (List ℕ)) → IsWorld w → supported_by r.project w ≡ true → AreProjectExtras r.project xs
+      → (n : Node) (v : Fields) → Walk l w xs (n, v) → n.name ≢ l.root → CanBeChosen n.name v
+
+-- the laws on which the lines rest
+pub record LineLaws : Type 0 where
+  pub tells : TextTells
+  pub walks : WalksAgree
+  pub more : MoreAgrees
+
+-- what `env` prints of such a lock lists exactly what is required
+pub lists_exactly : LineLaws → (CanBeChosen : List ℕ → Fields → Type 0) (r : ResolutionFields) (l : Lock) → IsRightLock CanBeChosen r l
+    → (m : MachineFields) (words : List (List ℕ)) (text : List ℕ) (comparisons : List AtomFields)
+    → HasAll comparisons (lock_atoms l) → IsWorld (world_of m comparisons) → AreProjectExtras r.project (names_of words)
+    → IsEnvAnswer l m words (Ok (environment text))
+    → ListsExactly CanBeChosen (IsRequired r l (world_of m comparisons) (names_of words)) text
+lists_exactly laws CanBeChosen r l right m words text comparisons all world extras answers =
     let w = world_of m comparisons in
     let xs = names_of words in
-    let fits = lock_for r l forks gives.forked gives.locks in
-    let agree = more l m comparisons well all in
+    let agree = laws.more l m comparisons right.well all in
     let prints = printed_where (is_supported_at l (machine_world l m)) l m words text answers in
-    let supported : supported_by r.project w ≡ true = subst (λ (t : Plain). tree_holds t w [] ≡ true) fits.supported (sym agree.1 ∙ prints.holds) in
-    let given : Given r l w xs = record { root = fits.root; sound = sound r l forks is gives w world supported xs extras; well = well } in
+    let supported : supported_by r.project w ≡ true = subst (λ (t : Plain). tree_holds t w [] ≡ true) right.supported (sym agree.1 ∙ prints.holds) in
+    let given : Given CanBeChosen r l w xs =
+    record { root = right.root; sound = right.sound w world supported xs extras; well = right.well; chosen = right.chosen w xs world supported extras } in
     let ps = prints.lines.0 in
-    let are = agreeing_lines walks l (machine_world l m) w xs ps agree.0 prints.lines.1 in
+    let are = agreeing_lines laws.walks l (machine_world l m) w xs ps agree.0 prints.lines.1 in
     record {
       lines = ps;
       are = prints.lines.2;
       nodes = λ n. (
-        has_line tells r l w xs given ps are n,
-        λ found. required tells r l w xs given ps are found.0 found.1 n found.2,
+        has_line laws.tells CanBeChosen r l w xs given ps are n,
+        λ found. required laws.tells CanBeChosen r l w xs given ps are found.0 found.1 n found.2,
       );
-      one_version = one_version tells r l w xs given ps are;
-      can_be_chosen = can_be_chosen tells r l w xs given ps are;
+      one_version = one_version laws.tells CanBeChosen r l w xs given ps are;
+      can_be_chosen = can_be_chosen laws.tells CanBeChosen r l w xs given ps are;
     }
+
+-- ---- locks that are given
+
+-- what leaves merge into spells its versions as the catalog does
+spelled_as : TextTells → (c : Packages) (l : Lock) (w : WorldFields) (xs : List (List ℕ)) → IsWellFormed l → HasCatalogTexts c l
+    → (n : Node) (v : Fields) → Walk l w xs (n, v) → n.name ≢ l.root → IsSpelled c n.name v
+spelled_as tells c l w xs well texts n v walk other =
+    let stands = stands_in tells l w xs well (n, v) walk other in
+    let there : List ℕ × Fields = (stands.block.name, stands.block.version) in
+    let same : there ≡ (n.name, v) = λ i. (stands.name i, stands.version i) in
+    subst (λ (p : List ℕ × Fields). Contains (eligible c p.0) p.1) same (texts stands.block stands.listed)
+
+pub environments_of_locks : LineLaws → MergePromises → LocksAreOfLeaves → LocksAreWellFormed → EnvironmentsOfLocks
+environments_of_locks laws merges leaves formed r l forks m words text comparisons is had gives all world extras answers =
+    let of = leaves r l forks is gives in
+    let well = formed r l forks is had gives in
+    let texts = merges.texts r.catalog r.project of.leaves l of.served of.merged in
+    lists_exactly laws (IsSpelled r.catalog) r l
+    (record {
+      root = of.merged.root;
+      supported = of.merged.supported;
+      sound = merges.sound r.catalog r.project of.leaves l of.served of.merged;
+      well = well;
+      chosen = λ w xs _ _ _ n v walk other. spelled_as laws.tells r.catalog l w xs well texts n v walk other;
+    }) m words text comparisons all world extras answers
+
+-- ---- locks that are verified
+
+-- the version is eligible, up to the order of versions
+verified_eligible : (r : ResolutionFields) (l : Lock) → IsSound r.catalog r.project l → (w : WorldFields) (xs : List (List ℕ)) → IsWorld w
+    → supported_by r.project w ≡ true → AreProjectExtras r.project xs → (n : Node) (v : Fields) → Walk l w xs (n, v)
+    → IsEligible r.catalog n.name v
+verified_eligible r l sound w xs world supported extras n v walk = (sound w world supported xs extras).eligible_each n v walk
+
+pub environments_of_verified : LineLaws → VerifiedAreSound → EnvironmentsOfVerified
+environments_of_verified laws sound r l m words text comparisons well verifies all world extras answers =
+    let right = sound r l well verifies in
+    let is = verified_lock r l verifies in
+    lists_exactly laws (IsEligible r.catalog) r l
+    (record {
+      root = is.root.named;
+      supported = is.supported;
+      sound = right;
+      well = well;
+      chosen = λ w xs world here extras n v walk other. verified_eligible r l right w xs world here extras n v walk;
+    }) m words text comparisons all world extras answers

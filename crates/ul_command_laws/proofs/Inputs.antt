@@ -17,7 +17,7 @@ use Rattle.ul_inputs.specs.Refused.{Refused, malformed}
 use Rattle.ul_inputs.specs.Catalogs.{beginning, catalog_in, documents, found_or_refused}
 use Rattle.ul_inputs.specs.Locks.{Kept, kept_of, lock_at, lock_said, old_lock}
 use Rattle.ul_inputs.specs.Machines.{machine_at, machine_said, machine_or_refused}
-use Rattle.ul_inputs.specs.Projects.{IsExpanded, IsProjectOf, built, fault_text, project_at, project_said}
+use Rattle.ul_inputs.specs.Projects.{IsExpanded, IsProjectOf, fault_text, project_at, project_said}
 use Rattle.ul_inputs.specs.Resolutions.{resolution_in, resolution_of, resolution_with}
 use Rattle.ul_comparison.specs.MachineFiles.{machine_of}
 use Rattle.ul_command_laws.proofs.LockTexts.{lock_once}
@@ -60,12 +60,8 @@ expanded_once path (Err too_deep) a b g h = absurd g
 
 one_project_said : OneProject → (path bytes : List ℕ) (m : FileMap) → IsOne (project_said path bytes m)
 one_project_said laws path bytes m =
-    one_on (answer (IsProjectOf path bytes) m)
-    (λ p. said_on (answer (IsExpanded path (expanded_project p)) m) (λ (q : ProjectFields). just (built q.strategy q) m))
-    (said_once laws path bytes)
-    (λ p.
-    one_on (answer (IsExpanded path (expanded_project p)) m) (λ (q : ProjectFields). just (built q.strategy q) m)
-    (expanded_once path (expanded_project p)) (λ (q : ProjectFields). one_just (built q.strategy q) m))
+    one_on (answer (IsProjectOf path bytes) m) (λ p. answer (IsExpanded path (expanded_project p)) m) (said_once laws path bytes)
+    (λ p. expanded_once path (expanded_project p))
 
 -- a project file
 pub one_project_at : OneProject → (path : List ℕ) (m : FileMap) → IsOne (project_at path m)

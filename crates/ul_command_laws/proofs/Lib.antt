@@ -3,10 +3,14 @@ mod SheetLines
 mod SheetTexts
 mod LockTexts
 mod Inputs
+mod Verified
 mod Answers
 mod Workers
+mod Complete
 mod Reasons
+mod Refusals
+mod WellFormed
 mod Picks
 mod Environments
 mod LockFiles
-mod Complete
+mod VerifiedFiles

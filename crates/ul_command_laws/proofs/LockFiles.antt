@@ -15,17 +15,22 @@ use Rattle.ul_inputs.specs.Refused.{Refused, limit}
 use Rattle.ul_inputs.specs.Locks.{lock_at}
 use Rattle.ul_inputs.specs.Machines.{machine_at}
 use Rattle.ul_inputs.specs.Resolutions.{ResolutionFields, resolution_in}
+use Rattle.ul_given.specs.Given.{GivenHasTexts, GivenIsResolution}
 use Rattle.ul_answers.specs.Answer.{environment, locked}
+use Rattle.ul_lock_commands.specs.Environments.{IsEnvAnswer}
 use Rattle.ul_commands.specs.Asked.{env, lock}
 use Rattle.ul_commands.specs.Commands.{command}
-use Rattle.ul_commands.specs.Environments.{IsEnvAnswer}
 use Rattle.ul_commands.specs.Locking.{IsLockAnswer}
 use Rattle.ul_command_laws.specs.Environments.{EnvironmentsOfFiles, EnvironmentsOfLocks}
+use Rattle.ul_command_laws.specs.WellFormed.{GivenAreWellFormed}
 use Rattle.ul_command_laws.proofs.Inputs.{one_machine_at, one_resolution_in}
 
 -- the laws on which this rests
 pub record FileLaws : Type 0 where
   pub lists : EnvironmentsOfLocks
+  pub resolution : GivenIsResolution
+  pub had : GivenHasTexts
+  pub formed : GivenAreWellFormed
   pub projects : OneProject
   pub turns : TurnsAgree
   pub locks : OneTextOneLock
@@ -95,6 +100,8 @@ environment_of laws path machine words now l m text well at gave (inr h) =
 
 pub environments_of_files : FileLaws → EnvironmentsOfFiles
 environments_of_files laws project folder old workers path machine words before now r l forks m text comparisons
-    resolved is locks well at gave all world extras prints =
-    laws.lists r l forks m words text comparisons is (locked_of laws project folder old workers before r resolved l forks locks) well all world extras
+    resolved locks at gave all world extras prints =
+    let well = laws.formed project folder old workers before l forks locks in
+    laws.lists r l forks m words text comparisons (laws.resolution project folder old before r resolved) (laws.had project folder old before r resolved)
+    (locked_of laws project folder old workers before r resolved l forks locks) all world extras
     (environment_of laws path machine words now l m text well at gave prints)

@@ -12,9 +12,9 @@ use Rattle.ul_requirement.specs.Truth.{with_extra}
 use Rattle.ul_lock_lines.specs.declared.parts.Extra.{Extra}
 use Rattle.ul_lock_lines.specs.declared.parts.Locked.{Locked}
 use Rattle.ul_lock_walk.specs.Walk.{Pick as NodeAt}
-use Rattle.ul_filter.specs.Met.{is_flagged}
+use Rattle.ul_lock_nodes.specs.Flags.{is_flagged}
+use Rattle.ul_lock_nodes.specs.Routes.{Route, base_route, block_routes, extra_route, routes_of}
 use Rattle.ul_filter.specs.Picks.{flagged_extras, node_count, picks_at, picks_of}
-use Rattle.ul_filter.specs.Routes.{Route, base_route, block_routes, extra_route, routes_of}
 
 -- a pick as its parts: its name, its version and its extras
 abbrev pub Parts : Type 0

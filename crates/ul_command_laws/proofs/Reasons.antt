@@ -38,27 +38,26 @@ use Rattle.ul_inputs.specs.Locks.{Kept, old_lock}
 use Rattle.ul_inputs.specs.Projects.{project_at}
 use Rattle.ul_inputs.specs.Refused.{Refused}
 use Rattle.ul_inputs.specs.Resolutions.{IsResolution, ResolutionFields, resolution_in, resolution_with}
-use Rattle.ul_answers.specs.Answer as answers
+use Rattle.ul_given.specs.Given.{GivenHasTexts, GivenIsResolution, HasTexts}
 use Rattle.ul_answers.specs.Answer.{Answer, accepted, derived}
 use Rattle.ul_commands.specs.Asked.{check}
 use Rattle.ul_commands.specs.Checking.{IsCheckAnswer}
 use Rattle.ul_commands.specs.Commands.{command}
-use Rattle.ul_commands.specs.Laws.{RefusedAreUnserved}
-use Rattle.ul_commands.specs.Locking.{IsLockAnswer}
+use Rattle.ul_commands.specs.Laws.{ForksAreUnserved}
 use Rattle.ul_commands.specs.Questions.{question_of}
 use Rattle.ul_commands.specs.Reasons.{AreStepsOf, GivesReason}
-use Rattle.ul_command_laws.specs.Reasons.{AcceptedAreUnserved, FilesAreAccepted, HasAcceptedProof, HasTexts, ReasonsAreAccepted, reason_text}
+use Rattle.ul_command_laws.specs.Reasons.{AcceptedAreUnserved, FilesAreAccepted, HasAcceptedProof, ReasonsAreAccepted, reason_text}
 
 -- the laws of lower crates on which this rests
 pub record ReasonLaws : Type 0 where
-  pub unserved : RefusedAreUnserved
+  pub unserved : ForksAreUnserved
   pub no_extra : NoExtra
   pub read : PrintedIsRead
   pub judged : PrintedIsAccepted
 
 -- ---- the names and versions of a problem
 
-start_named : (r : ResolutionFields) → HasTexts r → (n : Node) → Contains (starts_of (question_of r)) n → IsNamed n
+pub start_named : (r : ResolutionFields) → HasTexts r → (n : Node) → Contains (starts_of (question_of r)) n → IsNamed n
 start_named r texts n at =
     elim (contains_cases (base r.project.package.name) (map (with_extra r.project.package.name) r.project.extras) n at) [
       | inl same ↦ subst IsNamed (sym same) (record { name = texts.project; extra = tt })
@@ -72,7 +71,9 @@ node_named : (r : ResolutionFields) → HasTexts r → (region : Plain) (p : Pro
     → (k : ℕ) (f : NodeFacts) → node_at p k ≡ Some f → IsNamed f.node
 node_named r texts region p is k f at =
     reached_in {B = Contains (starts_of (question_of r))} {S = Leads r.catalog (region_of region)} IsNamed (start_named r texts)
-    (λ n t _ _ leads. texts.nodes n.name leads.version leads.requirement t leads.firm.applied.listed leads.aimed) (is.reached k f at)
+    (λ n t _ _ leads.
+    let both = texts.nodes n.name leads.version leads.requirement t leads.firm.applied.listed leads.aimed in
+    record { name = both.0; extra = both.1 }) (is.reached k f at)
 
 all_are : {A : Type 0} (P : A → Type 0) (xs : List A) → ((x : A) → Contains xs x → P x) → Each P xs
 all_are P [] h = tt
@@ -99,7 +100,7 @@ nodes_have r texts region p is =
 
 -- ---- the region of a refused fork
 
-split_goes : (q : Question) (t a b : Plain) → IsOutcome q t (Split a b) → IsRegionTree t → IsRegionTree a × IsRegionTree b
+pub split_goes : (q : Question) (t a b : Plain) → IsOutcome q t (Split a b) → IsRegionTree t → IsRegionTree a × IsRegionTree b
 split_goes q t a b split h = (
   record { reduced = split.true_in.reduced; truth = λ w x is. split.true_in.truth w x is ∙ sym (split.true_in.truth w [] is) },
   record { reduced = split.false_in.reduced; truth = λ w x is. split.false_in.truth w x is ∙ sym (split.false_in.truth w [] is) },
@@ -108,18 +109,16 @@ split_goes q t a b split h = (
 no_world : (w : WorldFields) → tree_holds (truth false) w [] ≡ true → ⊥
 no_world w h = let bad : false ≡ true = h in cc
 
-not_false : (t : Plain) → HasWorld (region_of t) → t ≢ truth false
+pub not_false : (t : Plain) → HasWorld (region_of t) → t ≢ truth false
 not_false t had is = no_world had.0 (subst (λ x. tree_holds x had.0 [] ≡ true) is had.2)
 
 fork_region : ReasonLaws → (r : ResolutionFields) (counts : List ℕ) (fork : TreeRefusal) → IsResolution r
     → IsAnswer (question_of r) r.project.region counts (refused_at fork) → IsRegion fork.region
 fork_region laws r counts fork is answer =
-    let locked : IsLockAnswer r (Ok (answers.no_selection fork.path fork.region)) =
-    record { forked = refused_at fork; are_forks = record { counts = counts; answer = answer }; locks = refl } in
     let tree = refused_has (IsOutcome (question_of r)) IsRegionTree (split_goes (question_of r)) r.project.region counts fork is.project.region answer in
     record {
       reduced = tree.reduced;
-      not_false = not_false fork.region (laws.unserved r fork.path fork.region is locked).world;
+      not_false = not_false fork.region (laws.unserved r fork is (record { counts = counts; answer = answer })).world;
       no_extra = laws.no_extra.region fork.region tree;
     }
 
@@ -173,7 +172,7 @@ of_fork laws r counts fork lines is texts answer steps few =
 same_path : (p q : List Bool) (t u : Plain) (xs ys : List ℕ) → (let a : Result Answer Refused = Ok (derived p t xs) in a) ≡ Ok (derived q u ys) → p ≡ q
 same_path p q t u xs ys e = cc
 
-same_region : (p q : List Bool) (t u : Plain) (xs ys : List ℕ) → (let a : Result Answer Refused = Ok (derived p t xs) in a) ≡ Ok (derived q u ys) → t ≡ u
+pub same_region : (p q : List Bool) (t u : Plain) (xs ys : List ℕ) → (let a : Result Answer Refused = Ok (derived p t xs) in a) ≡ Ok (derived q u ys) → t ≡ u
 same_region p q t u xs ys e = cc
 
 same_lines : (p q : List Bool) (t u : Plain) (xs ys : List ℕ) → (let a : Result Answer Refused = Ok (derived p t xs) in a) ≡ Ok (derived q u ys) → xs ≡ ys
@@ -235,10 +234,10 @@ checked project folder derivation text m p r x said file is_text made answer = i
 })
 
 -- what was read of the project and the index folder
-record Parts (project folder : List ℕ) (m : FileMap) (r : ResolutionFields) : Type 0 where
-  fields : ProjectFields
-  said : (project_at project m).gives (Ok fields)
-  made : (resolution_with folder fields [] m).gives (Ok r)
+pub record Parts (project folder : List ℕ) (m : FileMap) (r : ResolutionFields) : Type 0 where
+  pub fields : ProjectFields
+  pub said : (project_at project m).gives (Ok fields)
+  pub made : (resolution_with folder fields [] m).gives (Ok r)
 
 kept_parts : (project folder : List ℕ) (m : FileMap) (r : ResolutionFields) (p : ProjectFields) → (project_at project m).gives (Ok p)
     → (said_on (old_lock None m) (λ kept. resolution_with folder p kept m)).gives (Ok r) → Parts project folder m r
@@ -247,16 +246,17 @@ kept_parts project folder m r p said (inr h) =
     let none = ok_kept h.value [] h.gave in
     record { fields = p; said = said; made = subst (λ kept. (resolution_with folder p kept m).gives (Ok r)) none h.answers }
 
-parts_of : (project folder : List ℕ) (m : FileMap) (r : ResolutionFields) → (resolution_in project folder None m).gives (Ok r) → Parts project folder m r
+pub parts_of : (project folder : List ℕ) (m : FileMap) (r : ResolutionFields) → (resolution_in project folder None m).gives (Ok r) → Parts project folder m r
 parts_of project folder m r (inl h) = absurd h
 parts_of project folder m r (inr h) = kept_parts project folder m r h.value h.gave h.answers
 
-pub files_are_accepted : ReasonLaws → FilesAreAccepted
-files_are_accepted laws project folder derivation workers m path region steps say (inl h) at few = absurd h
-files_are_accepted laws project folder derivation workers m path region steps say (inr h) at few =
+pub files_are_accepted : ReasonLaws → GivenIsResolution → GivenHasTexts → FilesAreAccepted
+files_are_accepted laws given texts project folder derivation workers m path region steps (inl h) at few = absurd h
+files_are_accepted laws given texts project folder derivation workers m path region steps (inr h) at few =
     let text = reason_text path region steps in
-    let right = say h.value h.gave in
-    let found = reasons_are_accepted laws h.value path region steps right.0 right.1 h.answers few in
+    let is = given project folder None m h.value h.gave in
+    let had = texts project folder None m h.value h.gave in
+    let found = reasons_are_accepted laws h.value path region steps is had h.answers few in
     let parts = parts_of project folder m h.value h.gave in
     checked project folder derivation text m parts.fields h.value found.proof parts.said (file_text m derivation text at few) found.is_text parts.made found.answer
 

@@ -1,7 +1,7 @@
 -- The number of workers doesn't matter.
 use Rattle.ul_inputs.specs.Inputs.{Said}
 use Rattle.ul_answers.specs.Answer.{Answer}
-use Rattle.ul_commands.specs.Asked.{usage, unbuilt, lock, why, gen, env, check}
+use Rattle.ul_commands.specs.Asked.{usage, lock, why, gen, env, export, check, verify}
 use Rattle.ul_commands.specs.Commands.{command}
 use Rattle.ul_command_laws.specs.Answers.{AnswersAreOne}
 use Rattle.ul_command_laws.specs.Workers.{OneAnswerForAll, SayTheSame, WorkersDontMatter, with_workers}
@@ -11,12 +11,13 @@ itself said = record { gives = λ a. ((λ h. h), (λ h. h)); reads = λ path. ((
 
 pub workers_dont_matter : WorkersDontMatter
 workers_dont_matter usage n m = itself (command usage m)
-workers_dont_matter (unbuilt form) n m = itself (command (unbuilt form) m)
 workers_dont_matter (lock project folder workers old) n m = itself (command (lock project folder n old) m)
 workers_dont_matter (why project folder workers old) n m = itself (command (why project folder n old) m)
 workers_dont_matter (gen seed size workers) n m = itself (command (gen seed size n) m)
 workers_dont_matter (env path machine words) n m = itself (command (env path machine words) m)
+workers_dont_matter (export path words) n m = itself (command (export path words) m)
 workers_dont_matter (check project folder derivation) n m = itself (command (check project folder derivation) m)
+workers_dont_matter (verify project folder path) n m = itself (command (verify project folder path) m)
 
 pub one_for_all : AnswersAreOne → WorkersDontMatter → OneAnswerForAll
 one_for_all ones same asked j k m a b g h =

@@ -25,7 +25,7 @@ AnswersAreOne = (asked : Asked) (m : FileMap) (a b : Result Answer Refused)
 -- fork; a refusal is a refusal
 abbrev pub reason_of : Result Answer Refused → Result Answer Refused
 reason_of (Ok (locked l forks)) = Ok none_refused
-reason_of (Ok (no_selection path region)) = Ok (derived path region [])
+reason_of (Ok (no_selection path region core)) = Ok (derived path region [])
 reason_of r = r
 
 -- on the same files `why` tells the fork that `lock` tells, whatever the numbers of workers

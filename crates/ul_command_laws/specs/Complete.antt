@@ -17,13 +17,15 @@ use Rattle.ul_inputs.specs.Refused.{Refused}
 use Rattle.ul_inputs.specs.Resolutions.{ResolutionFields, resolution_in, resolution_with}
 use Rattle.ul_answers.specs.Answer.{Answer}
 use Rattle.ul_answers.specs.Printed.{printed}
-use Rattle.ul_commands.specs.Asked.{check, env, lock, why}
+use Rattle.ul_lock_commands.specs.Environments.{IsEnvAnswer}
+use Rattle.ul_lock_commands.specs.Exports.{IsExportAnswer}
+use Rattle.ul_commands.specs.Asked.{check, env, export, lock, verify, why}
 use Rattle.ul_commands.specs.Checking.{IsCheckAnswer, proof_at}
 use Rattle.ul_commands.specs.Commands.{command}
-use Rattle.ul_commands.specs.Environments.{IsEnvAnswer}
 use Rattle.ul_commands.specs.Locking.{IsLockAnswer, IsLocked}
 use Rattle.ul_commands.specs.Questions.{IsForked}
 use Rattle.ul_commands.specs.Reasons.{IsWhyAnswer}
+use Rattle.ul_commands.specs.Verifying.{IsVerifyAnswer}
 
 -- where each input of a command is read, it answers what the inputs say, and none of them is refused
 pub record InputsAreAnswered : Type 0 where
@@ -39,11 +41,18 @@ pub record InputsAreAnswered : Type 0 where
       (a : Result Answer Refused)
       → (lock_at path m).gives (Ok l) → (machine_at machine m).gives (Ok x)
       → (command (env path machine words) m).gives a → IsEnvAnswer l x words a
+  pub export : (path : List ℕ) (words : List (List ℕ)) (m : FileMap) (l : Lock) (a : Result Answer Refused)
+      → (lock_at path m).gives (Ok l) → (command (export path words) m).gives a → IsExportAnswer l words a
   pub check : (project folder derivation : List ℕ) (m : FileMap) (p : ProjectFields) (x : Proof) (r : ResolutionFields)
       (a : Result Answer Refused)
       → (project_at project m).gives (Ok p) → (proof_at derivation m).gives (Ok x)
       → (resolution_with folder p [] m).gives (Ok r)
       → (command (check project folder derivation) m).gives a → IsCheckAnswer r x a
+  pub verify : (project folder path : List ℕ) (m : FileMap) (p : ProjectFields) (l : Lock) (r : ResolutionFields)
+      (a : Result Answer Refused)
+      → (project_at project m).gives (Ok p) → (lock_at path m).gives (Ok l)
+      → (resolution_with folder p [] m).gives (Ok r)
+      → (command (verify project folder path) m).gives a → IsVerifyAnswer r l a
 
 -- no fork is refused, and the lock's markers and its text are within their limits
 pub record IsWithinLimits (r : ResolutionFields) (a : Result Answer Refused) : Type 0 where

@@ -2,5 +2,8 @@ pub mod Lower
 pub mod Answers
 pub mod Workers
 pub mod Reasons
+pub mod WellFormed
 pub mod Environments
+pub mod Verified
+pub mod Refusals
 pub mod Complete

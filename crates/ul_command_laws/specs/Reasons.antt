@@ -1,37 +1,22 @@
 -- What `why` prints of a refused fork is accepted by `check`.
-use Rattle.std.specs.Prelude.{◌≡◌, ◌≤◌, ℕ, List, Contains, ◌++◌, Bool, length, Some, None, Ok}
+use Rattle.std.specs.Prelude.{◌≡◌, ◌≤◌, ℕ, List, ◌++◌, Bool, length, Some, None, Ok}
 use Rattle.ul_base.specs.Files.{FileMap, content}
-use Rattle.ul_base.specs.Names.{IsNormalName}
-use Rattle.ul_base.specs.declared.node.Node.{Node}
-use Rattle.ul_version.specs.Fields.{Fields, IsVersion}
-use Rattle.ul_requirement.specs.Fields.{RequirementFields}
-use Rattle.ul_requirement.specs.Truth.{targets}
 use Rattle.ul_nodes.specs.Plain.{Plain}
 use Rattle.ul_tree.specs.Regions.{region_of}
-use Rattle.ul_index.specs.Catalogs.{requirements}
-use Rattle.ul_index.specs.Eligible.{eligible}
 use Rattle.ul_index.specs.Serves.{Selection, Serves}
 use Rattle.ul_forks.specs.Outcome.{starts_of}
 use Rattle.ul_report.specs.Texts.{refusal_text}
-use Rattle.ul_report_read.specs.Proofs.{IsNamed, IsTextOf}
+use Rattle.ul_report_read.specs.Proofs.{IsTextOf}
 use Rattle.ul_report_read.specs.declared.proof.Proof.{Proof}
 use Rattle.ul_inputs.specs.Inputs.{text_bytes}
-use Rattle.ul_inputs.specs.Resolutions.{IsResolution, ResolutionFields, resolution_in}
+use Rattle.ul_inputs.specs.Resolutions.{IsResolution, ResolutionFields}
+use Rattle.ul_given.specs.Given.{HasTexts}
 use Rattle.ul_answers.specs.Answer.{accepted, derived}
 use Rattle.ul_commands.specs.Asked.{check, why}
 use Rattle.ul_commands.specs.Checking.{IsCheckAnswer}
 use Rattle.ul_commands.specs.Commands.{command}
 use Rattle.ul_commands.specs.Questions.{question_of}
 use Rattle.ul_commands.specs.Reasons.{IsWhyAnswer}
-
--- What a resolution names are names in their normal form, and its versions are versions. What follows assumes it: plain
--- data could have others, while the types of names and versions that files are read into have no others.
-pub record HasTexts (r : ResolutionFields) : Type 0 where
-  pub project : IsNormalName r.project.package.name
-  pub extras : (x : List ℕ) → Contains r.project.extras x → IsNormalName x
-  pub versions : (name : List ℕ) (v : Fields) → Contains (eligible r.catalog name) v → IsVersion v
-  pub nodes : (name : List ℕ) (v : Fields) (q : RequirementFields) (t : Node)
-      → Contains (requirements r.catalog name v) q → Contains (targets q) t → IsNamed t
 
 -- the text that `why` prints of a fork with the lines of a derivation
 abbrev pub reason_text : List Bool → Plain → List ℕ → List ℕ
@@ -43,24 +28,18 @@ pub record HasAcceptedProof (r : ResolutionFields) (text : List ℕ) : Type 0 wh
   pub is_text : IsTextOf text proof
   pub answer : IsCheckAnswer r proof (Ok accepted)
 
--- what `why` prints of a resolution, where a file may be so long, is a derivation file that `check` accepts on the same
--- resolution
+-- what `why` prints of a resolution with such names and versions, where a file may be so long, is a derivation file that
+-- `check` accepts on the same resolution
 abbrev pub ReasonsAreAccepted : Type 0
 ReasonsAreAccepted = (r : ResolutionFields) (path : List Bool) (region : Plain) (steps : List ℕ)
     → IsResolution r → HasTexts r
     → IsWhyAnswer r (Ok (derived path region steps)) → length (reason_text path region steps) ≤ text_bytes
     → HasAcceptedProof r (reason_text path region steps)
 
--- what these files say is a resolution with such names and versions
-abbrev pub SayTexts : (project folder : List ℕ) → FileMap → Type 0
-SayTexts project folder m = (r : ResolutionFields) → (resolution_in project folder None m).gives (Ok r)
-    → IsResolution r × HasTexts r
-
 -- so `check` accepts what `why` printed, put into a file beside the same ones
 abbrev pub FilesAreAccepted : Type 0
 FilesAreAccepted = (project folder derivation : List ℕ) (workers : ℕ) (m : FileMap) (path : List Bool) (region : Plain)
     (steps : List ℕ)
-    → SayTexts project folder m
     → (command (why project folder workers None) m).gives (Ok (derived path region steps))
     → content m derivation ≡ Some (reason_text path region steps) → length (reason_text path region steps) ≤ text_bytes
     → (command (check project folder derivation) m).gives (Ok accepted)

@@ -4,6 +4,10 @@ ghost use Rattle.ul_command_laws.specs.Complete.{InputsAreAnswered, LocksWithinL
 ghost use Rattle.ul_command_laws.specs.Environments.{EnvironmentsOfFiles, EnvironmentsOfLocks};
 ghost use Rattle.ul_command_laws.specs.Lower.{LowerLaws};
 ghost use Rattle.ul_command_laws.specs.Reasons.{AcceptedAreUnserved, FilesAreAccepted, ReasonsAreAccepted};
+ghost use Rattle.ul_command_laws.specs.Refusals.{ReasonsOfFiles, RefusalsOfFiles};
+ghost use Rattle.ul_command_laws.specs.Verified.{EnvironmentsOfVerified, EnvironmentsOfVerifiedFiles};
+ghost use Rattle.ul_command_laws.specs.Verified.{LocksAreVerified, VerifiedAreSound, VerifiedFilesAreSound};
+ghost use Rattle.ul_command_laws.specs.WellFormed.{ForksMerge, GivenAreWellFormed, LocksAreWellFormed};
 ghost use Rattle.ul_command_laws.specs.Workers.{OneAnswerForAll, WorkersDontMatter};
 ghost use Rattle.ul_lock.specs.Laws.{OneFault};
 
@@ -26,6 +30,8 @@ fn lower_laws()
     ul_report_read::laws::one_fault();
     ul_forks::laws::fork_laws();
     ul_sound::laws::merge_laws();
+    ul_reach::laws::row_promises();
+    ul_blame::laws::core_laws();
     ul_placing::laws::equal_problems();
     ul_report_judge::laws::faults();
 }
@@ -82,6 +88,8 @@ pub fn reasons_are_accepted()
     ul_tree::laws::no_extra();
     ul_report_read::laws::printed_is_read();
     ul_report_judge::laws::printed_is_accepted();
+    ul_given::laws::given_is_resolution();
+    ul_given::laws::given_has_texts();
 }
 
 /// No selection serves the region of a derivation that `check` accepts.
@@ -92,11 +100,49 @@ pub fn accepted_are_unserved()
     ul_region::laws::nothing_serves();
 }
 
+/// No selection serves the fork that `lock` or `why` tells of files, under `deep` at none of its worlds.
+pub fn refusals_of_files()
+    ensures locks { RefusalsOfFiles }
+    ensures reasons { ReasonsOfFiles }
+{
+    inputs_are_answered();
+    ul_given::laws::given_is_resolution();
+    ul_commands::laws::refused_are_unserved();
+}
+
+/// The leaves of a fork answer can be merged.
+pub fn forks_merge()
+    ensures { ForksMerge }
+{
+    ul_forks::laws::fork_laws();
+    ul_tree::laws::has_world();
+    ul_tree::laws::no_extra();
+}
+
+/// A lock that is answered is well formed, so that what is printed of it is read as the lock.
+pub fn locks_are_well_formed()
+    ensures { LocksAreWellFormed }
+{
+    forks_merge();
+    ul_sound::laws::merge_laws();
+}
+
+/// So is each lock that `lock` gives of files.
+pub fn given_are_well_formed()
+    ensures { GivenAreWellFormed }
+{
+    locks_are_well_formed();
+    ul_given::laws::given_is_resolution();
+    ul_given::laws::given_has_texts();
+}
+
 /// What `env` prints of a lock that `lock` gives lists exactly what is required in the machine's world.
 pub fn environments_of_locks()
     ensures { EnvironmentsOfLocks }
 {
     ul_commands::laws::locks_are_sound();
+    locks_are_well_formed();
+    ul_sound::laws::merge_laws();
     ul_version::laws::text_reads_back();
     ul_lock_walk::laws::walk_laws();
     ul_filter::laws::more_comparisons();
@@ -107,8 +153,50 @@ pub fn environments_of_files()
     ensures { EnvironmentsOfFiles }
 {
     environments_of_locks();
+    given_are_well_formed();
+    ul_given::laws::given_is_resolution();
+    ul_given::laws::given_has_texts();
     ul_project::laws::one_project();
     ul_load::laws::turns_agree();
     ul_lock::laws::text_laws();
     lock_faults();
+}
+
+/// A lock that `verify` accepts is right in every world that the project supports.
+pub fn verified_are_sound()
+    ensures { VerifiedAreSound }
+{
+    ul_verified::laws::verified_laws();
+}
+
+/// What `env` prints of a lock that `verify` accepts lists exactly what is required in the machine's world.
+pub fn environments_of_verified()
+    ensures { EnvironmentsOfVerified }
+{
+    verified_are_sound();
+    ul_version::laws::text_reads_back();
+    ul_lock_walk::laws::walk_laws();
+    ul_filter::laws::more_comparisons();
+}
+
+/// So it is of the lock of a lock file.
+pub fn verified_files()
+    ensures sound { VerifiedFilesAreSound }
+    ensures environments { EnvironmentsOfVerifiedFiles }
+{
+    inputs_are_answered();
+    verified_are_sound();
+    environments_of_verified();
+}
+
+/// `verify` accepts what `lock` printed, put into a file beside the same ones.
+pub fn locks_are_verified()
+    ensures { LocksAreVerified }
+{
+    ul_given::laws::given_is_resolution();
+    ul_given::laws::given_has_texts();
+    locks_are_well_formed();
+    ul_commands::laws::locks_are_sound();
+    ul_verified::laws::verified_laws();
+    ul_lock::laws::text_laws();
 }

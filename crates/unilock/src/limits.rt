@@ -67,11 +67,40 @@ fn compared(alloc: Global, count: usize) -> String {
     case_of(alloc, requirements.as_str(), names.as_str())
 }
 
+// Puts so many texts that a variable may have, each as a comparison.
+fn put_points(told: &mut String, variable: &str, count: usize) {
+    for place in 0..count {
+        let or = if place == 0 { "" } else { " or " };
+        let _ = write!(told, "{or}{variable} == 'x{}'", 100 + place);
+    }
+}
+
+// A lock whose package q is reached under as many paths as the product of this number and 64.
+fn reached(alloc: Global, count: usize) -> String {
+    let mut text = String::new(alloc);
+    put(
+        &mut text,
+        "export l\n@l\nversion = 2\nroot = \"demo\"\n\n[[package]]\nname = \"a\"\nversion = \"1\"\ndependencies = [\n    { name = \"q\", version = \"1\", marker = \"",
+    );
+    put_points(&mut text, "sys_platform", 64);
+    put(
+        &mut text,
+        "\" },\n]\n\n[[package]]\nname = \"demo\"\nversion = \"0.1\"\ndependencies = [\n    { name = \"a\", version = \"1\", marker = \"",
+    );
+    put_points(&mut text, "os_name", count);
+    put(
+        &mut text,
+        "\" },\n]\n\n[[package]]\nname = \"q\"\nversion = \"1\"",
+    );
+    text
+}
+
 // The case of a kind, and the word whose pieces are counted in what is printed for it.
 fn case_in(alloc: Global, kind: &str, count: usize, more: &str) -> (String, &'static str) {
     match kind {
         "forks" => (parted(alloc, more), "\n"),
         "paths" => (joined(alloc, more, count), " or "),
+        "reached" => (reached(alloc, count), " or "),
         _ => (compared(alloc, count), " in os_name"),
     }
 }
@@ -89,13 +118,16 @@ fn told<R: Threads + Wait + Sync>(rt: &R, alloc: Global, given: &str, word: &str
 
 // A kind, a number, what stands before the pairs of a marker's comparisons or behind the packages that fork, and what is
 // told: of forks the status, four lines around the forks, 44 of the packages and 17 of the project; of a marker its
-// paths; and of comparisons one more than there are. The second row has a requirement where all the platforms are.
+// paths; of an exported lock the paths of two markers, less one; and of comparisons one more than there are. The second row
+// has a requirement where all the platforms are.
 const LIMITS: &str = "forks|0||2115#\
     forks|0|'z', \"z; 'a' in platform_version and 'b' in platform_version and 'c' in platform_version and 'd' in platform_version and 'e' in platform_version and 'f' in platform_version and 'g' in platform_version and 'h' in platform_version and 'i' in platform_version and 'j' in platform_version and 'k' in platform_version and 'm' in platform_version\"|4\nlimit: forks 2048\n#\
     paths|12||4095#\
     paths|12|sys_platform == 'x' or |4096#\
     paths|13||4\nlimit: marker-paths 4096\n#\
     paths|12|sys_platform == 'x' or sys_platform == 'y' or |4\nlimit: marker-paths 4096\n#\
+    reached|64||4159#\
+    reached|65||4\nlimit: marker-paths 4096\n#\
     comparisons|256||257#\
     comparisons|257||4\nlimit: comparisons 256\n";
 

@@ -8,13 +8,31 @@ ghost use Rattle.std.specs.Prelude.{◌≡◌, [], IfOk, MatchResult, drop};
 ghost use Rattle.std.specs.Vec.Iter.{into_iter_items};
 
 #[cfg(test)]
+mod choice_rows;
+#[cfg(test)]
+mod deep_rows;
+#[cfg(test)]
 mod edge_tests;
+#[cfg(test)]
+mod export_rows;
+#[cfg(test)]
+mod faults;
+#[cfg(test)]
+mod fork_rows;
 #[cfg(test)]
 mod limits;
 #[cfg(test)]
-mod rows;
+mod place_rows;
+#[cfg(test)]
+mod places;
+#[cfg(test)]
+mod refusal_rows;
 #[cfg(test)]
 mod tests;
+#[cfg(test)]
+mod verify_rows;
+#[cfg(test)]
+mod word_rows;
 
 use std::alloc::{AllocError, Global};
 use std::env::Args;

@@ -1,11 +1,17 @@
 // What no clause says: that the call succeeds, and that the printed bytes are those of the formats.
-use crate::rows::ROWS;
+use crate::choice_rows::CHOICES;
+use crate::deep_rows::DEEP_FORKS;
+use crate::export_rows::EXPORTS;
+use crate::fork_rows::FORKS;
+use crate::refusal_rows::REFUSALS;
+use crate::verify_rows::VERIFIED;
+use crate::word_rows::WORDS;
 use std::alloc::{AllocError, Global};
 use std::fmt::Write;
 use std::process::Abort;
 use std::sync::Wait;
 use std::thread::Threads;
-use ul_base::{MemFiles, MemSink, Open, Sink, SinkRefused};
+use ul_base::{MemFiles, MemSink, Open};
 use ul_program::run;
 
 /// Puts a piece. One that finds no memory is left out, and then what is told isn't what is wanted: so what puts pieces
@@ -14,14 +20,16 @@ pub(crate) fn put(told: &mut String, piece: &str) {
     let _ = told.push_str(piece);
 }
 
-const NONE: u64 = u64::MAX;
+/// What comes before the first such mark of a text, and what comes after it.
+pub(crate) fn cells<'a>(text: &'a str, mark: &str) -> (&'a str, &'a str) {
+    text.split_once(mark).unwrap_or((text, ""))
+}
 
-const PROJECT: &str =
-    "lock p.toml ix 1\n@p.toml\n[project]\nname = \"demo\"\nversion = \"0.1\"\ndependencies = [\"a\", \"b\"]\n@ix/a.json\n{\"name\": \"a\", \"versions\": [{\"version\": \"1\"}]}\n@ix/b.json\n{\"name\": \"b\", \"versions\": [{\"version\": \"1\"}]}\n";
+const NONE: u64 = u64::MAX;
 
 // A file of a case: its path, and what stands behind it, with the line end that the next file or the end takes away.
 fn file_of(alloc: Global, text: &str) -> Result<(String, Vec<u8>), AllocError> {
-    let (path, content) = text.split_once('\n').unwrap_or((text, ""));
+    let (path, content) = cells(text, "\n");
     let mut bytes = Vec::from_slice(alloc, content.as_bytes())?;
     bytes.push(b'\n')?;
     Ok((String::from_str(alloc, path)?, bytes))
@@ -40,7 +48,7 @@ fn files_of(alloc: Global, text: &str, failing: u64) -> Result<MemFiles, AllocEr
 
 // The words of a case.
 fn words_of(alloc: Global, text: &str) -> Result<Vec<String>, AllocError> {
-    let (line, _) = text.split_once('\n').unwrap_or((text, ""));
+    let (line, _) = cells(text, "\n");
     let mut words = Vec::new(alloc);
     for word in line.split(' ') {
         words.push(String::from_str(alloc, word)?)?;
@@ -68,8 +76,8 @@ fn put_output(told: &mut String, status: u8, out: &MemSink) {
     );
 }
 
-// What is printed for a case over these files, behind its status.
-fn printed_over<R: Threads + Wait + Sync>(
+/// What is printed for a case over these files, behind its status.
+pub(crate) fn printed_over<R: Threads + Wait + Sync>(
     rt: &R,
     alloc: Global,
     text: &str,
@@ -84,8 +92,8 @@ fn printed_over<R: Threads + Wait + Sync>(
     told
 }
 
-// What is printed for a case, of whose reads this one fails.
-fn printed_into<R: Threads + Wait + Sync>(
+/// What is printed for a case, of whose reads this one fails.
+pub(crate) fn printed_into<R: Threads + Wait + Sync>(
     rt: &R,
     alloc: Global,
     text: &str,
@@ -102,25 +110,143 @@ fn printed_into<R: Threads + Wait + Sync>(
     }
 }
 
-/// What is printed for a case, behind its status.
-pub(crate) fn printed<R: Threads + Wait + Sync>(rt: &R, alloc: Global, given: &str) -> String {
+pub(crate) fn printed_of_read<R: Threads + Wait + Sync>(
+    rt: &R,
+    alloc: Global,
+    given: &str,
+    read: u64,
+) -> String {
     let mut out = MemSink::of(alloc, Vec::new(alloc));
-    printed_into(rt, alloc, given, NONE, &mut out)
+    printed_into(rt, alloc, given, read, &mut out)
 }
 
-// Whether the case is answered as it says.
-fn is_row<R: Threads + Wait + Sync>(rt: &R, alloc: Global, row: &str) -> bool {
-    match row.split_once("\n=") {
-        Some((given, wanted)) => printed(rt, alloc, given).as_str() == wanted,
-        None => false,
+/// What is printed for a case, behind its status.
+pub(crate) fn printed<R: Threads + Wait + Sync>(rt: &R, alloc: Global, given: &str) -> String {
+    printed_of_read(rt, alloc, given, NONE)
+}
+
+/// The files that all cases of a group have, and what its first case is to print, if that is an answer.
+#[derive(Drop)]
+pub(crate) struct Group<'a> {
+    shared: &'a str,
+    printed: &'a str,
+}
+
+// A text in which what stands first of some text becomes another.
+fn edited(alloc: Global, text: &str, edit: &str) -> String {
+    let (from, to) = cells(edit, "\n+");
+    let (before, behind) = text.split_once(from).unwrap_or(("no such text", ""));
+    let mut told = String::new(alloc);
+    put(&mut told, before);
+    put(&mut told, to);
+    put(&mut told, behind);
+    told
+}
+
+// What the first case printed, after the edits of a case.
+fn edited_by(alloc: Global, printed: &str, given: &str) -> String {
+    let mut told = String::new(alloc);
+    put(&mut told, printed);
+    for edit in given.split("\n-").skip(1) {
+        told = edited(alloc, told.as_str(), edit);
+    }
+    told
+}
+
+/// A case of a group whole: its words, with this number of workers in place of their mark, its own files, those of the
+/// group, and the file of what the first case printed.
+pub(crate) fn whole_case(alloc: Global, group: &Group<'_>, given: &str, workers: &str) -> String {
+    let mut told = String::new(alloc);
+    let (words, own) = cells(given, "\n");
+    let (before, behind) = words.split_once('#').unwrap_or((words, ""));
+    put(&mut told, before);
+    if before.len() < words.len() {
+        put(&mut told, workers);
+    }
+    put(&mut told, behind);
+    put(&mut told, "\n");
+    put(&mut told, own);
+    put(&mut told, group.shared);
+    put(&mut told, "\n@printed\n");
+    put(&mut told, edited_by(alloc, group.printed, given).as_str());
+    told
+}
+
+// Whether a case is answered as it says by so many workers. One whose words have no place for them is run by one.
+fn is_answered<R: Threads + Wait + Sync>(
+    rt: &R,
+    alloc: Global,
+    group: &Group<'_>,
+    case: &str,
+    workers: &str,
+) -> bool {
+    let (given, wanted) = cells(case, "\n=");
+    if workers != "1" && !given.contains('#') {
+        return true;
+    }
+    let whole = whole_case(alloc, group, given, workers);
+    printed(rt, alloc, whole.as_str()).as_str() == wanted
+}
+
+/// The group of a text, and its cases.
+pub(crate) fn group_of(text: &str) -> (Group<'_>, &str) {
+    let (shared, cases) = cells(text, "\n~\n");
+    let (first, _) = cells(cases, "~\n");
+    let (_, printed) = cells(first, "\n=0\n");
+    let printed = printed.strip_suffix('\n').unwrap_or(printed);
+    (Group { shared, printed }, cases)
+}
+
+// Answers each case of a group, with one worker and with more.
+fn answers_group<R: Threads + Wait + Abort + Sync>(rt: &R, alloc: Global, text: &str) {
+    let (group, cases) = group_of(text);
+    for case in cases.split("~\n") {
+        for workers in ["1", "2", "8", "64"] {
+            assert!(rt; is_answered(rt, alloc, &group, case, workers), "{case}");
+        }
+    }
+}
+
+// Answers each case of a table.
+fn answers<R: Threads + Wait + Abort + Sync>(rt: &R, alloc: Global, table: &str) {
+    for text in table.split("~~") {
+        answers_group(rt, alloc, text);
     }
 }
 
 #[test]
-fn answers_each_row(rt: HostRuntime) {
-    for row in ROWS.split("~\n") {
-        assert!(rt; is_row(&rt, rt.alloc(), row), "{row}");
-    }
+fn chooses_versions(rt: HostRuntime) {
+    answers(&rt, rt.alloc(), CHOICES);
+}
+
+#[test]
+fn locks_forks_and_extras(rt: HostRuntime) {
+    answers(&rt, rt.alloc(), FORKS);
+}
+
+#[test]
+fn splits_further_where_it_is_wished(rt: HostRuntime) {
+    answers(&rt, rt.alloc(), DEEP_FORKS);
+}
+
+#[test]
+fn refuses_with_a_core(rt: HostRuntime) {
+    answers(&rt, rt.alloc(), REFUSALS);
+}
+
+#[test]
+fn exports_locks(rt: HostRuntime) {
+    answers(&rt, rt.alloc(), EXPORTS);
+}
+
+#[test]
+fn verifies_locks(rt: HostRuntime) {
+    answers(&rt, rt.alloc(), VERIFIED);
+}
+
+#[test]
+fn answers_words(rt: HostRuntime) {
+    answers(&rt, rt.alloc(), WORDS);
 }
 
 const REFUSED: &str =
@@ -139,7 +265,7 @@ fn is_accepted<R: Threads + Wait + Sync>(rt: &R, alloc: Global, lines: &str) -> 
 
 // Whether a text is the fork and a derivation that `check` accepts.
 fn is_reason<R: Threads + Wait + Sync>(rt: &R, alloc: Global, text: &str) -> bool {
-    let (_, lines) = text.split_once('\n').unwrap_or(("", ""));
+    let (_, lines) = cells(text, "\n");
     let lines = lines.strip_suffix('\n').unwrap_or(lines);
     text.starts_with(FORK) && is_accepted(rt, alloc, lines)
 }
@@ -156,85 +282,5 @@ fn is_explained<R: Threads + Wait + Sync>(rt: &R, alloc: Global, workers: u64) -
 fn gives_reasons_that_are_accepted(rt: HostRuntime) {
     for workers in [1, 2, 8] {
         assert!(rt; is_explained(&rt, rt.alloc(), workers), "{workers}");
-    }
-}
-
-// The project's file, of so many blanks.
-fn blanks(alloc: Global, count: usize) -> Result<MemFiles, AllocError> {
-    let bytes = Vec::from_elem(alloc, b' ', count)?;
-    let mut files = Vec::new(alloc);
-    files.push((String::from_str(alloc, "p.toml")?, bytes))?;
-    Ok(MemFiles::of(alloc, files, Vec::new(alloc)))
-}
-
-// What is printed where the project's file has so many blanks.
-fn printed_of_blanks<R: Threads + Wait + Sync>(rt: &R, alloc: Global, count: u64) -> String {
-    let mut out = MemSink::of(alloc, Vec::new(alloc));
-    match blanks(alloc, count as usize) {
-        Ok(mut files) => printed_over(rt, alloc, PROJECT, &mut files, &mut out),
-        Err(_) => String::new(alloc),
-    }
-}
-
-fn printed_of_read<R: Threads + Wait + Sync>(rt: &R, alloc: Global, read: u64) -> String {
-    let mut out = MemSink::of(alloc, Vec::new(alloc));
-    printed_into(rt, alloc, PROJECT, read, &mut out)
-}
-
-// A sink of which one call fails, after so many bytes.
-fn failing_sink(alloc: Global, call: u64, bytes: u64) -> Result<MemSink, AllocError> {
-    let mut failing = Vec::new(alloc);
-    failing.push((call, bytes))?;
-    Ok(MemSink::of(alloc, failing))
-}
-
-fn printed_of_write<R: Threads + Wait + Sync>(rt: &R, alloc: Global, bytes: u64) -> String {
-    match failing_sink(alloc, 0, bytes) {
-        Ok(mut out) => printed_into(rt, alloc, PROJECT, NONE, &mut out),
-        Err(_) => String::new(alloc),
-    }
-}
-
-// What fails: a file of so many blanks, the read of a number, or the write after so many bytes; and what is printed.
-const FAULTS: &str = "blanks 16777217 4\nlimit: file-bytes 16777216\n|\
-    read 0 5\nread fault: p.toml\n|\
-    read 1 5\nread fault: ix/a.json\n|\
-    read 2 5\nread fault: ix/b.json\n|\
-    write 5 6\nversi";
-
-fn is_fault<R: Threads + Wait + Sync>(rt: &R, alloc: Global, row: &str) -> bool {
-    let (kind, rest) = row.split_once(' ').unwrap_or((row, ""));
-    let (number, wanted) = rest.split_once(' ').unwrap_or((rest, ""));
-    let number = number.parse::<u64>().unwrap_or(NONE);
-    let told = match kind {
-        "blanks" => printed_of_blanks(rt, alloc, number),
-        "read" => printed_of_read(rt, alloc, number),
-        _ => printed_of_write(rt, alloc, number),
-    };
-    told.as_str() == wanted
-}
-
-#[test]
-fn names_faults_and_the_limit_of_a_file(rt: HostRuntime) {
-    for row in FAULTS.split('|') {
-        assert!(rt; is_fault(&rt, rt.alloc(), row), "{row}");
-    }
-}
-
-// Whether a case writes once: the sink's second call, which fails, comes behind it.
-fn is_written_once<R: Threads + Wait + Sync>(rt: &R, alloc: Global, text: &str) -> bool {
-    match failing_sink(alloc, 1, 0) {
-        Ok(mut out) => {
-            let told = printed_into(rt, alloc, text, NONE, &mut out);
-            !told.is_empty() && out.write_all(b"more").err() == Some(SinkRefused::Failed)
-        }
-        Err(_) => false,
-    }
-}
-
-#[test]
-fn writes_once(rt: HostRuntime) {
-    for text in [PROJECT, "lock", "lock x.toml ix 1"] {
-        assert!(rt; is_written_once(&rt, rt.alloc(), text), "{text}");
     }
 }

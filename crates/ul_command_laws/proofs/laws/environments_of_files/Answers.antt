@@ -4,6 +4,9 @@ use Rattle.ul_command_laws.proofs.laws.environments_of_files.Goals as goal
 pub returns : goal.returns
 returns c = law (record {
   lists = c.environments_of_locks.ensures;
+  resolution = c.given_is_resolution.ensures.resolution;
+  had = c.given_has_texts.ensures;
+  formed = c.given_are_well_formed.ensures;
   projects = c.one_project.ensures;
   turns = c.turns_agree.ensures;
   locks = c.text_laws.ensures.different;

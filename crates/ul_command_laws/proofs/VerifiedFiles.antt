@@ -1,0 +1,152 @@
+-- What `verify` reads and accepts.
+use Rattle.std.proofs.Common.{◌≡◌, ℕ, List, [], ◌∷◌, map, Option, None, Result, Ok, refl, ap, subst, inl, inr}
+use Rattle.ul_base.specs.Files.{FileMap}
+use Rattle.ul_requirement.specs.Fields.{ReleaseFields}
+use Rattle.ul_index.specs.Catalogs.{Packages}
+use Rattle.ul_project.specs.Fields.{ProjectFields}
+use Rattle.ul_groups.specs.Adjusted.{ByName, adjusted_package, adjusted_release, all_on}
+use Rattle.ul_lock.specs.Laws.{TextIsLocks}
+use Rattle.ul_lock.specs.TextOf.{IsTextOf}
+use Rattle.ul_lock_lines.specs.declared.parts.Lock.{Lock}
+use Rattle.ul_lock_text.specs.Texts.{lock_text}
+use Rattle.ul_lock_walk.specs.WellFormed.{IsWellFormed}
+use Rattle.ul_verified.specs.Headline.{HasProject, VerifiedPromises}
+use Rattle.ul_verified.specs.Verified.{IsVerified}
+use Rattle.ul_inputs.specs.Inputs.{large_file, said_on}
+use Rattle.ul_inputs.specs.Locks.{Kept, lock_at, old_lock}
+use Rattle.ul_inputs.specs.Projects.{project_at}
+use Rattle.ul_inputs.specs.Refused.{Refused}
+use Rattle.ul_inputs.specs.Resolutions.{ResolutionFields, resolution_in, resolution_of, resolution_with}
+use Rattle.ul_given.specs.Given.{BeginsWithProject, GivenBegins, GivenHasTexts, GivenIsResolution}
+use Rattle.ul_answers.specs.Answer.{environment, locked, verified}
+use Rattle.ul_commands.specs.Asked.{verify}
+use Rattle.ul_commands.specs.Commands.{command}
+use Rattle.ul_commands.specs.Laws.{LocksAreOfLeaves}
+use Rattle.ul_commands.specs.Locking.{IsLockAnswer}
+use Rattle.ul_commands.specs.Verifying.{IsVerifyAnswer}
+use Rattle.ul_command_laws.specs.Complete.{InputsAreAnswered}
+use Rattle.ul_command_laws.specs.Verified.{EnvironmentsOfVerified, EnvironmentsOfVerifiedFiles, LocksAreVerified, VerifiedAreSound, VerifiedFilesAreSound}
+use Rattle.ul_command_laws.specs.WellFormed.{LocksAreWellFormed}
+use Rattle.ul_command_laws.proofs.Reasons.{file_text, parts_of}
+
+-- a lock that is read is well formed
+pub read_well : (path : List ℕ) (m : FileMap) (l : Lock) → (lock_at path m).gives (Ok l) → IsWellFormed l
+read_well path m l (inl h) = absurd h
+read_well path m l (inr h) = let is : IsTextOf h.value l = h.answers in is.well_formed
+
+-- what `verify` answers to what the files give
+verified_answer : InputsAreAnswered → (project folder path : List ℕ) (m : FileMap) (r : ResolutionFields) (l : Lock)
+    → (resolution_in project folder None m).gives (Ok r) → (lock_at path m).gives (Ok l)
+    → (command (verify project folder path) m).gives (Ok verified) → IsVerifyAnswer r l (Ok verified)
+verified_answer inputs project folder path m r l gave read accepts =
+    let parts = parts_of project folder m r gave in
+    inputs.verify project folder path m parts.fields l r (Ok verified) parts.said read parts.made accepts
+
+pub verified_files_are_sound : InputsAreAnswered → VerifiedAreSound → VerifiedFilesAreSound
+verified_files_are_sound inputs sound project folder path m r l gave read accepts =
+    sound r l (read_well path m l read) (verified_answer inputs project folder path m r l gave read accepts)
+
+pub environments_of_verified_files : InputsAreAnswered → EnvironmentsOfVerified → EnvironmentsOfVerifiedFiles
+environments_of_verified_files inputs lists project folder path machine words m r l x text comparisons gave read machined accepts all world extras prints =
+    lists r l x words text comparisons (read_well path m l read) (verified_answer inputs project folder path m r l gave read accepts) all world extras
+    (inputs.env path machine words m l x (Ok (environment text)) read machined prints)
+
+-- ---- what `lock` printed
+
+-- adjusted releases have their versions
+versions_stay : (constraints overrides : ByName) (rs : List ReleaseFields)
+    → map (λ (r : ReleaseFields). r.version) (map (adjusted_release constraints overrides) rs) ≡ map (λ (r : ReleaseFields). r.version) rs
+versions_stay constraints overrides [] = refl
+versions_stay constraints overrides (r ∷ rs) = ap (λ vs. r.version ∷ vs) (versions_stay constraints overrides rs)
+
+has_project : (r : ResolutionFields) → BeginsWithProject r → HasProject r.catalog r.project
+has_project r begun =
+    let constraints = all_on r.project.constraints in
+    let overrides = all_on r.project.overrides in
+    record {
+      first = adjusted_package constraints overrides r.project.package;
+      rest = begun.begins.others;
+      is = begun.begins.is;
+      named = refl;
+      versions = versions_stay constraints overrides r.project.package.releases;
+    }
+
+-- the laws on which this rests
+pub record PrintedLaws : Type 0 where
+  pub resolution : GivenIsResolution
+  pub begins : GivenBegins
+  pub leaves : LocksAreOfLeaves
+  pub verified : VerifiedPromises
+  pub texts : TextIsLocks
+  pub had : GivenHasTexts
+  pub formed : LocksAreWellFormed
+
+-- the lock that is answered is verified
+answered_verified : PrintedLaws → (project folder : List ℕ) (old : Option (List ℕ)) (m : FileMap) (r : ResolutionFields) (l : Lock) (forks : ℕ)
+    → (resolution_in project folder old m).gives (Ok r) → IsLockAnswer r (Ok (locked l forks)) → IsVerified r.catalog r.project l
+answered_verified laws project folder old m r l forks gave answer =
+    let of = laws.leaves r l forks (laws.resolution project folder old m r gave) answer in
+    laws.verified.merged r.catalog r.project of.leaves l (has_project r (laws.begins project folder old m r gave)) of.served of.merged
+
+-- what `verify` reads and answers, part by part
+accepted : (project folder path text : List ℕ) (m : FileMap) (p : ProjectFields) (r : ResolutionFields) (l : Lock)
+    → (project_at project m).gives (Ok p) → (large_file path m).gives (Ok text) → IsTextOf text l
+    → (resolution_with folder p [] m).gives (Ok r) → IsVerifyAnswer r l (Ok verified)
+    → (command (verify project folder path) m).gives (Ok verified)
+accepted project folder path text m p r l said file is_text made answer = inr (record {
+  value = p;
+  gave = said;
+  answers = inr (record {
+    value = l;
+    gave = inr (record { value = text; gave = file; answers = is_text });
+    answers = inr (record { value = r; gave = made; answers = answer });
+  });
+})
+
+same_resolution : (r s : ResolutionFields) → (let a : Result ResolutionFields Refused = Ok r in a) ≡ Ok s → r ≡ s
+same_resolution r s e = cc
+
+-- what was read of the project and the index folder, whatever an old lock keeps
+record Read (project folder : List ℕ) (m : FileMap) (r : ResolutionFields) : Type 0 where
+  fields : ProjectFields
+  said : (project_at project m).gives (Ok fields)
+  catalog : Packages
+  made : (resolution_with folder fields [] m).gives (Ok (resolution_of fields [] catalog))
+  is_project : r.project ≡ fields
+  is_catalog : r.catalog ≡ catalog
+
+read_with : (project folder : List ℕ) (m : FileMap) (r : ResolutionFields) (p : ProjectFields) (kept : List Kept)
+    → (project_at project m).gives (Ok p) → (resolution_with folder p kept m).gives (Ok r) → Read project folder m r
+read_with project folder m r p kept said (inl h) = absurd h
+read_with project folder m r p kept said (inr h) =
+    let same : r ≡ resolution_of p kept h.value = same_resolution r (resolution_of p kept h.value) h.answers in
+    record {
+      fields = p;
+      said = said;
+      catalog = h.value;
+      made = inr (record { value = h.value; gave = h.gave; answers = refl });
+      is_project = ap (λ (x : ResolutionFields). x.project) same;
+      is_catalog = ap (λ (x : ResolutionFields). x.catalog) same;
+    }
+
+read_behind : (project folder : List ℕ) (old : Option (List ℕ)) (m : FileMap) (r : ResolutionFields) (p : ProjectFields)
+    → (project_at project m).gives (Ok p)
+    → (said_on (old_lock old m) (λ kept. resolution_with folder p kept m)).gives (Ok r) → Read project folder m r
+read_behind project folder old m r p said (inl h) = absurd h
+read_behind project folder old m r p said (inr h) = read_with project folder m r p h.value said h.answers
+
+read_of : (project folder : List ℕ) (old : Option (List ℕ)) (m : FileMap) (r : ResolutionFields)
+    → (resolution_in project folder old m).gives (Ok r) → Read project folder m r
+read_of project folder old m r (inl h) = absurd h
+read_of project folder old m r (inr h) = read_behind project folder old m r h.value h.gave h.answers
+
+pub locks_are_verified : PrintedLaws → LocksAreVerified
+locks_are_verified laws project folder path old workers m l forks (inl h) at few = absurd h
+locks_are_verified laws project folder path old workers m l forks (inr h) at few =
+    let well = laws.formed h.value l forks (laws.resolution project folder old m h.value h.gave) (laws.had project folder old m h.value h.gave) h.answers in
+    let read = read_of project folder old m h.value h.gave in
+    let is = answered_verified laws project folder old m h.value l forks h.gave h.answers in
+    let here : IsVerified read.catalog read.fields l =
+    subst (λ c. IsVerified c read.fields l) read.is_catalog (subst (λ p. IsVerified h.value.catalog p l) read.is_project is) in
+    accepted project folder path (lock_text l) m read.fields (resolution_of read.fields [] read.catalog) l read.said
+    (file_text m path (lock_text l) at few) (laws.texts l well) read.made (inl (record { verified = here; is = refl }))

@@ -1,0 +1,14 @@
+use Rattle.ul_command_laws.proofs.VerifiedFiles.{locks_are_verified as law}
+use Rattle.ul_command_laws.proofs.laws.locks_are_verified.Goals as goal
+
+pub returns : goal.returns
+returns c =
+    law (record {
+      resolution = c.given_is_resolution.ensures.resolution;
+      begins = c.given_is_resolution.ensures.begins;
+      leaves = c.locks_are_sound.ensures.leaves;
+      verified = c.verified_laws.ensures;
+      texts = c.text_laws.ensures.locks_text;
+      had = c.given_has_texts.ensures;
+      formed = c.locks_are_well_formed.ensures;
+    })

@@ -1,0 +1,16 @@
+mod Lists
+mod Readings
+mod Inserted
+mod Requirements
+mod Documents
+mod Turns
+mod Loaded
+mod Catalogs
+mod Adjusted
+mod Had
+mod Files
+mod Expanded
+mod Sorted
+mod Said
+mod Given
+mod GivenTexts

@@ -1,0 +1,4 @@
+mod OfAnswers
+mod OfLocks
+mod OfReasons
+mod OfFiles

@@ -1,0 +1,148 @@
+-- What the program promises, over the words, the files, a status and the bytes that are printed. `IsAnswer words m status
+-- bytes` says that a status and bytes are an answer to the words on the files; by its headline `run` gives no others.
+use Rattle.std.specs.Prelude.{◌≡◌, ◌≤◌, ◌↔◌, ℕ, List, ◌++◌, Bool, codes, length, Option, Some, None, Ok}
+use Rattle.ul_base.specs.Files.{FileMap, content}
+use Rattle.ul_comparison.specs.Atoms.{AtomFields}
+use Rattle.ul_comparison.specs.Machines.{MachineFields, world_of}
+use Rattle.ul_comparison.specs.Worlds.{IsWorld}
+use Rattle.ul_nodes.specs.Plain.{Plain}
+use Rattle.ul_lock_lines.specs.declared.parts.Lock.{Lock}
+use Rattle.ul_lock_text.specs.Texts.{lock_text}
+use Rattle.ul_lock_walk.specs.WellFormed.{IsWellFormed}
+use Rattle.ul_filter.specs.Comparisons.{HasAll, lock_atoms}
+use Rattle.ul_sound.specs.Sound.{AreProjectExtras, IsEligible, IsSound}
+use Rattle.ul_report.specs.Texts.{refusal_text}
+use Rattle.ul_inputs.specs.Inputs.{text_bytes}
+use Rattle.ul_inputs.specs.Locks.{lock_at}
+use Rattle.ul_inputs.specs.Machines.{machine_at}
+use Rattle.ul_inputs.specs.Resolutions.{ResolutionFields, resolution_in}
+use Rattle.ul_lock_commands.specs.Words.{names_of}
+use Rattle.ul_commands.specs.Asked.{check, env, lock, verify, why}
+use Rattle.ul_commands.specs.Laws.{IsUnserved}
+use Rattle.ul_commands.specs.Locking.{AreCoreLines}
+use Rattle.ul_command_laws.specs.Environments.{IsRequired, IsSpelled, ListsExactly}
+use Rattle.ul_command_laws.specs.Reasons.{reason_text}
+use Rattle.ul_command_laws.specs.Workers.{with_workers}
+use Rattle.ul_program.specs.Answer.{IsAnswer}
+use Rattle.ul_program.specs.Words.{question}
+
+-- ---- `lock` with status 0
+
+-- the bytes are the text of a well formed lock that is right, for what the files give, in every world that the project
+-- supports
+pub record IsSoundText (project folder : List ℕ) (old : Option (List ℕ)) (m : FileMap) (bytes : List ℕ) : Type 0 where
+  pub resolution : ResolutionFields
+  pub given : (resolution_in project folder old m).gives (Ok resolution)
+  pub lock : Lock
+  pub is : bytes ≡ lock_text lock
+  pub well_formed : IsWellFormed lock
+  pub sound : IsSound resolution.catalog resolution.project lock
+
+-- what `lock` prints with status 0 is such a text
+abbrev pub LocksAreRight : Type 0
+LocksAreRight = (words : List (List ℕ)) (m : FileMap) (bytes project folder : List ℕ) (workers : ℕ) (old : Option (List ℕ))
+    → question words ≡ lock project folder workers old → IsAnswer words m 0 bytes
+    → IsSoundText project folder old m bytes
+
+-- put into a file beside the same ones, it is verified
+abbrev pub PrintedAreVerified : Type 0
+PrintedAreVerified = (words others : List (List ℕ)) (m : FileMap) (bytes project folder path : List ℕ) (workers : ℕ)
+    (old : Option (List ℕ))
+    → question words ≡ lock project folder workers old → question others ≡ verify project folder path
+    → IsAnswer words m 0 bytes → content m path ≡ Some bytes → IsAnswer others m 0 (codes "verified\n")
+
+-- the bytes of a lock, and the lines of what is required in a machine's world with the extras of words
+pub record ListsRequired (r : ResolutionFields) (x : MachineFields) (words : List (List ℕ)) (bytes text : List ℕ) : Type 0 where
+  pub lock : Lock
+  pub is : bytes ≡ lock_text lock
+  pub lists : (comparisons : List AtomFields) → HasAll comparisons (lock_atoms lock) → IsWorld (world_of x comparisons)
+      → AreProjectExtras r.project (names_of words)
+      → ListsExactly (IsSpelled r.catalog) (IsRequired r lock (world_of x comparisons) (names_of words)) text
+
+-- what `env` prints with status 0 of a file into which `lock` printed lists exactly what the project requires in the
+-- machine's world
+abbrev pub EnvironmentsAreRight : Type 0
+EnvironmentsAreRight = (words others : List (List ℕ)) (before now : FileMap) (bytes text project folder : List ℕ)
+    (workers : ℕ) (old : Option (List ℕ)) (path machine : List ℕ) (extras : List (List ℕ)) (r : ResolutionFields)
+    (x : MachineFields)
+    → question words ≡ lock project folder workers old → question others ≡ env path machine extras
+    → IsAnswer words before 0 bytes → content now path ≡ Some bytes → IsAnswer others now 0 text
+    → (resolution_in project folder old before).gives (Ok r) → (machine_at machine now).gives (Ok x)
+    → ListsRequired r x extras bytes text
+
+-- ---- `lock` and `why` with status 1
+
+-- the bytes are those of a fork with a world, which no selection serves, and under `deep` none at a single world of it; and
+-- behind it stand the lines of its core
+pub record TellsCore (project folder : List ℕ) (old : Option (List ℕ)) (m : FileMap) (bytes : List ℕ) : Type 0 where
+  pub resolution : ResolutionFields
+  pub given : (resolution_in project folder old m).gives (Ok resolution)
+  pub path : List Bool
+  pub region : Plain
+  pub core : List ℕ
+  pub is : bytes ≡ refusal_text path region ++ core
+  pub lines : AreCoreLines resolution region core
+  pub unserved : IsUnserved resolution region
+
+-- what `lock` prints with status 1 is such a text
+abbrev pub RefusalsAreRight : Type 0
+RefusalsAreRight = (words : List (List ℕ)) (m : FileMap) (bytes project folder : List ℕ) (workers : ℕ)
+    (old : Option (List ℕ))
+    → question words ≡ lock project folder workers old → IsAnswer words m 1 bytes
+    → TellsCore project folder old m bytes
+
+-- the bytes are those of such a fork, and behind it stand the lines of a derivation
+pub record TellsReason (project folder : List ℕ) (old : Option (List ℕ)) (m : FileMap) (bytes : List ℕ) : Type 0 where
+  pub resolution : ResolutionFields
+  pub given : (resolution_in project folder old m).gives (Ok resolution)
+  pub path : List Bool
+  pub region : Plain
+  pub steps : List ℕ
+  pub is : bytes ≡ reason_text path region steps
+  pub unserved : IsUnserved resolution region
+
+-- what `why` prints with status 1 is such a text
+abbrev pub ReasonsAreRight : Type 0
+ReasonsAreRight = (words : List (List ℕ)) (m : FileMap) (bytes project folder : List ℕ) (workers : ℕ) (old : Option (List ℕ))
+    → question words ≡ why project folder workers old → IsAnswer words m 1 bytes
+    → TellsReason project folder old m bytes
+
+-- put into a file beside the same ones, it is accepted by `check`, where a file may be so long
+abbrev pub PrintedAreAccepted : Type 0
+PrintedAreAccepted = (words others : List (List ℕ)) (m : FileMap) (bytes project folder derivation : List ℕ) (workers : ℕ)
+    → question words ≡ why project folder workers None → question others ≡ check project folder derivation
+    → IsAnswer words m 1 bytes → content m derivation ≡ Some bytes → length bytes ≤ text_bytes
+    → IsAnswer others m 0 (codes "accepted\n")
+
+-- ---- `verify` with status 0
+
+-- the file has a lock that is right, for what the files give, in every world that the project supports
+pub record IsSoundFile (project folder path : List ℕ) (m : FileMap) : Type 0 where
+  pub resolution : ResolutionFields
+  pub given : (resolution_in project folder None m).gives (Ok resolution)
+  pub lock : Lock
+  pub read : (lock_at path m).gives (Ok lock)
+  pub sound : IsSound resolution.catalog resolution.project lock
+
+-- where `verify` ends with status 0, whoever wrote the lock, it is right
+abbrev pub VerifiedAreRight : Type 0
+VerifiedAreRight = (words : List (List ℕ)) (m : FileMap) (bytes project folder path : List ℕ)
+    → question words ≡ verify project folder path → IsAnswer words m 0 bytes → IsSoundFile project folder path m
+
+-- and what `env` prints of it with status 0 lists exactly what the project requires in the machine's world
+abbrev pub VerifiedEnvironmentsAreRight : Type 0
+VerifiedEnvironmentsAreRight = (words others : List (List ℕ)) (m : FileMap) (bytes text project folder path machine : List ℕ)
+    (extras : List (List ℕ)) (r : ResolutionFields) (l : Lock) (x : MachineFields) (comparisons : List AtomFields)
+    → question words ≡ verify project folder path → question others ≡ env path machine extras
+    → IsAnswer words m 0 bytes → IsAnswer others m 0 text
+    → (resolution_in project folder None m).gives (Ok r) → (lock_at path m).gives (Ok l)
+    → (machine_at machine m).gives (Ok x)
+    → HasAll comparisons (lock_atoms l) → IsWorld (world_of x comparisons) → AreProjectExtras r.project (names_of extras)
+    → ListsExactly (IsEligible r.catalog) (IsRequired r l (world_of x comparisons) (names_of extras)) text
+
+-- ---- workers
+
+-- with another number of workers the same statuses and bytes are answers
+abbrev pub WorkersChangeNothing : Type 0
+WorkersChangeNothing = (words others : List (List ℕ)) (workers : ℕ) (m : FileMap) (status : ℕ) (bytes : List ℕ)
+    → question others ≡ with_workers workers (question words) → IsAnswer words m status bytes ↔ IsAnswer others m status bytes
