@@ -43,6 +43,16 @@ def head(text: str) -> str:
     return "".join(text.splitlines(keepends=True)[:HEAD_LINES])
 
 
+def forks_cell(files: dict) -> str:
+    """How the table of the documents says which forks a scenario has."""
+    if "fault.txt" in files:
+        return "fault"
+    if "refused.txt" in files:
+        return f"refused at `{files['refused.txt'].splitlines()[1].removeprefix('fork: ')}`"
+    _, _, markers = files["unilock.lock"].partition("resolution-markers = [\n")
+    return str(markers.partition("]\n")[0].count("\n") or 1)
+
+
 def machine_rows(text: str) -> Iterator[tuple]:
     """Of each line of `env.txt` the words of `env` and its answer."""
     for line in text.splitlines():
@@ -72,10 +82,12 @@ class Expectations(unittest.TestCase):
                 self.assertEqual(len([line for line in lines if not line.startswith("  ")]), 3)
                 self.assertTrue(all(len(line) <= 120 for line in lines))
 
-    def test_each_scenario_stands_in_the_table(self) -> None:
-        table = (TOP / "docs" / "SCENARIOS.md").read_text(encoding="utf-8")
-        missing = [it.name for it in picked() if f"`{it.name}`" not in table]
-        self.assertEqual(missing, [])
+    def test_each_scenario_stands_in_the_table_with_its_forks(self) -> None:
+        lines = (TOP / "docs" / "SCENARIOS.md").read_text(encoding="utf-8").splitlines()
+        for it in picked():
+            with self.subTest(it.name):
+                row = f"| `{it.name}` | {forks_cell(it.files)} | "
+                self.assertEqual(len([line for line in lines if line.startswith(row)]), 1, row)
 
 
 class Scenarios(unittest.TestCase):
