@@ -95,7 +95,7 @@ class Version(NamedTuple):
 @functools.lru_cache(maxsize=None)
 def version(text: str) -> Version:
     found = VERSION.fullmatch(text.strip(ALL_SPACE).lower())
-    if found is None:
+    if found is None or not text.isascii():
         raise NoReading(text)
     epoch, release, pre, pre_number, bare_post, post, post_number, dev, dev_number, local = found.groups()
     made = Version(

@@ -31,8 +31,9 @@ class Requirement(NamedTuple):
 
 
 def requirement(text: str) -> Requirement:
-    found = REQUIREMENT.fullmatch(text.strip(ALL_SPACE))
-    if found is None or found[3].startswith("@"):
+    text = text.strip(ALL_SPACE)
+    found = REQUIREMENT.fullmatch(text)
+    if found is None or found[3].startswith("@") or any(it in text for it in "\n\v\f\r"):
         raise NoReading(text)
     specs = found[3]
     if specs.startswith("(") and specs.endswith(")"):
