@@ -55,7 +55,8 @@ def edges_of(brute: Brute, leaves: list, source: tuple, key: tuple) -> list:
                     if target in leaf.picks:
                         to = target[0], pick_version(brute, leaf, target), target[1]
                         found[to] = found.get(to, frozenset()) | (truth & leaf.region)
-    return sorted(((to, where) for to, where in found.items() if where), key=lambda it: (it[0][0], it[0][1].key, it[0][2]))
+    rows = [(to, where) for to, where in found.items() if where]
+    return sorted(rows, key=lambda it: (it[0][0], it[0][1].key, it[0][2]))
 
 
 def edge_line(brute: Brute, to: tuple, where: frozenset) -> str:
@@ -171,7 +172,7 @@ def machines(folder: Path) -> dict:
     return {it.stem: json.loads(it.read_text(encoding="utf-8")) for it in sorted(folder.glob("*.json"))}
 
 
-def one_line(status: int, text: str) -> str:
+def one_line(text: str) -> str:
     """An environment's text on one line, as a scenario has it."""
     return ", ".join(text.splitlines()) if text else "nothing"
 
@@ -193,7 +194,8 @@ def sections(files: dict, documents: dict) -> dict:
     made["env.txt"] = ""
     for extras in every:
         for name, machine in machines(MACHINES).items():
-            made["env.txt"] += " ".join([name, *extras]) + f": {one_line(*environment(brute, leaves, machine, extras))}\n"
+            line = one_line(environment(brute, leaves, machine, extras)[1])
+            made["env.txt"] += " ".join([name, *extras]) + f": {line}\n"
         made["export_all.txt" if extras else "export.txt"] = export(brute, leaves, extras)
     return made
 

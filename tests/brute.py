@@ -1,8 +1,8 @@
 """The answer for a small project, by trying all selections in all pieces of its environments.
 
-No code of the program is used, and none of its ways: no propagation, nothing learned, no diagrams. A region is a set of
-cells; whether a selection serves it is tried; which is best is found by trying each version in order. So it is slow, and
-plainly what the rules say. `answers.py` prints what it finds.
+No code of the program is used, and none of its ways: no propagation, nothing learned, no diagrams. A region is a set
+of cells; whether a selection serves it is tried; which is best is found by trying each version in order. So it is slow,
+and plainly what the rules say. `answers.py` prints what it finds.
 """
 
 from __future__ import annotations
@@ -43,7 +43,10 @@ class Brute:
     def __init__(self, text: str, documents: dict, kept: Iterable[tuple] = ()) -> None:
         self.project: Project = project(text)
         mine = Release(self.project.version, (), adjusted(self.project, self.project.requirements), False, ())
-        self.catalog = {name: [it._replace(requirements=adjusted(self.project, it.requirements)) for it in releases(document)] for name, document in documents.items()}
+        self.catalog = {
+            name: [it._replace(requirements=adjusted(self.project, it.requirements)) for it in releases(document)]
+            for name, document in documents.items()
+        }
         self.catalog[self.project.name] = [mine]
         self.directs = mine.requirements
         self.kept: dict = {}
@@ -66,7 +69,8 @@ class Brute:
         if name not in self._eligible:
             usable = sorted(self.catalog.get(name, []), key=lambda it: it.version.key)
             clauses = [it for wanted in self.directs if wanted.name == name for it in wanted.clauses]
-            with_pre = any(it.op != "!=" and it.version.is_pre for it in clauses) or all(it.version.is_pre for it in usable)
+            is_named = any(it.op != "!=" and it.version.is_pre for it in clauses)
+            with_pre = is_named or all(it.version.is_pre for it in usable)
             pinned = {it.version.key for it in clauses if it.op == "==" and not it.star}
             is_project = name == self.project.name
             self._eligible[name] = [
@@ -124,16 +128,21 @@ class Brute:
         made = []
         for it, truth in self.applied(region, node, rank):
             if it.name not in split:
-                permitted = frozenset(k for k, other in enumerate(self.eligible(it.name)) if meets(it.clauses, other.version))
+                found = enumerate(self.eligible(it.name))
+                permitted = frozenset(k for k, other in found if meets(it.clauses, other.version))
                 made += [Need(target, permitted, truth) for target in it.targets]
         return made
 
-    def selections(self, region: frozenset, fixed: Optional[dict] = None, dropped: frozenset = frozenset()) -> Iterator[dict]:
+    def selections(self, region: frozenset, fixed: dict, dropped: frozenset = frozenset()) -> Iterator[dict]:
         """Every selection that serves the region and has the fixed choices, without what nothing in it needs."""
         wanted = [(it, range(len(self.eligible(it[0])))) for it in self.roots]
-        return self._extended(region, fixed or {}, dropped, {}, wanted)
+        return self._extended((region, fixed, dropped), {}, wanted)
 
-    def _extended(self, region: frozenset, fixed: dict, dropped: frozenset, chosen: dict, wanted: list) -> Iterator[dict]:
+    def is_served(self, region: frozenset, fixed: dict, dropped: frozenset = frozenset()) -> bool:
+        return any(True for _ in self.selections(region, fixed, dropped))
+
+    def _extended(self, given: tuple, chosen: dict, wanted: list) -> Iterator[dict]:
+        region, fixed, dropped = given
         while wanted and wanted[0][0] in chosen:
             if chosen[wanted[0][0]] not in wanted[0][1]:
                 return
@@ -148,21 +157,21 @@ class Brute:
                 for place, it in enumerate(self.needs(region, node, rank)):
                     if (node, rank, place) not in dropped:
                         own.append((it.target, sorted(it.permitted)))
-                yield from self._extended(region, fixed, dropped, {**chosen, node: rank}, own + wanted[1:])
+                yield from self._extended(given, {**chosen, node: rank}, own + wanted[1:])
 
     def best(self, region: frozenset) -> Optional[dict]:
         """The decisions of the best selection in order, or None where nothing serves the region."""
         decided: dict = {}
         for node in self.roots:
             decided[node] = 0
-        if not any(True for _ in self.selections(region, decided)):
+        if not self.is_served(region, decided):
             return None
         while True:
             wanted = (it.target for node, rank in decided.items() for it in self.needs(region, node, rank))
             node = next((it for it in wanted if it not in decided), None)
             if node is None:
                 return decided
-            decided[node] = next(it for it in self.order(node[0]) if any(True for _ in self.selections(region, {**decided, node: it})))
+            decided[node] = next(it for it in self.order(node[0]) if self.is_served(region, {**decided, node: it}))
 
     def split(self, region: frozenset) -> Any:
         """Refused (None), done (the decisions), or the truth that splits the region."""
@@ -217,7 +226,7 @@ class Brute:
         dropped: set = set()
         for node, rank, place, _ in rows:
             dropped.add((node, rank, place))
-            if any(True for _ in self.selections(region, {}, frozenset(dropped))):
+            if self.is_served(region, {}, frozenset(dropped)):
                 dropped.remove((node, rank, place))
         return [(node, rank, it) for node, rank, place, it in rows if (node, rank, place) not in dropped]
 

@@ -1,8 +1,8 @@
-"""All environments of a small project, cut into cells on which no marker changes; regions, decision trees and their texts.
+"""All environments of a small project, cut into cells on which no marker changes; regions, decision trees, their texts.
 
-A region is a set of cells. A tree asks the interpreter first, then each text variable in a fixed order, then each comparison
-that can't be split into points; equal neighbours are one branch, and a question whose answers agree isn't asked. So a region
-has one tree, and a tree one text.
+A region is a set of cells. A tree asks the interpreter first, then each text variable in a fixed order, then each
+comparison that can't be split into points; equal neighbours are one branch, and a question whose answers agree isn't
+asked. So a region has one tree, and a tree one text.
 """
 
 from __future__ import annotations
@@ -17,7 +17,7 @@ NO_POINT = -1
 
 
 def starts_of(clauses: Iterable[Any]) -> list:
-    """The interpreters at which a clause may change its truth: numbers of its version, or one more, with zeros after them."""
+    """The interpreters at which a clause may change its truth: numbers of its version, or one more, then zeros."""
     found = {(0, 0, 0)}
     for it in clauses:
         a, b, c = (it.version.release + (0, 0, 0))[:3]
@@ -150,8 +150,8 @@ class Cells:
             return other if one is False else one if other is False else True
         level = min(one[0], other[0])
         keys = self._pieces(level, *(it for it in (one, other) if it[0] == level))
-        parts = [self.union(self._part(level, one, key), self._part(level, other, key)) for key in self._cut(level, keys)]
-        return self._made(level, keys, parts)
+        pieces = [(self._part(level, one, key), self._part(level, other, key)) for key in self._cut(level, keys)]
+        return self._made(level, keys, [self.union(*it) for it in pieces])
 
     def simplified(self, tree: Tree, region: Tree) -> Tree:
         """The tree made simpler where the region doesn't hold; it keeps its truth where the region does."""

@@ -1,7 +1,7 @@
 """Versions, specifiers and markers, read plainly: PEP 440 and PEP 508.
 
-The scripts under tests/ judge the program by these. None of it is taken from the program: regular expressions and tuples
-stand where the program has readers and orders of its own.
+The scripts under tests/ judge the program by these. None of it is taken from the program: regular expressions and
+tuples stand where the program has readers and orders of its own.
 """
 
 from __future__ import annotations
@@ -11,16 +11,22 @@ import re
 from typing import Any, Iterable, NamedTuple, Optional
 
 TEXT_VARIABLES = [
-    "os_name", "sys_platform", "platform_machine", "platform_python_implementation", "platform_release", "platform_system",
-    "platform_version", "implementation_name",
+    "os_name", "sys_platform", "platform_machine", "platform_python_implementation", "platform_release",
+    "platform_system", "platform_version", "implementation_name",
 ]
 # The order of what can't be split into points: by variable, then by kind, then by the literal.
-OPAQUE_VARIABLES = [*TEXT_VARIABLES[:7], "python_version", "python_full_version", "implementation_name", "implementation_version"]
+OPAQUE_VARIABLES = [
+    *TEXT_VARIABLES[:7], "python_version", "python_full_version", "implementation_name", "implementation_version",
+]
 OPAQUE_KINDS = ["contains", "within", "below", "at most", "same"]
 OLD_SPELLINGS = {
     "os.name": "os_name", "sys.platform": "sys_platform", "platform.version": "platform_version",
     "platform.machine": "platform_machine", "platform.python_implementation": "platform_python_implementation",
     "python_implementation": "platform_python_implementation",
+}
+OPAQUE_OPERATORS = {
+    "<": ("below", False), ">=": ("below", True), "<=": ("at most", False), ">": ("at most", True),
+    "in": ("within", False), "not in": ("within", True), "==": ("same", False), "!=": ("same", True),
 }
 MIRRORED = {"<": ">", "<=": ">=", ">": "<", ">=": "<=", "==": "==", "!=": "!="}
 SPACE = " \t"
@@ -199,10 +205,12 @@ def of_triple(triple: tuple) -> Version:
     return Version(0, triple, None, None, None, ())
 
 
-# Markers: nested tuples ("and", ..), ("or", ..), ("not", one), ("extra", literal), ("python", name, clauses of which one must
-# be met), ("text", variable, literal) and ("opaque", variable, kind, literal).
+# Markers: nested tuples ("and", ..), ("or", ..), ("not", one), ("extra", literal), ("python", name, clauses of which
+# one must be met), ("text", variable, literal) and ("opaque", variable, kind, literal).
 
-TOKEN = re.compile(r"""[ \t]*(?:([()])|(==|!=|<=|>=|~=|<|>)|'([\x20-&(-\[\]-~]*)'|"([ !#-\[\]-~]*)"|([A-Za-z0-9_.]+))""")
+TOKEN = re.compile(
+    r"""[ \t]*(?:([()])|(==|!=|<=|>=|~=|<|>)|'([\x20-&(-\[\]-~]*)'|"([ !#-\[\]-~]*)"|([A-Za-z0-9_.]+))"""
+)
 TRUE: tuple = ("and",)
 
 
@@ -214,7 +222,10 @@ def tokens_of(text: str) -> list:
             raise NoReading(text)
         bracket, op, single, double, word = found.groups()
         literal = single if single is not None else double
-        tokens.append(("literal", literal) if literal is not None else ("word", word) if word else ("sign", bracket or op))
+        if literal is not None:
+            tokens.append(("literal", literal))
+        else:
+            tokens.append(("word", word) if word else ("sign", bracket or op))
         at = found.end()
         if at < len(text) and text[at:].strip(SPACE) == "":
             break
@@ -279,11 +290,10 @@ def comparison(left: tuple, op: str, right: tuple) -> tuple:
         return _python(name, op, literal)
     if op in ("==", "!=") and name != "implementation_version":
         return _turned(op == "!=", ("text", name, literal))
-    kinds = {"<": ("below", 0), ">=": ("below", 1), "<=": ("at most", 0), ">": ("at most", 1), "in": ("within", 0), "not in": ("within", 1)}
-    kinds.update({"==": ("same", 0), "!=": ("same", 1)})
-    if op not in kinds:
+    if op not in OPAQUE_OPERATORS:
         raise NoReading(op)
-    return _turned(bool(kinds[op][1]), ("opaque", name, kinds[op][0], literal))
+    kind, is_turned = OPAQUE_OPERATORS[op]
+    return _turned(is_turned, ("opaque", name, kind, literal))
 
 
 def _turned(is_turned: bool, tree: tuple) -> tuple:

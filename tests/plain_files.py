@@ -15,7 +15,10 @@ except ImportError:  # before Python 3.11
 # Requirements.
 
 REQUIREMENT = re.compile(
-    r"[ \t]*([A-Za-z0-9._-]+)[ \t]*(?:\[[ \t]*((?:[A-Za-z0-9._-]+(?:[ \t]*,[ \t]*[A-Za-z0-9._-]+)*)?)[ \t]*\])?[ \t]*([^;]*?)[ \t]*(?:;(.*))?", re.S
+    r"[ \t]*([A-Za-z0-9._-]+)[ \t]*"
+    r"(?:\[[ \t]*((?:[A-Za-z0-9._-]+(?:[ \t]*,[ \t]*[A-Za-z0-9._-]+)*)?)[ \t]*\])?[ \t]*"
+    r"([^;]*?)[ \t]*(?:;(.*))?",
+    re.S,
 )
 
 
@@ -136,7 +139,9 @@ def adjusted(project: Project, requirements: Iterable[Requirement]) -> tuple:
     replaced: list = []
     for it in requirements:
         mine = [other for other in project.overrides if other.name == it.name]
-        replaced += [it._replace(clauses=other.clauses, marker=("and", it.marker, other.marker)) for other in mine] or [it]
+        for other in mine:
+            replaced.append(it._replace(clauses=other.clauses, marker=("and", it.marker, other.marker)))
+        replaced += [] if mine else [it]
     made: list = []
     for it in replaced:
         made.append(it)

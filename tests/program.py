@@ -1,7 +1,7 @@
 """The program under test: where it is and what it says.
 
-The variable UNILOCK names another program than the one that is built here. Where there is none, tests of it are skipped; so
-is a check whose answer is that a form isn't built yet.
+The variable UNILOCK names another program than the one that is built here. Where there is none, tests of it are
+skipped; so is a check whose answer is that a form isn't built yet.
 """
 
 from __future__ import annotations

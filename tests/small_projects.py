@@ -1,4 +1,4 @@
-"""Random small projects with their indexes, as the fuzzer and its tests make them: few names, few versions, many markers."""
+"""Random small projects with their indexes, as the fuzzer makes them: few names, few versions, many markers."""
 
 from __future__ import annotations
 
@@ -6,12 +6,16 @@ import random
 from typing import NamedTuple
 
 MARKERS = [
-    "sys_platform == 'win32'", "sys_platform != 'win32'", "sys_platform == 'linux'", "os_name == 'nt'", "python_version < '3.10'",
-    "python_version >= '3.10'", "python_version == '3.11'", "python_full_version >= '3.9.7'", "python_version in '3.9, 3.10'",
-    "implementation_name == 'pypy'", "platform_machine == 'x86_64'", "'linux' in sys_platform", "platform_release >= '5'",
-    "implementation_version < '7.4'", "'3' not in python_version", "sys_platform in 'linux linux2'", "extra == 'x'", "extra != 'x'",
+    "sys_platform == 'win32'", "sys_platform != 'win32'", "sys_platform == 'linux'", "os_name == 'nt'",
+    "python_version < '3.10'", "python_version >= '3.10'", "python_version == '3.11'", "python_full_version >= '3.9.7'",
+    "python_version in '3.9, 3.10'", "implementation_name == 'pypy'", "platform_machine == 'x86_64'",
+    "'linux' in sys_platform", "platform_release >= '5'", "implementation_version < '7.4'", "'3' not in python_version",
+    "sys_platform in 'linux linux2'", "extra == 'x'", "extra != 'x'",
 ]
-SPECIFIERS = ["<2", ">=2", "<3", ">=1", "<2", ">=2", "<3", ">=1", "!=2", ">1", "==1", "==2", "~=1.0", "==1.*", ">=2.0a1", "<=1", "<2,!=1.1"]
+SPECIFIERS = [
+    "<2", ">=2", "<3", ">=1", "<2", ">=2", "<3", ">=1", "!=2", ">1", "==1", "==2", "~=1.0", "==1.*", ">=2.0a1", "<=1",
+    "<2,!=1.1",
+]
 VERSIONS = ["1", "2", "1", "2", "1", "2", "3", "1.1", "2.0a1", "1.0.post1", "1.0+local", "1!1", "2.dev1"]
 BOUNDS = [">=3.8", ">=3.9", ">=3.10", ">=3.8,<3.12", "!=3.10.*", ">3.9", "==3.11.*", "~=3.9"]
 EXTRAS = ["x", "y", "Long_Extra"]
@@ -73,10 +77,11 @@ def project_text(rng: random.Random, names: list) -> str:
         text += f'requires-python = "{rng.choice([">=3.9", ">=3.8,<3.12", ">=3.9,!=3.10.*"])}"\n'
     text += f"dependencies = [\n{quoted_lines(wanted)}]\n"
     if rng.random() < 0.2:
-        text += f'\n[project.optional-dependencies]\nX = [\n{quoted_lines([requirement(rng, rng.choice(names))])}]\n'
+        text += f"\n[project.optional-dependencies]\nX = [\n{quoted_lines([requirement(rng, rng.choice(names))])}]\n"
         text += 'y = ["demo[x]"]\n' if rng.random() < 0.3 else ""
     if rng.random() < 0.1:
-        text += f'\n[dependency-groups]\nDev = [\n{quoted_lines([requirement(rng, rng.choice(names))])}]\nall = [{{ include-group = "dev" }}]\n'
+        text += f"\n[dependency-groups]\nDev = [\n{quoted_lines([requirement(rng, rng.choice(names))])}]\n"
+        text += 'all = [{ include-group = "dev" }]\n'
     return text + uv_table(rng, names)
 
 

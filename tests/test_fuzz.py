@@ -77,7 +77,8 @@ class Fuzz(unittest.TestCase):
                 machine, *extras = words.split()
                 if answer != "outside":
                     with self.subTest(f"{path.stem}: {words}"):
-                        lines = fuzz.machine_lines(files["export_all.txt" if extras else "export.txt"], machines[machine])
+                        exported = files["export_all.txt" if extras else "export.txt"]
+                        lines = fuzz.machine_lines(exported, machines[machine])
                         self.assertEqual(", ".join(lines.splitlines()) or "nothing", answer)
 
 
