@@ -15,8 +15,8 @@ from typing import Iterable, NamedTuple
 import making
 
 PROGRAM = Path(os.environ.get("UNILOCK") or making.PROGRAM).resolve()
-# A call takes milliseconds, and the slowest program under test (one that checks as it runs) some seconds.
-PATIENCE = 120
+# A call takes milliseconds; the slowest program under test (one that checks as it runs) on a busy machine a minute.
+PATIENCE = 600
 CALLS_AT_ONCE = os.cpu_count() or 1
 
 

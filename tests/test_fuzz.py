@@ -45,6 +45,7 @@ class Fuzz(unittest.TestCase):
             ("echo version = 2", "status 0 prints"),
             ("kill -9 $$", "ended by signal 9"),
             ("exit 5", "status 5 is none of lock"),
+            ('case $1 in lock|why) echo malformed: ix/a.json: name; exit 3;; esac; echo usage; exit 2', "have Said"),
             ("echo unilock >&2; exit 2", "standard error has"),
             ("echo malformed: other.toml: absent; exit 3", "a fault of another file"),
             ('echo "malformed: pyproject.toml: line $4"; exit 3', "1 and 8 workers differ"),

@@ -144,6 +144,7 @@ class Scenarios(unittest.TestCase):
             if "old.lock" in it.files:
                 answer = 0, it.files["kept.lock"]
                 rows += [(it.name, f"lock pyproject.toml ix {workers} old.lock", answer) for workers in WORKERS]
+                rows.append((it.name, "why pyproject.toml ix 1 old.lock", (0, "no fork is refused\n")))
             if "unilock.lock" in it.files:
                 answer = 0, it.files.get("again.lock", it.files["unilock.lock"])
                 rows += [(it.name, f"lock pyproject.toml ix {workers} unilock.lock", answer) for workers in WORKERS]
