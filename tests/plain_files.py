@@ -1,0 +1,151 @@
+"""Requirements, project files and index documents, read plainly: PEP 508, 621 and 735, and the keys of `tool.uv`."""
+
+from __future__ import annotations
+
+import re
+from typing import Iterable, NamedTuple
+
+from plain import ALL_SPACE, SPACE, TRUE, NoReading, Version, marker, normal_name, specifiers, version
+
+try:
+    import tomllib
+except ImportError:  # before Python 3.11
+    from pip._vendor import tomli as tomllib  # type: ignore
+
+# Requirements.
+
+REQUIREMENT = re.compile(
+    r"[ \t]*([A-Za-z0-9._-]+)[ \t]*"
+    r"(?:\[[ \t]*((?:[A-Za-z0-9._-]+(?:[ \t]*,[ \t]*[A-Za-z0-9._-]+)*)?)[ \t]*\])?[ \t]*"
+    r"([^;]*?)[ \t]*(?:;(.*))?",
+    re.S,
+)
+
+
+class Requirement(NamedTuple):
+    name: str
+    extras: tuple
+    clauses: tuple
+    marker: tuple
+
+    @property
+    def targets(self) -> list:
+        return [(self.name, ""), *((self.name, it) for it in sorted(set(self.extras)))]
+
+
+def requirement(text: str) -> Requirement:
+    text = text.strip(ALL_SPACE)
+    found = REQUIREMENT.fullmatch(text)
+    if found is None or found[3].startswith("@") or any(it in text for it in "\n\v\f\r"):
+        raise NoReading(text)
+    specs = found[3]
+    if specs.startswith("(") and specs.endswith(")"):
+        specs = specs[1:-1]
+    extras = tuple(normal_name(it.strip(SPACE)) for it in (found[2] or "").split(",") if it.strip(SPACE))
+    read = TRUE if found[4] is None else marker(found[4])
+    return Requirement(normal_name(found[1]), extras, specifiers(specs), read)
+
+
+# Project files.
+
+
+class Project(NamedTuple):
+    """What a project file says; groups are extras here, named `group-NAME`."""
+
+    name: str
+    version: Version
+    python: tuple
+    requirements: tuple
+    extras: tuple
+    environments: tuple
+    mode: str
+    strategy: str
+    constraints: tuple
+    overrides: tuple
+
+
+def project(text: str) -> Project:
+    given = tomllib.loads(text)
+    table, uv = given["project"], given.get("tool", {}).get("uv", {})
+    lists = {normal_name(name): list(it) for name, it in table.get("optional-dependencies", {}).items()}
+    groups = {normal_name(name): it for name, it in given.get("dependency-groups", {}).items()}
+    for name in groups:
+        lists[f"group-{name}"] = expanded(groups, name, set())
+    requirements = [requirement(it) for it in table.get("dependencies", [])]
+    for name in sorted(lists):
+        for read in map(requirement, lists[name]):
+            requirements.append(read._replace(marker=("and", read.marker, ("extra", name))))
+    environments = uv.get("environments", [])
+    return Project(
+        normal_name(table["name"]),
+        version(table.get("version", "0")),
+        specifiers(table.get("requires-python", "")),
+        tuple(requirements),
+        tuple(sorted(lists)),
+        tuple(marker(it) for it in ([environments] if isinstance(environments, str) else environments)),
+        uv.get("resolution", "highest"),
+        uv.get("fork-strategy", "fewest"),
+        tuple(map(requirement, uv.get("constraint-dependencies", []))),
+        tuple(map(requirement, uv.get("override-dependencies", []))),
+    )
+
+
+def expanded(groups: dict, name: str, seen: set) -> list:
+    """The requirements of a group, with those of the groups that it includes in their place, each group once."""
+    seen.add(name)
+    texts: list = []
+    for it in groups[name]:
+        if isinstance(it, str):
+            texts.append(it)
+        elif normal_name(it["include-group"]) not in seen:
+            texts += expanded(groups, normal_name(it["include-group"]), seen)
+    return texts
+
+
+# Documents.
+
+
+class Release(NamedTuple):
+    version: Version
+    python: tuple
+    requirements: tuple
+    yanked: bool
+    files: tuple
+
+
+def releases(document: dict) -> list:
+    """The usable releases of a document, in its order."""
+    found, seen = [], set()
+    for entry in document["versions"]:
+        try:
+            read = version(entry["version"])
+        except NoReading:
+            continue
+        if read.key in seen:
+            continue
+        seen.add(read.key)
+        try:
+            python = specifiers(entry.get("requires_python") or "")
+            wanted = tuple(map(requirement, entry.get("requires_dist") or []))
+        except NoReading:
+            continue
+        files = sorted((it["file"], it["sha256"].lower()) for it in entry.get("files") or [])
+        found.append(Release(read, python, wanted, entry.get("yanked") not in (None, False), tuple(files)))
+    return found
+
+
+def adjusted(project: Project, requirements: Iterable[Requirement]) -> tuple:
+    """A release's requirements with the project's overrides in their place and its constraints behind them."""
+    replaced: list = []
+    for it in requirements:
+        mine = [other for other in project.overrides if other.name == it.name]
+        for other in mine:
+            replaced.append(it._replace(clauses=other.clauses, marker=("and", it.marker, other.marker)))
+        replaced += [] if mine else [it]
+    made: list = []
+    for it in replaced:
+        made.append(it)
+        for other in project.constraints:
+            if other.name == it.name:
+                made.append(other._replace(marker=("and", it.marker, other.marker)))
+    return tuple(made)
