@@ -1,20 +1,89 @@
-"""Small wheels and source distributions, made for the tests."""
+"""What the tests share: where the program is, small wheels and source distributions, and how a tool is run."""
 
 from __future__ import annotations
 
+import atexit
+import hashlib
 import importlib.machinery
 import importlib.util
 import io
+import json
+import os
+import subprocess
+import sys
 import tarfile
+import tempfile
 import types
+import unittest
 import zipfile
 from pathlib import Path
-from typing import Iterable, Optional
+from typing import Dict, Iterable, List, Optional
 
 TOP = Path(__file__).resolve().parent.parent
-# The script `unilock` keeps the program in out/; a build by hand leaves it in its crate.
-BUILT = [TOP / "out" / "unilock", TOP / "crates" / "unilock" / "out" / "unilock"]
-PROGRAM = next((it for it in BUILT if it.exists()), BUILT[0])
+PYTHON = TOP / "python"
+sys.path.insert(0, str(PYTHON))
+sys.dont_write_bytecode = True
+# The script `unilock` keeps the program in out/; a build by hand leaves it in its crate; else UNILOCK may name one.
+BUILT = [TOP / "out" / "unilock", TOP / "crates" / "unilock" / "out" / "unilock", Path(os.environ.get("UNILOCK") or "/nowhere")]
+PROGRAM = next((it for it in BUILT if it.is_file()), BUILT[0])
+SKIPPED: Dict[str, List[str]] = {}
+
+
+@atexit.register
+def tell_skipped() -> None:
+    """The last line of a run says which tests were passed over, and for want of what."""
+    if SKIPPED:
+        told = "; ".join(f"{why}: {', '.join(sorted(set(names)))}" for why, names in sorted(SKIPPED.items()))
+        print(f"skipped: {told}", file=sys.stderr)
+
+
+def skip(test: unittest.TestCase, why: str) -> None:
+    SKIPPED.setdefault(why, []).append(test.id().rpartition(".")[0])
+    test.skipTest(why)
+
+
+def want_program(test: unittest.TestCase, command: Optional[str] = None) -> None:
+    """Skips a test where there is no program, or where the one that is there can't do a command yet."""
+    if not PROGRAM.is_file():
+        skip(test, "the program isn't built (./unilock builds it)")
+    if command is not None:
+        done = subprocess.run([str(PROGRAM), command, "absent", "absent", "absent"], stdout=subprocess.PIPE, check=False)
+        if done.stdout.startswith(b"not built: "):
+            skip(test, f"the program has no {command}")
+
+
+class Folder(unittest.TestCase):
+    """A test with a folder of its own, in which tools are run."""
+
+    def setUp(self) -> None:
+        held = tempfile.TemporaryDirectory()
+        self.addCleanup(held.cleanup)
+        self.top = Path(held.name)
+        self.program: object = PROGRAM
+
+    def write(self, name: str, text: str) -> Path:
+        path = self.top / name
+        path.parent.mkdir(parents=True, exist_ok=True)
+        path.write_text(text, encoding="utf-8")
+        return path
+
+    def environment(self) -> Dict[str, str]:
+        kept = {key: value for key, value in os.environ.items() if not key.startswith(("PIP_", "UNILOCK"))}
+        more = {"PIP_CONFIG_FILE": os.devnull, "UNILOCK": str(self.program), "XDG_CACHE_HOME": str(self.top / "cache")}
+        return {**kept, **more, "PYTHONDONTWRITEBYTECODE": "1", "NO_PROXY": "*", "no_proxy": "*"}
+
+    def ran(self, *words: object, status: int = 0, python: str = sys.executable, into: str = "") -> "subprocess.CompletedProcess[str]":
+        """Runs `tools/WORD WORDS` with an interpreter, and looks at its status."""
+        script = str(TOP / "tools" / str(words[0]))
+        line = [python, script, *(str(it) for it in words[1:])]
+        done = subprocess.run(line, cwd=self.top, capture_output=True, text=True, encoding="utf-8", env=self.environment(), input=into, check=False)
+        self.assertEqual(done.returncode, status, f"{words}: {done.stdout}{done.stderr}")
+        if status not in (0, 130):
+            self.assertNotIn("Traceback", done.stderr)
+        return done
+
+    def printed(self, *words: object, status: int = 0) -> List[str]:
+        return self.ran(*words, status=status).stdout.splitlines()
 
 
 def tool(name: str) -> types.ModuleType:
@@ -23,10 +92,7 @@ def tool(name: str) -> types.ModuleType:
     spec = importlib.util.spec_from_loader(loader.name, loader)
     assert spec is not None
     module = importlib.util.module_from_spec(spec)
-    import sys
-
     sys.modules[loader.name] = module
-    sys.dont_write_bytecode = True
     loader.exec_module(module)
     return module
 
@@ -68,3 +134,26 @@ def sdist(folder: Path, name: str, version: str, text: str) -> Path:
         member.size = len(body)
         archive.addfile(member, io.BytesIO(body))
     return path
+
+
+def document(name: str, *versions: dict) -> str:
+    """A package document with these releases."""
+    return json.dumps({"name": name, "versions": list(versions)})
+
+
+def sha256(path: Path) -> str:
+    return hashlib.sha256(path.read_bytes()).hexdigest()
+
+
+def other_interpreters() -> List[str]:
+    """An interpreter of another version beside the running one, where there is one that can make environments."""
+    found = []
+    folder = Path.home() / ".pyenv" / "versions"
+    places = [*sorted(folder.glob("3.*/bin/python3")), *(Path(f"/usr/bin/python3.{it}") for it in range(8, 20))]
+    for path in places:
+        code = "import sys, ensurepip, venv; print(sys.version_info >= (3, 8), sys.version_info[:2])"
+        if path.exists():
+            done = subprocess.run([str(path), "-c", code], capture_output=True, text=True, check=False)
+            if done.stdout.strip().startswith("True") and str(sys.version_info[:2]) not in done.stdout:
+                found.append(str(path))
+    return found

@@ -5,7 +5,7 @@ from __future__ import annotations
 import subprocess
 import unittest
 
-from making import PROGRAM, TOP
+from making import PROGRAM, TOP, want_program
 
 EXAMPLES = TOP / "examples"
 CASES = [
@@ -21,8 +21,7 @@ CASES = [
 
 class Examples(unittest.TestCase):
     def setUp(self) -> None:
-        if not PROGRAM.exists():
-            self.skipTest("the program isn't built; ./unilock builds it")
+        want_program(self)
 
     def test_each_prints_its_file(self) -> None:
         for words, status, file in CASES:
