@@ -17,7 +17,8 @@ import types
 import unittest
 import zipfile
 from pathlib import Path
-from typing import Dict, Iterable, List, Optional
+from typing import Dict, Iterable, List, NamedTuple, Optional, Tuple
+from unittest import mock
 
 TOP = Path(__file__).resolve().parent.parent
 PYTHON = TOP / "python"
@@ -52,13 +53,20 @@ def want_program(test: unittest.TestCase, command: Optional[str] = None) -> None
             skip(test, f"the program has no {command}")
 
 
+class Done(NamedTuple):
+    """What a tool printed."""
+
+    stdout: str
+    stderr: str
+
+
 class Folder(unittest.TestCase):
     """A test with a folder of its own, in which tools are run."""
 
     def setUp(self) -> None:
         held = tempfile.TemporaryDirectory()
         self.addCleanup(held.cleanup)
-        self.top = Path(held.name)
+        self.top = Path(held.name).resolve()
         self.program: object = PROGRAM
 
     def write(self, name: str, text: str) -> Path:
@@ -72,15 +80,32 @@ class Folder(unittest.TestCase):
         more = {"PIP_CONFIG_FILE": os.devnull, "UNILOCK": str(self.program), "XDG_CACHE_HOME": str(self.top / "cache")}
         return {**kept, **more, "PYTHONDONTWRITEBYTECODE": "1", "NO_PROXY": "*", "no_proxy": "*"}
 
-    def ran(self, *words: object, status: int = 0, python: str = sys.executable, into: str = "") -> "subprocess.CompletedProcess[str]":
-        """Runs `tools/WORD WORDS` with an interpreter, and looks at its status."""
-        script = str(TOP / "tools" / str(words[0]))
-        line = [python, script, *(str(it) for it in words[1:])]
-        done = subprocess.run(line, cwd=self.top, capture_output=True, text=True, encoding="utf-8", env=self.environment(), input=into, check=False)
-        self.assertEqual(done.returncode, status, f"{words}: {done.stdout}{done.stderr}")
-        if status not in (0, 130):
-            self.assertNotIn("Traceback", done.stderr)
+    def ran(self, *words: object, status: int = 0, python: str = "", into: str = "") -> Done:
+        """Runs a tool and looks at its status: in this process, or as `tools/WORD WORDS` with an interpreter where one is named."""
+        given = [str(it) for it in words]
+        found, done = self.started(python, given, into) if python else self.called(given, into)
+        self.assertEqual(found, status, f"{words}: {done.stdout}{done.stderr}")
+        self.assertNotIn("Traceback", done.stderr)
         return done
+
+    def started(self, python: str, words: List[str], into: str) -> Tuple[int, Done]:
+        line = [python, str(TOP / "tools" / words[0]), *words[1:]]
+        done = subprocess.run(line, cwd=self.top, capture_output=True, text=True, encoding="utf-8", env=self.environment(), input=into, check=False)
+        return done.returncode, Done(done.stdout, done.stderr)
+
+    def called(self, words: List[str], into: str) -> Tuple[int, Done]:
+        main = importlib.import_module(f"unilock_tools.{words[0]}").main
+        before = os.getcwd()
+        streams = [io.TextIOWrapper(io.BytesIO(text), encoding="utf-8") for text in (into.encode(), b"", b"")]
+        with mock.patch.dict(os.environ, self.environment(), clear=True), mock.patch.multiple(sys, stdin=streams[0], stdout=streams[1], stderr=streams[2]):
+            os.chdir(self.top)
+            try:
+                status = main(words[1:])
+            except SystemExit as ended:
+                status = int(ended.code or 0)
+            finally:
+                os.chdir(before)
+        return status, Done(*(told_by(it) for it in streams[1:]))
 
     def printed(self, *words: object, status: int = 0) -> List[str]:
         return self.ran(*words, status=status).stdout.splitlines()
@@ -134,6 +159,12 @@ def sdist(folder: Path, name: str, version: str, text: str) -> Path:
         member.size = len(body)
         archive.addfile(member, io.BytesIO(body))
     return path
+
+
+def told_by(stream: io.TextIOWrapper) -> str:
+    stream.flush()
+    stream.seek(0)
+    return stream.read()
 
 
 def document(name: str, *versions: dict) -> str:

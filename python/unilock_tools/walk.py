@@ -91,11 +91,8 @@ def allowed(found: List[Candidate], bounds: List[Requirement], direct: List[Requ
         kept = [it for it in final if not it.yanked][: choice.newest]
         pinned = [it for it in final if it.yanked and any(pins(one, it.version) for one in direct)]
         final = kept + [it for it in pinned if it not in kept]
-    if final:
-        return final, []
-    ends = [it for it in found if not it.version.is_pre][:1]
-    later = [it for it in within if it.version.is_pre][: choice.newest]
-    return ([], later) if not ends else (ends, [])
+    later = [] if named else [it for it in within if it.version.is_pre][: choice.newest]
+    return final or [it for it in found if not it.version.is_pre][:1], later
 
 
 def pins(requirement: Requirement, found: Version) -> bool:
