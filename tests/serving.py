@@ -144,7 +144,8 @@ class Server:
         return json.dumps({"meta": {"api-version": "1.1"}, "name": name, "files": listed}).encode()
 
     def html_page(self, files: List[Path]) -> bytes:
-        lines = ["<!DOCTYPE html><html><head><base href='/files/'></head><body>"]
+        base = self.url.replace("/simple/", "/files/")
+        lines = [f"<!DOCTYPE html><html><head><base href='{base}'></head><body>"]
         for path in files:
             marks = ""
             bound = self.bound_of(path)
