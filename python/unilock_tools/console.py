@@ -29,6 +29,11 @@ class Parser(argparse.ArgumentParser):
         super().__init__(prog=command, description=text, formatter_class=argparse.RawDescriptionHelpFormatter)
         self.add_argument("--version", action="version", version=f"{command} of unilock-tools {__version__}")
 
+    def read(self, words: Optional[List[str]]) -> argparse.Namespace:
+        """The words of the command line, or those handed in; options may stand between the other words."""
+        given = sys.argv[1:] if words is None else words
+        return getattr(self, "parse_intermixed_args", self.parse_args)(given)
+
     def error(self, message: str) -> NoReturn:
         self.exit(2, f"{self.prog}: {message} (--help says more)\n")
 
@@ -118,8 +123,3 @@ def put(text: str, out: Optional[str]) -> None:
         sys.stdout.write(text)
     else:
         write_beside(out, text.encode("utf-8"))
-
-
-def words_of(words: Optional[List[str]]) -> List[str]:
-    """The words of the command line where none are handed in."""
-    return sys.argv[1:] if words is None else words

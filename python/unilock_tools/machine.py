@@ -112,5 +112,5 @@ def run(asked: argparse.Namespace) -> int:
 def main(words: Optional[List[str]] = None) -> int:
     if sys.version_info < (3, 6):
         sys.exit("machine: it wants Python 3.6 or later")
-    asked = parser().parse_args(console.words_of(words))
+    asked = parser().read(words)
     return console.ended("machine", lambda: run(asked))

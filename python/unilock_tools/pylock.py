@@ -120,5 +120,5 @@ def run(asked: argparse.Namespace) -> int:
 
 
 def main(words: Optional[List[str]] = None) -> int:
-    asked = parser().parse_args(console.words_of(words))
+    asked = parser().read(words)
     return console.ended("pylock", lambda: run(asked))
