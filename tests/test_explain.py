@@ -5,7 +5,7 @@ from __future__ import annotations
 import unittest
 from typing import List
 
-from making import TOP, Folder, document, want_program
+from making import TOP, Folder, document, skip, want_program
 from unilock_tools import refusal
 
 EXAMPLE = TOP / "examples" / "refused"
@@ -103,6 +103,17 @@ class Sentences(Explained):
             "- the project needs q at 1 (project.dependencies[0]: `q<2; sys_platform == 'win32'`).",
             "- q 1 needs z (`z`), and the index has no document of z.",
         ])  # fmt: skip
+
+    def test_the_core_of_the_program_comes_without_the_steps(self) -> None:
+        self.project("a", "b", python=">=3.9")
+        self.index(a=[{"version": "1", "requires_dist": ["c<2"]}], b=[{"version": "1", "requires_dist": ["c>=2"]}], c=[{"version": "1"}, {"version": "2"}])
+        said = self.told().splitlines()
+        self.assertEqual(said[0], "No choice of versions serves the project.")
+        if not said[1].startswith("These requirements alone"):
+            skip(self, "the program tells no core")
+        self.assertEqual([it[:2] for it in said[2:-1]], ["- "] * 4)
+        self.assertTrue(said[2].startswith("- the project needs a"), said)
+        self.assertIn("\n5. ", self.ran("explain", "--steps").stdout)
 
     def test_each_form_of_a_step(self) -> None:
         self.project("q[x]")

@@ -120,6 +120,10 @@ class SafeLock(StandIn):
                 self.assertEqual(self.lock.read_text(), OLD)
                 self.assertEqual(self.files(), ["ix", "pyproject.toml", "unilock.lock"])
 
+    def test_the_core_of_a_refusal_is_shown(self) -> None:
+        self.answers(REFUSED + "core: 2\ndemo 0.1 needs q {1}\nq 1 needs z {}\n", 1)
+        self.assertEqual(self.ran("lock", status=1).stderr.splitlines()[1:], ["  demo 0.1 needs q {1}", "  q 1 needs z {}"])
+
     def test_an_answer_that_is_no_lock_is_not_written(self) -> None:
         self.lock.write_text(OLD)
         for text in ["", "nonsense\n", NEW[:100], NEW.replace('version = "2", marker', 'version = "3", marker')]:

@@ -73,8 +73,9 @@ def fault_of(answered: program.Answer, project: str, index: str, lock: str) -> R
     """What the program refused, with what to do about it."""
     text = program.fault_text(answered)
     if answered.status == 1:
-        told = answered.text.splitlines()[1:3]
-        text = f"{text} ({'; '.join(told)}); `tools/explain {project} {index}` says why"
+        lines = answered.text.splitlines()
+        core = "".join(f"\n  {it}" for it in lines[5:])
+        text = f"{text} ({'; '.join(lines[1:3])}); `tools/explain {project} {index}` says why{core}"
     elif answered.status == 3 and text.startswith(f"malformed: {lock}: "):
         text += "; --upgrade makes a new lock without the old one"
     elif answered.status == 3 and text.startswith("malformed: "):

@@ -163,7 +163,7 @@ class Teller:
         return f"from {step.left} and {step.right}: {self.terms(step.terms)}"
 
     def head(self) -> Iterator[str]:
-        if self.refusal.region == "*":
+        if self.refusal.fork == "-":
             yield "No choice of versions serves the project."
         else:
             yield f"No choice of versions serves the project where {self.refusal.region}."
@@ -171,20 +171,23 @@ class Teller:
             if values:
                 yield f"Such a machine: {', '.join(values)}."
 
-    def lines(self) -> Iterator[str]:
-        """The whole refusal: where it is, the steps that matter, and what follows."""
+    def lines(self, with_steps: bool) -> Iterator[str]:
+        """The whole refusal: where it is, the requirements that clash or the steps that show it, and what follows."""
         yield from self.head()
+        steps = used(self.refusal.steps)
         if self.refusal.core:
             yield "These requirements alone already clash; with any one of them left out the rest can be served:"
-            yield from (f"- {self.need(it)}." for it in self.refusal.core)
-        steps = used(self.refusal.steps)
-        numbers = {number: k for k, (number, _) in enumerate(steps, 1)}
-        for number, step in steps:
-            if isinstance(step, Cut):
-                step = Cut(numbers.get(step.left, 0), numbers.get(step.right, 0), step.terms)
-            yield f"{numbers[number]}. {self.step(step)}."
-        if steps:
-            yield "So the project can't be served there."
+            # The project's own requirements come first.
+            for need in sorted(self.refusal.core, key=lambda it: it.node.name != self.project.name):
+                yield f"- {self.need(need)}."
+            yield from (f"- {self.python(step)}." for _, step in steps if isinstance(step, Python))
+        if with_steps or not self.refusal.core:
+            numbers = {number: k for k, (number, _) in enumerate(steps, 1)}
+            for number, step in steps:
+                if isinstance(step, Cut):
+                    step = Cut(numbers.get(step.left, 0), numbers.get(step.right, 0), step.terms)
+                yield f"{numbers[number]}. {self.step(step)}."
+        yield "So the project can't be served there."
         yield from self.hints([step for _, step in steps])
 
     def hints(self, steps: List[Step]) -> Iterator[str]:
