@@ -43,6 +43,11 @@ def say(text: str) -> None:
     print(text, file=sys.stderr, flush=True)
 
 
+def counted(number: int, what: str) -> str:
+    """`1 package`, `2 packages`."""
+    return f"{number} {what}" if number == 1 else f"{number} {what}s"
+
+
 def is_terminal() -> bool:
     """Whether standard error is a terminal that can overwrite a line."""
     return sys.stderr.isatty() and os.environ.get("TERM") != "dumb"

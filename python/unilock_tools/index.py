@@ -85,7 +85,7 @@ def from_server(asked: argparse.Namespace, path: Path, gathered: Projects) -> Li
     walking = walk.Walk(client, read, choice, gathered, asked.jobs)
     walking.run(it.requirement for it in read.requirements)
     if not asked.quiet:
-        console.say(f"index: {client.asked} requests, {client.bytes / 1e6:.1f} MB")
+        console.say(f"index: {console.counted(client.asked, 'request')}, {client.bytes / 1e6:.1f} MB")
     return walking.warnings()
 
 
@@ -105,7 +105,8 @@ def run(asked: argparse.Namespace) -> int:
             console.say(f"index: warning: {text}")
         if projects:
             releases = sum(len(it) for it in gathered.releases.values())
-            console.say(f"index: {asked.out} has {len(gathered.releases)} packages with {releases} releases")
+            packages = console.counted(len(gathered.releases), "package")
+            console.say(f"index: {asked.out} has {packages} with {console.counted(releases, 'release')}")
     return 0
 
 

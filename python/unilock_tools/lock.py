@@ -121,16 +121,17 @@ def run(asked: argparse.Namespace) -> int:
     if answered.status != 0:
         raise fault_of(answered, asked.project, index, path)
     new = locks.read(answered.text, path)
+    packages = console.counted(len(new.packages) - 1, "package")
     if answered.body == before:
         if not asked.quiet:
-            print(f"{path} is current: {len(new.packages) - 1} packages")
+            print(f"{path} is current: {packages}")
         return 0
     lines = told(known, new)
     if not asked.check:
         console.write_beside(path, answered.body)
     if not asked.quiet:
         print("\n".join(lines))
-        print(f"{path} {'is not current' if asked.check else 'is written'}: {len(new.packages) - 1} packages")
+        print(f"{path} {'is not current' if asked.check else 'is written'}: {packages}")
     return 1 if asked.check else 0
 
 

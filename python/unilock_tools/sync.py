@@ -133,7 +133,7 @@ def run(asked: argparse.Namespace) -> int:
     if wanted:
         install(python, lock, wanted, asked)
     if not asked.quiet:
-        print(f"{folder} is as {asked.lock} says: {len(picks)} packages", flush=True)
+        print(f"{folder} is as {asked.lock} says: {console.counted(len(picks), 'package')}", flush=True)
     broken = subprocess.run([python, "-m", "pip", "check", "--disable-pip-version-check"], stdout=subprocess.PIPE, check=False)
     if broken.returncode != 0:
         for line in broken.stdout.decode("utf-8", "replace").splitlines():
