@@ -25,7 +25,11 @@ PYTHON = TOP / "python"
 sys.path.insert(0, str(PYTHON))
 sys.dont_write_bytecode = True
 # The script `unilock` keeps the program in out/; a build by hand leaves it in its crate; else UNILOCK may name one.
-BUILT = [TOP / "out" / "unilock", TOP / "crates" / "unilock" / "out" / "unilock", Path(os.environ.get("UNILOCK") or "/nowhere")]
+BUILT = [
+    TOP / "out" / "unilock",
+    TOP / "crates" / "unilock" / "out" / "unilock",
+    Path(os.environ.get("UNILOCK") or "/nowhere"),
+]
 PROGRAM = next((it for it in BUILT if it.is_file()), BUILT[0])
 SKIPPED: Dict[str, List[str]] = {}
 
@@ -48,7 +52,9 @@ def want_program(test: unittest.TestCase, command: Optional[str] = None) -> None
     if not PROGRAM.is_file():
         skip(test, "the program isn't built (./unilock builds it)")
     if command is not None:
-        done = subprocess.run([str(PROGRAM), command, "absent", "absent", "absent"], stdout=subprocess.PIPE, check=False)
+        done = subprocess.run(
+            [str(PROGRAM), command, "absent", "absent", "absent"], stdout=subprocess.PIPE, check=False
+        )
         if done.stdout.startswith(b"not built: "):
             skip(test, f"the program has no {command}")
 
@@ -90,14 +96,25 @@ class Folder(unittest.TestCase):
 
     def started(self, python: str, words: List[str], into: str) -> Tuple[int, Done]:
         line = [python, str(TOP / "tools" / words[0]), *words[1:]]
-        done = subprocess.run(line, cwd=self.top, capture_output=True, text=True, encoding="utf-8", env=self.environment(), input=into, check=False)
+        done = subprocess.run(
+            line,
+            cwd=self.top,
+            capture_output=True,
+            text=True,
+            encoding="utf-8",
+            env=self.environment(),
+            input=into,
+            check=False,
+        )
         return done.returncode, Done(done.stdout, done.stderr)
 
     def called(self, words: List[str], into: str) -> Tuple[int, Done]:
         main = importlib.import_module(f"unilock_tools.{words[0]}").main
         before = os.getcwd()
         streams = [io.TextIOWrapper(io.BytesIO(text), encoding="utf-8") for text in (into.encode(), b"", b"")]
-        with mock.patch.dict(os.environ, self.environment(), clear=True), mock.patch.multiple(sys, stdin=streams[0], stdout=streams[1], stderr=streams[2]):
+        with mock.patch.dict(os.environ, self.environment(), clear=True), mock.patch.multiple(
+            sys, stdin=streams[0], stdout=streams[1], stderr=streams[2]
+        ):
             os.chdir(self.top)
             try:
                 status = main(words[1:])
@@ -122,7 +139,9 @@ def tool(name: str) -> types.ModuleType:
     return module
 
 
-def metadata_text(name: str, version: str, requires: Iterable[str] = (), python: Optional[str] = None, more: str = "") -> str:
+def metadata_text(
+    name: str, version: str, requires: Iterable[str] = (), python: Optional[str] = None, more: str = ""
+) -> str:
     lines = ["Metadata-Version: 2.2", f"Name: {name}", f"Version: {version}"]
     lines += [f"Requires-Dist: {it}" for it in requires]
     if python is not None:
@@ -138,7 +157,14 @@ def wheel(folder: Path, file: str, members: dict) -> Path:
     return path
 
 
-def plain_wheel(folder: Path, name: str, version: str, requires: Iterable[str] = (), python: Optional[str] = None, tags: str = "py3-none-any") -> Path:
+def plain_wheel(
+    folder: Path,
+    name: str,
+    version: str,
+    requires: Iterable[str] = (),
+    python: Optional[str] = None,
+    tags: str = "py3-none-any",
+) -> Path:
     """A wheel that pip can install: one module, METADATA, WHEEL and RECORD."""
     stem = name.replace("-", "_").replace(".", "_")
     info = f"{stem}-{version}.dist-info"

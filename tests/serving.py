@@ -2,6 +2,7 @@
 
 from __future__ import annotations
 
+import contextlib
 import hashlib
 import json
 import re
@@ -19,11 +20,14 @@ from unilock_tools.versions import normal_name
 class Server:
     """Serves a folder of wheels and source distributions as a Simple API.
 
-    `form` is `json` or `html`. `metadata` is the key that tells of a metadata file (PEP 658 or 714), or None for no such file.
-    `ranges` says whether ranges are given. `faults` are statuses that the next requests of a path are answered with.
+    `form` is `json` or `html`. `metadata` is the key that tells of a metadata file (PEP 658 or 714), or None for no
+    such file. `ranges` says whether ranges are given. `faults` are statuses that the next requests of a path are
+    answered with.
     """
 
-    def __init__(self, folder: Path, form: str = "json", metadata: Optional[str] = "core-metadata", ranges: bool = True) -> None:
+    def __init__(
+        self, folder: Path, form: str = "json", metadata: Optional[str] = "core-metadata", ranges: bool = True
+    ) -> None:
         self.folder, self.form, self.metadata, self.ranges = folder, form, metadata, ranges
         self.yanked: List[str] = []
         self.uploaded: Dict[str, str] = {}
@@ -31,13 +35,17 @@ class Server:
         self.wrong_hash: List[str] = []
         self.no_hash = False
         self.asked: List[Tuple[str, int]] = []
+        self.silent: List[str] = []
+        self.ended = threading.Event()
         served = self
 
         class Handler(BaseHTTPRequestHandler):
             protocol_version = "HTTP/1.1"
 
             def do_GET(self) -> None:
-                served.answer(self)
+                # A client may go away while it is answered.
+                with contextlib.suppress(ConnectionError):
+                    served.answer(self)
 
             def log_message(self, *_: object) -> None:
                 return
@@ -52,6 +60,7 @@ class Server:
         return self
 
     def __exit__(self, *_: object) -> None:
+        self.ended.set()
         self.http.shutdown()
         self.http.server_close()
         self.thread.join()
@@ -69,6 +78,9 @@ class Server:
         return "range" if status == 206 else "whole"
 
     def answer(self, request: BaseHTTPRequestHandler) -> None:
+        if request.path in self.silent:
+            self.asked.append((request.path, 0))
+            self.ended.wait(20)
         faults = self.faults.get(request.path, [])
         status, headers, body = self.found(request) if not faults else (faults.pop(0), {}, b"a fault")
         self.asked.append((request.path, status))
@@ -130,7 +142,9 @@ class Server:
     def json_page(self, name: str, files: List[Path]) -> bytes:
         listed = []
         for path in files:
-            entry: Dict[str, object] = {"filename": path.name, "url": f"../../files/{path.name}", "size": path.stat().st_size}
+            entry: Dict[str, object] = {
+                "filename": path.name, "url": f"../../files/{path.name}", "size": path.stat().st_size
+            }
             entry["hashes"] = {} if self.no_hash else {"sha256": self.hash_of(path)}
             if self.bound_of(path):
                 entry["requires-python"] = self.bound_of(path)

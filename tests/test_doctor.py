@@ -13,21 +13,39 @@ ERRORS = [
     ('[projet]\nname = "x"\n', "error: project: there is no table [project]"),
     ('[project]\nname = "-x"\n', "error: project.name (line 2): wanted: a text that is a name"),
     (START + 'version = "one"\n', "error: project.version (line 4): `one` is no version of PEP 440"),
-    ('[project]\nname = "x"\nrequires-python = ">=3.5<4"\n', "error: project.requires-python (line 3): `>=3.5<4` isn't an operator with a version"),
+    (
+        '[project]\nname = "x"\nrequires-python = ">=3.5<4"\n',
+        "error: project.requires-python (line 3): `>=3.5<4` isn't an operator with a version",
+    ),
     (START + 'dynamic = ["dependencies"]\n', "error: project.dynamic: it names dependencies"),
-    (START + 'dependencies = ["a", "bb (>dev)"]\n', "error: project.dependencies[1] (line 4): `bb (>dev)`: `dev` is no version"),
+    (
+        START + 'dependencies = ["a", "bb (>dev)"]\n',
+        "error: project.dependencies[1] (line 4): `bb (>dev)`: `dev` is no version",
+    ),
     (START + "dependencies = [1]\n", "error: project.dependencies[0]: it isn't a text"),
     (START + 'dependencies = ["a @ https://x/y"]\n', "a URL isn't supported"),
-    (START + '[project.optional-dependencies]\nX_y = ["a=="]\n', "error: project.optional-dependencies.X_y[0] (line 5)"),
+    (
+        START + '[project.optional-dependencies]\nX_y = ["a=="]\n',
+        "error: project.optional-dependencies.X_y[0] (line 5)",
+    ),
     (START + '[dependency-groups]\ntest = ["a=="]\n', "error: dependency-groups.test[0] (line 5)"),
     (START + '[tool.uv]\noverride-dependencies = ["a=="]\n', "error: tool.uv.override-dependencies[0] (line 5)"),
-    (START + '[tool.uv]\nresolution = "newest"\n', "error: tool.uv.resolution (line 5): it is \"newest\"; supported: highest, lowest, lowest-direct"),
+    (
+        START + '[tool.uv]\nresolution = "newest"\n',
+        "error: tool.uv.resolution (line 5): it is \"newest\"; supported: highest, lowest, lowest-direct",
+    ),
     (START + '[tool.uv]\nfork-strategy = "most"\n', "supported: fewest, requires-python, deep"),
     (START + '[tool.uv]\nprerelease = "allow"\n', "supported: if-necessary-or-explicit"),
-    (START + '[tool.uv]\nenvironments = ["os == \'nt\'"]\n', "error: tool.uv.environments[0]: `os` is no variable of a marker"),
+    (
+        START + '[tool.uv]\nenvironments = ["os == \'nt\'"]\n',
+        "error: tool.uv.environments[0]: `os` is no variable of a marker",
+    ),
     (START + "[tool.uv.sources]\na = { path = '.' }\n", "error: tool.uv.sources: "),
     (START + "[[tool.uv.index]]\nurl = 'x'\n", "error: tool.uv.index: several indexes aren't supported"),
-    (START + '[tool.uv]\ndev-dependencies = ["a"]\n', "error: tool.uv.dev-dependencies: it isn't supported; [dependency-groups] is"),
+    (
+        START + '[tool.uv]\ndev-dependencies = ["a"]\n',
+        "error: tool.uv.dev-dependencies: it isn't supported; [dependency-groups] is",
+    ),
 ]
 
 
@@ -48,19 +66,31 @@ class Doctor(Folder):
         (self.top / "ix").mkdir()
         for text, _ in ERRORS:
             self.write("pyproject.toml", text)
-            done = subprocess.run([str(PROGRAM), "lock", "pyproject.toml", "ix", "1"], cwd=self.top, stdout=subprocess.PIPE, text=True, check=False)
+            done = subprocess.run(
+                [str(PROGRAM), "lock", "pyproject.toml", "ix", "1"],
+                cwd=self.top,
+                stdout=subprocess.PIPE,
+                text=True,
+                check=False,
+            )
             self.assertEqual((done.returncode, done.stdout[:11]), (3, "malformed: "), text)
         self.found(START, status=0)
-        done = subprocess.run([str(PROGRAM), "lock", "pyproject.toml", "ix", "1"], cwd=self.top, stdout=subprocess.PIPE, check=False)
+        done = subprocess.run(
+            [str(PROGRAM), "lock", "pyproject.toml", "ix", "1"], cwd=self.top, stdout=subprocess.PIPE, check=False
+        )
         self.assertEqual(done.returncode, 0)
 
     def test_a_sound_project(self) -> None:
         example = TOP / "examples" / "web_app"
-        self.assertEqual(self.printed("doctor", example / "pyproject.toml"), [f"{example}/pyproject.toml: nothing was found"])
+        self.assertEqual(
+            self.printed("doctor", example / "pyproject.toml"), [f"{example}/pyproject.toml: nothing was found"]
+        )
 
     def test_no_bound_on_the_interpreter(self) -> None:
         said = self.found('[project]\nname = "x"\n')
-        self.assertIn("warning: project.requires-python: it isn't there, so every interpreter from 0.0 on is supported", said[0])
+        self.assertIn(
+            "warning: project.requires-python: it isn't there, so every interpreter from 0.0 on is supported", said[0]
+        )
 
     def test_misspelt_keys(self) -> None:
         text = START + 'dependancies = []\n[dependency-group]\n[tool.uv]\nconstraints-dependencies = []\nfork-stategy = "x"\n'
@@ -107,7 +137,9 @@ class Doctor(Folder):
         self.write("pyproject.toml", "[project\n")
         self.assertIn("not TOML", self.ran("doctor", status=3).stderr)
         self.write("pyproject.toml", START)
-        self.assertIn("absent: there is no such folder", self.ran("doctor", "pyproject.toml", "absent", status=3).stderr)
+        self.assertIn(
+            "absent: there is no such folder", self.ran("doctor", "pyproject.toml", "absent", status=3).stderr
+        )
 
 
 if __name__ == "__main__":

@@ -41,7 +41,10 @@ class InWords(Folder):
 
     def test_the_lock_of_web_app_is_current(self) -> None:
         want_program(self)
-        self.assertEqual(self.printed("lock", "--check", EXAMPLES / "web_app/pyproject.toml"), [f"{EXAMPLES}/web_app/unilock.lock is current: 9 packages"])
+        self.assertEqual(
+            self.printed("lock", "--check", EXAMPLES / "web_app/pyproject.toml"),
+            [f"{EXAMPLES}/web_app/unilock.lock is current: 9 packages"],
+        )
 
     def test_an_upgrade_of_kept(self) -> None:
         want_program(self)
@@ -53,7 +56,10 @@ class InWords(Folder):
         want_program(self)
         said = self.printed("explain", EXAMPLES / "refused/pyproject.toml", EXAMPLES / "refused/ix")
         self.assertEqual(said[:2], ["No choice of versions serves the project where sys_platform == 'win32'.", "Such a machine: sys_platform win32."])
-        for line in ["the project needs q at 1 (project.dependencies[0]: `q<2; sys_platform == 'win32'`).", "q 1 needs z (`z`), and the index has no document of z."]:
+        for line in [
+            "the project needs q at 1 (project.dependencies[0]: `q<2; sys_platform == 'win32'`).",
+            "q 1 needs z (`z`), and the index has no document of z.",
+        ]:
             self.assertTrue(any(it.endswith(line) for it in said), line)
 
 

@@ -19,7 +19,9 @@ class Explained(Folder):
     def project(self, *dependencies: str, more: str = "", python: str = "") -> None:
         listed = ", ".join(f'"{it}"' for it in dependencies)
         bound = f'requires-python = "{python}"\n' if python else ""
-        self.write("pyproject.toml", f'[project]\nname = "demo"\nversion = "0.1"\n{bound}dependencies = [{listed}]\n{more}')
+        self.write(
+            "pyproject.toml", f'[project]\nname = "demo"\nversion = "0.1"\n{bound}dependencies = [{listed}]\n{more}'
+        )
 
     def index(self, **documents: list) -> None:
         for name, versions in documents.items():
@@ -35,7 +37,9 @@ class Explained(Folder):
 
 class Sentences(Explained):
     def test_the_example(self) -> None:
-        said = self.ran("explain", EXAMPLE / "pyproject.toml", EXAMPLE / "ix", "--from", EXAMPLE / "why.txt").stdout.splitlines()
+        said = self.ran(
+            "explain", EXAMPLE / "pyproject.toml", EXAMPLE / "ix", "--from", EXAMPLE / "why.txt"
+        ).stdout.splitlines()
         self.assertEqual(said, [
             "No choice of versions serves the project where sys_platform == 'win32'.",
             "Such a machine: sys_platform win32.",
@@ -64,9 +68,15 @@ class Sentences(Explained):
         self.project("a>=2")
         for versions, said in [
             ([{"version": "1"}, {"version": "2rc1"}], "no version of a meets `>=2`: the index has 1 or 2rc1"),
-            ([{"version": "1"}, {"version": "3rc1"}], "a 3rc1 is a pre-release, which counts only where a requirement of the project names one"),
+            (
+                [{"version": "1"}, {"version": "3rc1"}],
+                "a 3rc1 is a pre-release, which counts only where a requirement of the project names one",
+            ),
             ([{"version": "2", "yanked": True}], "a 2 is yanked, which counts only where the project asks for `==2`"),
-            ([{"version": "2", "requires_dist": ["bb (>dev)"]}], "a 2 can't be used (Requires-Dist: `bb (>dev)`: `dev` is no version of PEP 440)"),
+            (
+                [{"version": "2", "requires_dist": ["bb (>dev)"]}],
+                "a 2 can't be used (Requires-Dist: `bb (>dev)`: `dev` is no version of PEP 440)",
+            ),
             ([], "the index has no version of a that can be used"),
         ]:
             with self.subTest(said):
@@ -75,7 +85,11 @@ class Sentences(Explained):
 
     def test_a_clash_of_two(self) -> None:
         self.project("a", "b", python=">=3.9")
-        self.index(a=[{"version": "1", "requires_dist": ["c<2"]}], b=[{"version": "1", "requires_dist": ["c>=2"]}], c=[{"version": "1"}, {"version": "2"}])
+        self.index(
+            a=[{"version": "1", "requires_dist": ["c<2"]}],
+            b=[{"version": "1", "requires_dist": ["c>=2"]}],
+            c=[{"version": "1"}, {"version": "2"}],
+        )
         said = self.told()
         self.assertIn("a 1 needs c at 1 (`c<2`).", said)
         self.assertIn("b 1 needs c at 2 (`c>=2`).", said)
@@ -83,10 +97,16 @@ class Sentences(Explained):
         self.assertTrue(said.endswith("So the project can't be served there.\n"))
 
     def test_extras_groups_and_settings(self) -> None:
-        self.project("a", more='[dependency-groups]\ntest = ["b<1"]\n[tool.uv]\nconstraint-dependencies = ["a<2"]\n', python=">=3.9")
+        self.project(
+            "a",
+            more='[dependency-groups]\ntest = ["b<1"]\n[tool.uv]\nconstraint-dependencies = ["a<2"]\n',
+            python=">=3.9",
+        )
         self.index(a=[{"version": "2"}], b=[{"version": "1"}])
         said = self.told()
-        self.assertTrue("tool.uv.constraint-dependencies[0]: `a<2`" in said or "dependency-groups.test[0]: `b<1`" in said, said)
+        self.assertTrue(
+            "tool.uv.constraint-dependencies[0]: `a<2`" in said or "dependency-groups.test[0]: `b<1`" in said, said
+        )
 
     def test_nothing_is_refused(self) -> None:
         self.project("a")
@@ -106,7 +126,11 @@ class Sentences(Explained):
 
     def test_the_core_of_the_program_comes_without_the_steps(self) -> None:
         self.project("a", "b", python=">=3.9")
-        self.index(a=[{"version": "1", "requires_dist": ["c<2"]}], b=[{"version": "1", "requires_dist": ["c>=2"]}], c=[{"version": "1"}, {"version": "2"}])
+        self.index(
+            a=[{"version": "1", "requires_dist": ["c<2"]}],
+            b=[{"version": "1", "requires_dist": ["c>=2"]}],
+            c=[{"version": "1"}, {"version": "2"}],
+        )
         said = self.told().splitlines()
         self.assertEqual(said[0], "No choice of versions serves the project.")
         if not said[1].startswith("These requirements alone"):
@@ -129,7 +153,9 @@ class Sentences(Explained):
         ])  # fmt: skip
 
     def test_steps_that_are_not_used_are_left_out(self) -> None:
-        steps = refusal.read(HEAD + "1 need a {1} b {}\n2 need c {1} d {}\n3 need demo {0.1} c {1}\n4 cut 2 3 on c: demo {0.1}\n", "x").steps
+        steps = refusal.read(
+            HEAD + "1 need a {1} b {}\n2 need c {1} d {}\n3 need demo {0.1} c {1}\n4 cut 2 3 on c: demo {0.1}\n", "x"
+        ).steps
         self.assertEqual([number for number, _ in refusal.used(steps)], [2, 3, 4])
 
 
@@ -140,26 +166,55 @@ class Places(Explained):
 
     def test_requirements(self) -> None:
         text = '[project]\nname = "x"\ndependencies = [\n  "a",\n  "bb (>dev)",\n]\n[project.optional-dependencies]\nA_b = ["c=="]\n'
-        self.assertEqual(self.place("requirement project.dependencies[1]", text), "p.toml: project.dependencies[1] (line 5): `bb (>dev)`: `dev` is no version of PEP 440.")
-        self.assertIn("(line 8): `c==`: `` is no version", self.place("requirement project.optional-dependencies.a-b[0]", text))
+        self.assertEqual(
+            self.place("requirement project.dependencies[1]", text),
+            "p.toml: project.dependencies[1] (line 5): `bb (>dev)`: `dev` is no version of PEP 440.",
+        )
+        self.assertIn(
+            "(line 8): `c==`: `` is no version", self.place("requirement project.optional-dependencies.a-b[0]", text)
+        )
 
     def test_shapes(self) -> None:
         for place, text, said in [
             ("shape project", "[x]\n", "it isn't there; wanted: a table [project]"),
-            ("shape project.version", '[project]\nname = "x"\nversion = "one"\n', "(line 3): it is \"one\"; `one` is no version of PEP 440"),
-            ("shape project.requires-python", '[project]\nname = "x"\nrequires-python = ">=3.5<4"\n', "`>=3.5<4` isn't an operator with a version"),
+            (
+                "shape project.version",
+                '[project]\nname = "x"\nversion = "one"\n',
+                "(line 3): it is \"one\"; `one` is no version of PEP 440",
+            ),
+            (
+                "shape project.requires-python",
+                '[project]\nname = "x"\nrequires-python = ">=3.5<4"\n',
+                "`>=3.5<4` isn't an operator with a version",
+            ),
             ("shape project.dependencies[0]", '[project]\nname = "x"\ndependencies = [1]\n', "it is 1; wanted: a text"),
-            ("shape dependency-groups.a[0]", '[dependency-groups]\na = [{ include-group = "b" }]\n', "include-group = NAME } of a group"),
+            (
+                "shape dependency-groups.a[0]",
+                '[dependency-groups]\na = [{ include-group = "b" }]\n',
+                "include-group = NAME } of a group",
+            ),
             ("shape tool.uv.environments", '[tool.uv]\nenvironments = "linux"\n', "the marker ends too early"),
             ("shape tool.uv.resolution", '[tool.uv]\nresolution = "newest"\n', 'one of "highest", "lowest"'),
-            ("shape versions[1].requires_dist", '{"versions": [{}, {"requires_dist": "a"}]}', "a list of texts, or null"),
+            (
+                "shape versions[1].requires_dist",
+                '{"versions": [{}, {"requires_dist": "a"}]}',
+                "a list of texts, or null",
+            ),
         ]:
             with self.subTest(place):
-                self.assertIn(said, self.place(place, text, "p.json" if place.startswith("shape versions") else "p.toml"))
+                self.assertIn(
+                    said, self.place(place, text, "p.json" if place.startswith("shape versions") else "p.toml")
+                )
 
     def test_what_is_not_supported(self) -> None:
-        self.assertIn("a URL isn't supported", self.place("unsupported project.dependencies[0]", '[project]\ndependencies = ["a @ https://x/y"]\n'))
-        self.assertIn("requirements are met from one index folder", self.place("unsupported tool.uv.sources", "[tool.uv.sources]\na = { path = '.' }\n"))
+        self.assertIn(
+            "a URL isn't supported",
+            self.place("unsupported project.dependencies[0]", '[project]\ndependencies = ["a @ https://x/y"]\n'),
+        )
+        self.assertIn(
+            "requirements are met from one index folder",
+            self.place("unsupported tool.uv.sources", "[tool.uv.sources]\na = { path = '.' }\n"),
+        )
 
     def test_lines_of_files_that_are_not_of_their_form(self) -> None:
         self.assertIn("line 2: name = \"x", self.place("not TOML", '[project]\nname = "x\n'))

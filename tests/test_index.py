@@ -214,7 +214,21 @@ class WhatTheResolverCannotUse(Indexed):
 
 class VersionOrder(unittest.TestCase):
     def test_order_and_equality(self) -> None:
-        texts = ["1.0.dev1", "1.0a1.dev1", "1.0a1", "1.0b2", "1.0rc1", "1.0", "1.0+a", "1.0+a.b", "1.0+2", "1.0.post1.dev1", "1.0.post1", "1.1", "1!0"]
+        texts = [
+            "1.0.dev1",
+            "1.0a1.dev1",
+            "1.0a1",
+            "1.0b2",
+            "1.0rc1",
+            "1.0",
+            "1.0+a",
+            "1.0+a.b",
+            "1.0+2",
+            "1.0.post1.dev1",
+            "1.0.post1",
+            "1.1",
+            "1!0",
+        ]
         keys = [version(it).key for it in texts]
         self.assertEqual(keys, sorted(keys))
         for one, other in [("1.0", "1"), ("v1.0-1", "1.0.post1"), ("1.0preview", "1.0rc0"), ("1.0+A_1", "1.0+a.1")]:

@@ -83,7 +83,9 @@ class StandIn(Folder):
         return found
 
     def files(self) -> List[str]:
-        return sorted(it.name for it in self.top.iterdir() if it.name not in ("asked", "answer", "status", "stand-in", "kept"))
+        return sorted(
+            it.name for it in self.top.iterdir() if it.name not in ("asked", "answer", "status", "stand-in", "kept")
+        )
 
 
 class SafeLock(StandIn):
@@ -104,7 +106,11 @@ class SafeLock(StandIn):
 
     def test_all_other_answers_leave_the_lock_as_it_was(self) -> None:
         for status, text, said in [
-            (1, REFUSED, "no selection serves this fork (fork: -; region: *); `tools/explain pyproject.toml ix` says why"),
+            (
+                1,
+                REFUSED,
+                "no selection serves this fork (fork: -; region: *); `tools/explain pyproject.toml ix` says why",
+            ),
             (3, "malformed: pyproject.toml: not TOML\n", "malformed: pyproject.toml: not TOML"),
             (3, "malformed: unilock.lock: line 6\n", "--upgrade makes a new lock without the old one"),
             (4, "limit: forks 2048\n", "limit: forks 2048"),
@@ -122,7 +128,9 @@ class SafeLock(StandIn):
 
     def test_the_core_of_a_refusal_is_shown(self) -> None:
         self.answers(REFUSED + "core: 2\ndemo 0.1 needs q {1}\nq 1 needs z {}\n", 1)
-        self.assertEqual(self.ran("lock", status=1).stderr.splitlines()[1:], ["  demo 0.1 needs q {1}", "  q 1 needs z {}"])
+        self.assertEqual(
+            self.ran("lock", status=1).stderr.splitlines()[1:], ["  demo 0.1 needs q {1}", "  q 1 needs z {}"]
+        )
 
     def test_an_answer_that_is_no_lock_is_not_written(self) -> None:
         self.lock.write_text(OLD)
@@ -189,7 +197,14 @@ class SafeLock(StandIn):
         self.lock.write_text(OLD)
         self.write("stand-in", f"#!/bin/sh\necho >{self.top}/begun\nexec sleep 30\n")
         line = [sys.executable, str(TOP / "tools" / "lock")]
-        running = subprocess.Popen(line, cwd=self.top, env=self.environment(), stdout=subprocess.PIPE, stderr=subprocess.PIPE, start_new_session=True)
+        running = subprocess.Popen(
+            line,
+            cwd=self.top,
+            env=self.environment(),
+            stdout=subprocess.PIPE,
+            stderr=subprocess.PIPE,
+            start_new_session=True,
+        )
         until = time.monotonic() + 30
         while not (self.top / "begun").exists() and time.monotonic() < until:
             time.sleep(0.01)
@@ -217,7 +232,9 @@ class WithTheProgram(Folder):
         self.assertEqual(self.printed("lock"), ["unilock.lock is current: 2 packages"])
         self.write("ix/b.json", document("b", {"version": "1"}, {"version": "2"}))
         self.ran("lock", "--check")
-        self.assertEqual(self.printed("lock", "--upgrade-package", "b"), ["b 1 -> 2", "unilock.lock is written: 2 packages"])
+        self.assertEqual(
+            self.printed("lock", "--upgrade-package", "b"), ["b 1 -> 2", "unilock.lock is written: 2 packages"]
+        )
         said = ["a 1 -> 2", "added c 1", "unilock.lock is written: 3 packages"]
         self.assertEqual(self.printed("lock", "--upgrade"), said)
         self.ran("lock", "--check")
@@ -237,7 +254,9 @@ class WithTheProgram(Folder):
         for path in sorted((TOP / "examples").glob("*/*.lock")):
             with self.subTest(path.parent.name):
                 lock = locks.load(str(path))
-                self.assertEqual(sum(len(list(it.all_edges())) for it in lock.packages), path.read_text().count("    { name = "))
+                self.assertEqual(
+                    sum(len(list(it.all_edges())) for it in lock.packages), path.read_text().count("    { name = ")
+                )
                 self.assertEqual(len(lock.forks), path.read_text().split("[[package]]")[0].count('    "'))
 
     def test_the_mode_lowest_with_an_old_lock_takes_the_newest_that_the_lock_has(self) -> None:
@@ -245,7 +264,9 @@ class WithTheProgram(Folder):
         self.write("pyproject.toml", text)
         self.ran("lock", "--upgrade")
         self.assertEqual([it.version for it in locks.load(str(self.lock)).by_name()["a"]], ["1"])
-        both = OLD.replace('name = "b"\nversion = "1"', 'name = "a"\nversion = "2"').replace('{ name = "b", version = "1" }', '{ name = "a", version = "2" }')
+        both = OLD.replace('name = "b"\nversion = "1"', 'name = "a"\nversion = "2"').replace(
+            '{ name = "b", version = "1" }', '{ name = "a", version = "2" }'
+        )
         self.lock.write_text(both)
         self.ran("lock")
         self.assertEqual([it.version for it in locks.load(str(self.lock)).by_name()["a"]], ["2"])

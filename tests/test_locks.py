@@ -89,7 +89,10 @@ class Tree(Folder):
         self.assertEqual(self.ran("tree", LOCK, "--invert", "Colorama").stdout, (
             "colorama 0.4.6\n├── pytest 8.1.1 ; sys_platform == 'win32'\n│   └── web-app[dev] 1.2.0\n└── web-app 1.2.0 ; sys_platform == 'win32'\n"
         ))
-        self.assertIn("nothing needs colorama here", self.ran("tree", LOCK, EXAMPLE / "linux.json", "-i", "colorama", status=1).stderr)
+        self.assertIn(
+            "nothing needs colorama here",
+            self.ran("tree", LOCK, EXAMPLE / "linux.json", "-i", "colorama", status=1).stderr,
+        )
         self.assertEqual(self.printed("tree", LOCK, "-i", "numpy"), [
             "numpy 1.26.4", "└── web-app 1.2.0 ; python_full_version < '3.11.0'",
             "numpy 2.1.0", "└── web-app 1.2.0 ; python_full_version >= '3.11.0'",
@@ -134,7 +137,10 @@ class Tree(Folder):
             ("", "line 1: it is no lock"),
             ("version = 2\nroot = \"a\"\n", "cut off"),
             (EXTRAS[: len(EXTRAS) // 2], "line"),
-            (EXTRAS.replace("[[package]]\nname = \"s\"\nversion = \"1\"\n", ""), "p 1 needs s 1, which the lock hasn't"),
+            (
+                EXTRAS.replace("[[package]]\nname = \"s\"\nversion = \"1\"\n", ""),
+                "p 1 needs s 1, which the lock hasn't",
+            ),
             (EXTRAS.replace("version = \"0.1\"", "versio = \"0.1\""), "line 6: no line of a lock"),
         ]:
             with self.subTest(said):
@@ -148,7 +154,10 @@ class Diff(Folder):
         text = LOCK.read_text()
         new = text.replace('name = "starlette"\nversion = "0.36.3"', 'name = "starlette"\nversion = "0.36.9"')
         new = new.replace('name = "starlette", version = "0.36.3"', 'name = "starlette", version = "0.36.9"')
-        new = new.replace("python_full_version < '3.11.0'\" },\n]\n\n[[package]]\nname = \"starlette\"", "python_full_version < '3.10.0'\" },\n]\n\n[[package]]\nname = \"starlette\"")
+        new = new.replace(
+            "python_full_version < '3.11.0'\" },\n]\n\n[[package]]\nname = \"starlette\"",
+            "python_full_version < '3.10.0'\" },\n]\n\n[[package]]\nname = \"starlette\"",
+        )
         new = new.replace("supported-markers = \"python_full_version >= '3.9.0'\"\n", "")
         self.write("new.lock", new)
         self.assertEqual(self.printed("diff", LOCK, "new.lock", status=1), [
@@ -167,10 +176,14 @@ class Diff(Folder):
         for number, told in enumerate(files):
             self.write(f"{number}.lock", f'version = 2\nroot = "a"\n\n[[package]]\n{block}{told}')
         self.assertEqual(self.printed("diff", "0.lock", "1.lock", status=1), ["a 1: file a.whl has ANOTHER HASH"])
-        self.assertEqual(self.printed("diff", "1.lock", "2.lock", status=1), ["a 1: file a.whl removed", "a 1: file b.whl added"])
+        self.assertEqual(
+            self.printed("diff", "1.lock", "2.lock", status=1), ["a 1: file a.whl removed", "a 1: file b.whl added"]
+        )
 
     def test_a_lock_that_is_not_there(self) -> None:
-        self.assertEqual(self.ran("diff", LOCK, "absent.lock", status=1).stderr, "diff: absent.lock: No such file or directory\n")
+        self.assertEqual(
+            self.ran("diff", LOCK, "absent.lock", status=1).stderr, "diff: absent.lock: No such file or directory\n"
+        )
 
 
 class Outdated(Folder):

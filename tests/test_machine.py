@@ -40,8 +40,12 @@ class Machine(Folder):
             ("linux", ["posix", "linux", "Linux", "x86_64"]),
         ]:
             told = self.told("--platform", platform, "--python", "3.12")
-            self.assertEqual([told[it] for it in ("os_name", "sys_platform", "platform_system", "platform_machine")], found)
-            self.assertEqual((told["python_full_version"], told["platform_release"], told["platform_version"]), ("3.12.0", "", ""))
+            self.assertEqual(
+                [told[it] for it in ("os_name", "sys_platform", "platform_system", "platform_machine")], found
+            )
+            self.assertEqual(
+                (told["python_full_version"], told["platform_release"], told["platform_version"]), ("3.12.0", "", "")
+            )
         self.assertEqual(self.told("--platform", "linux", "--machine", "aarch64")["platform_machine"], "aarch64")
 
     def test_another_interpreter(self) -> None:
@@ -51,7 +55,9 @@ class Machine(Folder):
         self.assertEqual(self.told("--python", "3.11")["implementation_version"], "3.11.0")
 
     def test_a_pre_release_counts_as_its_release(self) -> None:
-        self.assertEqual([machine.full_version(it) for it in ("3.14.0rc1", "3.13.0+", "3.12.4")], ["3.14.0", "3.13.0", "3.12.4"])
+        self.assertEqual(
+            [machine.full_version(it) for it in ("3.14.0rc1", "3.13.0+", "3.12.4")], ["3.14.0", "3.13.0", "3.12.4"]
+        )
 
     def test_words_that_are_not_right(self) -> None:
         for words in [["--python", "3"], ["--python", "3.x"], ["--platform", "amiga"], ["more"]]:
@@ -67,7 +73,12 @@ class Machine(Folder):
     def test_the_program_reads_it(self) -> None:
         want_program(self)
         self.ran("machine", "--platform", "windows", "--python", "3.10", "-o", "windows.json")
-        done = subprocess.run([str(PROGRAM), "env", str(TOP / "examples/web_app/unilock.lock"), "windows.json"], cwd=self.top, capture_output=True, text=True)
+        done = subprocess.run(
+            [str(PROGRAM), "env", str(TOP / "examples/web_app/unilock.lock"), "windows.json"],
+            cwd=self.top,
+            capture_output=True,
+            text=True,
+        )
         self.assertEqual(done.stdout, (TOP / "examples/web_app/windows.txt").read_text())
 
 

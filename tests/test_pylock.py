@@ -117,7 +117,9 @@ class Written(Folder):
     def stand_in(self) -> None:
         """A program that answers `export` with the rows above."""
         cases = "".join(f'"export unilock.lock{" " + words if words else ""}") printf "%s" "{rows}";;\n' for words, rows in ROWS.items())
-        self.program = self.write("stand-in", f'#!/bin/sh\ncase "$*" in\n{cases}*) echo "extra: nope"; exit 8;;\nesac\n')
+        self.program = self.write(
+            "stand-in", f'#!/bin/sh\ncase "$*" in\n{cases}*) echo "extra: nope"; exit 8;;\nesac\n'
+        )
         Path(str(self.program)).chmod(0o755)
 
     def tables(self, name: str = "pylock.toml") -> Dict[str, Any]:
@@ -146,7 +148,9 @@ class ByAStandIn(Written):
     def test_extras_and_groups(self) -> None:
         self.ran("pylock", "unilock.lock", "dev", "--group", "Test", "--files", "wheels", "-o", "sub.toml")
         self.assertEqual([it["name"] for it in toml_of(str(self.top / "sub.toml"))["packages"]], ["a", "b", "c", "d"])
-        self.assertIn("has no extra nope (it has: dev, group-test)", self.ran("pylock", "unilock.lock", "nope", status=8).stderr)
+        self.assertIn(
+            "has no extra nope (it has: dev, group-test)", self.ran("pylock", "unilock.lock", "nope", status=8).stderr
+        )
 
     def test_urls_of_a_server(self) -> None:
         with Server(self.wheels) as server:
@@ -163,7 +167,10 @@ class ByAStandIn(Written):
         self.assertFalse((self.top / "pylock.toml").exists())
         (self.wheels / "a-1.tar.gz").unlink()
         # Another file of that name has another hash, so its place isn't the locked one's.
-        self.assertIn("no place is known of a-1.tar.gz", self.ran("pylock", "unilock.lock", "--index", "ix", "--files", "wheels", status=1).stderr)
+        self.assertIn(
+            "no place is known of a-1.tar.gz",
+            self.ran("pylock", "unilock.lock", "--index", "ix", "--files", "wheels", status=1).stderr,
+        )
 
     def test_requirements_of_all_machines(self) -> None:
         said = self.ran("requirements", "unilock.lock", "dev", "--all").stdout
@@ -182,7 +189,9 @@ class ByTheProgram(Written):
         import subprocess
 
         for words, rows in ROWS.items():
-            done = subprocess.run([str(PROGRAM), "export", str(self.lock), *words.split()], stdout=subprocess.PIPE, text=True, check=False)
+            done = subprocess.run(
+                [str(PROGRAM), "export", str(self.lock), *words.split()], stdout=subprocess.PIPE, text=True, check=False
+            )
             self.assertEqual((done.returncode, done.stdout), (0, rows))
 
     def test_the_example(self) -> None:

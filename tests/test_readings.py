@@ -73,13 +73,26 @@ class Texts(unittest.TestCase):
         keys = [version_of(it).key for it in INCREASING]
         self.assertEqual(keys, sorted(keys))
         self.assertEqual([version_of(it).text() for it in INCREASING], INCREASING)
-        for text, normal in [("v1.0", "1.0"), (" 1!2.0-ALPHA_3 ", "1!2.0a3"), ("1.0-1", "1.0.post1"), ("1.0.RC", "1.0rc0"), ("01.002", "1.2"), ("1.0+Ubuntu-01_2", "1.0+ubuntu.1.2")]:
+        for text, normal in [
+            ("v1.0", "1.0"),
+            (" 1!2.0-ALPHA_3 ", "1!2.0a3"),
+            ("1.0-1", "1.0.post1"),
+            ("1.0.RC", "1.0rc0"),
+            ("01.002", "1.2"),
+            ("1.0+Ubuntu-01_2", "1.0+ubuntu.1.2"),
+        ]:
             self.assertEqual(version_of(text).text(), normal)
         for text in ["", "1.", "1.0+", "a1", "1..0", "1!", "18446744073709551616", "1.0+a..b", "１"]:
             self.assertIsNone(version(text))
 
     def test_markers(self) -> None:
-        known = {"python_version": "3.10", "python_full_version": "3.10.4", "sys_platform": "linux", "extra": "x-y", "implementation_version": "7.10"}
+        known = {
+            "python_version": "3.10",
+            "python_full_version": "3.10.4",
+            "sys_platform": "linux",
+            "extra": "x-y",
+            "implementation_version": "7.10",
+        }
         for text, truth in [
             ("python_version < '3.9'", False),
             ("python_version in '3.9, 3.10'", True),
@@ -126,10 +139,15 @@ class TheProgramsOwn(Folder):
     def used(self, releases: List[dict]) -> List[bool]:
         """Whether each release is used, asked for all at once: each is its own package, and the project wants `pK>0`."""
         for number, entry in enumerate(releases):
-            self.write(f"ix/p{number}.json", json.dumps({"name": f"p{number}", "versions": [{"version": "0"}, {"version": "1", **entry}]}))
+            self.write(
+                f"ix/p{number}.json",
+                json.dumps({"name": f"p{number}", "versions": [{"version": "0"}, {"version": "1", **entry}]}),
+            )
         names = ", ".join(f'"p{number}"' for number in range(len(releases)))
         self.write("p.toml", f'[project]\nname = "demo"\nrequires-python = ">=3.8"\ndependencies = [{names}]\n')
-        done = subprocess.run([str(PROGRAM), "lock", "p.toml", "ix", "1"], cwd=self.top, stdout=subprocess.PIPE, text=True, check=False)
+        done = subprocess.run(
+            [str(PROGRAM), "lock", "p.toml", "ix", "1"], cwd=self.top, stdout=subprocess.PIPE, text=True, check=False
+        )
         self.assertEqual(done.returncode, 0, done.stdout)
         return [f'name = "p{number}"\nversion = "1"\n' in done.stdout for number in range(len(releases))]
 

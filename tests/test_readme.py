@@ -21,7 +21,10 @@ class Rows(Folder):
     def setUp(self) -> None:
         super().setUp()
         want_program(self)
-        self.write("ix/a.json", document("a", {"version": "1", "requires_python": ">=3.8"}, {"version": "2", "requires_python": ">=3.10"}))
+        self.write(
+            "ix/a.json",
+            document("a", {"version": "1", "requires_python": ">=3.8"}, {"version": "2", "requires_python": ">=3.10"}),
+        )
 
     def asked(self, *words: str) -> str:
         done = subprocess.run([str(PROGRAM), *words], cwd=self.top, stdout=subprocess.PIPE, text=True, check=False)
@@ -55,7 +58,9 @@ class Keys(Rows):
         plain = self.locked(BARE)
         for key in keys.PASSED_OVER:
             self.assertEqual(self.locked(BARE + f'[tool.uv]\n{key} = "x"\n'), plain, key)
-        self.assertEqual(self.locked(BARE + 'readme = 1\n[tool.poetry]\nx = 1\n[build-system]\nrequires = ["a @ x"]\n'), plain)
+        self.assertEqual(
+            self.locked(BARE + 'readme = 1\n[tool.poetry]\nx = 1\n[build-system]\nrequires = ["a @ x"]\n'), plain
+        )
 
     def test_keys_that_are_read(self) -> None:
         plain = self.locked(BARE)
@@ -73,7 +78,9 @@ class Keys(Rows):
         self.assertIn('version = "0"', self.locked(BARE.replace('version = "0.1"\n', "")))
         self.write("ix/b.json", document("b", {"version": "1"}, {"version": "2"}))
         for mode, found in [("highest", "2"), ("lowest", "1"), ("lowest-direct", "1")]:
-            self.assertEqual(self.versions(BARE.replace('"a"', '"b"') + f'[tool.uv]\nresolution = "{mode}"\n', "b"), [found])
+            self.assertEqual(
+                self.versions(BARE.replace('"a"', '"b"') + f'[tool.uv]\nresolution = "{mode}"\n', "b"), [found]
+            )
 
     def test_a_missing_bound_on_the_interpreter(self) -> None:
         self.assertIn("no selection serves", self.locked(BARE.replace('requires-python = ">=3.8"\n', ""), 1))
@@ -103,7 +110,9 @@ class Differences(Rows):
         self.ran("machine", "-o", "machine.json")
         self.assertEqual(self.asked("env", "unilock.lock", "machine.json", "group-test"), "a==1\nb==1\n")
         self.assertEqual(self.asked("env", "unilock.lock", "machine.json"), "a==1\n")
-        self.assertEqual(self.printed("requirements", "unilock.lock", "--group", "test", "--no-hashes"), ["a==1", "b==1"])
+        self.assertEqual(
+            self.printed("requirements", "unilock.lock", "--group", "test", "--no-hashes"), ["a==1", "b==1"]
+        )
 
     def test_fewest_is_the_default(self) -> None:
         self.assertEqual(self.versions(BARE), ["1"])
@@ -111,7 +120,9 @@ class Differences(Rows):
         text = BARE + '[tool.uv]\nfork-strategy = "requires-python"\n'
         self.assertEqual(self.versions(text), ["1", "2"])
         edges = locks.read(self.locked(text), "lock").root_package().edges
-        self.assertEqual([it.marker for it in edges], ["python_full_version < '3.10.0'", "python_full_version >= '3.10.0'"])
+        self.assertEqual(
+            [it.marker for it in edges], ["python_full_version < '3.10.0'", "python_full_version >= '3.10.0'"]
+        )
 
     def test_upper_python_bounds_of_releases_count_as_nothing(self) -> None:
         self.write("ix/a.json", document("a", {"version": "1"}, {"version": "2", "requires_python": ">=3.8,<3.11"}))
@@ -133,7 +144,9 @@ class Differences(Rows):
         self.assertEqual([it.version for it in locks.load(str(self.top / "unilock.lock")).by_name()["a"]], ["1"])
 
     def test_further_keys_of_documents_are_passed_over(self) -> None:
-        entry = {"version": "1", "files": [{"file": "a-1.whl", "sha256": "0" * 64, "url": "https://x/a-1.whl", "size": 3}]}
+        entry = {
+            "version": "1", "files": [{"file": "a-1.whl", "sha256": "0" * 64, "url": "https://x/a-1.whl", "size": 3}]
+        }
         self.write("ix/a.json", json.dumps({"name": "a", "versions": [entry]}))
         self.assertIn('{ file = "a-1.whl", hash = "sha256:' + "0" * 64 + '" },', self.locked(BARE))
 

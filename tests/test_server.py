@@ -2,12 +2,19 @@
 
 from __future__ import annotations
 
+import contextlib
 import json
+import os
+import pty
+import random
+import signal
+import subprocess
+import sys
+import time
 import unittest
-from pathlib import Path
 from typing import List
 
-from making import Folder, metadata_text, plain_wheel, sdist, sha256, wheel
+from making import TOP, Folder, metadata_text, plain_wheel, sdist, sha256, wheel
 from serving import Server
 
 PROJECT = """[project]
@@ -63,8 +70,12 @@ class Forms(Served):
         self.fill()
         texts = set()
         for form in ["json", "html"]:
-            for metadata, ranges in [("core-metadata", True), ("dist-info-metadata", True), (None, True), (None, False)]:
-                with self.subTest(form=form, metadata=metadata, ranges=ranges), Server(self.wheels, form, metadata, ranges) as server:
+            for metadata, ranges in [
+                ("core-metadata", True), ("dist-info-metadata", True), (None, True), (None, False)
+            ]:
+                with self.subTest(form=form, metadata=metadata, ranges=ranges), Server(
+                    self.wheels, form, metadata, ranges
+                ) as server:
                     said = self.index(server, "--no-cache")
                     self.assertEqual(self.found(), WHOLE)
                     asked = [len(server.paths(it)) > 0 for it in ("metadata", "range", "whole")]
@@ -92,11 +103,13 @@ class Forms(Served):
             self.assertEqual(file["size"], (self.wheels / "alpha-1.2-py3-none-any.whl").stat().st_size)
 
     def test_a_wheel_larger_than_what_is_first_asked_for(self) -> None:
-        import random
-
         noise = random.Random(1).getrandbits(8 * 300_000).to_bytes(300_000, "big")
         info = "big-1.dist-info"
-        wheel(self.wheels, "big-1-py3-none-any.whl", {f"{info}/METADATA": metadata_text("big", "1", ["alpha"]), "big.bin": noise})
+        wheel(
+            self.wheels,
+            "big-1-py3-none-any.whl",
+            {f"{info}/METADATA": metadata_text("big", "1", ["alpha"]), "big.bin": noise},
+        )
         self.write("pyproject.toml", '[project]\nname = "p"\ndependencies = ["big"]\n')
         with Server(self.wheels, metadata=None) as server:
             self.index(server)
@@ -156,7 +169,10 @@ class Choices(Served):
             ('override-dependencies = ["a>=4"]', ["4", "5"]),
             ('constraint-dependencies = ["a<3; os_name == \'nt\'"]', ["1", "2", "3", "4", "5"]),
         ]:
-            self.write("pyproject.toml", f'[project]\nname = "p"\ndependencies = ["b", "a<5; os_name == \'nt\'"]\n[tool.uv]\n{settings}\n')
+            self.write(
+                "pyproject.toml",
+                f'[project]\nname = "p"\ndependencies = ["b", "a<5; os_name == \'nt\'"]\n[tool.uv]\n{settings}\n',
+            )
             with Server(self.wheels) as server:
                 self.index(server)
             self.assertEqual(self.found()["a"], found)
@@ -164,7 +180,10 @@ class Choices(Served):
     def test_groups_are_walked(self) -> None:
         plain_wheel(self.wheels, "a", "1")
         plain_wheel(self.wheels, "b", "1")
-        self.write("pyproject.toml", '[project]\nname = "p"\n[dependency-groups]\nOne = ["a"]\ntwo = [{ include-group = "one" }, "b"]\n')
+        self.write(
+            "pyproject.toml",
+            '[project]\nname = "p"\n[dependency-groups]\nOne = ["a"]\ntwo = [{ include-group = "one" }, "b"]\n',
+        )
         with Server(self.wheels) as server:
             self.index(server)
         self.assertEqual(sorted(self.found()), ["a", "b"])
@@ -195,7 +214,9 @@ class Faults(Served):
         with Server(self.wheels) as server:
             server.faults = {"/simple/gamma/": [503] * 9}
             said = self.index(server, "--tries", "2", status=5)
-            self.assertRegex(said, r"\Aindex: http://127.0.0.1:\d+/simple/gamma/: 503 Service Unavailable \(2 tries\)\n\Z")
+            self.assertRegex(
+                said, r"\Aindex: http://127.0.0.1:\d+/simple/gamma/: 503 Service Unavailable \(2 tries\)\n\Z"
+            )
         self.assertEqual(self.found(), {"kept": []})
 
     def index_before(self) -> None:
@@ -208,13 +229,23 @@ class Faults(Served):
         said = self.ran("index", "pyproject.toml", "ix", "--index-url", url, *NO_RETRIES, status=5).stderr
         self.assertIn("Connection refused (1 tries)", said)
         self.assertEqual(len(said.splitlines()), 1)
-        secret = self.ran("index", "pyproject.toml", "ix", "--index-url", url.replace("//", "//me:secret@"), *NO_RETRIES, status=5).stderr
+        secret = self.ran(
+            "index", "pyproject.toml", "ix", "--index-url", url.replace("//", "//me:secret@"), *NO_RETRIES, status=5
+        ).stderr
         self.assertNotIn("secret", secret)
 
     def test_a_page_that_is_none(self) -> None:
         plain_wheel(self.wheels, "alpha", "1.2")
         with Server(self.wheels) as server:
-            said = self.ran("index", "pyproject.toml", "ix", "--index-url", server.url.replace("simple", "files"), *NO_RETRIES, status=0).stderr
+            said = self.ran(
+                "index",
+                "pyproject.toml",
+                "ix",
+                "--index-url",
+                server.url.replace("simple", "files"),
+                *NO_RETRIES,
+                status=0,
+            ).stderr
             self.assertIn("the server has no project alpha, which served requires", said)
             server.json_page = lambda *_: b"[]"  # type: ignore[method-assign]
             self.assertIn("isn't as PEP 691 has it", self.index(server, status=5))
@@ -306,8 +337,13 @@ class Words(Served):
         with Server(self.wheels) as server:
             for words in [["--newest", "0"], ["--jobs", "0"], ["--tries", "0"]]:
                 self.assertEqual(len(self.index(server, *words, status=2).splitlines()), 1)
-            self.assertIn("not TOML", self.ran("index", self.write("q.toml", "[x"), "ix", "--index-url", server.url, status=3).stderr)
-            self.assertIn("absent.toml", self.ran("index", "absent.toml", "ix", "--index-url", server.url, status=1).stderr)
+            self.assertIn(
+                "not TOML",
+                self.ran("index", self.write("q.toml", "[x"), "ix", "--index-url", server.url, status=3).stderr,
+            )
+            self.assertIn(
+                "absent.toml", self.ran("index", "absent.toml", "ix", "--index-url", server.url, status=1).stderr
+            )
             self.write("url.toml", '[project]\nname = "p"\ndependencies = ["a @ https://x/y"]\n')
             said = self.ran("index", "url.toml", "ix", "--index-url", server.url, status=3).stderr
             self.assertIn("project.dependencies[0]: `a @ https://x/y`: a URL isn't supported", said)
@@ -319,6 +355,40 @@ class Words(Served):
             self.assertNotIn("\r", said)
             self.assertRegex(said, r"index: \d+ requests, [\d.]+ MB\nindex: ix has 5 packages with 7 releases\n\Z")
             self.assertEqual(self.index(server, "--quiet"), "")
+
+    def started(self, server: Server, stderr: int) -> "subprocess.Popen[bytes]":
+        line = [sys.executable, str(TOP / "tools" / "index"), "pyproject.toml", "ix", "--index-url", server.url]
+        return subprocess.Popen(line, cwd=self.top, env={**self.environment(), "TERM": "xterm"}, stderr=stderr)
+
+    def test_progress_on_a_terminal(self) -> None:
+        self.fill()
+        with Server(self.wheels) as server:
+            shown, terminal = pty.openpty()
+            running = self.started(server, terminal)
+            os.close(terminal)
+            said = b""
+            with contextlib.suppress(OSError):
+                while True:
+                    said += os.read(shown, 4096) or b""
+            os.close(shown)
+            self.assertEqual(running.wait(30), 0)
+        self.assertRegex(said, rb"\r\x1b\[Kindex: \d+ packages, \d+ releases, \d+ open, [\d.]+ MB")
+        self.assertTrue(said.endswith(b"\r\x1b[Kindex: 12 requests, 0.0 MB\r\nindex: ix has 5 packages with 7 releases\r\n"), said)
+
+    def test_an_interrupt_is_not_kept_waiting_by_a_silent_server(self) -> None:
+        self.fill()
+        with Server(self.wheels) as server:
+            server.silent = ["/simple/alpha/"]
+            running = self.started(server, subprocess.PIPE)
+            until = time.monotonic() + 20
+            while ("/simple/alpha/", 0) not in server.asked and time.monotonic() < until:
+                time.sleep(0.01)
+            begun = time.monotonic()
+            running.send_signal(signal.SIGINT)
+            said = running.communicate(timeout=30)[1]
+            self.assertEqual((running.returncode, said), (130, b"index: interrupted\n"))
+            self.assertLess(time.monotonic() - begun, 10)
+        self.assertFalse(self.out.exists())
 
 
 if __name__ == "__main__":

@@ -37,7 +37,15 @@ def fill(wheels: Path) -> None:
     plain_wheel(wheels, "alpha", "1.3", ["gamma<0.4", "ancient; python_version < '3'"])
     plain_wheel(wheels, "alpha", "2.0", ["gamma>=0.4"])
     plain_wheel(wheels, "beta-tools", "2.0", ["gamma>=0.3", "epsilon>=1; extra == 'fast'"])
-    for name, version in [("delta", "1.0"), ("epsilon", "1.0"), ("gamma", "0.3"), ("gamma", "0.4"), ("winonly", "1.0"), ("zeta", "1"), ("ancient", "1")]:
+    for name, version in [
+        ("delta", "1.0"),
+        ("epsilon", "1.0"),
+        ("gamma", "0.3"),
+        ("gamma", "0.4"),
+        ("winonly", "1.0"),
+        ("zeta", "1"),
+        ("ancient", "1"),
+    ]:
         plain_wheel(wheels, name, version)
 
 
@@ -45,14 +53,23 @@ class Walk(Folder):
     def setUp(self) -> None:
         super().setUp()
         want_program(self)
-        if subprocess.run([sys.executable, "-c", "import ensurepip, venv"], capture_output=True, check=False).returncode:
+        if subprocess.run(
+            [sys.executable, "-c", "import ensurepip, venv"], capture_output=True, check=False
+        ).returncode:
             skip(self, "venv and pip aren't there")
         self.wheels = self.top / "wheels"
         fill(self.wheels)
         self.write("pyproject.toml", PROJECT)
 
     def installed(self, folder: str = ".venv") -> Dict[str, str]:
-        words = [str(self.top / folder / "bin" / "python"), "-m", "pip", "list", "--format=json", "--disable-pip-version-check"]
+        words = [
+            str(self.top / folder / "bin" / "python"),
+            "-m",
+            "pip",
+            "list",
+            "--format=json",
+            "--disable-pip-version-check",
+        ]
         done = subprocess.run(words, stdout=subprocess.PIPE, env=self.environment(), check=True)
         found = {it["name"].lower().replace("_", "-"): it["version"] for it in json.loads(done.stdout)}
         return {name: version for name, version in found.items() if name not in ("pip", "setuptools", "wheel")}
@@ -61,7 +78,9 @@ class Walk(Folder):
         python = sys.executable
         with Server(self.wheels, "html") as server:
             self.ran("index", "pyproject.toml", "ix", "--index-url", server.url, python=python)
-            self.assertEqual(self.ran("lock", python=python).stdout.splitlines()[-1], "unilock.lock is written: 7 packages")
+            self.assertEqual(
+                self.ran("lock", python=python).stdout.splitlines()[-1], "unilock.lock is written: 7 packages"
+            )
             words = ["sync", "unilock.lock", "--index-url", server.url]
             done = self.ran(*words, python=python)
             self.assertEqual(self.installed(), WANTED)
@@ -80,7 +99,10 @@ class Walk(Folder):
         self.assertEqual(len(self.installed()), 6)
         self.assertIn("removing delta 1.0\nremoving zeta 1\n", self.ran(*words, python=python).stdout)
         self.assertEqual(self.installed(), WANTED)
-        self.assertIn("unilock.lock has no extra nope (it has: dev, group-test)", self.ran(*words, "nope", status=8, python=python).stderr)
+        self.assertIn(
+            "unilock.lock has no extra nope (it has: dev, group-test)",
+            self.ran(*words, "nope", status=8, python=python).stderr,
+        )
 
     def spoiled(self, server: Server, words: list, python: str) -> None:
         """A file whose bytes aren't the locked ones isn't installed."""
@@ -104,10 +126,25 @@ class Walk(Folder):
         printed = self.ran("requirements", "unilock.lock", "dev", python=python).stdout
         heads = [line.rstrip(" \\") for line in printed.splitlines() if not line.startswith(" ")]
         self.assertEqual(heads, ["alpha==1.3", "beta-tools[fast]==2.0", "delta==1.0", "epsilon==1.0", "gamma==0.3"])
-        self.assertIn(f"delta==1.0 \\\n    --hash=sha256:{sha256(self.wheels / 'delta-1.0-py3-none-any.whl')}\n", printed)
+        self.assertIn(
+            f"delta==1.0 \\\n    --hash=sha256:{sha256(self.wheels / 'delta-1.0-py3-none-any.whl')}\n", printed
+        )
         self.ran("requirements", "unilock.lock", "dev", "-o", "requirements.txt", python=python)
         subprocess.run([python, "-m", "venv", "fresh"], cwd=self.top, check=True)
-        line = ["fresh/bin/python", "-m", "pip", "install", "--quiet", "--no-index", "--find-links", "wheels", "--no-deps", "--require-hashes", "-r", "requirements.txt"]
+        line = [
+            "fresh/bin/python",
+            "-m",
+            "pip",
+            "install",
+            "--quiet",
+            "--no-index",
+            "--find-links",
+            "wheels",
+            "--no-deps",
+            "--require-hashes",
+            "-r",
+            "requirements.txt",
+        ]
         done = subprocess.run(line, cwd=self.top, env=self.environment(), capture_output=True, text=True, check=False)
         self.assertEqual(done.returncode, 0, done.stderr)
         self.assertEqual(self.installed("fresh"), {**WANTED, "delta": "1.0"})
@@ -137,7 +174,10 @@ class Requirements(Folder):
         self.ran("machine", "--python", "3.7", "-o", "old.json")
         done = self.ran("requirements", "unilock.lock", "--machine", "old.json", "-o", "requirements.txt", status=8)
         self.assertEqual(done.stdout, "")
-        self.assertEqual(done.stderr, "requirements: unilock.lock isn't for this machine: it supports python_full_version >= '3.8.0'\n")
+        self.assertEqual(
+            done.stderr,
+            "requirements: unilock.lock isn't for this machine: it supports python_full_version >= '3.8.0'\n",
+        )
         self.assertEqual((self.top / "requirements.txt").read_text(), "kept\n")
         self.assertEqual(self.ran("requirements", "unilock.lock", "x", status=8).stdout, "")
 
@@ -157,7 +197,10 @@ class Requirements(Folder):
 
     def test_a_folder_that_is_no_environment(self) -> None:
         self.write("mine/notes.txt", "mine")
-        self.assertIn("isn't empty and is no virtual environment", self.ran("sync", "unilock.lock", "--venv", "mine", status=1).stderr)
+        self.assertIn(
+            "isn't empty and is no virtual environment",
+            self.ran("sync", "unilock.lock", "--venv", "mine", status=1).stderr,
+        )
         self.assertEqual(os.listdir(self.top / "mine"), ["notes.txt"])
         done = self.ran("sync", "unilock.lock", "--dry-run")
         self.assertEqual(done.stdout.splitlines()[0], "would install alpha 1.3")

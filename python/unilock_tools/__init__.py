@@ -1,7 +1,8 @@
 """Commands around unilock: from a package index to an installation, and words for people.
 
-Each command is a module with a `main` that takes the words of its command line and answers the exit status. `tools/NAME`
-runs it from a clone; `unilock-tools NAME` or `python -m unilock_tools NAME` where the package is installed.
+Each command is a module with a `main` that takes the words of its command line and answers the exit status.
+`tools/NAME` runs it from a clone; `unilock-tools NAME` or `python -m unilock_tools NAME` where the package is
+installed.
 """
 
 import os

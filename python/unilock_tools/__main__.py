@@ -36,7 +36,10 @@ def main(words: Optional[List[str]] = None) -> int:
         print("unilock-tools {}".format(__version__))
         return 0
     if not given or given[0] not in COMMANDS:
-        print(usage() if not given else "unilock-tools: no command {} (--help lists them)".format(given[0]), file=sys.stderr)
+        print(
+            usage() if not given else "unilock-tools: no command {} (--help lists them)".format(given[0]),
+            file=sys.stderr,
+        )
         return 2
     status = importlib.import_module("unilock_tools." + given[0]).main(given[1:])
     return int(status)

@@ -1,7 +1,7 @@
 """The metadata of a wheel or a source distribution, and the checks that make them fit to be read.
 
-A wheel's METADATA are what will be installed. A source distribution counts where its PKG-INFO has metadata 2.2 or later and
-neither its requirements nor its bound on the interpreter are dynamic (PEP 643).
+A wheel's METADATA are what will be installed. A source distribution counts where its PKG-INFO has metadata 2.2 or
+later and neither its requirements nor its bound on the interpreter are dynamic (PEP 643).
 """
 
 from __future__ import annotations

@@ -1,7 +1,7 @@
 """A cache on disk whose entries are checked by their hash when they are read.
 
-An entry is a line of JSON with what belongs to it and the SHA-256 of its body, then the body. One that doesn't match its
-hash counts as absent.
+An entry is a line of JSON with what belongs to it and the SHA-256 of its body, then the body. One that doesn't match
+its hash counts as absent.
 """
 
 from __future__ import annotations

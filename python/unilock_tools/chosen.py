@@ -1,4 +1,4 @@
-"""What a lock gives on a machine, or on all machines, with some extras: asked of the program, and joined with the files' hashes."""
+"""What a lock gives on a machine or on all machines, with some extras, as the program says, with the files' hashes."""
 
 from __future__ import annotations
 
@@ -18,7 +18,7 @@ LINE = re.compile(r"([a-z0-9-]+)(?:\[([a-z0-9,-]+)\])?==([^ ]+)(?: ; (.+))?\Z")
 
 
 class Pick(NamedTuple):
-    """A package that is wanted: its name, its version, the extras that are asked of it, and where (empty: everywhere)."""
+    """A package that is wanted: name, version, the extras that are asked of it, and where (empty: everywhere)."""
 
     name: str
     version: str
@@ -34,7 +34,13 @@ def add_words(made: console.Parser) -> None:
     """The words that several commands have: the lock, the root's extras and its groups."""
     made.add_argument("lock", metavar="LOCK", help="the lock")
     made.add_argument("extras", metavar="EXTRA", nargs="*", help="extras of the project")
-    made.add_argument("--group", metavar="NAME", action="append", default=[], help="a dependency group of the project (the word group-NAME); may be repeated")
+    made.add_argument(
+        "--group",
+        metavar="NAME",
+        action="append",
+        default=[],
+        help="a dependency group of the project (the word group-NAME); may be repeated",
+    )
 
 
 def extras_of(asked: argparse.Namespace) -> List[str]:
@@ -99,13 +105,15 @@ def machine_file(path: Optional[str]) -> Dict[str, str]:
 def with_hashes(lock: Lock, picks: List[Pick], hashes: bool) -> str:
     """Requirement lines for pip, each with the hashes of the files that the lock has of it.
 
-    Lines of one package and one place that differ in extras alone would be two requirements to pip, so they are one line.
+    Lines of one package and one place that differ in extras alone would be two requirements to pip, so they are one
+    line.
     """
     lines = []
     for pick in picks:
         files = lock.package(pick.name, pick.version).files if hashes else []
         if hashes and not files:
-            raise Refused(f"the lock has no hashes of {pick.name} {pick.version}, since its index has none; --no-hashes writes without")
+            what = f"{pick.name} {pick.version}"
+            raise Refused(f"the lock has no hashes of {what}, since its index has none; --no-hashes writes without")
         summed = sorted({it for _, it in files})
         lines.append(" \\\n".join([pick.requirement(), *(f"    --hash=sha256:{it}" for it in summed)]) + "\n")
     return "".join(lines)

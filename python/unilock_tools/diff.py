@@ -1,4 +1,5 @@
-"""Says in words what differs between two locks: packages added and removed, versions, extras, edges with their markers, files.
+"""Says in words what differs between two locks: packages added and removed, versions, extras, edges with their
+markers, files.
 
 Needs the standard library alone. Status: 0 the locks are the same in all this; 1 they differ, or a lock can't be read;
 2 the words aren't right.

@@ -1,13 +1,15 @@
-"""Looks a project file over, and its index folder: what will be refused, what is passed over, and what is likely a slip.
+"""Looks a project file over, and its index folder: what will be refused, what is passed over, and what is likely a
+slip.
 
-Of the project: texts that can't be read, with their line; keys that are refused or passed over though they matter to uv; keys
-that look misspelt; a missing requires-python. Of the index: names without a document, and names like them; documents that can't
-be read; releases that can't be used, with the entry that is the cause.
+Of the project: texts that can't be read, with their line; keys that are refused or passed over though they matter to
+uv; keys that look misspelt; a missing requires-python. Of the index: names without a document, and names like them;
+documents that can't be read; releases that can't be used, with the entry that is the cause.
 
-A line begins with `error` (the program will refuse it), `warning` (likely a slip, or a release that will not count) or `note`.
+A line begins with `error` (the program will refuse it), `warning` (likely a slip, or a release that will not count)
+or `note`.
 
-Needs a reader of TOML: Python 3.11, or the library `tomli` or pip's copy of it. Status: 0 no error and no warning; 1 some; 2 the
-words aren't right; 3 the project file can't be read at all.
+Needs a reader of TOML: Python 3.11, or the library `tomli` or pip's copy of it. Status: 0 no error and no warning; 1
+some; 2 the words aren't right; 3 the project file can't be read at all.
 """
 
 from __future__ import annotations
@@ -32,8 +34,12 @@ class Finding(NamedTuple):
 
 def parser() -> console.Parser:
     made = console.Parser("doctor", __doc__)
-    made.add_argument("project", metavar="PROJECT", nargs="?", default="pyproject.toml", help="the project file (pyproject.toml)")
-    made.add_argument("index", metavar="INDEX", nargs="?", help="the index folder (`ix` beside the project, where it is there)")
+    made.add_argument(
+        "project", metavar="PROJECT", nargs="?", default="pyproject.toml", help="the project file (pyproject.toml)"
+    )
+    made.add_argument(
+        "index", metavar="INDEX", nargs="?", help="the index folder (`ix` beside the project, where it is there)"
+    )
     return made
 
 
@@ -76,7 +82,9 @@ class Doctor:
         bound = self.project.get("requires-python")
         if bound is not None and (not isinstance(bound, str) or specifiers_fault(bound)):
             yield self.error("project.requires-python", places.wrong_shape("project.requires-python", bound))
-        for key in sorted(set(self.project.get("dynamic", [])) & {"dependencies", "optional-dependencies", "requires-python"}):
+        for key in sorted(
+            set(self.project.get("dynamic", [])) & {"dependencies", "optional-dependencies", "requires-python"}
+        ):
             yield self.error("project.dynamic", f"it names {key}; {places.UNSUPPORTED['project.dynamic']}")
         for place, entry in self.entries():
             if isinstance(entry, str) and requirement_fault(entry):
@@ -95,9 +103,13 @@ class Doctor:
             ("fork-strategy", ["fewest", "requires-python", "deep"]),
         ]:
             if key in self.settings and self.settings[key] not in known:
-                yield self.error(f"tool.uv.{key}", f"it is {places.shown(self.settings[key])}; supported: {', '.join(known)}")
+                yield self.error(
+                    f"tool.uv.{key}", f"it is {places.shown(self.settings[key])}; supported: {', '.join(known)}"
+                )
         listed = self.settings.get("environments", [])
-        for number, entry in enumerate([listed] if isinstance(listed, str) else listed if isinstance(listed, list) else []):
+        for number, entry in enumerate(
+            [listed] if isinstance(listed, str) else listed if isinstance(listed, list) else []
+        ):
             try:
                 markers.read(str(entry))
             except markers.NoMarker as fault:
@@ -106,9 +118,14 @@ class Doctor:
     def entries(self) -> Iterator[Tuple[str, Any]]:
         """Each requirement of the file with its place."""
         lists: List[Tuple[str, Any]] = [("project.dependencies", self.project.get("dependencies"))]
-        lists += [(f"project.optional-dependencies.{it}", found) for it, found in table(self.project.get("optional-dependencies")).items()]
-        lists += [(f"dependency-groups.{it}", found) for it, found in table(self.tables.get("dependency-groups")).items()]
-        lists += [(f"tool.uv.{it}", self.settings.get(it)) for it in ("constraint-dependencies", "override-dependencies")]
+        extras = table(self.project.get("optional-dependencies"))
+        lists += [(f"project.optional-dependencies.{it}", found) for it, found in extras.items()]
+        lists += [
+            (f"dependency-groups.{it}", found) for it, found in table(self.tables.get("dependency-groups")).items()
+        ]
+        lists += [
+            (f"tool.uv.{it}", self.settings.get(it)) for it in ("constraint-dependencies", "override-dependencies")
+        ]
         for place, found in lists:
             for number, entry in enumerate(found if isinstance(found, list) else []):
                 yield f"{place}[{number}]", entry
@@ -128,8 +145,8 @@ class Doctor:
         if "requires-python" not in self.project and self.project:
             yield Finding(
                 "warning",
-                "project.requires-python: it isn't there, so every interpreter from 0.0 on is supported, and a release that needs "
-                'any Python can\'t be used; requires-python = ">=3.9", say, makes it usable',
+                "project.requires-python: it isn't there, so every interpreter from 0.0 on is supported, and a release "
+                'that needs any Python can\'t be used; requires-python = ">=3.9", say, makes it usable',
             )
         for key, found in self.settings.items():
             if keys.PASSED_OVER.get(key) and found not in ([], {}):
@@ -138,7 +155,8 @@ class Doctor:
         if poetry.get("dependencies"):
             yield Finding("warning", "tool.poetry.dependencies: it is passed over; project.dependencies is read")
         if self.settings.get("resolution") in ("lowest", "lowest-direct"):
-            yield Finding("note", "tool.uv.resolution: with an old lock the versions that it has come first, the newest of them before the older")
+            first = "with an old lock the versions that it has come first, the newest of them before the older"
+            yield Finding("note", f"tool.uv.resolution: {first}")
 
     def index_findings(self) -> Iterator[Finding]:
         project = Project(self.path, self.tables)
@@ -150,7 +168,9 @@ class Doctor:
         for name in sorted(walk.absent):
             near = difflib.get_close_matches(name, names, 2, 0.75)
             hint = f"; is {' or '.join(near)} meant?" if near else ""
-            yield Finding("warning", f"{self.index} has no document of {name}, which {walk.absent[name]} requires{hint}")
+            yield Finding(
+                "warning", f"{self.index} has no document of {name}, which {walk.absent[name]} requires{hint}"
+            )
         for fault in walk.faults:
             yield Finding("error", fault)
         for name in sorted(walk.found):
@@ -209,7 +229,8 @@ def release_findings(name: str, document: dict) -> Iterator[Finding]:
             upper.append(spelled)
     if upper:
         shown = ", ".join(upper) if len(upper) <= 3 else f"{upper[0]}, .. {upper[-1]} ({len(upper)} releases)"
-        yield Finding("note", f"{name} {shown}: the upper part of Requires-Python counts as nothing here; pip will refuse an interpreter above it")
+        nothing = "the upper part of Requires-Python counts as nothing here; pip will refuse an interpreter above it"
+        yield Finding("note", f"{name} {shown}: {nothing}")
 
 
 def specifiers(text: str) -> list:

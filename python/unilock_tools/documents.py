@@ -1,7 +1,7 @@
 """Package documents: one for each project, as the program reads them, gathered from files and written as a folder.
 
-All files of one version make one release. Where the metadata of two files of one version differ they are refused, since a
-lock for all platforms needs one answer.
+All files of one version make one release. Where the metadata of two files of one version differ they are refused,
+since a lock for all platforms needs one answer.
 """
 
 from __future__ import annotations

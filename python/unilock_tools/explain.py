@@ -1,11 +1,12 @@
 """Says in sentences why a project can't be locked: the requirements that clash, or what is wrong at a place of a file.
 
-It asks the program why PROJECT can't be locked by INDEX, or reads what it printed before from --from FILE (`-`: standard input),
-and looks in both for the requirement of which release is the cause, the versions that it would take and why none of them counts.
-Where the program tells which requirements alone already clash, these are said, and with --steps how that is shown.
+It asks the program why PROJECT can't be locked by INDEX, or reads what it printed before from --from FILE (`-`:
+standard input), and looks in both for the requirement of which release is the cause, the versions that it would take
+and why none of them counts. Where the program tells which requirements alone already clash, these are said, and with
+--steps how that is shown.
 
-Needs a reader of TOML: Python 3.11, or the library `tomli` or pip's copy of it. Status: 0 explained, or nothing is refused; 1 the
-text to explain can't be read; 2 the words aren't right; 70 the program can't be built.
+Needs a reader of TOML: Python 3.11, or the library `tomli` or pip's copy of it. Status: 0 explained, or nothing is
+refused; 1 the text to explain can't be read; 2 the words aren't right; 70 the program can't be built.
 """
 
 from __future__ import annotations
@@ -21,7 +22,9 @@ from .lock import cores
 
 def parser() -> console.Parser:
     made = console.Parser("explain", __doc__)
-    made.add_argument("project", metavar="PROJECT", nargs="?", default="pyproject.toml", help="the project file (pyproject.toml)")
+    made.add_argument(
+        "project", metavar="PROJECT", nargs="?", default="pyproject.toml", help="the project file (pyproject.toml)"
+    )
     made.add_argument("index", metavar="INDEX", nargs="?", help="the index folder (`ix` beside the project)")
     made.add_argument("--from", dest="text", metavar="FILE", help="explain this text, which `lock` or `why` printed")
     made.add_argument("--steps", action="store_true", help="say each step that shows it, too")

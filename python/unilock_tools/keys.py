@@ -1,4 +1,5 @@
-"""The keys of a project file: which the program reads, which it refuses, and which it passes over though they matter to uv.
+"""The keys of a project file: which the program reads, which it refuses, and which it passes over though they matter
+to uv.
 
 All other keys are passed over. README.md has the same table.
 """
@@ -47,8 +48,8 @@ PASSED_OVER = {
 # PEP 621 and its followers
 PROJECT = [
     "name", "version", "description", "readme", "requires-python", "license", "license-files", "authors", "maintainers",
-    "keywords", "classifiers", "urls", "scripts", "gui-scripts", "entry-points", "dependencies", "optional-dependencies",
-    "dynamic", "import-names", "import-namespaces",
+    "keywords", "classifiers", "urls", "scripts", "gui-scripts", "entry-points", "dependencies",
+    "optional-dependencies", "dynamic", "import-names", "import-namespaces",
 ]  # fmt: skip
 TABLES = ["project", "build-system", "dependency-groups", "tool"]
 UV = [it[len("tool.uv.") :] for it in READ if it.startswith("tool.uv.")] + REFUSED + list(PASSED_OVER)

@@ -1,12 +1,13 @@
 """Locks a project safely: the lock is replaced only by a good one, and what changed is said in words.
 
-PROJECT is a pyproject.toml, INDEX a folder of package documents as `tools/index` writes it. The lock stands beside the
-project as unilock.lock. Where there is one already its versions are kept, as far as the project still allows them. The new
-lock is written beside the old one and takes its name when it is whole; on any other answer the old lock stays as it was.
+PROJECT is a pyproject.toml, INDEX a folder of package documents as `tools/index` writes it. The lock stands beside
+the project as unilock.lock. Where there is one already its versions are kept, as far as the project still allows
+them. The new lock is written beside the old one and takes its name when it is whole; on any other answer the old lock
+stays as it was.
 
-Needs the standard library alone. Status: 0 the lock is written, or is current; 1 no choice of versions serves the project,
-or --check found that the lock isn't current; 2 the words aren't right; 3 to 7 as the program's (a file is malformed, a limit,
-a read fault, memory); 70 the program can't be built; 130 interrupted.
+Needs the standard library alone. Status: 0 the lock is written, or is current; 1 no choice of versions serves the
+project, or --check found that the lock isn't current; 2 the words aren't right; 3 to 7 as the program's (a file is
+malformed, a limit, a read fault, memory); 70 the program can't be built; 130 interrupted.
 """
 
 from __future__ import annotations
@@ -23,15 +24,26 @@ from .console import Refused
 
 def parser() -> console.Parser:
     made = console.Parser("lock", __doc__)
-    made.add_argument("project", metavar="PROJECT", nargs="?", default="pyproject.toml", help="the project file (pyproject.toml)")
+    made.add_argument(
+        "project", metavar="PROJECT", nargs="?", default="pyproject.toml", help="the project file (pyproject.toml)"
+    )
     made.add_argument("index", metavar="INDEX", nargs="?", help="the index folder (`ix` beside the project)")
     made.add_argument("-o", "--lock", metavar="LOCK", help="the lock (`unilock.lock` beside the project)")
     made.add_argument("--upgrade", "-U", action="store_true", help="choose all versions anew, as if there were no lock")
     made.add_argument(
-        "--upgrade-package", "-P", metavar="NAME", action="append", default=[], help="choose this package's versions anew; may be repeated"
+        "--upgrade-package",
+        "-P",
+        metavar="NAME",
+        action="append",
+        default=[],
+        help="choose this package's versions anew; may be repeated",
     )
-    made.add_argument("--check", action="store_true", help="write nothing, and end with status 1 where the lock isn't current")
-    made.add_argument("--workers", metavar="N", type=int, default=cores(), help="threads, 1 to 64 (the machine's cores: %(default)s)")
+    made.add_argument(
+        "--check", action="store_true", help="write nothing, and end with status 1 where the lock isn't current"
+    )
+    made.add_argument(
+        "--workers", metavar="N", type=int, default=cores(), help="threads, 1 to 64 (the machine's cores: %(default)s)"
+    )
     made.add_argument("--quiet", "-q", action="store_true", help="don't say what changed")
     return made
 

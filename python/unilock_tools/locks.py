@@ -156,7 +156,9 @@ def read(text: str, path: str) -> Lock:
     for package in lock.packages:
         for _, edge in package.all_edges():
             if (edge.name, edge.version) not in known:
-                raise Refused(f"{path}: {package.name} {package.version} needs {edge.name} {edge.version}, which the lock hasn't")
+                raise Refused(
+                    f"{path}: {package.name} {package.version} needs {edge.name} {edge.version}, which the lock hasn't"
+                )
     return lock
 
 

@@ -1,8 +1,9 @@
 """Prints a machine file: the environment variables of PEP 508, as JSON.
 
 Without options it is that of the running interpreter: `python3.12 tools/machine > machine.json`. With --platform and
---python it is that of a machine that one hasn't got: `tools/machine --platform windows --python 3.12`. What such options
-can't tell (the system's release and version) is the empty text, unless --release and --system-version give it.
+--python it is that of a machine that one hasn't got: `tools/machine --platform windows --python 3.12`. What such
+options can't tell (the system's release and version) is the empty text, unless --release and --system-version give
+it.
 
 Needs the standard library alone, and runs on Python 3.6 and later. Status: 0 printed; 2 the words aren't right.
 """
@@ -36,7 +37,7 @@ def implementation_version() -> str:
 
 
 def full_version(text: str) -> str:
-    """The three numbers of an interpreter. A pre-release (`3.14.0rc1`, `3.13.0+`) counts as the release that it precedes."""
+    """The three numbers of an interpreter. A pre-release (`3.14.0rc1`) counts as the release that it precedes."""
     found = re.match(r"[0-9]+\.[0-9]+\.[0-9]+", text)
     return found.group() if found else text
 
@@ -96,7 +97,9 @@ def parser() -> console.Parser:
     made.add_argument("--platform", choices=sorted(PLATFORMS), help="another operating system")
     made.add_argument("--python", metavar="VERSION", help="another interpreter, as 3.12 or 3.12.4")
     made.add_argument("--implementation", choices=sorted(IMPLEMENTATIONS), help="another implementation of Python")
-    made.add_argument("--implementation-version", metavar="TEXT", help="its version, where it isn't the language's (PyPy: 7.3.15)")
+    made.add_argument(
+        "--implementation-version", metavar="TEXT", help="its version, where it isn't the language's (PyPy: 7.3.15)"
+    )
     made.add_argument("--machine", metavar="TEXT", help="platform_machine: x86_64, aarch64, AMD64, ARM64, arm64, ..")
     made.add_argument("--release", metavar="TEXT", help="platform_release")
     made.add_argument("--system-version", metavar="TEXT", help="platform_version")

@@ -1,8 +1,8 @@
 """Environment markers (PEP 508), as the program reads and judges them.
 
-`read` gives a marker, `truth` its value where some variables are known and others aren't: None where that leaves it open.
-The program's profile: text variables are compared as texts, and `python_version in '3.8, 3.9'` asks for membership in a
-list of versions. Standard library alone.
+`read` gives a marker, `truth` its value where some variables are known and others aren't: None where that leaves it
+open. The program's profile: text variables are compared as texts, and `python_version in '3.8, 3.9'` asks for
+membership in a list of versions. Standard library alone.
 """
 
 from __future__ import annotations
@@ -13,8 +13,8 @@ from typing import Callable, Dict, Iterator, List, Mapping, NamedTuple, Optional
 from . import versions
 
 TEXTS = [
-    "os_name", "sys_platform", "platform_machine", "platform_python_implementation", "platform_release", "platform_system",
-    "platform_version", "implementation_name",
+    "os_name", "sys_platform", "platform_machine", "platform_python_implementation", "platform_release",
+    "platform_system", "platform_version", "implementation_name",
 ]  # fmt: skip
 PYTHONS = ["python_version", "python_full_version"]
 OLD_SPELLINGS = {
@@ -27,7 +27,8 @@ OLD_SPELLINGS = {
 }
 VARIABLES = [*TEXTS, *PYTHONS, "implementation_version", "extra"]
 TOKEN = re.compile(
-    r"[ \t]*(?:(?P<mark>[()])|(?P<op>===|==|!=|<=|>=|~=|<|>)|(?P<word>[A-Za-z0-9_.]+)|'(?P<single>[^'\\]*)'|\"(?P<double>[^\"\\]*)\")"
+    r"[ \t]*(?:(?P<mark>[()])|(?P<op>===|==|!=|<=|>=|~=|<|>)|(?P<word>[A-Za-z0-9_.]+)"
+    r"|'(?P<single>[^'\\]*)'|\"(?P<double>[^\"\\]*)\")"
 )
 MIRRORED = {"<": ">", "<=": ">=", ">": "<", ">=": "<=", "==": "==", "!=": "!="}
 DEEPEST = 64
@@ -189,7 +190,9 @@ def holds(atom: Atom, value: str) -> bool:
     if atom.contains:
         return (literal in value) == (op == "in")
     if atom.variable == "extra":
-        same = value == (versions.normal_name(literal) if versions.NAME.match(literal) else literal) and bool(value or not literal)
+        same = value == (versions.normal_name(literal) if versions.NAME.match(literal) else literal) and bool(
+            value or not literal
+        )
         return same == (op == "==")
     if atom.variable in PYTHONS:
         return python_holds(op, literal, value)
@@ -232,12 +235,17 @@ def python_points(marker: Optional[Marker], bound: str) -> List[str]:
             numbers = ([int(it) for it in spelled.split(".")] + [0, 0])[:3]
             major, minor, micro = numbers
             found |= {(major, minor, micro), (major, minor, micro + 1), (major, minor + 1, 0), (major + 1, 0, 0)}
-            found |= {(major, minor, micro - 1)} if micro else {(major, minor - 1, 99)} if minor else {(major - 1, 99, 99)} if major else set()
+            if micro:
+                found.add((major, minor, micro - 1))
+            elif minor:
+                found.add((major, minor - 1, 99))
+            elif major:
+                found.add((major - 1, 99, 99))
     return [".".join(map(str, it)) for it in sorted(found)]
 
 
 def possible(marker: Optional[Marker], bound: str, extras: List[str]) -> bool:
-    """Whether a requirement with this marker can apply on some interpreter that meets `bound`, with one of the extras or none."""
+    """Whether a requirement with this marker can apply on an interpreter that meets `bound`, with an extra or none."""
     if marker is None:
         return True
     clauses = versions.specifiers_of(bound)

@@ -1,10 +1,11 @@
 """Lists the packages of a lock of which the index folder has a newer version, with what holds each back.
 
-Newer is the newest release that can be used, isn't yanked and is no pre-release (but where all are, or the locked one is). Where
-the project file stands beside the lock, or --project names it, its own requirements count among what holds a package back.
+Newer is the newest release that can be used, isn't yanked and is no pre-release (but where all are, or the locked one
+is). Where the project file stands beside the lock, or --project names it, its own requirements count among what holds
+a package back.
 
-Needs the standard library; with a project file a reader of TOML. Status: 0 listed, or nothing is newer; 1 the lock or the index
-can't be read; 2 the words aren't right.
+Needs the standard library; with a project file a reader of TOML. Status: 0 listed, or nothing is newer; 1 the lock or
+the index can't be read; 2 the words aren't right.
 """
 
 from __future__ import annotations
@@ -24,7 +25,9 @@ def parser() -> console.Parser:
     made = console.Parser("outdated", __doc__)
     made.add_argument("lock", metavar="LOCK", help="the lock")
     made.add_argument("index", metavar="INDEX", nargs="?", help="the index folder (`ix` beside the lock)")
-    made.add_argument("--project", metavar="PROJECT", help="the project file (pyproject.toml beside the lock, where it is there)")
+    made.add_argument(
+        "--project", metavar="PROJECT", help="the project file (pyproject.toml beside the lock, where it is there)"
+    )
     return made
 
 
@@ -55,7 +58,9 @@ class Holders:
     def requirements(self, user: Package) -> List[Requirement]:
         if user.name == self.lock.root:
             found = self.project
-            return [] if found is None else [it.requirement for it in [*found.requirements, *found.constraints, *found.overrides]]
+            return [] if found is None else [
+                it.requirement for it in [*found.requirements, *found.constraints, *found.overrides]
+            ]
         wanted = version_of(user.version).key
         for spelled, entry in documents.releases_of(documents.load(self.index, user.name)):
             if version_of(spelled).key == wanted:

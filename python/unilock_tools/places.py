@@ -17,7 +17,7 @@ from .versions import normal_name, specifiers_fault, version
 LIMITS = {
     "file-bytes": "a project, machine or index file may have at most 16,777,216 bytes",
     "text-bytes": "a lock or a derivation may have at most 67,108,864 bytes",
-    "total-bytes": "all index documents together may have at most 268,435,456 bytes; `tools/index --newest N` makes fewer",
+    "total-bytes": "all documents together may have at most 268,435,456 bytes; `tools/index --newest N` makes fewer",
     "packages": "at most 20,000 names may be met; `tools/index --newest N` makes an index that reaches fewer",
     "releases": "the documents may have at most 200,000 releases; `tools/index --newest N` makes fewer",
     "comparisons": "at most 256 different comparisons of texts may stand in markers, such as `'x' in platform_version`",
@@ -32,7 +32,7 @@ SHAPES = {
     "project.requires-python": "a text such as \">=3.9\": clauses of PEP 440, with commas between them",
     "project.dependencies": "a list of texts",
     "project.optional-dependencies": "a table of lists, whose keys are different names (`A_b` and `a-b` are one name)",
-    "dependency-groups": "a table of lists, whose keys are different names, and `group-NAME` is no extra of the project",
+    "dependency-groups": "a table of lists, whose keys are different names, and `group-NAME` is no extra",
     "tool": "a table",
     "tool.uv": "a table",
     "tool.uv.constraint-dependencies": "a list of texts",
@@ -44,8 +44,8 @@ SHAPES = {
     "versions": "a list `versions`",
 }
 UNSUPPORTED = {
-    "project.dynamic": "dependencies, optional-dependencies and requires-python are read from the file alone; a build isn't run to learn them",
-    "tool.uv.sources": "sources (paths, git, URLs, workspace members) aren't supported; requirements are met from one index folder",
+    "project.dynamic": "what it names is read from the file alone: nothing is built to learn it",
+    "tool.uv.sources": "sources (paths, git, URLs, ..) aren't supported; requirements are met from one index folder",
     "tool.uv.conflicts": "declared conflicts aren't supported; all extras and groups are locked together",
     "tool.uv.index": "several indexes aren't supported; `tools/index --index-url URL` reads one",
     "tool.uv.extra-index-url": "several indexes aren't supported; `tools/index --index-url URL` reads one",
@@ -81,7 +81,9 @@ def line_of(text: str, value: Any) -> Optional[int]:
     """The line of a file where a text stands, where it stands once."""
     if not isinstance(value, str) or not value:
         return None
-    found = [number for number, line in enumerate(text.split("\n"), 1) if value in line or json.dumps(value)[1:-1] in line]
+    found = [
+        number for number, line in enumerate(text.split("\n"), 1) if value in line or json.dumps(value)[1:-1] in line
+    ]
     return found[0] if len(found) == 1 else None
 
 
@@ -120,7 +122,7 @@ def wrong_entry(plain: str) -> str:
         "versions.requires_python": "a text or null",
         "versions.requires_dist": "a list of texts, or null",
         "versions.yanked": "true, false, a text or null",
-        "versions.files": "objects with `file`, a name without blanks, and `sha256`, 64 hexadecimal digits; each file once",
+        "versions.files": "objects with `file`, a name without blanks, and `sha256`, 64 hex digits; each file once",
     }
     return f"wanted: {wanted.get(plain, 'the form of a package document')}"
 
@@ -164,7 +166,7 @@ def malformed(path: str, place: str) -> List[str]:
     if word == "line" and rest.isdigit():
         return [f"{path}: {at_line(text, int(rest))}"]
     fixed = {
-        "empty region": "requires-python and tool.uv.environments together leave no interpreter and no platform to support",
+        "empty region": "requires-python and tool.uv.environments leave no interpreter and no platform to support",
         "name": "the document's `name` isn't that of its file",
         "root": "the lock has no package of its root's name, or several",
         "python form": "python_full_version isn't three numbers joined by points",

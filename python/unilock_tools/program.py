@@ -1,7 +1,7 @@
 """The program `unilock`: where it stands, how it is called, and what its statuses mean.
 
-It is looked for in this order: what the environment variable UNILOCK names; the script `unilock` of the clone that these
-tools stand in, which proves and builds the program where that wasn't done yet; `unilock` on the path.
+It is looked for in this order: what the environment variable UNILOCK names; the script `unilock` of the clone that
+these tools stand in, which proves and builds the program where that wasn't done yet; `unilock` on the path.
 """
 
 import os
@@ -42,7 +42,9 @@ def answer(words: List[str], folder: Optional[str] = None) -> Answer:
     """Runs the program. What the script says while it builds goes to standard error as it comes."""
     program = path()
     try:
-        done = subprocess.run([program, *words], stdout=subprocess.PIPE, stdin=subprocess.DEVNULL, cwd=folder, check=False)
+        done = subprocess.run(
+            [program, *words], stdout=subprocess.PIPE, stdin=subprocess.DEVNULL, cwd=folder, check=False
+        )
     except OSError as fault:
         raise Refused(f"{program}: {fault.strerror or fault}", 3) from None
     if done.returncode < 0:

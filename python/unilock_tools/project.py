@@ -40,8 +40,12 @@ class Project:
         uv = tool.get("uv") if isinstance(tool, dict) else None
         self.settings: Dict[str, Any] = uv if isinstance(uv, dict) else {}
         self.requirements = list(self._requirements(project))
-        self.constraints = self._listed("tool.uv.constraint-dependencies", self.settings.get("constraint-dependencies", []), None)
-        self.overrides = self._listed("tool.uv.override-dependencies", self.settings.get("override-dependencies", []), None)
+        self.constraints = self._listed(
+            "tool.uv.constraint-dependencies", self.settings.get("constraint-dependencies", []), None
+        )
+        self.overrides = self._listed(
+            "tool.uv.override-dependencies", self.settings.get("override-dependencies", []), None
+        )
 
     def _requirements(self, project: Dict[str, Any]) -> Iterator[Placed]:
         yield from self._listed("project.dependencies", project.get("dependencies", []), None)
@@ -58,7 +62,9 @@ class Project:
         found = self.tables.get("dependency-groups", {})
         return {normal_name(it): found[it] for it in found} if isinstance(found, dict) else {}
 
-    def _group(self, group: str, of: str, groups: Dict[str, list], open_: List[str], done: Set[str]) -> Iterator[Placed]:
+    def _group(
+        self, group: str, of: str, groups: Dict[str, list], open_: List[str], done: Set[str]
+    ) -> Iterator[Placed]:
         """The requirements of a group with those of the groups that it includes, each group once."""
         if group in done:
             return
@@ -70,7 +76,9 @@ class Project:
                 continue
             included = normal_name(str(entry.get("include-group"))) if isinstance(entry, dict) else ""
             if included not in groups or included in [*open_, group]:
-                raise Refused(f"{self.path}: {place}: it includes {included or entry!r}, which is no group or includes itself", 3)
+                raise Refused(
+                    f"{self.path}: {place}: it includes {included or entry!r}, which is no group or includes itself", 3
+                )
             yield from self._group(included, of, groups, [*open_, group], done)
 
     def _listed(self, place: str, entries: Any, extra: Optional[str]) -> List[Placed]:
@@ -92,7 +100,7 @@ class Project:
         return sorted({normal_name(it) for it in declared} | {f"group-{it}" for it in self.groups()})
 
     def bounds(self, name: str) -> List[Requirement]:
-        """Requirements on a name that hold in every world, whatever else is chosen: no release that fails one is ever chosen."""
+        """Requirements on a name that hold in every world: no release that fails one is ever chosen."""
         constraints = [it.requirement for it in self.constraints if it.requirement.name == name]
         return [it for it in [*self.direct(name), *constraints] if it.marker is None]
 

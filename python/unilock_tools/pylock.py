@@ -1,11 +1,11 @@
 """Writes a pylock.toml (PEP 751) from a lock, which pip and uv can install from.
 
-It has the packages that the lock gives with the chosen extras and groups on all machines, each with its marker, and its files
-with their hashes. A file needs a place: the URL that the index folder (--index) tells, where `tools/index` took it from a
-server; or a folder of files (--files), to which the path is written relative to the pylock.toml.
+It has the packages that the lock gives with the chosen extras and groups on all machines, each with its marker, and
+its files with their hashes. A file needs a place: the URL that the index folder (--index) tells, where `tools/index`
+took it from a server; or a folder of files (--files), to which the path is written relative to the pylock.toml.
 
-Status: 0 written; 1 the lock can't be read, or a file has no place; 2 the words aren't right; 3 to 9 as the program's; 70 the
-program can't be built.
+Status: 0 written; 1 the lock can't be read, or a file has no place; 2 the words aren't right; 3 to 9 as the
+program's; 70 the program can't be built.
 """
 
 from __future__ import annotations
@@ -35,9 +35,21 @@ class Placed(NamedTuple):
 def parser() -> console.Parser:
     made = console.Parser("pylock", __doc__)
     chosen.add_words(made)
-    made.add_argument("--index", metavar="INDEX", help="the index folder, for the URLs of files (`ix` beside the lock, where it is there)")
-    made.add_argument("--files", metavar="DIR", action="append", default=[], help="a folder that holds files of the lock; may be repeated")
-    made.add_argument("-o", "--out", metavar="FILE", default="pylock.toml", help="the file to write (%(default)s; - prints it)")
+    made.add_argument(
+        "--index",
+        metavar="INDEX",
+        help="the index folder, for the URLs of files (`ix` beside the lock, where it is there)",
+    )
+    made.add_argument(
+        "--files",
+        metavar="DIR",
+        action="append",
+        default=[],
+        help="a folder that holds files of the lock; may be repeated",
+    )
+    made.add_argument(
+        "-o", "--out", metavar="FILE", default="pylock.toml", help="the file to write (%(default)s; - prints it)"
+    )
     return made
 
 
@@ -73,7 +85,8 @@ class Places:
                 return Placed(file, sha256, None, relative, os.path.getsize(path))
         entry = self.told(package, file, sha256)
         if entry is None or "url" not in entry:
-            raise Refused(f"no place is known of {file}; --index names an index folder made from a server, --files a folder that has it")
+            hint = "--index names an index folder made from a server, --files a folder that has it"
+            raise Refused(f"no place is known of {file}; {hint}")
         return Placed(file, sha256, quote(entry["url"], safe="%/:=&?~#+!$,;'@()*[]"), None, entry.get("size"))
 
 

@@ -1,10 +1,10 @@
 """Prints the requirements of a lock, with hashes, for `pip install --require-hashes --no-deps -r`.
 
-They are those of the running interpreter, of the machine that --machine names, or with --all of all machines that the project
-supports, each with its marker. Where the lock doesn't serve the machine nothing is printed or written.
+They are those of the running interpreter, of the machine that --machine names, or with --all of all machines that the
+project supports, each with its marker. Where the lock doesn't serve the machine nothing is printed or written.
 
-Status: 0 printed; 1 the lock can't be read, or has no hashes; 2 the words aren't right; 3 to 9 as the program's (8: the machine
-isn't supported, or an extra isn't known); 70 the program can't be built.
+Status: 0 printed; 1 the lock can't be read, or has no hashes; 2 the words aren't right; 3 to 9 as the program's (8:
+the machine isn't supported, or an extra isn't known); 70 the program can't be built.
 """
 
 from __future__ import annotations

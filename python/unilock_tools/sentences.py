@@ -1,4 +1,4 @@
-"""A refusal in sentences: which requirement of which release is the cause, by which versions, and why others don't count."""
+"""A refusal in sentences: which requirement of which release is the cause, and why other versions don't count."""
 
 from __future__ import annotations
 
@@ -89,7 +89,9 @@ class Teller:
             for place, it in self.behind(need, text):
                 shown = f"{place}: `{it.text}`" if need.node.name == self.project.name else f"`{it.text}`"
                 by_text.setdefault(shown, []).append(text)
-        causes = " and ".join(by_text) if len(by_text) <= 3 else " and ".join(list(by_text)[:2]) + f" and {len(by_text) - 2} more"
+        causes = " and ".join(by_text) if len(by_text) <= 3 else " and ".join(
+            list(by_text)[:2]
+        ) + f" and {len(by_text) - 2} more"
         head = f"{self.node(need.node, need.versions)} needs {need.target}"
         if need.permitted:
             head += f" at {listed(need.permitted)}"
@@ -110,10 +112,14 @@ class Teller:
         for _, it in self.behind(need, need.versions[0]):
             met = [spelled for spelled, _ in known if meets(it.clauses, read(spelled))]
             if not met:
-                reasons.append(f"no version of {name} meets `{it.specifiers}`: the index has {listed([it for it, _ in known])}")
+                reasons.append(
+                    f"no version of {name} meets `{it.specifiers}`: the index has {listed([it for it, _ in known])}"
+                )
             else:
                 reasons += [self.passed_over(name, spelled) for spelled in met[:3] if self.passed_over(name, spelled)]
-        return (", and " + "; ".join(reasons) if reasons else ", and no version is permitted") + self.unusable(name, document)
+        return (
+            ", and " + "; ".join(reasons) if reasons else ", and no version is permitted"
+        ) + self.unusable(name, document)
 
     def passed_over(self, name: str, spelled: str) -> str:
         """Why a version that a requirement allows isn't chosen from."""
@@ -133,13 +139,16 @@ class Teller:
             fault = documents.unusable(spelled, entry.get("requires_python"), entry.get("requires_dist") or [])
             if fault is not None:
                 told.append(f"{name} {spelled} can't be used ({fault})")
-        return "".join(f"; {it}" for it in told[:3]) + (f"; and {len(told) - 3} more can't be used" if len(told) > 3 else "")
+        return "".join(f"; {it}" for it in told[:3]) + (
+            f"; and {len(told) - 3} more can't be used" if len(told) > 3 else ""
+        )
 
     def python(self, step: Python) -> str:
         bounds = {str(self.release(step.node.name, it).get("requires_python")) for it in step.versions}
         supported = self.project.requires_python
-        has = f"the project supports `{supported}`" if supported else "the project supports all, since it has no requires-python"
-        return f"{self.node(step.node, step.versions)} needs Python {' or '.join(f'`{it}`' for it in sorted(bounds))}, and {has}"
+        has = f"`{supported}`" if supported else "all, since it has no requires-python"
+        needed = " or ".join(f"`{it}`" for it in sorted(bounds))
+        return f"{self.node(step.node, step.versions)} needs Python {needed}, and the project supports {has}"
 
     def terms(self, terms: List[Term]) -> str:
         """What terms that don't go together say: `q 1 goes only with z 2`, `q 1 and z 2 don't go together`."""
@@ -151,7 +160,9 @@ class Teller:
             return f"{chosen[0]} can't be chosen" if len(chosen) == 1 else " and ".join(chosen) + " don't go together"
         if not chosen:
             return f"{' or '.join(lacking)} must be chosen"
-        return " and ".join(chosen) + (" goes" if len(chosen) == 1 else " go together") + f" only with {' or '.join(lacking)}"
+        return " and ".join(chosen) + (
+            " goes" if len(chosen) == 1 else " go together"
+        ) + f" only with {' or '.join(lacking)}"
 
     def step(self, step: Step) -> str:
         if isinstance(step, Need):
@@ -195,10 +206,12 @@ class Teller:
             if not self.project.requires_python:
                 yield "Hint: say in the project which interpreters it supports: requires-python = \">=3.9\", say."
             elif self.project.settings.get("fork-strategy", "fewest") == "fewest":
-                yield 'Hint: [tool.uv] fork-strategy = "requires-python" splits by the interpreter where a release needs a newer one.'
-        absent = sorted({it.target.name for it in [*steps, *self.refusal.core] if isinstance(it, Need) and self.document(it.target.name) is None})
+                yield 'Hint: fork-strategy = "requires-python" in [tool.uv] splits where a release needs a newer Python.'
+        wanted = {it.target.name for it in [*steps, *self.refusal.core] if isinstance(it, Need)}
+        absent = sorted(it for it in wanted if self.document(it) is None)
         if absent:
-            yield f"Hint: no document of {', '.join(absent)} stands in {self.index}; `tools/doctor` looks for names like it."
+            names = ", ".join(absent)
+            yield f"Hint: no document of {names} stands in {self.index}; `tools/doctor` looks for names like it."
 
 
 def read(spelled: str) -> Version:

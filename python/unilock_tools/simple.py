@@ -1,8 +1,9 @@
 """A package index's Simple API: the files of a project, and their metadata.
 
-A project's page is read in JSON (PEP 691) or HTML (PEP 503). A file's metadata are the metadata file beside it where the page
-tells of one (PEP 658 and 714); else a wheel's METADATA by HTTP ranges, or from the whole file where the server gives no
-ranges. What has a hash is checked by it. Pages are asked for anew each time, but sent again only where they changed.
+A project's page is read in JSON (PEP 691) or HTML (PEP 503). A file's metadata are the metadata file beside it where
+the page tells of one (PEP 658 and 714); else a wheel's METADATA by HTTP ranges, or from the whole file where the
+server gives no ranges. What has a hash is checked by it. Pages are asked for anew each time, but sent again only
+where they changed.
 """
 
 from __future__ import annotations
@@ -35,7 +36,7 @@ MOST_PAGE = 256 * 1024 * 1024
 
 
 class Listed(NamedTuple):
-    """A file as a project's page lists it. `metadata` is None without a metadata file, else its SHA-256 or the empty text."""
+    """A file as a page lists it. `metadata` is None without a metadata file, else its SHA-256 or the empty text."""
 
     name: str
     url: str
@@ -294,10 +295,10 @@ class Client:
         return self.held(file, self.ask(file.url, {"Accept-Encoding": "identity"}, stream=True))
 
     def held(self, file: Listed, found: Any) -> IO[bytes]:
-        """A whole file, checked by its hash, in memory where it is small and on disk where it isn't."""
+        """A whole file on disk, which goes when it is closed, checked by its hash."""
         if found.status_code != 200:
             raise Refused(f"{shown(file.url)}: {found.status_code} {found.reason}", 5)
-        held = cast(IO[bytes], tempfile.SpooledTemporaryFile(max_size=8 * 1024 * 1024))
+        held = tempfile.TemporaryFile()
         summed, size = hashlib.sha256(), 0
         try:
             for chunk in found.iter_content(1 << 16):
@@ -333,5 +334,8 @@ def checked(url: str, body: bytes, wanted: str) -> None:
 def cause_of(failed: Exception) -> str:
     """The innermost cause of a failure, in one line."""
     text = str(getattr(failed, "args", [failed])[0] if failed.args else failed)
-    found = re.search(r"(timed out|Connection refused|Name or service not known|CERTIFICATE_VERIFY_FAILED|Remote end closed[^')]*)", text)
+    found = re.search(
+        r"(timed out|Connection refused|Name or service not known|CERTIFICATE_VERIFY_FAILED|Remote end closed[^')]*)",
+        text,
+    )
     return found[1] if found else f"{type(failed).__name__}: {text[:160]}"

@@ -1,14 +1,15 @@
 """Brings a virtual environment to what a lock gives on its interpreter, by pip.
 
-The environment is --venv (`.venv` beside the lock). It is made where it isn't there, with --python or the running interpreter.
-What the lock gives is asked for with the environment's own interpreter; packages that are missing or have another version are
-installed with `pip install --require-hashes --no-deps`, so that each file is checked by the lock's hashes; packages that the
-lock doesn't give are removed, but for pip, setuptools, wheel and the project itself. At the end `pip check` says what is broken.
+The environment is --venv (`.venv` beside the lock). It is made where it isn't there, with --python or the running
+interpreter. What the lock gives is asked for with the environment's own interpreter; packages that are missing or
+have another version are installed with `pip install --require-hashes --no-deps`, so that each file is checked by the
+lock's hashes; packages that the lock doesn't give are removed, but for pip, setuptools, wheel and the project itself.
+At the end `pip check` says what is broken.
 
 Files are looked for where pip is told to look: its configuration, or --index-url, --find-links and --no-index.
 
-Status: 0 the environment is as the lock says; 1 pip failed, or `pip check` found something broken; 2 the words aren't right;
-3 to 9 as the program's (8: the interpreter isn't supported, or an extra isn't known); 130 interrupted.
+Status: 0 the environment is as the lock says; 1 pip failed, or `pip check` found something broken; 2 the words aren't
+right; 3 to 9 as the program's (8: the interpreter isn't supported, or an extra isn't known); 130 interrupted.
 """
 
 from __future__ import annotations
@@ -29,16 +30,23 @@ from .versions import normal_name, version
 
 KEPT = {"pip", "setuptools", "wheel", "distribute"}
 PACKAGES = os.path.dirname(os.path.dirname(os.path.abspath(__file__)))
-TOLD = "import sys, json; sys.path.insert(0, sys.argv[1]); from unilock_tools.machine import machine; print(json.dumps(machine()))"
+TOLD = (
+    "import sys, json; sys.path.insert(0, sys.argv[1]); from unilock_tools.machine import machine; "
+    "print(json.dumps(machine()))"
+)
 
 
 def parser() -> console.Parser:
     made = console.Parser("sync", __doc__)
     chosen.add_words(made)
     made.add_argument("--venv", metavar="DIR", help="the virtual environment (`.venv` beside the lock)")
-    made.add_argument("--python", metavar="PYTHON", default=sys.executable, help="the interpreter that a new environment is made with")
+    made.add_argument(
+        "--python", metavar="PYTHON", default=sys.executable, help="the interpreter that a new environment is made with"
+    )
     made.add_argument("--index-url", metavar="URL", help="pip's --index-url")
-    made.add_argument("--find-links", metavar="PLACE", action="append", default=[], help="pip's --find-links; may be repeated")
+    made.add_argument(
+        "--find-links", metavar="PLACE", action="append", default=[], help="pip's --find-links; may be repeated"
+    )
     made.add_argument("--no-index", action="store_true", help="pip's --no-index")
     made.add_argument("--no-hashes", action="store_true", help="install without hashes, where the lock has none")
     made.add_argument("--keep", action="store_true", help="don't remove packages that the lock doesn't give")
@@ -73,7 +81,9 @@ def made_environment(folder: str, python: str, quiet: bool) -> str:
 
 def installed(python: str) -> Dict[str, str]:
     """The packages of an environment in normal form, with their versions."""
-    text = output([python, "-m", "pip", "list", "--format=json", "--disable-pip-version-check"], f"{python} -m pip list")
+    text = output(
+        [python, "-m", "pip", "list", "--format=json", "--disable-pip-version-check"], f"{python} -m pip list"
+    )
     return {normal_name(it["name"]): it["version"] for it in json.loads(text)}
 
 
@@ -134,7 +144,9 @@ def run(asked: argparse.Namespace) -> int:
         install(python, lock, wanted, asked)
     if not asked.quiet:
         print(f"{folder} is as {asked.lock} says: {console.counted(len(picks), 'package')}", flush=True)
-    broken = subprocess.run([python, "-m", "pip", "check", "--disable-pip-version-check"], stdout=subprocess.PIPE, check=False)
+    broken = subprocess.run(
+        [python, "-m", "pip", "check", "--disable-pip-version-check"], stdout=subprocess.PIPE, check=False
+    )
     if broken.returncode != 0:
         for line in broken.stdout.decode("utf-8", "replace").splitlines():
             console.say(f"sync: pip check: {line}")

@@ -1,12 +1,14 @@
 """Prints the tree of a lock: what each package needs, at which version, and where.
 
-With MACHINE, a machine file as `tools/machine` prints it, only what holds on that machine is shown, and no markers. A package
-that was shown before isn't opened again: `(*)`. --invert NAME turns the tree round: who needs NAME, and where.
+With MACHINE, a machine file as `tools/machine` prints it, only what holds on that machine is shown, and no markers. A
+package that was shown before isn't opened again: `(*)`. --invert NAME turns the tree round: who needs NAME, and
+where.
 
---dot prints the graph in the text form of Graphviz; --picture FILE has Graphviz's program `dot` draw it (.svg, .png, .pdf).
+--dot prints the graph in the text form of Graphviz; --picture FILE has Graphviz's program `dot` draw it (.svg, .png,
+.pdf).
 
-Needs the standard library alone. Status: 0 printed; 1 the lock can't be read, has no such package or isn't for the machine, or
-`dot` isn't there; 2 the words aren't right.
+Needs the standard library alone. Status: 0 printed; 1 the lock can't be read, has no such package or isn't for the
+machine, or `dot` isn't there; 2 the words aren't right.
 """
 
 from __future__ import annotations
@@ -36,7 +38,13 @@ def parser() -> console.Parser:
     made = console.Parser("tree", __doc__)
     made.add_argument("lock", metavar="LOCK", help="the lock")
     made.add_argument("machine", metavar="MACHINE", nargs="?", help="a machine file")
-    made.add_argument("--extra", metavar="EXTRA", action="append", default=[], help="only this extra of the project (all, without it); may be repeated")
+    made.add_argument(
+        "--extra",
+        metavar="EXTRA",
+        action="append",
+        default=[],
+        help="only this extra of the project (all, without it); may be repeated",
+    )
     made.add_argument("--no-extras", action="store_true", help="none of the project's extras")
     made.add_argument("--invert", "-i", metavar="NAME", help="who needs this package")
     made.add_argument("--depth", metavar="N", type=int, help="at most so many levels below the first")
@@ -65,7 +73,7 @@ class Graph:
         self.reached = self.reach()
 
     def arrows(self, edges: List[locks.Edge]) -> List[Arrow]:
-        """The arrows of a list of edges. An edge to an extra stands for the one to its package, which always stands beside it."""
+        """The arrows of a list of edges. An edge to an extra stands for the one to its package beside it."""
         held = [it for it in edges if self.holds(it.marker)]
         extras = {(it.name, it.version, it.marker) for it in held if it.extra}
         shown = [it for it in held if it.extra or (it.name, it.version, it.marker) not in extras]
@@ -112,7 +120,8 @@ def lines_below(tops: List[Node], arrows: Dict[Node, List[Arrow]], depth: Option
         shown.add(node)
         for number, arrow in reversed(list(enumerate(below, 1))):
             last = number == len(below)
-            left.append((arrow.to, rest + ("└── " if last else "├── "), rest + ("    " if last else "│   "), arrow.marker, level + 1))
+            branch, beside = ("└── ", "    ") if last else ("├── ", "│   ")
+            left.append((arrow.to, rest + branch, rest + beside, arrow.marker, level + 1))
 
 
 def dot_text(graph: Graph) -> str:
@@ -138,7 +147,9 @@ def draw(text: str, out: str) -> None:
     form = os.path.splitext(out)[1][1:].lower()
     if form not in ("svg", "png", "pdf"):
         raise Refused(f"--picture {out}: a picture is .svg, .png or .pdf", 2)
-    done = subprocess.run([program, f"-T{form}"], input=text.encode(), stdout=subprocess.PIPE, stderr=subprocess.PIPE, check=False)
+    done = subprocess.run(
+        [program, f"-T{form}"], input=text.encode(), stdout=subprocess.PIPE, stderr=subprocess.PIPE, check=False
+    )
     if done.returncode != 0:
         raise Refused(f"dot: {done.stderr.decode('utf-8', 'replace').strip()}")
     console.write_beside(out, done.stdout)

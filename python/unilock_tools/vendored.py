@@ -1,6 +1,7 @@
 """Libraries that some commands need: `packaging`, `requests` and a reader of TOML.
 
-Each is taken where it is installed, or else pip's own copy of it, so that the tools run from a clone without installing.
+Each is taken where it is installed, or else pip's own copy of it, so that the tools run from a clone without
+installing.
 """
 
 from __future__ import annotations

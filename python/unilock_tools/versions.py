@@ -1,8 +1,8 @@
 """Versions, specifiers and names, as the program reads them.
 
-The program's grammar is its own profile of PEP 440 and PEP 508: it reads `>=3.5.*` and `a()`, and no `===`, no number of
-2^64 or more and no URL. So what it will not read can't be asked of a library that reads more or less; these few readers say
-it exactly, and say what is wrong. Standard library alone.
+The program's grammar is its own profile of PEP 440 and PEP 508: it reads `>=3.5.*` and `a()`, and no `===`, no number
+of 2^64 or more and no URL. So what it will not read can't be asked of a library that reads more or less; these few
+readers say it exactly, and say what is wrong. Standard library alone.
 """
 
 from __future__ import annotations
@@ -153,7 +153,9 @@ def clause_of(text: str) -> Clause:
     read = version_of(spelled[:-2] if prefix else spelled)
     plain = read.pre is None and read.post is None and read.dev is None and not read.local
     if prefix and (op not in ("==", "!=", ">=", "<") or not plain):
-        raise NoReading(f"`{text}`: `.*` doesn't go with `{op}`" if plain else f"`{text}`: `.*` follows more than a release")
+        raise NoReading(
+            f"`{text}`: `.*` doesn't go with `{op}`" if plain else f"`{text}`: `.*` follows more than a release"
+        )
     if read.local and op not in ("==", "!="):
         raise NoReading(f"`{text}`: a local version goes with `==` and `!=` alone")
     if op == "~=" and len(read.release) < 2:

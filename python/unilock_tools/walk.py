@@ -1,8 +1,8 @@
 """The walk through a package index: from a project's requirements to the releases of all that they can reach.
 
-For each name that is reached, the releases that the project's own bounds allow are taken, and their requirements are followed:
-those that can apply on an interpreter that the project supports, with the extras that somebody asks for. Pages and metadata
-are asked for side by side; what is gathered doesn't depend on the order in which they come.
+For each name that is reached, the releases that the project's own bounds allow are taken, and their requirements are
+followed: those that can apply on an interpreter that the project supports, with the extras that somebody asks for.
+Pages and metadata are asked for side by side; what is gathered doesn't depend on the order in which they come.
 """
 
 from __future__ import annotations
@@ -71,18 +71,22 @@ def candidates(name: str, files: Iterable[Listed], before: Optional[str]) -> Lis
             continue
         if before is not None:
             if file.uploaded is None:
-                raise console.Refused(f"{name}: the server tells no upload time of {file.name}, so --before can't be kept", 5)
+                raise console.Refused(
+                    f"{name}: the server tells no upload time of {file.name}, so --before can't be kept", 5
+                )
             if file.uploaded[:19] >= before:
                 continue
         found.setdefault(read.key, Candidate(read)).files.append(file)
     return [found[key] for key in sorted(found, reverse=True)]
 
 
-def allowed(found: List[Candidate], bounds: List[Requirement], direct: List[Requirement], choice: Choice) -> Tuple[List[Candidate], List[Candidate]]:
+def allowed(found: List[Candidate], bounds: List[Requirement], direct: List[Requirement], choice: Choice) -> Tuple[
+    List[Candidate], List[Candidate]
+]:
     """The candidates to take, and the pre-releases that count where none of those can be used.
 
-    The program passes a pre-release over unless a direct requirement names one or all usable releases are such. So they are
-    left aside, and one final release is kept even where the bounds refuse all.
+    The program passes a pre-release over unless a direct requirement names one or all usable releases are such. So
+    they are left aside, and one final release is kept even where the bounds refuse all.
     """
     named = any(it.op != "!=" and it.version.is_pre for one in direct for it in one.clauses)
     within = [it for it in found if all(meets(one.clauses, it.version) for one in bounds)]
@@ -100,7 +104,8 @@ def pins(requirement: Requirement, found: Version) -> bool:
 
 
 def best_file(files: List[Listed]) -> Listed:
-    """The file whose metadata speak for the release: a wheel for every machine, else any wheel, else a source distribution.
+    """The file whose metadata speak for the release: a wheel for every machine, else any wheel, else a source
+    distribution.
 
     Among equals one with a metadata file beside it comes first.
     """
@@ -143,7 +148,7 @@ class Walk:
             self.client.stopped = bool(self.open)
             for job in self.open:
                 job.cancel()
-            self.pool.shutdown()
+            self.pool.shutdown(wait=not self.open)
             self.clear()
 
     def start(self, job: Job, then: Callable[[object], None]) -> None:
@@ -230,7 +235,9 @@ class Walk:
             if file.sha256 and archives.FILE_NAME.match(file.name):
                 release.files[file.name] = File(file.name, file.sha256, file.url, file.size)
         if not release.files:
-            self.passed.setdefault((name, "the server tells no SHA-256 of its files, so the lock has none"), []).append(metadata.version)
+            self.passed.setdefault(
+                (name, "the server tells no SHA-256 of its files, so the lock has none"), []
+            ).append(metadata.version)
         if release_fault(metadata) is None:
             one.usable += 1
             text = f"{name} {metadata.version}"
@@ -250,7 +257,7 @@ class Walk:
             self.shown = now
             releases = sum(len(it) for it in self.gathered.releases.values())
             megabytes = self.client.bytes / 1e6
-            text = f"{len(self.reached)} packages, {releases} releases, {len(self.open)} requests open, {megabytes:.1f} MB"
+            text = f"{len(self.reached)} packages, {releases} releases, {len(self.open)} open, {megabytes:.1f} MB"
             console.sys.stderr.write(f"\r\x1b[Kindex: {text}")
             console.sys.stderr.flush()
 
@@ -264,6 +271,7 @@ class Walk:
         lines = sorted(self.absent)
         for (name, fault), versions in sorted(self.passed.items()):
             told = sorted(versions, key=lambda it: version(it).key)  # type: ignore[union-attr]
-            listed = ", ".join(told) if len(told) <= 4 else f"{told[0]}, {told[1]}, .. {told[-1]} ({len(told)} releases)"
+            many = f"{told[0]}, {told[1]}, .. {told[-1]} ({len(told)} releases)" if len(told) > 4 else ""
+            listed = many or ", ".join(told)
             lines.append(f"{name} {listed}: {fault}")
         return lines
