@@ -206,7 +206,7 @@ class Teller:
             if not self.project.requires_python:
                 yield "Hint: say in the project which interpreters it supports: requires-python = \">=3.9\", say."
             elif self.project.settings.get("fork-strategy", "fewest") == "fewest":
-                yield 'Hint: fork-strategy = "requires-python" in [tool.uv] splits where a release needs a newer Python.'
+                yield 'Hint: fork-strategy = "requires-python" (tool.uv) splits where a release needs a newer one.'
         wanted = {it.target.name for it in [*steps, *self.refusal.core] if isinstance(it, Need)}
         absent = sorted(it for it in wanted if self.document(it) is None)
         if absent:
