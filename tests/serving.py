@@ -52,6 +52,8 @@ class Server:
 
         self.http = ThreadingHTTPServer(("127.0.0.1", 0), Handler)
         self.http.daemon_threads = True
+        # A client that goes away is no fault of a test.
+        self.http.handle_error = lambda *_: None  # type: ignore[method-assign]
         self.thread = threading.Thread(target=self.http.serve_forever, args=(0.05,), daemon=True)
         self.url = f"http://127.0.0.1:{self.http.server_address[1]}/simple/"
 

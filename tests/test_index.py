@@ -138,9 +138,9 @@ class Index(Indexed):
                 chunk = bytes(1 << 22)
                 for _ in range(256):
                     member.write(chunk)
-        begun = time.monotonic()
+        begun = time.process_time()
         self.refused(path, "longer than")
-        self.assertLess(time.monotonic() - begun, 5)
+        self.assertLess(time.process_time() - begun, 5)
 
     def test_a_broken_member(self) -> None:
         path = plain_wheel(self.wheels, "a", "1")
