@@ -8,6 +8,7 @@ import os
 import pty
 import random
 import signal
+import socket
 import subprocess
 import sys
 import time
@@ -224,8 +225,11 @@ class Faults(Served):
         (self.out / "kept.json").write_text('{"name": "kept", "versions": []}')
 
     def test_no_server(self) -> None:
-        with Server(self.wheels) as server:
-            url = server.url
+        # A port that is taken and that nobody listens on.
+        taken = socket.socket()
+        self.addCleanup(taken.close)
+        taken.bind(("127.0.0.1", 0))
+        url = f"http://127.0.0.1:{taken.getsockname()[1]}/simple/"
         said = self.ran("index", "pyproject.toml", "ix", "--index-url", url, *NO_RETRIES, status=5).stderr
         self.assertIn("Connection refused (1 tries)", said)
         self.assertEqual(len(said.splitlines()), 1)
