@@ -5,7 +5,7 @@ from __future__ import annotations
 import subprocess
 import unittest
 
-from making import PROGRAM, TOP
+from making import PROGRAM, TOP, Folder, want_program
 
 EXAMPLES = TOP / "examples"
 CASES = [
@@ -25,8 +25,7 @@ CASES = [
 
 class Examples(unittest.TestCase):
     def setUp(self) -> None:
-        if not PROGRAM.exists():
-            self.skipTest("the program isn't built; ./unilock builds it")
+        want_program(self)
 
     def test_each_prints_its_file(self) -> None:
         for words, status, file in CASES:
@@ -44,6 +43,33 @@ class Examples(unittest.TestCase):
         words = "verify web_app/pyproject.toml web_app/ix web_app/unilock.lock"
         done = subprocess.run([str(PROGRAM), *words.split()], cwd=EXAMPLES, capture_output=True, text=True)
         self.assertEqual((done.returncode, done.stdout), (0, "verified\n"))
+
+
+class InWords(Folder):
+    """What the tools say of the examples, as examples/README.md has it."""
+
+    def test_the_lock_of_web_app_is_current(self) -> None:
+        want_program(self)
+        self.assertEqual(
+            self.printed("lock", "--check", EXAMPLES / "web_app/pyproject.toml"),
+            [f"{EXAMPLES}/web_app/unilock.lock is current: 9 packages"],
+        )
+
+    def test_an_upgrade_of_kept(self) -> None:
+        want_program(self)
+        path = EXAMPLES / "kept/pyproject.toml"
+        self.assertEqual(self.printed("lock", path, "--check"), [f"{EXAMPLES}/kept/unilock.lock is current: 1 package"])
+        self.assertEqual(self.printed("lock", path, "--check", "--upgrade", status=1)[0], "a 1 -> 2")
+
+    def test_the_refusal(self) -> None:
+        want_program(self)
+        said = self.printed("explain", EXAMPLES / "refused/pyproject.toml", EXAMPLES / "refused/ix")
+        self.assertEqual(said[:2], ["No choice of versions serves the project where sys_platform == 'win32'.", "Such a machine: sys_platform win32."])
+        for line in [
+            "the project needs q at 1 (project.dependencies[0]: `q<2; sys_platform == 'win32'`).",
+            "q 1 needs z (`z`), and the index has no document of z.",
+        ]:
+            self.assertTrue(any(it.endswith(line) for it in said), line)
 
 
 if __name__ == "__main__":

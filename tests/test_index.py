@@ -12,11 +12,14 @@ import zipfile
 from pathlib import Path
 
 from making import metadata_text, plain_wheel, sdist, tool, wheel
+from unilock_tools.versions import normal_name, version
 
 index = tool("index")
 
 
-class Index(unittest.TestCase):
+class Indexed(unittest.TestCase):
+    """A folder of wheels, and an index folder that is made of it."""
+
     def setUp(self) -> None:
         held = tempfile.TemporaryDirectory()
         self.addCleanup(held.cleanup)
@@ -41,6 +44,8 @@ class Index(unittest.TestCase):
         self.assertIn(fault, said)
         self.assertFalse(self.out.exists())
 
+
+class Index(Indexed):
     def test_a_folder_of_wheels(self) -> None:
         plain_wheel(self.wheels, "Friendly.Bard", "1.0", ["a>=1", "b; sys_platform == 'win32'"], ">=3.9")
         plain_wheel(self.wheels, "Friendly.Bard", "1.0.post1")
@@ -81,7 +86,7 @@ class Index(unittest.TestCase):
             with self.subTest(file):
                 path = wheel(self.wheels, file, {"x.dist-info/METADATA": metadata_text(name, version)})
                 self.assertEqual(self.run_index(path, self.out), (0, ""))
-                self.assertEqual(self.document(index.normal_name(name))["versions"][0]["version"], version)
+                self.assertEqual(self.document(normal_name(name))["versions"][0]["version"], version)
 
     def test_yanked_releases(self) -> None:
         plain_wheel(self.wheels, "a", "1")
@@ -133,9 +138,9 @@ class Index(unittest.TestCase):
                 chunk = bytes(1 << 22)
                 for _ in range(256):
                     member.write(chunk)
-        begun = time.monotonic()
+        begun = time.process_time()
         self.refused(path, "longer than")
-        self.assertLess(time.monotonic() - begun, 5)
+        self.assertLess(time.process_time() - begun, 5)
 
     def test_a_broken_member(self) -> None:
         path = plain_wheel(self.wheels, "a", "1")
@@ -174,15 +179,62 @@ class Index(unittest.TestCase):
         self.refused(other, "neither a wheel")
 
 
+class WhatTheResolverCannotUse(Indexed):
+    """A release that the program passes over is warned of, and kept."""
+
+    def test_entries_that_have_no_reading(self) -> None:
+        for number, (required, python, said) in enumerate([
+            ("bb (>dev)", None, "Requires-Dist: `bb (>dev)`: `dev` is no version"),
+            ("bb @ https://example.org/bb.whl", None, "a URL isn't supported"),
+            ("bb===1", None, "`===` isn't supported"),
+            ("bb; made_up == 'x'", None, "`made_up` is no variable"),
+            ("bb", ">=3.5<4", "Requires-Python: >=3.5<4: "),
+        ]):
+            with self.subTest(required):
+                path = plain_wheel(self.wheels, f"a{number}", "1", [required], python)
+                status, text = self.run_index(path, self.out)
+                self.assertEqual(status, 0)
+                self.assertIn(f"index: warning: a{number} 1 can't be used: ", text)
+                self.assertIn(said, text)
+                self.assertEqual(len(self.document(f"a{number}")["versions"]), 1)
+
+    def test_a_bad_file_is_passed_over_where_that_is_asked_for(self) -> None:
+        plain_wheel(self.wheels, "a", "1")
+        wheel(self.wheels, "b-2004d-py3-none-any.whl", {"b.dist-info/METADATA": metadata_text("b", "2004d")})
+        old = metadata_text("c", "1").replace("Metadata-Version: 2.2", "Metadata-Version: 2.1")
+        sdist(self.wheels, "c", "1", old)
+        self.assertEqual(self.run_index(self.wheels, self.out)[0], 1)
+        status, said = self.run_index("--skip", self.wheels, self.out)
+        self.assertEqual(status, 0)
+        self.assertEqual([it.name for it in self.out.iterdir()], ["a.json"])
+        for text in ["b-2004d-py3-none-any.whl", "is no version", "c-1.tar.gz", "older than 2.2", "passed over"]:
+            self.assertIn(text, said)
+        self.assertEqual(self.run_index("--skip", "--quiet", self.wheels, self.out), (0, ""))
+
+
 class VersionOrder(unittest.TestCase):
     def test_order_and_equality(self) -> None:
-        texts = ["1.0.dev1", "1.0a1.dev1", "1.0a1", "1.0b2", "1.0rc1", "1.0", "1.0+a", "1.0+a.b", "1.0+2", "1.0.post1.dev1", "1.0.post1", "1.1", "1!0"]
-        keys = [index.version_key(it) for it in texts]
+        texts = [
+            "1.0.dev1",
+            "1.0a1.dev1",
+            "1.0a1",
+            "1.0b2",
+            "1.0rc1",
+            "1.0",
+            "1.0+a",
+            "1.0+a.b",
+            "1.0+2",
+            "1.0.post1.dev1",
+            "1.0.post1",
+            "1.1",
+            "1!0",
+        ]
+        keys = [version(it).key for it in texts]
         self.assertEqual(keys, sorted(keys))
         for one, other in [("1.0", "1"), ("v1.0-1", "1.0.post1"), ("1.0preview", "1.0rc0"), ("1.0+A_1", "1.0+a.1")]:
-            self.assertEqual(index.version_key(one), index.version_key(other))
-        for text in ["", "x", "1.0-", "1.0+", "1..0"]:
-            self.assertIsNone(index.version_key(text))
+            self.assertEqual(version(one).key, version(other).key)
+        for text in ["", "x", "1.0-", "1.0+", "1..0", "18446744073709551616"]:
+            self.assertIsNone(version(text))
 
 
 if __name__ == "__main__":

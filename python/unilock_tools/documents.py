@@ -1,0 +1,198 @@
+"""Package documents: one for each project, as the program reads them, gathered from files and written as a folder.
+
+All files of one version make one release. Where the metadata of two files of one version differ they are refused,
+since a lock for all platforms needs one answer.
+"""
+
+from __future__ import annotations
+
+import json
+import os
+import shutil
+import tempfile
+from dataclasses import dataclass, field
+from pathlib import Path
+from typing import Any, Dict, Iterable, Iterator, List, NamedTuple, Optional, Tuple
+
+from . import archives, console
+from .archives import Metadata, Refused, sha256_of
+from .readings import requirement_fault
+from .versions import NAME, normal_name, specifiers_fault, version
+
+
+class File(NamedTuple):
+    """One file of a release, with what is known of where it is."""
+
+    name: str
+    sha256: str
+    url: Optional[str] = None
+    size: Optional[int] = None
+
+
+@dataclass
+class Release:
+    """One version of a project, with the files that were found of it."""
+
+    metadata: Metadata
+    first: object
+    files: Dict[str, File] = field(default_factory=dict)
+    yanked: bool = False
+
+
+class Projects:
+    """Projects in normal form, each with its releases by the key of their version."""
+
+    def __init__(self) -> None:
+        self.releases: Dict[str, Dict[tuple, Release]] = {}
+
+    def add(self, path: object, metadata: Metadata) -> Release:
+        """The release of these metadata, new or as it was."""
+        found = version(metadata.version)
+        assert found is not None, "metadata are read with a version"
+        release = self.releases.setdefault(metadata.name, {}).setdefault(found.key, Release(metadata, path))
+        one, other = release.metadata, metadata
+        if (one.requires_python, sorted(one.requires_dist)) != (other.requires_python, sorted(other.requires_dist)):
+            raise Refused(path, f"its requirements or its bound on Python differ from those of {release.first}")
+        return release
+
+    def add_file(self, path: Path) -> None:
+        if not archives.FILE_NAME.match(path.name):
+            raise Refused(path, "its name has a byte that no lock can hold")
+        release = self.add(path, archives.file_metadata(path))
+        summed = sha256_of(path)
+        if release.files.setdefault(path.name, File(path.name, summed)).sha256 != summed:
+            raise Refused(path, "another file of this name has other bytes")
+
+    def mark_yanked(self, mark: str) -> None:
+        name, equals, spelled = mark.partition("==")
+        found = version(spelled)
+        if not equals or not NAME.match(name.strip()) or found is None:
+            raise Refused("--yanked", f"{mark!r} isn't NAME==VERSION")
+        releases = self.releases.get(normal_name(name.strip()), {})
+        if found.key not in releases:
+            raise Refused("--yanked", f"no file of {mark} was given")
+        releases[found.key].yanked = True
+
+    def documents(self) -> Dict[str, dict]:
+        return {name: document_of(name, self.releases[name]) for name in sorted(self.releases)}
+
+    def warnings(self) -> Iterator[str]:
+        """What keeps the program from using a release, for each that it will pass over."""
+        for name in sorted(self.releases):
+            for _, release in sorted(self.releases[name].items()):
+                fault = release_fault(release.metadata)
+                if fault is not None:
+                    yield f"{name} {release.metadata.version} can't be used: {fault}"
+
+
+def release_fault(metadata: Metadata) -> Optional[str]:
+    """The first text of a release that the program doesn't read; such a release is passed over."""
+    return unusable(metadata.version, metadata.requires_python, metadata.requires_dist)
+
+
+def unusable(spelled: str, requires_python: Optional[str], requires_dist: Iterable[str]) -> Optional[str]:
+    if version(spelled) is None:
+        return f"its version `{spelled}` has no reading"
+    fault = None if requires_python is None else specifiers_fault(requires_python)
+    if fault is not None:
+        return f"Requires-Python: {requires_python}: {fault}"
+    for text in requires_dist:
+        fault = requirement_fault(text)
+        if fault is not None:
+            return f"Requires-Dist: {fault}"
+    return None
+
+
+def document_of(name: str, releases: Dict[tuple, Release]) -> dict:
+    listed = []
+    for _, release in sorted(releases.items()):
+        entry: Dict[str, Any] = {"version": release.metadata.version}
+        if release.metadata.requires_python is not None:
+            entry["requires_python"] = release.metadata.requires_python
+        if release.metadata.requires_dist:
+            entry["requires_dist"] = list(release.metadata.requires_dist)
+        if release.yanked:
+            entry["yanked"] = True
+        if release.files:
+            entry["files"] = [file_entry(it) for _, it in sorted(release.files.items())]
+        listed.append(entry)
+    return {"name": name, "versions": listed}
+
+
+def file_entry(file: File) -> dict:
+    entry: Dict[str, Any] = {"file": file.name, "sha256": file.sha256}
+    if file.url is not None:
+        entry["url"] = file.url
+    if file.size is not None:
+        entry["size"] = file.size
+    return entry
+
+
+def files_in(paths: Iterable[Path]) -> Iterator[Path]:
+    """The wheels and source distributions that are named or stand in the named folders."""
+    for path in paths:
+        if path.is_dir():
+            found = sorted(it for it in path.iterdir() if it.name.endswith((".whl", ".tar.gz")))
+            if not found:
+                raise Refused(path, "the folder has neither wheels nor source distributions")
+            yield from found
+        elif not path.is_file():
+            raise Refused(path, "there is no such file")
+        elif path.name.endswith((".whl", ".tar.gz")):
+            yield path
+        else:
+            raise Refused(path, "it is neither a wheel nor a source distribution")
+
+
+def is_index(out: Path) -> bool:
+    """Whether a folder holds nothing but documents, so that it may be replaced."""
+    return all(it.name.endswith(".json") and it.is_file() for it in out.iterdir())
+
+
+def replace_folder(out: Path, documents: Dict[str, dict]) -> None:
+    """Writes the documents into a fresh folder, which then takes the place of `out`."""
+    if out.exists() and not (out.is_dir() and is_index(out)):
+        raise Refused(out, "it holds more than .json files, so it isn't replaced")
+    out.parent.mkdir(parents=True, exist_ok=True)
+    fresh = Path(tempfile.mkdtemp(prefix=f".{out.name}.", dir=out.parent))
+    try:
+        for name, document in documents.items():
+            (fresh / f"{name}.json").write_text(json.dumps(document, indent=1) + "\n", encoding="utf-8")
+        fresh.chmod(0o755)
+        if out.exists():
+            old = fresh.with_name(fresh.name + ".old")
+            os.replace(out, old)
+            os.replace(fresh, out)
+            shutil.rmtree(old)
+        else:
+            os.replace(fresh, out)
+    finally:
+        shutil.rmtree(fresh, ignore_errors=True)
+
+
+def load(folder: str, name: str) -> Optional[dict]:
+    """The document of a package in an index folder, or None where there is none."""
+    path = os.path.join(folder, f"{name}.json")
+    if not os.path.exists(path):
+        return None
+    try:
+        found = json.loads(console.text_of(path))
+    except ValueError as fault:
+        raise console.Refused(f"{path}: not JSON: {fault}", 3) from None
+    if not isinstance(found, dict) or not isinstance(found.get("versions"), list):
+        raise console.Refused(f"{path}: it is no document of a package", 3)
+    return found
+
+
+def releases_of(document: Optional[dict]) -> List[Tuple[str, dict]]:
+    """The entries of a document that the program can use, each with its version as it stands."""
+    found, seen = [], set()
+    for entry in [] if document is None else document["versions"]:
+        spelled = str(entry.get("version", ""))
+        read = version(spelled)
+        if read is None or read.key in seen:
+            continue
+        if unusable(spelled, entry.get("requires_python"), entry.get("requires_dist") or []) is None:
+            seen.add(read.key)
+            found.append((spelled, entry))
+    return found

@@ -1,0 +1,55 @@
+"""The keys of a project file: which the program reads, which it refuses, and which it passes over though they matter
+to uv.
+
+All other keys are passed over. README.md has the same table.
+"""
+
+from __future__ import annotations
+
+READ = {
+    "project.name": "",
+    "project.version": "absent it is 0",
+    "project.dynamic": "refused where it names dependencies, optional-dependencies or requires-python",
+    "project.requires-python": "absent every interpreter is supported",
+    "project.dependencies": "",
+    "project.optional-dependencies": "each is an extra",
+    "dependency-groups": "each is the extra group-NAME",
+    "tool.uv.constraint-dependencies": "",
+    "tool.uv.override-dependencies": "",
+    "tool.uv.environments": "",
+    "tool.uv.resolution": "highest, lowest or lowest-direct",
+    "tool.uv.prerelease": "if-necessary-or-explicit alone",
+    "tool.uv.fork-strategy": "fewest (the default), requires-python or deep",
+}
+REFUSED = ["sources", "conflicts", "index", "extra-index-url", "find-links", "workspace", "dev-dependencies"]
+PASSED_OVER = {
+    "exclude-newer": "`tools/index --before DATE` leaves newer files out of the index",
+    "exclude-newer-package": "`tools/index --before DATE` leaves newer files out of the index, for all packages",
+    "dependency-metadata": "releases count as their metadata say; write what differs into the index folder",
+    "default-groups": "groups are asked for by name, with --group or the word group-NAME",
+    "dependency-groups": "a group's own requires-python isn't looked at",
+    "required-environments": "the lock holds for all environments; whether each has a wheel isn't looked at",
+    "exclude-dependencies": "all dependencies are locked",
+    "index-url": "`tools/index --index-url URL` reads a server",
+    "index-strategy": "there is one index",
+    "no-index": "the program asks no network",
+    "no-build": "nothing is built",
+    "no-build-package": "nothing is built",
+    "no-binary": "wheels and source distributions aren't chosen from",
+    "no-binary-package": "wheels and source distributions aren't chosen from",
+    "no-sources": "sources are refused",
+    "upgrade": "`tools/lock --upgrade`",
+    "upgrade-package": "`tools/lock --upgrade-package NAME`",
+    "build-constraint-dependencies": "nothing is built",
+    "extra-build-dependencies": "nothing is built",
+    "managed": "",
+    "package": "",
+}
+# PEP 621 and its followers
+PROJECT = [
+    "name", "version", "description", "readme", "requires-python", "license", "license-files", "authors", "maintainers",
+    "keywords", "classifiers", "urls", "scripts", "gui-scripts", "entry-points", "dependencies",
+    "optional-dependencies", "dynamic", "import-names", "import-namespaces",
+]  # fmt: skip
+TABLES = ["project", "build-system", "dependency-groups", "tool"]
+UV = [it[len("tool.uv.") :] for it in READ if it.startswith("tool.uv.")] + REFUSED + list(PASSED_OVER)

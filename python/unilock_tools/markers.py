@@ -1,0 +1,259 @@
+"""Environment markers (PEP 508), as the program reads and judges them.
+
+`read` gives a marker, `truth` its value where some variables are known and others aren't: None where that leaves it
+open. The program's profile: text variables are compared as texts, and `python_version in '3.8, 3.9'` asks for
+membership in a list of versions. Standard library alone.
+"""
+
+from __future__ import annotations
+
+import re
+from typing import Callable, Dict, Iterator, List, Mapping, NamedTuple, Optional, Tuple, Union
+
+from . import versions
+
+TEXTS = [
+    "os_name", "sys_platform", "platform_machine", "platform_python_implementation", "platform_release",
+    "platform_system", "platform_version", "implementation_name",
+]  # fmt: skip
+PYTHONS = ["python_version", "python_full_version"]
+OLD_SPELLINGS = {
+    "os.name": "os_name",
+    "sys.platform": "sys_platform",
+    "platform.version": "platform_version",
+    "platform.machine": "platform_machine",
+    "platform.python_implementation": "platform_python_implementation",
+    "python_implementation": "platform_python_implementation",
+}
+VARIABLES = [*TEXTS, *PYTHONS, "implementation_version", "extra"]
+TOKEN = re.compile(
+    r"[ \t]*(?:(?P<mark>[()])|(?P<op>===|==|!=|<=|>=|~=|<|>)|(?P<word>[A-Za-z0-9_.]+)"
+    r"|'(?P<single>[^'\\]*)'|\"(?P<double>[^\"\\]*)\")"
+)
+MIRRORED = {"<": ">", "<=": ">=", ">": "<", ">=": "<=", "==": "==", "!=": "!="}
+DEEPEST = 64
+
+
+class NoMarker(Exception):
+    """A marker that the program doesn't read, with what is wrong with it."""
+
+
+class Atom(NamedTuple):
+    """A comparison of a variable with a literal; `contains` where the literal stands left of `in`."""
+
+    variable: str
+    op: str
+    literal: str
+    contains: bool
+
+
+class Join(NamedTuple):
+    """Several markers of which all (`and`) or some (`or`) hold."""
+
+    word: str
+    parts: List["Marker"]
+
+
+Marker = Union[Atom, Join]
+Token = Tuple[str, str]
+
+
+def tokens(text: str) -> List[Token]:
+    found, at = [], 0
+    text = text.strip(" \t\n\v\f\r")
+    while at < len(text):
+        piece = TOKEN.match(text, at)
+        if piece is None:
+            raise NoMarker(f"the marker isn't read from `{text[at:].strip()}` on")
+        kind = piece.lastgroup or ""
+        found.append(("literal" if kind in ("single", "double") else kind, piece[kind]))
+        at = piece.end()
+    return found
+
+
+class _Reader:
+    def __init__(self, text: str) -> None:
+        self.left = tokens(text)
+
+    def take(self) -> Token:
+        if not self.left:
+            raise NoMarker("the marker ends too early")
+        return self.left.pop(0)
+
+    def joined(self, word: str, part: Callable[[int], Marker], depth: int) -> Marker:
+        parts = [part(depth)]
+        while self.left and self.left[0] == ("word", word):
+            self.left.pop(0)
+            parts.append(part(depth))
+        return parts[0] if len(parts) == 1 else Join(word, parts)
+
+    def either(self, depth: int) -> Marker:
+        return self.joined("or", self.both, depth)
+
+    def both(self, depth: int) -> Marker:
+        return self.joined("and", self.atom, depth)
+
+    def atom(self, depth: int) -> Marker:
+        if self.left[:1] == [("mark", "(")]:
+            if depth == DEEPEST:
+                raise NoMarker("the marker's parentheses nest too deep")
+            self.left.pop(0)
+            inside = self.either(depth + 1)
+            if self.take() != ("mark", ")"):
+                raise NoMarker("a `(` has no `)`")
+            return inside
+        left, op, right = self.take(), self.operator(), self.take()
+        return comparison(left, op, right)
+
+    def operator(self) -> str:
+        kind, text = self.take()
+        if (kind, text) == ("word", "not"):
+            kind, text = self.take()
+            if (kind, text) != ("word", "in"):
+                raise NoMarker("`not` without `in`")
+            return "not in"
+        if kind != "op" and (kind, text) != ("word", "in"):
+            raise NoMarker(f"`{text}` is no operator")
+        return text
+
+
+def variable_of(token: Token) -> str:
+    name = OLD_SPELLINGS.get(token[1], token[1])
+    if token[0] != "word" or name not in VARIABLES:
+        raise NoMarker(f"`{token[1]}` is no variable of a marker")
+    return name
+
+
+def comparison(left: Token, op: str, right: Token) -> Atom:
+    if (left[0] == "literal") == (right[0] == "literal"):
+        raise NoMarker("a comparison wants one variable and one text")
+    if left[0] != "literal":
+        return judged(Atom(variable_of(left), op, right[1], False))
+    variable = variable_of(right)
+    if op in ("in", "not in"):
+        return judged(Atom(variable, op, left[1], True))
+    if op not in MIRRORED:
+        raise NoMarker(f"`{op}` wants its variable on the left")
+    return judged(Atom(variable, MIRRORED[op], left[1], False))
+
+
+def judged(atom: Atom) -> Atom:
+    """The comparison where it has a meaning."""
+    variable, op = atom.variable, atom.op
+    if op == "===" or (op == "~=" and variable not in PYTHONS) or (variable == "extra" and op not in ("==", "!=")):
+        raise NoMarker(f"`{op}` doesn't go with {variable}")
+    if variable in PYTHONS and not atom.contains:
+        try:
+            for piece in pieces(atom.literal) if op in ("in", "not in") else [""]:
+                versions.version_of(piece) if piece else versions.clause_of(op + atom.literal)
+        except versions.NoReading as fault:
+            raise NoMarker(f"{variable} {op} '{atom.literal}': {fault}") from None
+    return atom
+
+
+def pieces(literal: str) -> List[str]:
+    return [it for it in re.split(r"[ ,]", literal) if it]
+
+
+def read(text: str) -> Marker:
+    reader = _Reader(text)
+    found = reader.either(0)
+    if reader.left:
+        raise NoMarker(f"the marker isn't read from `{reader.left[0][1]}` on")
+    return found
+
+
+def atoms(marker: Optional[Marker]) -> Iterator[Atom]:
+    if isinstance(marker, Atom):
+        yield marker
+    elif marker is not None:
+        for part in marker.parts:
+            yield from atoms(part)
+
+
+def truth(marker: Optional[Marker], known: Mapping[str, str]) -> Optional[bool]:
+    """The marker's truth where `known` has the values of some variables; None where it depends on the others."""
+    if marker is None:
+        return True
+    if isinstance(marker, Atom):
+        value = known.get(marker.variable)
+        return None if value is None else holds(marker, value)
+    found = [truth(it, known) for it in marker.parts]
+    deciding = marker.word == "or"
+    if deciding in found:
+        return deciding
+    return None if None in found else not deciding
+
+
+def holds(atom: Atom, value: str) -> bool:
+    op, literal = atom.op, atom.literal
+    if atom.contains:
+        return (literal in value) == (op == "in")
+    if atom.variable == "extra":
+        same = value == (versions.normal_name(literal) if versions.NAME.match(literal) else literal) and bool(
+            value or not literal
+        )
+        return same == (op == "==")
+    if atom.variable in PYTHONS:
+        return python_holds(op, literal, value)
+    if op in ("in", "not in"):
+        return (value in literal) == (op == "in")
+    left: object = value.encode()
+    right: object = literal.encode()
+    if atom.variable == "implementation_version":
+        one, other = versions.version(value), versions.version(literal)
+        if one is not None and other is not None:
+            left, right = one.key, other.key
+    return ordered(op, left, right)
+
+
+def python_holds(op: str, literal: str, value: str) -> bool:
+    found = versions.version_of(value)
+    if op in ("in", "not in"):
+        return any(versions.clause_of("==" + it).meets(found) for it in pieces(literal)) == (op == "in")
+    return versions.clause_of(op + literal).meets(found)
+
+
+def ordered(op: str, left: "object", right: "object") -> bool:
+    compared: Dict[str, Callable[[], bool]] = {
+        "==": lambda: left == right,
+        "!=": lambda: left != right,
+        "<": lambda: left < right,  # type: ignore[operator]
+        "<=": lambda: left <= right,  # type: ignore[operator]
+        ">": lambda: left > right,  # type: ignore[operator]
+        ">=": lambda: left >= right,  # type: ignore[operator]
+    }
+    return compared[op]()
+
+
+def python_points(marker: Optional[Marker], bound: str) -> List[str]:
+    """Interpreters of which each piece that the marker's and the bound's literals cut has one."""
+    found = {(0, 0, 0)}
+    literals = [it.literal for it in atoms(marker) if it.variable in PYTHONS]
+    for text in [*literals, bound]:
+        for spelled in re.findall(r"[0-9]+(?:\.[0-9]+)*", text):
+            numbers = ([int(it) for it in spelled.split(".")] + [0, 0])[:3]
+            major, minor, micro = numbers
+            found |= {(major, minor, micro), (major, minor, micro + 1), (major, minor + 1, 0), (major + 1, 0, 0)}
+            if micro:
+                found.add((major, minor, micro - 1))
+            elif minor:
+                found.add((major, minor - 1, 99))
+            elif major:
+                found.add((major - 1, 99, 99))
+    return [".".join(map(str, it)) for it in sorted(found)]
+
+
+def possible(marker: Optional[Marker], bound: str, extras: List[str]) -> bool:
+    """Whether a requirement with this marker can apply on an interpreter that meets `bound`, with an extra or none."""
+    if marker is None:
+        return True
+    clauses = versions.specifiers_of(bound)
+    for point in python_points(marker, bound):
+        if not versions.meets(clauses, versions.version_of(point)):
+            continue
+        short = ".".join(point.split(".")[:2])
+        for extra in ["", *extras]:
+            if truth(marker, {"python_version": short, "python_full_version": point, "extra": extra}) is not False:
+                return True
+    return False
