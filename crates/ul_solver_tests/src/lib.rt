@@ -6,8 +6,6 @@
 #[cfg(test)]
 mod conflict;
 #[cfg(test)]
-mod problems;
-#[cfg(test)]
 mod runs;
 #[cfg(test)]
 mod shapes;

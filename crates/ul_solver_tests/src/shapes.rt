@@ -1,10 +1,10 @@
 //! The problems that the tests are about. A node's versions are written 1, 2 and so on, and `a 2 (c>=2)` is version 2
 //! of a, which needs c.
-use crate::problems::read_problem;
 use crate::told::{cells, put};
 use std::alloc::Global;
 use std::fmt::Write;
 use ul_problem::Problem;
+use ul_test_problems::read_problem;
 
 // A problem a row, behind its name:
 //
