@@ -29,6 +29,11 @@ const ALL_LETTERS: &str = "'a' in platform_version and 'b' in platform_version \
     and 'i' in platform_version and 'j' in platform_version and 'k' in platform_version \
     and 'm' in platform_version";
 
+// Where the first letter doesn't stand, and where the last doesn't.
+const FIRST_LACKS: &str = "'a' not in platform_version";
+
+const LAST_LACKS: &str = "'m' not in platform_version";
+
 const NAMES: &str = "pa,pb,pc,pd,pe,pf,pg,ph,pi,pj,pk,z";
 
 // What one package requires of those eleven, each where a letter of its own stands in the platform's version.
@@ -64,11 +69,12 @@ fn pairs(alloc: Global, marker: &str) -> Option<Input> {
     input_of(alloc, requirements.as_str(), "", packages.as_str())
 }
 
-// The project of the two packages that clash, also over a further one, which one of them requires where a marker holds.
-fn clashes(alloc: Global, marker: &str) -> Option<Input> {
+// The project of the two packages that clash, also over a further one, which one of them requires where a marker holds,
+// and the other one where another marker does.
+fn clashes(alloc: Global, marker: &str, other: &str) -> Option<Input> {
     let packages = format!(in alloc;
         "a {{\"version\": \"1\", \"requires_dist\": [{BELOW}, \"z<2; {marker}\"]}}\n\
-        b {{\"version\": \"1\", \"requires_dist\": [{ABOVE}, \"z>=2; 'a' not in platform_version\"]}}\n\
+        b {{\"version\": \"1\", \"requires_dist\": [{ABOVE}, \"z>=2; {other}\"]}}\n\
         {NAMES} {{\"version\": \"1\"}}, {{\"version\": \"2\"}}"
     );
     let settings = "[tool.uv]\nfork-strategy = 'deep'";
@@ -107,7 +113,16 @@ fn many_leaves_and_one_too_many(rt: HostRuntime) {
 fn many_clashes_and_one_too_many(rt: HostRuntime) {
     let alloc = rt.alloc();
     assert!(rt;
-        has_count(&rt, alloc, clashes(alloc, ONE_LETTER), (2048, true))
-            && has_count(&rt, alloc, clashes(alloc, ALL_LETTERS), (2049, false))
+        has_count(
+            &rt,
+            alloc,
+            clashes(alloc, ONE_LETTER, FIRST_LACKS),
+            (2048, true)
+        ) && has_count(
+            &rt,
+            alloc,
+            clashes(alloc, ALL_LETTERS, LAST_LACKS),
+            (2049, false)
+        )
     );
 }
