@@ -40,32 +40,44 @@ fn document(alloc: Global, name: &str, releases: &str) -> Result<(String, Vec<u8
     Ok((path, json.into_bytes()))
 }
 
-// A folder whose packages, between commas, each have these releases.
-fn folder(alloc: Global, names: &str, releases: &str) -> Result<SureFiles, AllocError> {
-    let mut list = Vec::new(alloc);
+// Puts the documents of a line: names, between commas, and behind a blank the releases that each of them has.
+fn put_documents(
+    alloc: Global,
+    list: &mut Vec<(String, Vec<u8>)>,
+    line: &str,
+) -> Result<(), AllocError> {
+    let (names, releases) = line.split_once(' ').unwrap_or((line, ""));
     for name in names.split(',') {
         list.push(document(alloc, name, releases)?)?;
+    }
+    Ok(())
+}
+
+// A folder of the documents of such lines.
+fn folder(alloc: Global, packages: &str) -> Result<SureFiles, AllocError> {
+    let mut list = Vec::new(alloc);
+    for line in packages.lines() {
+        put_documents(alloc, &mut list, line)?;
     }
     Ok(SureFiles::of(alloc, list))
 }
 
 // The catalog of a project and of such a folder.
-fn catalog_of(alloc: Global, project: &Project, names: &str, releases: &str) -> Option<Catalog> {
-    let mut files = folder(alloc, names, releases).ok()?;
+fn catalog_of(alloc: Global, project: &Project, packages: &str) -> Option<Catalog> {
+    let mut files = folder(alloc, packages).ok()?;
     load_project(alloc, &mut files, "ix", project).ok()
 }
 
-/// The project of these requirements and settings, with packages, between commas, that each have these releases; none
-/// where they aren't read.
+/// The project of these requirements and settings, with the packages of these lines: names, between commas, and behind
+/// a blank the releases that each of them has; none where they aren't read.
 pub fn input_of(
     alloc: Global,
     requirements: &str,
     settings: &str,
-    names: &str,
-    releases: &str,
+    packages: &str,
 ) -> Option<Input> {
     let project = project_of(alloc, requirements, settings)?;
-    match catalog_of(alloc, &project, names, releases) {
+    match catalog_of(alloc, &project, packages) {
         Some(catalog) => Some(Input { project, catalog }),
         None => refused(project),
     }

@@ -29,11 +29,11 @@ impl Gate for Meeting {
 
 const REQUIREMENTS: &str = "'q>=1', \"q<2; sys_platform == 'win32'\"";
 
-const RELEASES: &str = "{\"version\": \"1\"}, {\"version\": \"2\"}";
+const PACKAGES: &str = "q {\"version\": \"1\"}, {\"version\": \"2\"}";
 
 // Whether there is an answer where the first region, and then its two parts, pass a gate.
 fn is_answered<R: Threads + Wait + Sync>(rt: &R, alloc: Global, gate: &Meeting) -> bool {
-    match input_of(alloc, REQUIREMENTS, "", "q", RELEASES) {
+    match input_of(alloc, REQUIREMENTS, "", PACKAGES) {
         Some(input) => forked(rt, alloc, 2, &input, gate).is_ok(),
         None => false,
     }

@@ -16,16 +16,20 @@ use ul_tree::{Tree, of_marker};
 use ul_version::Version;
 use ul_workers::Round;
 
-// A row has the project's requirements, its settings, the packages, and the releases that each of them has. Below the
-// line it has the number of regions of each generation, and then the leaves: the path of each, its decisions, and a
-// marker that is true where its region is.
+// A row has the project's requirements, its settings, and the packages: a line with names and with the releases that
+// each of them has. Below the line it has the number of regions of each generation, and then the leaves: the path of
+// each, its decisions, and a marker that is true where its region is.
 //
 // Three markers that don't depend on one another split three times. One marker in two spellings doesn't split; of two
 // others the first that fails somewhere does. A release that isn't fit everywhere splits by its interpreters where the
 // strategy lets it in, and else gives way to an older one. Of two refused regions the first is answered.
+//
+// Under `deep` a clash is split by the first need of its core that fails somewhere, also one of a package that the
+// project doesn't name, and again below it. What is served where it was split is split by interpreters as elsewhere. A
+// region whose core holds throughout is refused; so is one below a split, in the part that has no selection.
 const ROWS: &str = r#"
 'q', "q<2; sys_platform == 'win32'", 'r', "r<2; os_name == 'nt'", 's', "s<2; python_version < '3.10'"
-| | q,r,s | {"version": "1"}, {"version": "2"}
+| | q,r,s {"version": "1"}, {"version": "2"}
 ----
 1 2 4 8
 [000] demo-0.1 q-1 r-1 s-1 in sys_platform == 'win32' and os_name == 'nt' and python_version < '3.10'
@@ -37,19 +41,19 @@ const ROWS: &str = r#"
 [110] demo-0.1 q-2 r-2 s-1 in sys_platform != 'win32' and os_name != 'nt' and python_version < '3.10'
 [111] demo-0.1 q-2 r-2 s-2 in sys_platform != 'win32' and os_name != 'nt' and python_version >= '3.10'
 ====
-"a; python_version > '3.7'", "a; python_full_version >= '3.8'" | | a | {"version": "1"}
+"a; python_version > '3.7'", "a; python_full_version >= '3.8'" | | a {"version": "1"}
 ----
 1
 [] demo-0.1 a-1 in python_version >= '0'
 ====
 "n>=2; python_version >= '3.11'", "n<2; python_version < '3.11'"
-| requires-python = '>=3.9' | n | {"version": "1"}, {"version": "2"}
+| requires-python = '>=3.9' | n {"version": "1"}, {"version": "2"}
 ----
 1 2
 [0] demo-0.1 n-2 in python_version >= '3.11'
 [1] demo-0.1 n-1 in python_version >= '3.9' and python_version < '3.11'
 ====
-'q>=1', "q<2; sys_platform == 'win32'" | | q | {"version": "1"}, {"version": "2"}
+'q>=1', "q<2; sys_platform == 'win32'" | | q {"version": "1"}, {"version": "2"}
 ----
 1 2
 [0] demo-0.1 q-1 in sys_platform == 'win32'
@@ -59,7 +63,7 @@ const ROWS: &str = r#"
 | requires-python = '>=3.9'
 [tool.uv]
 fork-strategy = 'requires-python'
-| a | {"version": "1", "requires_python": ">=3.8"}, {"version": "2", "requires_python": ">=3.10"}
+| a {"version": "1", "requires_python": ">=3.8"}, {"version": "2", "requires_python": ">=3.10"}
 ----
 1 2
 [0] demo-0.1 a-2 in python_full_version >= '3.10'
@@ -69,13 +73,91 @@ fork-strategy = 'requires-python'
 | requires-python = '>=3.9'
 [tool.uv]
 fork-strategy = 'fewest'
-| a | {"version": "1", "requires_python": ">=3.8"}, {"version": "2", "requires_python": ">=3.10"}
+| a {"version": "1", "requires_python": ">=3.8"}, {"version": "2", "requires_python": ">=3.10"}
 ----
 1
 [] demo-0.1 a-1 in python_full_version >= '3.9'
 ====
 "q<2; sys_platform == 'win32'", "q>=2; sys_platform != 'win32'"
-| | q | {"version": "1", "requires_dist": ["z"]}, {"version": "2", "requires_dist": ["z"]}
+| | q {"version": "1", "requires_dist": ["z"]}, {"version": "2", "requires_dist": ["z"]}
+----
+1 2
+[0] refused in sys_platform == 'win32'
+====
+'a', 'b'
+|
+| a {"version": "1", "requires_dist": ["c<2; sys_platform == 'win32'"]}
+b {"version": "1", "requires_dist": ["c>=2; sys_platform != 'win32'"]}
+c {"version": "1"}, {"version": "2"}
+----
+1
+[] refused in python_version >= '0'
+====
+'a', 'b'
+| [tool.uv]
+fork-strategy = 'deep'
+| a {"version": "1", "requires_dist": ["c<2; sys_platform == 'win32'"]}
+b {"version": "1", "requires_dist": ["c>=2; sys_platform != 'win32'"]}
+c {"version": "1"}, {"version": "2"}
+----
+1 2
+[0] demo-0.1 a-1 b-1 c-1 in sys_platform == 'win32'
+[1] demo-0.1 a-1 b-1 c-2 in sys_platform != 'win32'
+====
+'a', 'b'
+| [tool.uv]
+fork-strategy = 'deep'
+| a {"version": "1", "requires_dist": ["c<2; sys_platform == 'win32'"]}
+b {"version": "1", "requires_dist": ["c>=2; os_name == 'nt'"]}
+c {"version": "1"}, {"version": "2"}
+----
+1 2 2
+[00] refused in sys_platform == 'win32' and os_name == 'nt'
+====
+'a', 'b', 'd', 'e'
+| [tool.uv]
+fork-strategy = 'deep'
+| a {"version": "1", "requires_dist": ["c==1; sys_platform == 'win32'"]}
+b {"version": "1", "requires_dist": ["c==2; sys_platform == 'linux'"]}
+d {"version": "1", "requires_dist": ["c==3; sys_platform == 'darwin'"]}
+e {"version": "1", "requires_dist": ["c==4; sys_platform == 'aix'"]}
+c {"version": "1"}, {"version": "2"}, {"version": "3"}, {"version": "4"}
+----
+1 2 2 2
+[0] demo-0.1 a-1 b-1 d-1 e-1 c-3 in sys_platform == 'darwin'
+[10] demo-0.1 a-1 b-1 d-1 e-1 c-2 in sys_platform == 'linux'
+[110] demo-0.1 a-1 b-1 d-1 e-1 c-1 in sys_platform == 'win32'
+[111] demo-0.1 a-1 b-1 d-1 e-1 c-4 in sys_platform != 'darwin' and sys_platform != 'linux' and sys_platform != 'win32'
+====
+'a'
+| [tool.uv]
+fork-strategy = 'deep'
+| a {"version": "1", "requires_dist": ["b", "d"]}
+b {"version": "1", "requires_dist": ["c<2; os_name == 'nt'"]}
+d {"version": "1", "requires_dist": ["c>=2; os_name != 'nt'"]}
+c {"version": "1"}, {"version": "2"}
+----
+1 2
+[0] demo-0.1 a-1 b-1 d-1 c-1 in os_name == 'nt'
+[1] demo-0.1 a-1 b-1 d-1 c-2 in os_name != 'nt'
+====
+'a', 'b'
+| requires-python = '>=3.9'
+[tool.uv]
+fork-strategy = 'deep'
+| a {"version": "1", "requires_dist": ["c<2; python_version < '3.10'"]}
+b {"version": "1", "requires_dist": ["c>=2; python_version >= '3.10'"]}
+c {"version": "1"}, {"version": "2", "requires_python": ">=3.8"}, {"version": "3", "requires_python": ">=3.11"}
+----
+1 2 2
+[0] demo-0.1 a-1 b-1 c-1 in python_version >= '3.9' and python_version < '3.10'
+[10] demo-0.1 a-1 b-1 c-3 in python_version >= '3.11'
+[11] demo-0.1 a-1 b-1 c-2 in python_version >= '3.10' and python_version < '3.11'
+====
+"q<2; sys_platform == 'win32'", "q>=2; sys_platform != 'win32'"
+| [tool.uv]
+fork-strategy = 'deep'
+| q {"version": "1", "requires_dist": ["z"]}, {"version": "2", "requires_dist": ["z"]}
 ----
 1 2
 [0] refused in sys_platform == 'win32'
@@ -247,9 +329,8 @@ fn cut(text: &str) -> (&str, &str) {
 // The project of a row.
 fn input_in(alloc: Global, text: &str) -> Option<Input> {
     let (requirements, rest) = cut(text);
-    let (settings, rest) = cut(rest);
-    let (names, releases) = cut(rest);
-    input_of(alloc, requirements, settings, names, releases)
+    let (settings, packages) = cut(rest);
+    input_of(alloc, requirements, settings, packages.trim())
 }
 
 // Whether a project has these counts and this answer with 1, 2, 8 and 64 workers.
