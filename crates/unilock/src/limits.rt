@@ -71,7 +71,7 @@ fn compared(alloc: Global, count: usize) -> String {
 fn put_points(told: &mut String, variable: &str, count: usize) {
     for place in 0..count {
         let or = if place == 0 { "" } else { " or " };
-        let _ = write!(told, "{or}{variable} == 'x{}'", 100 + place);
+        let _ = write!(told, "{or}{variable} == 'x{}'", place.saturating_add(100));
     }
 }
 
