@@ -24,11 +24,11 @@ TOP = Path(__file__).resolve().parent.parent
 PYTHON = TOP / "python"
 sys.path.insert(0, str(PYTHON))
 sys.dont_write_bytecode = True
-# The script `unilock` keeps the program in out/; a build by hand leaves it in its crate; else UNILOCK may name one.
+# UNILOCK may name one; the script `unilock` keeps the program in out/; a build by hand leaves it in its crate.
 BUILT = [
+    Path(os.environ.get("UNILOCK") or "/nowhere"),
     TOP / "out" / "unilock",
     TOP / "crates" / "unilock" / "out" / "unilock",
-    Path(os.environ.get("UNILOCK") or "/nowhere"),
 ]
 PROGRAM = next((it for it in BUILT if it.is_file()), BUILT[0])
 SKIPPED: Dict[str, List[str]] = {}
@@ -47,16 +47,10 @@ def skip(test: unittest.TestCase, why: str) -> None:
     test.skipTest(why)
 
 
-def want_program(test: unittest.TestCase, command: Optional[str] = None) -> None:
-    """Skips a test where there is no program, or where the one that is there can't do a command yet."""
+def want_program(test: unittest.TestCase) -> None:
+    """Skips a test where there is no program."""
     if not PROGRAM.is_file():
         skip(test, "the program isn't built (./unilock builds it)")
-    if command is not None:
-        done = subprocess.run(
-            [str(PROGRAM), command, "absent", "absent", "absent"], stdout=subprocess.PIPE, check=False
-        )
-        if done.stdout.startswith(b"not built: "):
-            skip(test, f"the program has no {command}")
 
 
 class Done(NamedTuple):

@@ -1,7 +1,7 @@
 """The program under test: where it is and what it says.
 
 The variable UNILOCK names another program than the one that is built here. Where there is none, tests of it are
-skipped; so is a check whose answer is that a form isn't built yet.
+skipped.
 """
 
 from __future__ import annotations
@@ -14,7 +14,7 @@ from typing import Iterable, NamedTuple
 
 import making
 
-PROGRAM = Path(os.environ.get("UNILOCK") or making.PROGRAM).resolve()
+PROGRAM = making.PROGRAM.resolve()
 # A call takes milliseconds; the slowest program under test (one that checks as it runs) on a busy machine a minute.
 PATIENCE = 600
 CALLS_AT_ONCE = os.cpu_count() or 1
@@ -26,10 +26,6 @@ class Said(NamedTuple):
     status: int
     text: str
     errors: str
-
-    @property
-    def is_not_built(self) -> bool:
-        return self.status == 3 and self.text.startswith("not built: ")
 
 
 class Call(NamedTuple):

@@ -185,7 +185,7 @@ class ByAStandIn(Written):
 
 class ByTheProgram(Written):
     def test_the_stand_in_prints_what_the_program_does(self) -> None:
-        want_program(self, "export")
+        want_program(self)
         import subprocess
 
         for words, rows in ROWS.items():
@@ -195,7 +195,7 @@ class ByTheProgram(Written):
             self.assertEqual((done.returncode, done.stdout), (0, rows))
 
     def test_the_example(self) -> None:
-        want_program(self, "export")
+        want_program(self)
         lock = TOP / "examples" / "web_app" / "unilock.lock"
         self.assertIn("the lock has no files of", self.ran("pylock", lock, status=1).stderr)
         said = self.printed("requirements", lock, "dev", "--all", "--no-hashes")

@@ -183,7 +183,7 @@ class Requirements(Folder):
         self.assertEqual(self.printed("requirements", "bare.lock", "--no-hashes")[0], "alpha==1.3")
 
     def test_all_machines(self) -> None:
-        want_program(self, "export")
+        want_program(self)
         said = self.printed("requirements", "unilock.lock", "--all", "--no-hashes")
         self.assertEqual(said[:2], ["alpha==1.3", "beta-tools==2.0"])
         self.assertIn("winonly==1.0 ; sys_platform == 'no such platform'", said)
