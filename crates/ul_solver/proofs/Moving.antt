@@ -194,7 +194,7 @@ decided_opened p t u o more opened all s f top same = record {
 
 -- of a backjump
 pub back_opened : (p : Plain) (t u : Track) (o q : Opened) (level : ℕ) (learned : List Step) → IsState p t → IsOpened p t o → level < level_of t.facts → u.steps ≡ t.steps ++ learned → (g : (more : List Fact) × (u.facts ≡ up_to level t.facts ++ more)) → level_of u.facts ≡ level
-    → ((l : ℕ) → l < level → up_to l u.facts ≡ up_to l t.facts) → q.versions.items ≡ o.versions.items → q.counts.items ≡ o.counts.items → q.looked ≡ length (up_to level t.facts) → IsOpened p u q
+    → ((l : ℕ) → l < level → up_to l u.facts ≡ up_to l t.facts) → q.versions.items ≡ o.versions.items → length q.counts.items ≡ length o.counts.items → q.looked ≡ length (up_to level t.facts) → IsOpened p u q
 back_opened p t u o q level learned st opened lower s g top same rows counts looked = record {
   are = subst (AreOpened p u.steps) (sym rows) (opened_more p t.steps learned u.steps o.versions.items opened.are s);
   looked = subst (λ (x : List (List Bool)). AreLooked p u x q.looked) (sym rows) (record {
@@ -203,7 +203,7 @@ back_opened p t u o q level learned st opened lower s g top same rows counts loo
         (subst (λ (l : List Fact). IsHeld l (In n (one_of (size_of p n) v))) (ap (take q.looked) g.1 ∙ (take_front (up_to level t.facts) g.0 q.looked (omega (arith, looked)) ∙ (ap (λ (k : ℕ). take k (up_to level t.facts)) looked ∙ take_whole (up_to level t.facts)))) h);
     lower = λ l low. (let low' : l < level = omega (arith, top) in let e = ap (λ (x : List Fact). length x) (same l low') in let b = up_to_length l level t.facts (omega arith) in omega (arith, looked, b, e));
   });
-  counts = ap (λ (x : List ℕ). length x) counts ∙ opened.counts;
+  counts = counts ∙ opened.counts;
 }
 
 -- ---- looks

@@ -3,7 +3,8 @@
 //! The steps of a version are held when they are wanted: of a version that the facts make certain at once, of another one
 //! before it is decided. A version whose needs clash with the facts is then excluded by its own step, without a conflict.
 //! Where a node is asked for a further version, those behind it in its order are opened with it, twice as many each time,
-//! so that a node of many versions that all clash takes few turns and few conflicts.
+//! so that a node of many versions that all clash takes few turns and few conflicts. Of a node that took part in a conflict
+//! all are: where decisions clash again and again, a version that can't be is best seen before it is decided.
 ghost use Rattle.std.specs.Prelude.{◌≡◌, ◌+◌, ◌<◌, ◌≤◌, IfOk, IfSome, false, length};
 ghost use Rattle.ul_problem.specs.Plain.{size_of};
 ghost use Rattle.ul_solver.specs.Opened.{AreClosedTo, IsOpened, is_opened};
@@ -12,7 +13,7 @@ ghost use Rattle.ul_solver.specs.Turns.{HasOpened, HasWidened, IsLook, IsLookedO
 ghost use Rattle.ul_trail.specs.Certain.{IsCertainAt};
 
 use std::alloc::{AllocError, Global};
-use ul_problem::Problem;
+use ul_problem::{Problem, Step, Term};
 use ul_ranges::Ordinals;
 use ul_trail::Trail;
 
@@ -21,7 +22,7 @@ use ul_trail::Trail;
 pub struct Opened {
     /// The set of them, node by node.
     pub versions: Vec<Ordinals>,
-    /// How many further ones are opened with the next one, node by node.
+    /// How many further ones are opened with the next one, node by node; the greatest number stands for all.
     pub counts: Vec<u32>,
     /// How many facts were looked at for versions that they make certain.
     pub looked: usize,
@@ -130,7 +131,12 @@ fn open_more(
     let _ = problem.roots();
     let order = problem.order_at(node);
     let mut left = count;
-    for place in place_in(order, version)..order.len() {
+    let first = if count == u32::MAX {
+        0
+    } else {
+        place_in(order, version)
+    };
+    for place in first..order.len() {
         if left == 0 {
             return Ok(());
         }
@@ -139,6 +145,50 @@ fn open_more(
         }
     }
     Ok(())
+}
+
+// With the next version of a node all are opened.
+fn mark(counts: &mut Vec<u32>, node: u64)
+    ensures { length counts.new.items ≡ length counts.old.items }
+{
+    let at = node as usize;
+    if at < counts.len() {
+        counts[at] = u32::MAX;
+    }
+}
+
+// With the next version of the terms' nodes all are.
+fn mark_terms(counts: &mut Vec<u32>, terms: &[Term])
+    ensures { length counts.new.items ≡ length counts.old.items }
+{
+    for term in terms {
+        mark(counts, term.node());
+    }
+}
+
+fn mark_step(counts: &mut Vec<u32>, step: &Step)
+    ensures { length counts.new.items ≡ length counts.old.items }
+{
+    match step {
+        Step::Need { node, target, .. } => {
+            mark(counts, *node);
+            mark(counts, *target);
+        }
+        Step::Python { node, .. } | Step::Base { node, .. } => mark(counts, *node),
+        Step::Cut { node, terms, .. } => {
+            mark(counts, *node);
+            mark_terms(counts, terms.as_slice());
+        }
+    }
+}
+
+/// With the next version of each node that took part in a conflict, by what was learned from it, all of the node are opened.
+pub fn mark_learned(counts: &mut Vec<u32>, learned: &[Step])
+    ensures { length counts.new.items ≡ length counts.old.items }
+{
+    for step in learned {
+        mark_step(counts, step);
+    }
 }
 
 /// Holds the steps of a version that isn't opened, with those of the ones behind it.

@@ -34,7 +34,7 @@ ghost use Rattle.ul_solver.specs.Opened.{IsOpened, is_opened};
 ghost use Rattle.ul_solver.specs.State.{IsState, IsFirstOpen};
 ghost use Rattle.ul_solver.specs.Turns.{IsFollowed, IsMove, IsTurn};
 
-use crate::opened::{Opened, look, none_opened, open_block};
+use crate::opened::{Opened, look, mark_learned, none_opened, open_block};
 use std::alloc::{AllocError, Global};
 use ul_conflict::{Outcome, resolve};
 use ul_problem::{Derivation, Problem, Step};
@@ -175,6 +175,7 @@ fn backward(
     requires jump { IsBackjump problem.now trail.old level learned.items }
     ensures { IfOk result (λ g. IsMove problem.now trail.old opened.old trail.new opened.new g) }
 {
+    mark_learned(&mut opened.counts, learned.as_slice());
     trail.back(alloc, problem, level, learned)?;
     opened.looked = trail.facts().len();
     let progress = trail.propagate(alloc, problem)?;

@@ -14,7 +14,7 @@ returns c =
     record {
       state = k.state;
       opened = back_opened c.args.problem.now c.args.trail.now c.propagate.new.self c.args.opened.now _ c.args.level c.args.learned.items c.requires.state c.requires.opened c.requires.jump.lower
-          k.steps k.grown k.top k.same refl refl (c.len-opened.ensures ∙ (c.facts.result.now.ok.0 ∙ ap (λ (l : List Fact). length l) (c.facts.ensures ∙ b.facts)));
+          k.steps k.grown k.top k.same refl c.mark_learned.ensures (c.len-opened.ensures ∙ (c.facts.result.now.ok.0 ∙ ap (λ (l : List Fact). length l) (c.facts.ensures ∙ b.facts)));
       progress = e.progress;
       falls = facts_fall (sizes_of c.args.problem.now) c.args.opened.now.versions.items c.args.trail.now.facts c.propagate.new.self.facts k.falls;
     }
