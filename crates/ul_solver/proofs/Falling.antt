@@ -13,11 +13,11 @@ number_le : (p : List ℕ) (facts : List Fact) (l : ℕ) (b : Bool) → cond b (
 number_le p facts l true = let h : open_in p (up_to l facts) ≤ open_in p [] = open_le p (up_to l facts) [] (length p) (λ n o e. refl) in omega arith
 number_le p facts l false = omega arith
 
-all_below : (p : List ℕ) (facts : List Fact) (top k l : ℕ) → AreBelow (open_in p [] + 2) (level_numbers p facts top k l)
+pub all_below : (p : List ℕ) (facts : List Fact) (top k l : ℕ) → AreBelow (open_in p [] + 2) (level_numbers p facts top k l)
 all_below p facts top zero l = tt
 all_below p facts top (suc k) l = (number_le p facts l (nat_le l top), all_below p facts top k (suc l))
 
-all_long : (p : List ℕ) (facts : List Fact) (top k l : ℕ) → length (level_numbers p facts top k l) ≡ k
+pub all_long : (p : List ℕ) (facts : List Fact) (top k l : ℕ) → length (level_numbers p facts top k l) ≡ k
 all_long p facts top zero l = refl
 all_long p facts top (suc k) l = ap suc (all_long p facts top k (suc l))
 

@@ -7,4 +7,6 @@ pub mod Choosing
 pub mod Starting
 pub mod Possible
 pub mod Existing
+pub mod Opening
+pub mod Moving
 pub mod ForCallers

@@ -19,7 +19,8 @@ use Rattle.ul_trail.specs.Track.{Track}
 use Rattle.ul_trail.specs.declared.fact.Fact.{Fact}
 use Rattle.ul_trail.specs.Facts.{is_open, IsHeld, AreHeldBut, one_of, picks_of, IsAllowed}
 use Rattle.ul_trail.specs.Propagation.{IsQuiet, IsQuietAt, root_fact, root_facts}
-use Rattle.ul_trail.proofs.ForCallers.{one_has, place_decided, HasFact, pick_fact, held_in, pair_held, open_one_version}
+use Rattle.ul_trail.proofs.ForCallers.{place_decided, HasFact, pick_fact, held_in, pair_held, open_one_version}
+use Rattle.ul_trail.specs.Moves.{HasSteps, HasVersionSteps}
 use Rattle.ul_solver.specs.State.{IsState}
 use Rattle.ul_solver.proofs.Starting.{next_within}
 
@@ -61,19 +62,20 @@ pub record HasVersion (p : Plain) (facts : List Fact) (n : ℕ) : Type 0 where
   pub there : version < size_of p n
   pub is : is_open facts n (Some version) ≡ true
 
-asked_version : (p : Plain) (t : Track) (m v n : ℕ) (need : Need) → IsWellFormed p → IsState p t → IsQuiet p t → HasFact p t.facts m v → Contains (needs_of p m v) need → need.node ≡ n → (m ≡ n → ⊥) → HasVersion p t.facts n
-asked_version p t m v n need wf st quiet fact one e apart =
-    let below : v < size_of p m = fact.0 in
+asked_version : (p : Plain) (t : Track) (m v n : ℕ) (need : Need) → IsWellFormed p → IsState p t → IsQuiet p t → HasVersionSteps p t.steps m v → HasFact p t.facts m v → Contains (needs_of p m v) need → need.node ≡ n → (m ≡ n → ⊥) → HasVersion p t.facts n
+asked_version p t m v n need wf st quiet steps fact one e apart =
+    let found = steps.needs need one in
+    let s : List Bool = found.0 in
     let w : List Bool = need.permitted in
-    let step : Step = NeedStep m (one_of (size_of p m) v) need.node need.permitted in
-    let held : IsHeld t.facts (In m (one_of (size_of p m) v)) = held_in p t.facts m v (one_of (size_of p m) v) fact (one_has (size_of p m) v below) in
-    let k = one_place t.steps step (st.held.needs m v need below one) in
+    let step : Step = NeedStep m s need.node need.permitted in
+    let held : IsHeld t.facts (In m s) = held_in p t.facts m v s fact found.1 in
+    let k = one_place t.steps step found.2 in
     let q : IsQuietAt p t.facts step = quiet k.0 step k.1 in
     let al = st.right.alive.at need.node in
     let fits = need_fits p m v need wf one in
     elim (cases_blank w) [
-      | inl b ↦ absurd (q.0 (pair_held t.facts (In m (one_of (size_of p m) v)) (NotIn need.node need.permitted) held (λ o i. blank_allows o need.node need.permitted b)))
-      | inr b ↦ (let failed = q.1 (NotIn need.node need.permitted) (but_pair t.facts (In m (one_of (size_of p m) v)) (NotIn need.node need.permitted) (λ x. apart (x ∙ e)) held refl (ap (λ (c : Bool). cond c None (Some (NotIn need.node need.permitted))) b)) in
+      | inl b ↦ absurd (q.0 (pair_held t.facts (In m s) (NotIn need.node need.permitted) held (λ o i. blank_allows o need.node need.permitted b)))
+      | inr b ↦ (let failed = q.1 (NotIn need.node need.permitted) (but_pair t.facts (In m s) (NotIn need.node need.permitted) (λ x. apart (x ∙ e)) held refl (ap (λ (c : Bool). cond c None (Some (NotIn need.node need.permitted))) b)) in
           let r = in_set al.0 need.node need.permitted (failed al.0 al.1) in
           record {
             version = r.0;
@@ -105,19 +107,19 @@ root_version p t n wf st i =
     let e : al.0 ≡ Some 0 = open_one_version p t.facts n 0 al.0 fact al.1 in
     record { version = 0; there = z; is = subst (λ (o : Option ℕ). is_open t.facts n o ≡ true) e al.1 }
 
-pub next_version : (p : Plain) (t : Track) (n : ℕ) → IsWellFormed p → IsState p t → IsQuiet p t → next_of p (picks_of t.facts) ≡ Some n → HasVersion p t.facts n
-next_version p t n wf st quiet next = elim (one_cases n p.roots (joined_needs p (picks_of t.facts)) (open_one (picks_of t.facts) (p.roots ++ joined_needs p (picks_of t.facts)) n next)) [
+pub next_version : (p : Plain) (t : Track) (n : ℕ) → IsWellFormed p → IsState p t → IsQuiet p t → HasSteps p (picks_of t.facts) t.steps → next_of p (picks_of t.facts) ≡ Some n → HasVersion p t.facts n
+next_version p t n wf st quiet steps next = elim (one_cases n p.roots (joined_needs p (picks_of t.facts)) (open_one (picks_of t.facts) (p.roots ++ joined_needs p (picks_of t.facts)) n next)) [
   | inl i ↦ root_version p t n wf st i
   | inr i ↦ (let a = asked_by p (picks_of t.facts) n i in
       let k = one_place (picks_of t.facts) a.0 a.1 in
       let nd = not_decided p (picks_of t.facts) n next in
-      asked_version p t a.0.0 a.0.1 n a.2.0 wf st quiet (pick_fact p t.steps [] t.facts a.0.0 a.0.1 st.right.follow.derived a.1) a.2.1 a.2.2
+      asked_version p t a.0.0 a.0.1 n a.2.0 wf st quiet (steps.versions a.0.0 a.0.1 a.1) (pick_fact p t.steps [] t.facts a.0.0 a.0.1 st.right.follow.derived a.1) a.2.1 a.2.2
       (λ e. true≢false (sym (place_decided n (picks_of t.facts) k.0 a.0 k.1 e) ∙ nd)))
 ]
 
-pub never_none : (p : Plain) (t : Track) (n : ℕ) (s : List Bool) (order : List ℕ) → IsWellFormed p → IsState p t → IsQuiet p t → next_of p (picks_of t.facts) ≡ Some n → order ≡ order_of p n → IsAllowed t.facts n (size_of p n) s → None ≡ first_in order s → ⊥
-never_none p t n s order wf st quiet next eo a e =
-    let h = next_version p t n wf st quiet next in
+pub never_none : (p : Plain) (t : Track) (n : ℕ) (s : List Bool) (order : List ℕ) → IsWellFormed p → IsState p t → IsQuiet p t → HasSteps p (picks_of t.facts) t.steps → next_of p (picks_of t.facts) ≡ Some n → order ≡ order_of p n → IsAllowed t.facts n (size_of p n) s → None ≡ first_in order s → ⊥
+never_none p t n s order wf st quiet steps next eo a e =
+    let h = next_version p t n wf st quiet steps next in
     let f = at_node p n (next_within p (picks_of t.facts) n wf next) in
     let w = node_whole p n f.0 wf f.1 in
     let es : size_of p n ≡ length f.0.versions = ap size_in f.1 in

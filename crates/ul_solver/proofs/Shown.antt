@@ -13,9 +13,9 @@ use Rattle.ul_trail.specs.Propagation.{IsTrailOf, NoConflict}
 use Rattle.ul_trail.proofs.ForCallers.{excluded_passed, finished_serves}
 use Rattle.ul_solver.specs.State.{IsSteered, IsChosen, IsState}
 use Rattle.ul_problem.proofs.ForCallers.{trailed_best, agrees_more, best_serves, not_decided}
-use Rattle.ul_solver.specs.Turns.{IsTurn}
+use Rattle.ul_trail.specs.Moves.{HasSteps}
+use Rattle.ul_solver.specs.Turns.{IsFinished}
 use Rattle.ul_solver.specs.Headline.{IsBestShown}
-use Rattle.ul_solver.specs.declared.solver.Turn.TheVariants.{Finished}
 
 pick_append : (c : Option ℕ) (t : Term) (a b rest : Picks) → a ≡ b ++ rest → pick_with c t a ≡ pick_with c t b ++ rest
 pick_append None t a b rest e = ap (λ (l : Picks). (node_of t, first_of (set_of t)) ∷ l) e
@@ -52,26 +52,26 @@ chain_agrees : (p : Plain) (d rest : Picks) → IsChain p d rest → Agrees (ver
 chain_agrees p d [] c a = subst (λ (l : Picks). Agrees (version_in l) l) (sym (append-nil d)) a
 chain_agrees p d (e ∷ rest) c a = subst (λ (l : Picks). Agrees (version_in l) l) (append_assoc d (e ∷ []) rest) (chain_agrees p (d ++ e ∷ []) rest c.1 (agrees_more d e (not_decided p d e.0 c.0) a))
 
-pub finished_best : (p : Plain) (t : Track) → IsWellFormed p → IsState p t → next_of p (picks_of t.facts) ≡ None → NoConflict p t → IsBest p (picks_of t.facts)
-finished_best p t wf st end calm =
+pub finished_best : (p : Plain) (t : Track) → IsWellFormed p → IsState p t → HasSteps p (picks_of t.facts) t.steps → next_of p (picks_of t.facts) ≡ None → NoConflict p t → IsBest p (picks_of t.facts)
+finished_best p t wf st held end calm =
     let trailed : IsTrailed p [] (picks_of t.facts) = steered_trailed p t [] t.facts st.right refl end st.steered in
     let chain : IsChain p [] (picks_of t.facts) = trailed_chain p [] (picks_of t.facts) trailed in
     trailed_best p [] (picks_of t.facts) (version_in (picks_of t.facts))
-    (finished_serves p t wf st.right st.held calm chain end)
+    (finished_serves p t wf st.right held calm chain end)
     (chain_agrees p [] (picks_of t.facts) chain tt) trailed
 
-pub finished_answer : (p : Plain) (before now : Track) (picks : Picks) → IsWellFormed p → IsState p before → IsTurn p before now Finished → picks ≡ picks_of now.facts → IsBestShown p picks now
+pub finished_answer : (p : Plain) (before now : Track) (picks : Picks) → IsWellFormed p → IsState p before → IsFinished p before now → picks ≡ picks_of now.facts → IsBestShown p picks now
 finished_answer p before now picks wf st e shown =
-    let same : picks ≡ picks_of before.facts = shown ∙ ap (λ (t : Track). picks_of t.facts) e.0 in
-    let best : IsBest p (picks_of before.facts) = finished_best p before wf st e.1 e.2 in
+    let same : picks ≡ picks_of before.facts = shown ∙ ap (λ (t : Track). picks_of t.facts) e.same in
+    let best : IsBest p (picks_of before.facts) = finished_best p before wf st e.held e.end e.calm in
     let there : IsBestShown p (picks_of before.facts) before = record {
       best = best;
       serves = best_serves p (picks_of before.facts) wf best;
       right = st.right;
-      held = st.held;
+      held = e.held;
       shown = refl;
       steered = st.steered;
-      end = e.1;
-      calm = e.2;
+      end = e.end;
+      calm = e.calm;
     } in
-    subst (λ (t : Track). IsBestShown p picks t) (sym e.0) (subst (λ (l : Picks). IsBestShown p l before) (sym same) there)
+    subst (λ (t : Track). IsBestShown p picks t) (sym e.same) (subst (λ (l : Picks). IsBestShown p l before) (sym same) there)

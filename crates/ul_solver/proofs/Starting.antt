@@ -11,7 +11,7 @@ use Rattle.ul_trail.specs.Track.{Track}
 use Rattle.ul_trail.specs.declared.fact.Fact.{Fact}
 use Rattle.ul_trail.specs.Facts.{one_of, first_of, picks_of, level_of, up_to}
 use Rattle.ul_trail.specs.Propagation.{IsTrailOf, HasGrown, AreNewAfter, root_facts}
-use Rattle.ul_trail.specs.Moves.{HasSteps}
+use Rattle.ul_trail.specs.Moves.{HasPythons}
 use Rattle.ul_trail.specs.Roots.{root_picks}
 use Rattle.ul_trail.proofs.ForCallers.{take_front, take_whole, level_of-append, level_of-at, up_to-all, one_first, first_is, place_decided, root_undecided, root_there, roots_picks, facts_snoc, rooted_level}
 use Rattle.ul_solver.specs.State.{IsState, IsSteered, IsFirstOpen}
@@ -37,22 +37,6 @@ next_within p d n wf e = elim (one_cases n p.roots (joined_needs p d) (open_one 
   | inl i ↦ (let k = one_place p.roots n i in (root_there p k.0 n wf k.1).0)
   | inr i ↦ wanted_within p d n wf i
 ]
-
--- propagation before the first decision
-pub settled_state : (p : Plain) (t t2 : Track) → IsState p t → level_of t.facts ≡ 0 → IsTrailOf p t2 → t2.steps ≡ t.steps → HasGrown p t.facts t2.facts → IsState p t2
-settled_state p t t2 st z k2 s2 g =
-    let new : AreNewAfter p 0 t.facts g.0 = subst (λ (m : ℕ). AreNewAfter p m t.facts g.0) z g.2 in
-    let low = level_of-at 0 g.0 (new_at p 0 t.facts g.0 new) in
-    let a = level_of-append t.facts g.0 in
-    let top : level_of t2.facts ≡ 0 = ap level_of g.1 ∙ (a ∙ omega arith) in
-    record {
-      right = k2;
-      held = subst (HasSteps p) (sym s2) st.held;
-      steered = subst (IsSteered p []) (sym g.1) (steered_join p [] t.facts g.0 st.steered (steered_new p 0 t.facts t.facts g.0 (omega arith) new));
-      reached = λ l h. (let e : up_to l t2.facts ≡ t2.facts = up_to-all l t2.facts (omega arith) in ap level_of e ∙ (omega arith));
-      below = λ l h. absurd (omega arith);
-      bounded = omega arith;
-    }
 
 -- the roots are steered
 get_at : (front back : List ℕ) (v : ℕ) → slice_get (front ++ v ∷ back) (length front) ≡ Some v
@@ -110,12 +94,12 @@ roots_steered p front (n ∷ rest) wf e =
       subst (λ (l : List Fact). IsSteered p l (root_facts p rest)) (facts_snoc p front n) (roots_steered p (front ++ n ∷ []) rest wf (e ∙ sym (append_assoc front (n ∷ []) rest))),
     )
 
-pub started_state : (p : Plain) (t : Track) → IsWellFormed p → IsTrailOf p t → t.facts ≡ root_facts p p.roots → HasSteps p t.steps → IsState p t
+pub started_state : (p : Plain) (t : Track) → IsWellFormed p → IsTrailOf p t → t.facts ≡ root_facts p p.roots → HasPythons p t.steps → IsState p t
 started_state p t wf w e h =
     let top : level_of t.facts ≡ 0 = ap level_of e ∙ rooted_level p in
     record {
       right = w;
-      held = h;
+      pythons = h;
       steered = subst (IsSteered p []) (sym e) (roots_steered p [] p.roots wf refl);
       reached = λ l i. (let g : up_to l t.facts ≡ t.facts = up_to-all l t.facts (omega arith) in ap level_of g ∙ (omega arith));
       below = λ l i. absurd (omega arith);

@@ -17,13 +17,12 @@ use Rattle.ul_trail.specs.Counts.{open_in, level_number, sizes_of, AreReached}
 use Rattle.ul_trail.specs.Propagation.{IsTrailOf, AreLevels, HasGrown, AreNewAfter, IsQuiet, NoConflict, IsProgress, IsNew, IsOption, IsQuietAt}
 use Rattle.ul_trail.specs.declared.fact.Progress.{Progress}
 use Rattle.ul_trail.specs.declared.fact.Progress.TheVariants.{Quiet, Conflict}
-use Rattle.ul_trail.specs.Moves.{HasSteps, decision_at}
-use Rattle.ul_trail.proofs.ForCallers.{one_first, get_last, IsWithin, append_within, new_lowers, open_le, up_to-append, up_to-later, up_to-all, up_to-up_to, level_of-append, level_of-at, none_up_to, front_of, get_cases, sizes_length, sizes_at}
+use Rattle.ul_trail.specs.Moves.{HasPythons, decision_at}
+use Rattle.ul_trail.proofs.ForCallers.{one_first, pythons_more, get_last, IsWithin, append_within, new_lowers, open_le, up_to-append, up_to-later, up_to-all, up_to-up_to, level_of-append, level_of-at, none_up_to, front_of, get_cases, sizes_length, sizes_at}
 use Rattle.ul_solver.specs.State.{IsFirstOpen, IsChosen, IsSteered, IsState, measure_of}
 use Rattle.ul_conflict.specs.Headline.{IsBackjump}
 use Rattle.ul_trail.specs.Standing.{IsFresh}
 use Rattle.ul_solver.proofs.Falling.{measure_falls}
-use Rattle.ul_problem.proofs.ForCallers.{one_left}
 
 pub new_at : (p : Plain) (m : ℕ) (xs ys : List Fact) → AreNewAfter p m xs ys → AreAt m ys
 new_at p m xs [] h = tt
@@ -33,13 +32,6 @@ new_at p m xs (f ∷ ys) h = (h.0, new_at p m (xs ++ f ∷ []) ys h.3)
 get_right : {A : Type 0} (xs ys : List A) (x : A) (k : ℕ) → slice_get ys k ≡ Some x → (j : ℕ) × (slice_get (xs ++ ys) j ≡ Some x)
 get_right [] ys x k h = (k, h)
 get_right (z ∷ xs) ys x k h = let r = get_right xs ys x k h in (suc r.0, r.1)
-
-held_more : (p : Plain) (steps learned : List Step) → HasSteps p steps → HasSteps p (steps ++ learned)
-held_more p steps learned h = record {
-  needs = λ n v need b i. one_left _ steps learned (h.needs n v need b i);
-  bases = λ n v b i e. one_left _ steps learned (h.bases n v b i e);
-  pythons = λ n v e. one_left _ steps learned (h.pythons n v e);
-}
 
 steered_left : (p : Plain) (front xs ys : List Fact) → IsSteered p front (xs ++ ys) → IsSteered p front xs
 steered_left p front [] ys h = tt
@@ -101,11 +93,50 @@ unmoved : (p : Plain) (t1 t2 : Track) (g : Progress) → IsProgress p t2 g → t
 unmoved p t1 t2 Quiet h s f loud calm = loud (λ k x e. subst (λ (z : List Fact). IsQuietAt p z x) f (h k x (subst (λ (z : List Step). slice_get z k ≡ Some x) (sym s) e)))
 unmoved p t1 t2 (Conflict k) h s f loud calm = calm k (h.0, subst (λ (z : List Step). slice_get z k ≡ Some h.0) s h.1, subst (λ (z : List Fact). AreHeld z (says p h.0)) f h.2)
 
+-- what a decision, and a backjump, leave with what follows
+pub record IsDecided (p : Plain) (t u : Track) : Type 0 where
+  pub state : IsState p u
+  pub falls : measure_of (sizes_of p) u.facts < measure_of (sizes_of p) t.facts
+  pub more : List Fact
+  pub facts : u.facts ≡ t.facts ++ more
+  pub top : level_of u.facts ≡ level_of t.facts + 1
+  pub same : (l : ℕ) → l < level_of t.facts + 1 → up_to l u.facts ≡ up_to l t.facts
+
+pub record IsBack (p : Plain) (t u : Track) (level : ℕ) (learned : List Step) : Type 0 where
+  pub state : IsState p u
+  pub falls : measure_of (sizes_of p) u.facts < measure_of (sizes_of p) t.facts
+  pub steps : u.steps ≡ t.steps ++ learned
+  pub grown : (more : List Fact) × (u.facts ≡ up_to level t.facts ++ more)
+  pub top : level_of u.facts ≡ level
+  pub same : (l : ℕ) → l < level → up_to l u.facts ≡ up_to l t.facts
+
+-- propagation behind steps that were opened, or at the beginning
+pub followed_state : (p : Plain) (t t2 : Track) → IsState p t → IsTrailOf p t2 → t2.steps ≡ t.steps → HasGrown p t.facts t2.facts → IsState p t2 × (level_of t2.facts ≡ level_of t.facts) × ((l : ℕ) → l < level_of t.facts → up_to l t2.facts ≡ up_to l t.facts)
+followed_state p t t2 st k2 s2 g =
+    let m : ℕ = level_of t.facts in
+    let all_at : AreAt m g.0 = new_at p m t.facts g.0 g.2 in
+    let below_level : level_of g.0 ≤ m = level_of-at m g.0 all_at in
+    let top : level_of t2.facts ≡ m = ap level_of g.1 ∙ (level_of-append t.facts g.0 ∙ (omega (arith, below_level))) in
+    let same : (l : ℕ) → l < m → up_to l t2.facts ≡ up_to l t.facts = λ l h.
+    ap (up_to l) g.1 ∙ (up_to-append l t.facts g.0 ∙ (rw (up_to-later l m g.0 all_at h) (append-nil (up_to l t.facts)))) in (
+      record {
+        right = k2;
+        pythons = subst (HasPythons p) (sym s2) st.pythons;
+        steered = subst (IsSteered p []) (sym g.1) (steered_join p [] t.facts g.0 st.steered (steered_new p m t.facts t.facts g.0 (level_counted p [] t.facts st.steered) g.2));
+        reached = reached_from t.facts t2.facts m st.reached same (omega arith) top;
+        below = λ l h k c.
+            (let low : l < m = omega (arith, top) in
+            st.below l low k (c.0, ap (λ (z : List Step). slice_get z k) (sym s2) ∙ c.1, subst (λ (z : List Fact). AreHeld z (says p c.0)) (same l low) c.2));
+        bounded = (let b = st.bounded in omega (arith, top));
+      },
+      top,
+      same,
+    )
+
 -- a backjump
 pub backward_kept : (p : Plain) (t t1 t2 : Track) (level : ℕ) (learned : List Step)
     → IsState p t → IsBackjump p t level learned → t1.steps ≡ t.steps ++ learned → t1.facts ≡ up_to level t.facts
-    → IsTrailOf p t2 → t2.steps ≡ t1.steps → HasGrown p t1.facts t2.facts → (g : Progress) → IsProgress p t2 g
-    → IsState p t2 × (measure_of (sizes_of p) t2.facts < measure_of (sizes_of p) t.facts)
+    → IsTrailOf p t2 → t2.steps ≡ t1.steps → HasGrown p t1.facts t2.facts → (g : Progress) → IsProgress p t2 g → IsBack p t t2 level learned
 backward_kept p t t1 t2 level learned st jump s1 f1 k2 s2 g2 g progress =
     let front : List Fact = up_to level t.facts in
     let at_level : level_of front ≡ level = st.reached level (omega (arith, jump.lower)) in
@@ -142,10 +173,11 @@ backward_kept p t t1 t2 level learned st jump s1 f1 k2 s2 g2 g progress =
     let first = front_of level 0 t.facts st.right.follow.levels in
     let steered_front : IsSteered p [] front = steered_left p [] front first.0 (subst (IsSteered p []) first.1 st.steered) in
     let steered : IsSteered p [] t2.facts = subst (IsSteered p []) (sym grown.1)
-    (steered_join p [] front grown.0 steered_front (steered_new p level front front grown.0 (omega (arith, at_level, level_counted p [] front steered_front)) new)) in (
-      record {
+    (steered_join p [] front grown.0 steered_front (steered_new p level front front grown.0 (omega (arith, at_level, level_counted p [] front steered_front)) new)) in
+    record {
+      state = record {
         right = k2;
-        held = subst (HasSteps p) (sym steps) (held_more p t.steps learned st.held);
+        pythons = subst (HasPythons p) (sym steps) (pythons_more p t.steps learned st.pythons);
         steered = steered;
         reached = reached_from t.facts t2.facts level st.reached same near top;
         below = λ l h k c.
@@ -157,9 +189,13 @@ backward_kept p t t1 t2 level learned st jump s1 f1 k2 s2 g2 g progress =
               | inr e ↦ jump.calm e.0 c.0 e.1 (held_within front (up_to l t.facts) (says p c.0) (up_to_within l level 0 t.facts st.right.follow.levels (omega arith)) held)
             ]);
         bounded = omega (arith, top, room);
-      },
-      measure_falls (sizes_of p) t2.facts t.facts level same near top (let z = sizes_length p.nodes in omega arith) low,
-    )
+      };
+      falls = measure_falls (sizes_of p) t2.facts t.facts level same near top (let z = sizes_length p.nodes in omega arith) low;
+      steps = steps;
+      grown = (grown.0, grown.1);
+      top = top;
+      same = same;
+    }
   where
     some_new : (p : Plain) (m : ℕ) (front more : List Fact) → AreNewAfter p m front more → (more ≡ [] → ⊥) → open_in (sizes_of p) (front ++ more) < open_in (sizes_of p) front
     some_new p m front [] h n = absurd (n refl)
@@ -168,8 +204,7 @@ backward_kept p t t1 t2 level learned st jump s1 f1 k2 s2 g2 g progress =
 -- a decision
 pub forward_kept : (p : Plain) (t t1 t2 : Track) (n v : ℕ)
     → IsState p t → IsQuiet p t → level_of t.facts < length p.nodes → next_of p (picks_of t.facts) ≡ Some n → v < size_of p n → IsFirstOpen p t.facts n v → t1.steps ≡ t.steps → t1.facts ≡ t.facts ++ decision_at p t.facts n v ∷ []
-    → IsTrailOf p t2 → t2.steps ≡ t1.steps → HasGrown p t1.facts t2.facts
-    → IsState p t2 × (measure_of (sizes_of p) t2.facts < measure_of (sizes_of p) t.facts)
+    → IsTrailOf p t2 → t2.steps ≡ t1.steps → HasGrown p t1.facts t2.facts → IsDecided p t t2
 forward_kept p t t1 t2 n v st quiet room next below first s1 f1 k2 s2 g2 =
     let m : ℕ = level_of t.facts + 1 in
     let fact : Fact = record { term = In n (one_of (size_of p n) v); level = m; cause = None } in
@@ -194,10 +229,11 @@ forward_kept p t t1 t2 n v st quiet room next below first s1 f1 k2 s2 g2 =
     let is_first : first_of (one_of (size_of p n) v) ≡ v = one_first (size_of p n) v below in
     let chosen : IsChosen p t.facts (In n (one_of (size_of p n) v)) None = (next, subst (λ (w : ℕ). IsFirstOpen p t.facts n w) (sym is_first) first) in
     let counted : m ≤ length (picks_of (t.facts ++ fact ∷ [])) = (let e = ap length (picks_append t.facts (fact ∷ [])) ∙ length-append (picks_of t.facts) ((n, first_of (one_of (size_of p n) v)) ∷ []) in let i = level_counted p [] t.facts st.steered in omega (arith, e, i)) in
-    let steered : IsSteered p [] t2.facts = subst (IsSteered p []) (sym facts) (steered_join p [] t.facts more st.steered (chosen, counted, steered_new p m (t.facts ++ fact ∷ []) (t.facts ++ fact ∷ []) grown.0 counted new)) in (
-      record {
+    let steered : IsSteered p [] t2.facts = subst (IsSteered p []) (sym facts) (steered_join p [] t.facts more st.steered (chosen, counted, steered_new p m (t.facts ++ fact ∷ []) (t.facts ++ fact ∷ []) grown.0 counted new)) in
+    record {
+      state = record {
         right = k2;
-        held = subst (HasSteps p) (sym steps) st.held;
+        pythons = subst (HasPythons p) (sym steps) st.pythons;
         steered = steered;
         reached = reached_from t.facts t2.facts m st.reached same near top;
         below = λ l h k c.
@@ -209,6 +245,10 @@ forward_kept p t t1 t2 n v st quiet room next below first s1 f1 k2 s2 g2 =
               | inr last ↦ (let all : up_to l t.facts ≡ t.facts = up_to-all l t.facts last in (quiet k c.0 at).0 (subst (λ (z : List Fact). AreHeld z (says p c.0)) all held))
             ]);
         bounded = omega (arith, top);
-      },
-      measure_falls (sizes_of p) t2.facts t.facts m same near top (let z = sizes_length p.nodes in omega arith) low,
-    )
+      };
+      falls = measure_falls (sizes_of p) t2.facts t.facts m same near top (let z = sizes_length p.nodes in omega arith) low;
+      more = more;
+      facts = facts;
+      top = top;
+      same = same;
+    }

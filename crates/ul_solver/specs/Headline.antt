@@ -18,9 +18,9 @@ pub record IsBestShown (p : Plain) (picks : Picks) (t : Track) : Type 0 where
   pub best : IsBest p picks
   -- its map serves
   pub serves : Serves p (version_in picks)
-  -- the trail is one of the problem's, and holds the problem's steps
+  -- the trail is one of the problem's, and holds the problem's steps of the decided versions
   pub right : IsTrailOf p t
-  pub held : HasSteps p t.steps
+  pub held : HasSteps p picks t.steps
   -- the decisions are the trail's roots and decisions, in their order
   pub shown : picks ≡ picks_of t.facts
   -- each is the next node at the first version of its order that no earlier fact excludes

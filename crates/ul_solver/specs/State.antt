@@ -1,5 +1,5 @@
 -- What the solver keeps of its trail, and its measure.
-use Rattle.std.specs.Prelude.{◌≡◌, ℕ, ◌+◌, List, [], ◌∷◌, ◌++◌, false, Option, Some, None, ◌<◌, ◌≤◌, slice_get, length}
+use Rattle.std.specs.Prelude.{◌≡◌, ℕ, suc, ◌+◌, ◌*◌, ◌^◌, Bool, List, [], ◌∷◌, ◌++◌, false, Option, Some, None, ◌<◌, ◌≤◌, slice_get, length}
 use Rattle.ul_problem.specs.Terms.{node_of, set_of}
 use Rattle.ul_problem.specs.Plain.{Plain, order_of}
 use Rattle.ul_problem.specs.Best.{next_of}
@@ -9,8 +9,9 @@ use Rattle.ul_trail.specs.declared.fact.Fact.{Fact}
 use Rattle.ul_trail.specs.Facts.{is_open, picks_of, level_of, up_to, first_of}
 use Rattle.ul_trail.specs.Counts.{open_in, levels_of, AreReached}
 use Rattle.ul_trail.specs.Propagation.{IsTrailOf, NoConflict}
-use Rattle.ul_trail.specs.Moves.{HasSteps}
+use Rattle.ul_trail.specs.Moves.{HasPythons}
 use Rattle.ul_solver.specs.Measure.{number_of}
+use Rattle.ul_solver.specs.Opened.{all_closed}
 
 -- v is the first version of the node's order that no fact excludes
 abbrev pub IsFirstOpen : Plain → List Fact → ℕ → ℕ → Type 0
@@ -33,12 +34,20 @@ cut_at t l = record { steps = t.steps; terms = t.terms; facts = up_to l t.facts;
 -- what the solver keeps
 pub record IsState (p : Plain) (t : Track) : Type 0 where
   pub right : IsTrailOf p t
-  pub held : HasSteps p t.steps
+  pub pythons : HasPythons p t.steps
   pub steered : IsSteered p [] t.facts
   pub reached : AreReached t.facts
   pub below : (l : ℕ) → l < level_of t.facts → NoConflict p (cut_at t l)
   pub bounded : level_of t.facts ≤ length p.nodes
 
--- the measure: one number a level, as one number
+-- the measure of facts: one number a level, as one number
 unfoldable pub measure_of : List ℕ → List Fact → ℕ
 measure_of sizes facts = number_of (open_in sizes [] + 2) (levels_of sizes facts)
+
+-- what no measure of facts reaches
+unfoldable pub measure_bound : List ℕ → ℕ
+measure_bound sizes = (open_in sizes [] + 2) ^ suc (length sizes)
+
+-- the measure: how many versions aren't opened counts first
+abbrev pub measure_with : List (List Bool) → List ℕ → List Fact → ℕ
+measure_with rows sizes facts = all_closed rows * measure_bound sizes + measure_of sizes facts

@@ -2,6 +2,7 @@
 #![tactic(auto)]
 
 pub mod laws;
+mod opened;
 mod solver;
 
 pub use solver::{Answer, solve};

@@ -132,7 +132,7 @@ false_unless : (b : Bool) → (b ≡ true → ⊥) → b ≡ false
 false_unless true h = absurd (h refl)
 false_unless false h = refl
 
-pub finished_serves : (p : Plain) (t : Track) → IsWellFormed p → IsTrailOf p t → HasSteps p t.steps → NoConflict p t → IsChain p [] (picks_of t.facts) → next_of p (picks_of t.facts) ≡ None → Serves p (version_in (picks_of t.facts))
+pub finished_serves : (p : Plain) (t : Track) → IsWellFormed p → IsTrailOf p t → HasSteps p (picks_of t.facts) t.steps → NoConflict p t → IsChain p [] (picks_of t.facts) → next_of p (picks_of t.facts) ≡ None → Serves p (version_in (picks_of t.facts))
 finished_serves p t wf w steps none chain end =
     let d : Picks = picks_of t.facts in
     let fact : (n v : ℕ) → version_in d n ≡ Some v → HasFact p t.facts n v = λ n v h. pick_fact p t.steps [] t.facts n v w.follow.derived (pick_of d n v h) in
@@ -146,13 +146,13 @@ finished_serves p t wf w steps none chain end =
           let below : v < size_of p n = (fact n v h).0 in
           let in' : IsHeld t.facts (In n (one_of (size_of p n) v)) = held_in p t.facts n v (one_of (size_of p n) v) (fact n v h) (one_has (size_of p n) v below) in
           let says' : AreHeld t.facts (pair_of (In n (one_of (size_of p n) v)) (NotIn b (one_of (size_of p n) v))) → ⊥ =
-          λ k. clash p t (Base n (one_of (size_of p n) v)) none (steps.bases n v b below e) (subst (λ (o : Option ℕ). AreHeld t.facts (pair_of (In n (one_of (size_of p n) v)) (NotIn (base_or o n) (one_of (size_of p n) v)))) (sym e) k) in
+          λ k. clash p t (Base n (one_of (size_of p n) v)) none ((steps.versions n v (pick_of d n v h)).bases b e) (subst (λ (o : Option ℕ). AreHeld t.facts (pair_of (In n (one_of (size_of p n) v)) (NotIn (base_or o n) (one_of (size_of p n) v)))) (sym e) k) in
           let is : has u.0 (one_of (size_of p n) v) ≡ true = true_unless (has u.0 (one_of (size_of p n) v)) (λ k. says' (pair_held t.facts (In n (one_of (size_of p n) v)) (NotIn b (one_of (size_of p n) v)) in' (held_not p t.facts b u.0 (one_of (size_of p n) v) (fact b u.0 u.1) k))) in
           u.1 ∙ ap Some (one_only (size_of p n) v u.0 is));
       meets = λ n v h need i.
           (let u = done need.node (one_right need.node p.roots (joined_needs p d) (wanted_one p d n v need (pick_of d n v h) i)) in
-          let below : v < size_of p n = (fact n v h).0 in
-          let in' : IsHeld t.facts (In n (one_of (size_of p n) v)) = held_in p t.facts n v (one_of (size_of p n) v) (fact n v h) (one_has (size_of p n) v below) in
-          let is : has u.0 need.permitted ≡ true = true_unless (has u.0 need.permitted) (λ k. clash p t (NeedStep n (one_of (size_of p n) v) need.node need.permitted) none (steps.needs n v need below i) (pair_held t.facts (In n (one_of (size_of p n) v)) (NotIn need.node need.permitted) in' (held_not p t.facts need.node u.0 need.permitted (fact need.node u.0 u.1) k))) in
+          let step = (steps.versions n v (pick_of d n v h)).needs need i in
+          let in' : IsHeld t.facts (In n step.0) = held_in p t.facts n v step.0 (fact n v h) step.1 in
+          let is : has u.0 need.permitted ≡ true = true_unless (has u.0 need.permitted) (λ k. clash p t (NeedStep n step.0 need.node need.permitted) none step.2 (pair_held t.facts (In n step.0) (NotIn need.node need.permitted) in' (held_not p t.facts need.node u.0 need.permitted (fact need.node u.0 u.1) k))) in
           ap (λ (o : Option ℕ). is_among o need.permitted) u.1 ∙ is);
     }

@@ -6,11 +6,13 @@ pub use Rattle.ul_trail.proofs.Keeping.{get_cases, none_up_to, front_of, right_j
 -- facts, their levels, and what they leave open
 pub use Rattle.ul_trail.proofs.Levels.{IsWithin, append_within, new_lowers, open_le, up_to-append, up_to-later, up_to-now, up_to-all, up_to-up_to, level_of-append, level_of-at}
 pub use Rattle.ul_trail.proofs.Mirrors.{open_past}
-pub use Rattle.ul_trail.proofs.Singles.{one_other}
+pub use Rattle.ul_trail.proofs.Singles.{one_other, one_set, one_length}
 pub use Rattle.ul_trail.proofs.Following.{derived_left, excluded_passed, facts_follow, one_has, one_first}
 pub use Rattle.ul_trail.proofs.Settling.{negation_node, places_within}
 pub use Rattle.ul_trail.proofs.Cuts.{cut_held, but_on}
-pub use Rattle.ul_trail.proofs.Growing.{grown_level, grown_none, grown_join, rooted_back}
+pub use Rattle.ul_trail.proofs.Growing.{grown_level, grown_none, grown_join}
+-- the steps of versions
+pub use Rattle.ul_trail.proofs.Firsts.{version_has, version_more, pythons_more, one_only}
 -- the sizes of nodes
 pub use Rattle.ul_trail.proofs.Propagating.{sizes_length, sizes_at}
 -- decided nodes, and the facts of roots

@@ -1,4 +1,4 @@
--- Facts that grow by derived ones, and the trail with the roots' facts alone.
+-- Facts that grow by derived ones.
 use Rattle.std.proofs.Common.{◌≡◌, ℕ, List, [], ◌∷◌, ◌++◌, true, Option, refl, ap, ◌∙◌, sym, subst, arith, append_assoc}
 use Rattle.std.proofs.lemmas.List.{append-nil}
 use Rattle.std.proofs.lemmas.Option.{slice_get_within}
@@ -8,7 +8,6 @@ use Rattle.ul_trail.specs.Track.{Track}
 use Rattle.ul_trail.specs.declared.fact.Fact.{Fact}
 use Rattle.ul_trail.specs.Facts.{is_open, picks_of, pick_with, level_of, AreAt}
 use Rattle.ul_trail.specs.Propagation.{IsTrailOf, AreDerivedAfter, AreLevels, AreNewAfter, HasGrown, root_facts}
-use Rattle.ul_trail.specs.Moves.{at_roots}
 use Rattle.ul_trail.proofs.Following.{derived_left}
 use Rattle.ul_trail.proofs.Keeping.{levels_left}
 use Rattle.ul_trail.proofs.Levels.{append_within, level_of-append, level_of-at}
@@ -43,31 +42,3 @@ grown_join p a b c g h = (
   h.1 ∙ (ap (λ (l : List Fact). l ++ h.0) g.1 ∙ append_assoc a g.0 h.0),
   new_join p (level_of a) a g.0 h.0 g.2 (subst (λ (l : List Fact). AreNewAfter p (level_of a) l h.0) g.1 (subst (λ (n : ℕ). AreNewAfter p n b h.0) (grown_level p a b g) h.2)),
 )
-
--- a trail whose facts have grown from the roots' is one of the problem's with the roots' facts alone
-pub rooted_back : (p : Plain) (t : Track) → IsTrailOf p t → HasGrown p (root_facts p p.roots) t.facts → IsTrailOf p (at_roots p t)
-rooted_back p t w g =
-    let roots : List Fact = root_facts p p.roots in
-    let zero_is : level_of roots ≡ 0 = rooted_level p in
-    let top : level_of t.facts ≡ level_of roots = grown_level p roots t.facts g in
-    let picks : picks_of t.facts ≡ picks_of roots =
-    ap picks_of g.1 ∙ (picks_append roots g.0 ∙ (ap (λ (d : Picks). picks_of roots ++ d) (new_unpicked p (level_of roots) roots g.0 g.2) ∙ append-nil (picks_of roots))) in
-    let lv = w.levels in
-    record {
-      whole = w.whole;
-      follow = record {
-        right = w.follow.right;
-        forbidden = w.follow.forbidden;
-        derived = derived_left p t.steps [] roots g.0 (subst (AreDerivedAfter p t.steps []) g.1 w.follow.derived);
-        levels = levels_left 0 roots g.0 (subst (λ (l : List Fact). AreLevels 0 l) g.1 w.follow.levels);
-      };
-      said = w.said;
-      sizes = w.sizes;
-      width = w.width;
-      queue = w.queue ∙ ap (λ (d : Picks). p.roots ++ joined_needs p d) picks;
-      turns = λ l q e. absurd (let a = slice_get_within t.turns l q e in omega arith);
-      levels = w.levels ∙ top;
-      raised = record { at = λ i f e c l. absurd (let z = root_level p p.roots i f e in omega arith) };
-      alive = record { at = λ n. ((w.alive.at n).0, append_within roots g.0 n (w.alive.at n).0 (subst (λ (l : List Fact). is_open l n (w.alive.at n).0 ≡ true) g.1 (w.alive.at n).1)) };
-      begun = record { rest = []; is = sym (append-nil roots); later = tt };
-    }

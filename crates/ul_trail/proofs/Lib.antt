@@ -15,6 +15,7 @@ pub mod Decisions
 pub mod Rewinding
 pub mod Reading
 pub mod Firsts
+pub mod Certain
 pub mod Rooted
 pub mod Growing
 pub mod Finished

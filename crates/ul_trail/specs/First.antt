@@ -1,6 +1,7 @@
 -- The steps that a problem gives.
 use Rattle.std.specs.Prelude.{ℕ, zero, suc, List, [], ◌∷◌, ◌++◌, Bool, cond, Option, Some, None, slice_get, get_or, length}
 use Rattle.ul_ranges.specs.Flags.{is_blank}
+use Rattle.ul_problem.specs.Plain.{Plain, node_at}
 use Rattle.ul_problem.specs.declared.problem.Need.{Need}
 use Rattle.ul_problem.specs.declared.problem.NodeFacts.{NodeFacts}
 use Rattle.ul_problem.specs.declared.step.Step.{Step}
@@ -25,14 +26,18 @@ python_steps n s = cond (is_blank s) [] (Python n s ∷ [])
 abbrev pub version_steps : NodeFacts → ℕ → ℕ → List Step
 version_steps f n v = base_steps n (one_of (length f.versions) v) f.base ++ need_steps n (one_of (length f.versions) v) (get_or f.needs v [])
 
--- the steps of a node's first versions
-abbrev pub versions_steps : NodeFacts → ℕ → ℕ → List Step
-versions_steps f n zero = []
-versions_steps f n (suc k) = versions_steps f n k ++ version_steps f n k
+-- the steps of a version, where the problem has the node
+abbrev pub version_steps_in : Option NodeFacts → ℕ → ℕ → List Step
+version_steps_in None n v = []
+version_steps_in (Some f) n v = version_steps f n v
 
--- the steps of a node
+-- the steps that a version gives
+abbrev pub steps_for : Plain → ℕ → ℕ → List Step
+steps_for p n v = version_steps_in (node_at p n) n v
+
+-- the steps of a node that don't hang on which of its versions is picked
 abbrev pub node_steps : NodeFacts → ℕ → List Step
-node_steps f n = python_steps n f.barred ++ versions_steps f n (length f.versions)
+node_steps f n = python_steps n f.barred
 
 -- the steps of a node, where the problem has it
 abbrev pub steps_at : Option NodeFacts → ℕ → List Step

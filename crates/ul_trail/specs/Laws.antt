@@ -39,5 +39,5 @@ BackKeeps = (p : Plain) (t : Track) (level : ℕ) (learned : List Step) → Foll
 
 -- The picks of a finished trail without a conflict serve: its roots and decisions, where no node that they ask for is undecided.
 abbrev pub FinishedServes : Type 0
-FinishedServes = (p : Plain) (t : Track) → IsWellFormed p → IsTrailOf p t → HasSteps p t.steps → NoConflict p t → IsChain p [] (picks_of t.facts)
+FinishedServes = (p : Plain) (t : Track) → IsWellFormed p → IsTrailOf p t → HasSteps p (picks_of t.facts) t.steps → NoConflict p t → IsChain p [] (picks_of t.facts)
     → next_of p (picks_of t.facts) ≡ None → Serves p (version_in (picks_of t.facts))

@@ -5,6 +5,7 @@ pub mod Track
 pub mod Facts
 pub mod Propagation
 pub mod Moves
+pub mod Certain
 pub mod Watched
 pub mod First
 pub mod Counts

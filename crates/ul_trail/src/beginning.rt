@@ -57,36 +57,29 @@ fn push_version(
     )
 }
 
-fn push_node(
-    alloc: Global,
-    steps: &mut Vec<Step>,
-    facts: &NodeFacts,
-    node: u64,
-) -> Result<(), AllocError>
-    requires barred { length facts.now.barred ≡ length facts.now.versions }
-    requires rows { length facts.now.needs ≡ length facts.now.versions }
-    ensures { IfOk result (λ _. steps.new.items ≡ steps.old.items ++ node_steps facts.now node) }
-{
-    push_barred(alloc, steps, node, &facts.barred)?;
-    for version in 0..facts.barred.size() {
-        push_version(alloc, steps, facts, node, version)?;
-    }
-    Ok(())
-}
-
-/// The steps that a node gives, with room for so many.
-pub fn steps_of(
+/// The steps that a version gives.
+pub fn version_steps(
     alloc: Global,
     facts: &NodeFacts,
     node: u64,
-    count: usize,
+    version: u32,
 ) -> Result<Vec<Step>, AllocError>
     requires barred { length facts.now.barred ≡ length facts.now.versions }
     requires rows { length facts.now.needs ≡ length facts.now.versions }
+    requires version { version < length facts.now.versions }
+    ensures { IfOk result (λ v. v.items ≡ version_steps facts.now node version) }
+{
+    let mut steps = Vec::new(alloc);
+    push_version(alloc, &mut steps, facts, node, version)?;
+    Ok(steps)
+}
+
+/// The steps that a node gives, whichever of its versions is picked.
+pub fn node_steps(alloc: Global, facts: &NodeFacts, node: u64) -> Result<Vec<Step>, AllocError>
     ensures { IfOk result (λ v. v.items ≡ node_steps facts.now node) }
 {
-    let mut steps = Vec::with_capacity(alloc, count)?;
-    push_node(alloc, &mut steps, facts, node)?;
+    let mut steps = Vec::new(alloc);
+    push_barred(alloc, &mut steps, node, &facts.barred)?;
     Ok(steps)
 }
 

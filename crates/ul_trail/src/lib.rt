@@ -15,7 +15,6 @@ mod holding;
 pub mod laws;
 mod mark;
 mod propagation;
-mod rooms;
 mod rooting;
 mod standing;
 mod trail;

@@ -128,38 +128,6 @@ fn walk(
     Ok(None)
 }
 
-/// Looks at the incompatibilities that are new, one after the other, up to one whose terms all hold.
-pub fn look(
-    alloc: Global,
-    watching: &Watching,
-    standing: &mut Standing,
-    cursor: &mut Cursor,
-    level: u64,
-) -> Result<(), AllocError>
-    requires standing { Stands standing.old }
-    requires sized { AllSized standing.old.sizes.items watching.now.terms.items }
-    requires seen { cursor.old.seen ≤ length standing.old.facts.items }
-    requires checked { cursor.old.checked ≤ length watching.now.terms.items }
-    requires settled { IsSettledBy watching.now standing.old cursor.old }
-    ensures standing { IfOk result (λ _. Stands standing.new) }
-    ensures sizes { IfOk result (λ _. standing.new.sizes.items ≡ standing.old.sizes.items) }
-    ensures grown { IfOk result (λ _. Grows watching.now level standing.old standing.new) }
-    ensures seen { IfOk result (λ _. cursor.new.seen ≤ length standing.new.facts.items) }
-    ensures checked { IfOk result (λ _. cursor.new.checked ≤ length watching.now.terms.items) }
-    ensures settled { IfOk result (λ _. IsSettledBy watching.now standing.new cursor.new) }
-{
-    let count = watching.terms.len();
-    for place in cursor.checked..count {
-        let held = settle(alloc, watching.terms.as_slice(), standing, place, level)?;
-        if held {
-            cursor.checked = place;
-            return Ok(());
-        }
-    }
-    cursor.checked = count;
-    Ok(())
-}
-
 /// Looks at all that is new, until nothing is, or until the terms of an incompatibility all hold.
 pub fn spread(
     alloc: Global,

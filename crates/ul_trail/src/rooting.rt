@@ -51,14 +51,14 @@ pub fn opens(alloc: Global, sizes: &[u32]) -> Result<Vec<Term>, AllocError>
     Ok(known)
 }
 
-/// An empty row for each room.
-pub fn empty_rows(alloc: Global, rooms: &[usize]) -> Result<Vec<Row>, AllocError>
+/// So many empty rows.
+pub fn empty_rows(alloc: Global, count: usize) -> Result<Vec<Row>, AllocError>
     ensures watched { IfOk result (λ v. IsWatched [] v.items) }
-    ensures width { IfOk result (λ v. length v.items ≡ length rooms.now) }
+    ensures width { IfOk result (λ v. length v.items ≡ count) }
 {
-    let mut rows = Vec::with_capacity(alloc, rooms.len())?;
-    for room in rooms {
-        rows.push(Row::with_room(alloc, *room)?)?;
+    let mut rows = Vec::with_capacity(alloc, count)?;
+    for _ in 0..count {
+        rows.push(Row::empty(alloc))?;
     }
     Ok(rows)
 }

@@ -7,20 +7,20 @@ ghost use Rattle.ul_problem.specs.Plain.{size_of};
 ghost use Rattle.ul_problem.specs.Best.{next_of};
 ghost use Rattle.ul_problem.specs.Steps.{AreRightAfter};
 ghost use Rattle.ul_trail.specs.Headline.{IsPropagated};
-ghost use Rattle.ul_trail.specs.Propagation.{IsTrailOf, AreForbidden, HasGrown, root_facts};
-ghost use Rattle.ul_trail.specs.First.{first_steps};
+ghost use Rattle.ul_trail.specs.Propagation.{IsTrailOf, AreForbidden, root_facts};
+ghost use Rattle.ul_trail.specs.First.{steps_for};
 ghost use Rattle.ul_trail.specs.Parts.{IsOpenBefore};
-ghost use Rattle.ul_trail.specs.Moves.{AppendsDecision, HasSteps, at_roots};
+ghost use Rattle.ul_trail.specs.Moves.{AppendsDecision, HasPythons};
+ghost use Rattle.ul_trail.specs.Certain.{IsCertainAt, IsOnlyMember, IsOnlyOption};
 
 use crate::asking::{first_undecided, pick};
-use crate::beginning::steps_of;
+use crate::beginning::{node_steps, version_steps};
 use crate::deciding::decision;
 use crate::fact::{Fact, Progress};
 use crate::held_steps::HeldSteps;
 use crate::holding::{hold, unwind};
 use crate::mark::Mark;
-use crate::propagation::{Cursor, look, spread};
-use crate::rooms::{Rooms, rooms_of};
+use crate::propagation::{Cursor, spread};
 use crate::rooting::{Asked, empty_rows, opens, plant, sizes};
 use crate::standing::Standing;
 use crate::watching::Watching;
@@ -59,24 +59,40 @@ impl Model for Trail {
 }
 
 impl Trail {
-    /// No decision: a fact for each root, the steps that the problem gives, and what they force as they are held one
-    /// by one.
+    /// No decision: a fact for each root, and the steps of the versions that aren't fit.
     pub fn begin(alloc: Global, problem: &Problem) -> Result<Trail, AllocError>
         ensures right { IfOk result (λ t. IsTrailOf problem.now t) }
-        ensures grown { IfOk result (λ t. HasGrown problem.now (root_facts problem.now problem.now.roots) t.facts) }
-        ensures rooted { IfOk result (λ t. IsTrailOf problem.now (at_roots problem.now t)) }
-        ensures steps { IfOk result (λ t. HasSteps problem.now t.steps) }
-        ensures exact { IfOk result (λ t. t.steps ≡ first_steps problem.now.nodes (length problem.now.nodes)) }
+        ensures facts { IfOk result (λ t. t.facts ≡ root_facts problem.now problem.now.roots) }
+        ensures pythons { IfOk result (λ t. HasPythons problem.now t.steps) }
     {
         let nodes = problem.nodes();
-        let rooms = rooms_of(alloc, nodes)?;
-        let mut trail = rooted(alloc, problem, &rooms)?;
+        let mut trail = rooted(alloc, problem)?;
         for node in 0..nodes.len() {
-            let steps = steps_of(alloc, &nodes[node], node as u64, rooms.counts[node])?;
+            let steps = node_steps(alloc, &nodes[node], node as u64)?;
             trail.learn(alloc, problem, steps)?;
-            trail.look(alloc, problem)?;
         }
         Ok(trail)
+    }
+
+    /// Holds the steps that a version gives.
+    pub fn hold(
+        &mut self,
+        alloc: Global,
+        problem: &Problem,
+        node: u64,
+        version: u32,
+    ) -> Result<(), AllocError>
+        requires right { IsTrailOf problem.now self.old }
+        requires node { node < length problem.now.nodes }
+        requires version { version < size_of problem.now node }
+        ensures kept { IfOk result (λ _. IsTrailOf problem.now self.new) }
+        ensures steps { IfOk result (λ _. self.new.steps ≡ self.old.steps ++ steps_for problem.now node version) }
+        ensures facts { IfOk result (λ _. self.new.facts ≡ self.old.facts) }
+    {
+        let nodes = problem.nodes();
+        let steps = version_steps(alloc, &nodes[node as usize], node, version)?;
+        self.learn(alloc, problem, steps)?;
+        Ok(())
     }
 
     /// How many steps are held.
@@ -184,26 +200,18 @@ impl Trail {
         Ok(progress)
     }
 
-    // Looks at the steps that are new while they are near. Most derive nothing, and are looked at again where a fact is
-    // on one of their nodes.
-    fn look(&mut self, alloc: Global, problem: &Problem) -> Result<(), AllocError>
-        requires right { IsTrailOf problem.now self.old }
-        ensures kept { IfOk result (λ _. IsTrailOf problem.now self.new) }
-        ensures steps { IfOk result (λ _. self.new.steps ≡ self.old.steps) }
-        ensures grown { IfOk result (λ _. HasGrown problem.now self.old.facts self.new.facts) }
+    /// The node of the fact at a place with its version, where the facts leave no other option of the node open.
+    pub fn certain(&self, problem: &Problem, place: usize) -> Option<(u64, u32)>
+        requires right { IsTrailOf problem.now self.now }
+        requires place { place < length self.now.facts }
+        ensures { IsCertainAt problem.now self.now.facts place result }
     {
         let _ = problem.roots();
-        let level = self.marks.len() as u64;
-        self.whole = false;
-        look(
-            alloc,
-            &self.watching,
-            &mut self.standing,
-            &mut self.cursor,
-            level,
-        )?;
-        self.whole = true;
-        Ok(())
+        let node = self.standing.facts[place].term.node();
+        match only_option(&self.standing.known[node as usize]) {
+            Some(version) => Some((node, version)),
+            None => None,
+        }
     }
 
     /// The next undecided node: of the roots and then the needs of the decided versions, in the order of decision.
@@ -358,9 +366,32 @@ fn allowed_by(alloc: Global, known: &Term) -> Result<Ordinals, AllocError>
     }
 }
 
-// A fact for each root, and no step, with room for those of the problem.
-fn rooted(alloc: Global, problem: &Problem, rooms: &Rooms) -> Result<Trail, AllocError>
-    requires { length rooms.now.rows.items ≡ length problem.now.nodes }
+// The one member of a set.
+fn only_member(set: &Ordinals) -> Option<u32>
+    ensures { IsOnlyMember set.now result }
+{
+    let _ = set.size();
+    match set.next_from(0) {
+        None => None,
+        Some(first) => match set.next_from(first + 1) {
+            None => Some(first),
+            Some(_) => None,
+        },
+    }
+}
+
+// The version that a term allows, where it allows no other option.
+fn only_option(known: &Term) -> Option<u32>
+    ensures { IsOnlyOption known.now result }
+{
+    match known {
+        Term::NotIn(_, _) => None,
+        Term::In(_, set) => only_member(set),
+    }
+}
+
+// A fact for each root, and no step.
+fn rooted(alloc: Global, problem: &Problem) -> Result<Trail, AllocError>
     ensures right { IfOk result (λ t. IsTrailOf problem.now t) }
     ensures roots { IfOk result (λ t. t.facts ≡ root_facts problem.now problem.now.roots) }
     ensures steps { IfOk result (λ t. t.steps ≡ []) }
@@ -370,9 +401,9 @@ fn rooted(alloc: Global, problem: &Problem, rooms: &Rooms) -> Result<Trail, Allo
     let known = opens(alloc, sizes.as_slice())?;
     let positions = vec![in alloc; 0usize; sizes.len()]?;
     let queue = Vec::from_slice(alloc, roots)?;
-    let rows = empty_rows(alloc, rooms.rows.as_slice())?;
-    let terms = Vec::with_capacity(alloc, rooms.steps)?;
-    let held = HeldSteps::with_room(alloc, rooms.steps)?;
+    let rows = empty_rows(alloc, sizes.len())?;
+    let terms = Vec::with_capacity(alloc, 0)?;
+    let held = HeldSteps::with_room(alloc, 0)?;
     let mut standing = Standing {
         sizes,
         known,

@@ -22,13 +22,13 @@ impl Model for Row {
 }
 
 impl Row {
-    /// An empty row with room for so many places.
-    pub fn with_room(alloc: Global, room: usize) -> Result<Row, AllocError>
-        ensures { IfOk result (λ r. r ≡ []) }
+    /// An empty row.
+    pub fn empty(alloc: Global) -> Row
+        ensures { result ≡ [] }
     {
-        Ok(Row {
-            places: Vec::with_capacity(alloc, room)?,
-        })
+        Row {
+            places: Vec::new(alloc),
+        }
     }
 
     pub fn as_vec(&self) -> &Vec<u64>

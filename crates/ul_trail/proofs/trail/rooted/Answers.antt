@@ -30,7 +30,10 @@ sizes-is : (c : goal.After-new-4) → length c.plant.new.standing.sizes.items �
 sizes-is c = ap (λ (x : List ℕ). length x) c.in_ok-plant.ensures.sizes ∙ sizes_length c.args.problem.now.nodes
 
 rows-are : (c : goal.After-new-4) → length c.in_ok-rows.rows.items ≡ length c.args.problem.now.nodes
-rows-are c = c.in_ok-rows.ensures.width ∙ (ap (λ (x : List ℕ). length x) c.as_slice-2.ensures.value ∙ c.requires)
+rows-are c =
+    let e : length c.in_ok-sizes.sizes.items ≡ length c.args.problem.now.nodes = ap (λ (x : List ℕ). length x) c.in_ok-sizes.ensures ∙ sizes_length c.args.problem.now.nodes in
+    let l = c.len-2.ensures in let w = c.in_ok-rows.ensures.width in
+    omega arith
 
 pub invariant_of-result : goal.invariant_of-result
 invariant_of-result c = λ h.
