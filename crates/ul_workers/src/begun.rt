@@ -22,14 +22,15 @@ fn at_first<T, F: Fn(usize, &mut T)>(f: &F, base: usize, first: &mut [T])
     at_place(f, base, &mut first[0]);
 }
 
-/// Calls the function at each place, in a thread of its own where one can be made, while this thread waits. A thread that is begun
-/// by one that goes on working is often put on its core, and stands there until the other is moved.
+/// Calls the function at each place, in a thread of its own where one can be made. This thread waits for them, or calls
+/// it at the last place itself where `here` says so.
 #[cycle(each)]
 pub(crate) fn each_from<R: Threads + Sync, T: Send, F: Fn(usize, &mut T) + Sync>(
     rt: &R,
     f: &F,
     base: usize,
     list: &mut [T],
+    here: bool,
 )
     requires { AcceptsFrom (AcceptsAt F.Fn f.now) base list.old }
     ensures { ChangesFrom (ChangesAt F.Fn f.now) base list.old list.new }
@@ -37,8 +38,12 @@ pub(crate) fn each_from<R: Threads + Sync, T: Send, F: Fn(usize, &mut T) + Sync>
     if list.is_empty() {
         return;
     }
+    if here && list.len() == 1 {
+        at_first(f, base, list);
+        return;
+    }
     let (first, others) = list.split_at_mut(1);
-    both_from(rt, f, base, first, base + 1, others);
+    both_from(rt, f, base, first, base + 1, others, here);
 }
 
 // The call at the first place in a new thread, and the others from this one.
@@ -50,6 +55,7 @@ fn both_from<R: Threads + Sync, T: Send, F: Fn(usize, &mut T) + Sync>(
     first: &mut [T],
     next: usize,
     others: &mut [T],
+    here: bool,
 )
     requires one { length first.old ≡ 1 }
     requires first { AcceptsFrom (AcceptsAt F.Fn f.now) base first.old }
@@ -64,6 +70,6 @@ fn both_from<R: Threads + Sync, T: Send, F: Fn(usize, &mut T) + Sync>(
     let mut back = ||
         requires { IsSync R.row × IsSync F.row × IsSend T.row × AcceptsFrom (AcceptsAt F.Fn f.now) next others.now }
         ensures { ChangesFrom (ChangesAt F.Fn f.entry.now) next others.entry.now others.exit.now }
-    { each_from(rt, f, next, others) };
+    { each_from(rt, f, next, others, here) };
     join_mut(rt, &mut front, &mut back);
 }

@@ -34,6 +34,13 @@ fn take_places<O: Drop>(mut places: Vec<Option<O>>, mut results: Vec<O>) -> Vec<
     results
 }
 
+// Whether the caller's thread is one worker's and doesn't wait for all of them: where there is only one, or where there
+// are two numbers at most, whose work the one thread may have done before another begins. With more numbers it waits: a
+// thread that is begun by one that goes on working is often put on its core, and stands there until the other is moved.
+fn is_worker(hands: u64, count: u64) -> bool {
+    hands == 1 || count <= 2
+}
+
 /// Runs the job on each number below the count, by so many workers, from 1 to 64, of which no more begin than there are
 /// numbers. The result at place k fits k, and the marks in it are known to the pass. After want of memory too the pass knows
 /// what it knew.
@@ -61,7 +68,8 @@ pub fn run_all<R: Threads + Wait + Sync, L: Label, J: Job<L>>(
     let mut seats = Vec::with_capacity(alloc, hands as usize + 1)?;
     let mut all = prepare(alloc, hands, &claims, &mut first, interner, pass, count)?;
     seats.push_reserved(first);
-    work_all(rt, alloc, &claims, interner, job, all.as_mut_slice());
+    let here = is_worker(hands, count);
+    work_all(rt, alloc, &claims, interner, job, all.as_mut_slice(), here);
     if !take_all(
         job,
         count,

@@ -51,7 +51,7 @@ pub(crate) fn work<R: Wait, L: Label, J: Job<L>>(
     unreachable!()
 }
 
-/// Each worker works in a thread of its own, where one can be made, and this thread waits for them.
+/// Each worker works in a thread of its own, where one can be made; the last of them in this one, where `here` says so.
 pub(crate) fn work_all<R: Threads + Wait + Sync, L: Label, J: Job<L>>(
     rt: &R,
     alloc: Global,
@@ -59,6 +59,7 @@ pub(crate) fn work_all<R: Threads + Wait + Sync, L: Label, J: Job<L>>(
     interner: &Interner<L>,
     job: &J,
     workers: &mut [Worker<L, J::Out>],
+    here: bool,
 )
     requires few { claims.now.limit ≤ 4096 }
     requires some { 0 < length workers.old }
@@ -76,5 +77,6 @@ pub(crate) fn work_all<R: Threads + Wait + Sync, L: Label, J: Job<L>>(
         { work(rt, alloc, claims, interner, job, worker) },
         0,
         workers,
+        here,
     );
 }
