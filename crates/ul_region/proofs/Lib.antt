@@ -8,6 +8,7 @@ pub mod BestLists
 pub mod BestServing
 pub mod Existing
 pub mod TruthFacts
+pub mod MarkerFacts
 pub mod Firsts
 pub mod NameNumbers
 pub mod RowFacts

@@ -6,7 +6,6 @@ use Rattle.std.proofs.lemmas.List.Elements.{All-push, All-weaker}
 use Rattle.ul_base.specs.declared.node.Node.{Node}
 use Rattle.ul_interner.specs.Known.{Knows}
 use Rattle.ul_interner.proofs.ForCallers.{known_stays}
-use Rattle.ul_comparison.specs.Formulas.{Formula}
 use Rattle.ul_comparison.specs.Truth.{python_release}
 use Rattle.ul_comparison.specs.Worlds.{WorldFields, IsWorld}
 use Rattle.ul_specifier.specs.Clauses.{ClauseFields}
@@ -15,7 +14,6 @@ use Rattle.ul_tree.specs.Laws.{and_of, not_of, at_extra_of}
 use Rattle.ul_nodes.specs.Plain.{Plain}
 use Rattle.ul_nodes.specs.Reduced.{IsReduced}
 use Rattle.ul_tree.specs.Regions.{HasTruth}
-use Rattle.ul_tree.specs.TreeFacts.{HoldsAtWorlds}
 use Rattle.ul_tree.specs.Values.{tree_holds}
 use Rattle.ul_tree.specs.Views.{tree_view}
 use Rattle.ul_tree.specs.declared.tree.Tree.{Tree}
@@ -45,9 +43,6 @@ pub is_region : (h : PassView) (m : DiagramMark) (p : WorldFields → Bool) → 
 is_region h m p t = record { diagram = t.diagram; truth = region_tree (tree_of m) p t.truth }
 
 -- ---- requirements
-
-pub marker_truth : (d : DiagramMark) (t : Tree) (m o : Option Formula) → tree_of d ≡ tree_view t → HoldsAtWorlds t (may_hold m) → m ≡ o → HoldsAs d (may_hold o)
-marker_truth d t m o e h s w x is = ap (λ (u : Plain). tree_holds u w x) e ∙ (h w x is ∙ ap (λ (n : Option Formula). may_hold n w x) s)
 
 pub base_truth : (h : PassView) (d whole : DiagramMark) (q : RequirementFields) (n : Node) → IsDiagram h d → ((w : WorldFields) (y : List ℕ) → tree_holds (tree_of d) w y ≡ tree_holds (tree_of whole) w [])
     → HoldsAs whole (may_hold q.marker) → n.extra ≡ None → IsTruth h d (applies_at q n)

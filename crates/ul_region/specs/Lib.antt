@@ -3,6 +3,7 @@ pub mod Problem
 pub mod Naming
 pub mod Laws
 pub mod Truths
+pub mod Markers
 pub mod Unions
 pub mod Numbers
 pub mod Rows

@@ -5,6 +5,7 @@ mod asking;
 mod at_node;
 mod in_region;
 pub mod laws;
+mod markers;
 mod numbers;
 mod rows;
 mod truths;

@@ -3,7 +3,6 @@ ghost use Rattle.std.specs.Prelude.{◌≡◌, [], IfOk, option_map};
 ghost use Rattle.ul_interner.specs.Known.{Knows};
 ghost use Rattle.ul_marker.specs.Views.{marker_view};
 ghost use Rattle.ul_tree.specs.Laws.{and_of, at_extra_of, not_of};
-ghost use Rattle.ul_tree.specs.TreeFacts.{HoldsAtWorlds, IsTree};
 ghost use Rattle.ul_algebra.specs.Answers.{IsDiagram};
 ghost use Rattle.ul_algebra.specs.Spelled.{tree_of};
 ghost use Rattle.ul_requirement.specs.Fields.{MayBeFormula};
@@ -11,6 +10,7 @@ ghost use Rattle.ul_requirement.specs.Truth.{applies_at, may_hold};
 ghost use Rattle.ul_index.specs.Catalogs.{is_release_fit};
 ghost use Rattle.ul_region.specs.Truths.{HoldsAs, IsTruth};
 
+use crate::markers::{diagram_of, truth_diagram};
 use std::alloc::{AllocError, Global};
 use std::sync::Wait;
 use ul_algebra::{Algebra, Diagram};
@@ -19,17 +19,23 @@ use ul_base::owned::made_from;
 use ul_marker::Marker;
 use ul_requirement::{Release, Requirement};
 use ul_specifier::Specifiers;
-use ul_tree::{Tree, of_marker, of_python};
+use ul_tree::of_python;
 
-// The tree of a marker. Without a marker it is true.
-fn marker_tree(alloc: Global, marker: &Option<Marker>) -> Result<Tree, AllocError>
+// The diagram of a marker. Without a marker it is true.
+fn optional_diagram<R: Wait>(
+    rt: &R,
+    alloc: Global,
+    algebra: &mut Algebra<'_>,
+    marker: &Option<Marker>,
+) -> Result<Diagram, AllocError>
     requires { MayBeFormula (option_map marker_view marker.now) }
-    ensures reduced { IfOk result IsTree }
-    ensures truth { IfOk result (λ t. HoldsAtWorlds t (may_hold (option_map marker_view marker.now))) }
+    ensures knows { Knows algebra.old algebra.new }
+    ensures diagram { IfOk result (λ d. IsDiagram algebra.new d) }
+    ensures truth { IfOk result (λ d. HoldsAs d (may_hold (option_map marker_view marker.now))) }
 {
     match marker {
-        None => Ok(Tree::Truth(true)),
-        Some(marker) => of_marker(alloc, marker),
+        None => truth_diagram(rt, alloc, algebra, true),
+        Some(marker) => diagram_of(rt, alloc, algebra, marker),
     }
 }
 
@@ -44,8 +50,7 @@ fn marker_diagram<R: Wait>(
     ensures diagram { IfOk result (λ d. IsDiagram algebra.new d) }
     ensures truth { IfOk result (λ d. HoldsAs d (may_hold requirement.now.marker)) }
 {
-    let tree = marker_tree(alloc, &requirement.marker)?;
-    made_from(algebra.of_tree(rt, alloc, &tree), tree)
+    optional_diagram(rt, alloc, algebra, &requirement.marker)
 }
 
 // The diagram that is true where the first is and the second isn't.
