@@ -10,6 +10,8 @@ mod events;
 #[cfg(test)]
 mod labels;
 #[cfg(test)]
+mod meeting;
+#[cfg(test)]
 mod shared;
 #[cfg(test)]
 mod workers;
