@@ -2,14 +2,14 @@
 //!
 //! Each need is left out where nothing serves without it. That is so where a derivation that nothing serves doesn't use the need; else
 //! the problem without it is solved.
-ghost use Rattle.std.specs.Prelude.{◌≡◌, ◌<◌, ◌+◌, IfOk, IsTrue, false, length, set};
+ghost use Rattle.std.specs.Prelude.{◌≡◌, ◌<◌, ◌+◌, IfOk, IfSome, IsTrue, false, length, set};
 ghost use Rattle.ul_problem.specs.Serving.{HasNone};
 ghost use Rattle.ul_blame.specs.Core.{IsCore};
 ghost use Rattle.ul_blame.specs.Flags.{kept_of};
 ghost use Rattle.ul_blame.specs.Headline.{IsBlamed};
 ghost use Rattle.ul_blame.specs.Needs.{all_needs};
 ghost use Rattle.ul_blame.specs.Serving.{IsServed};
-ghost use Rattle.ul_blame.specs.Turns.{ArePassed, AreSome, IsRefusal, IsTried, left_of};
+ghost use Rattle.ul_blame.specs.Turns.{ArePassed, AreSome, AreUsed, IsRefusal, IsTried, left_of};
 
 use crate::choosing::{guess, wish, wish_all};
 use crate::kept::{flag_at, kept_problem};
@@ -90,8 +90,38 @@ fn is_guessed(
     Ok(is_guessed)
 }
 
+// The flags before a place, and of those from it on the later half.
+fn later_half(alloc: Global, flags: &[bool], place: usize) -> Result<Vec<bool>, AllocError>
+    ensures { IfOk result (λ later. AreSome flags.now later.items) }
+{
+    let half = flags.len().saturating_sub(place) / 2;
+    let mut later = Vec::with_capacity(alloc, flags.len())?;
+    for k in 0..flags.len() {
+        later.push(flags[k] && (k < place || half <= k - place))?;
+    }
+    Ok(later)
+}
+
+// The needs by which nothing serves with those before a place that are left and the later half of the others; none where that doesn't
+// tell. All needs up to them are then passed without a search.
+fn refusal_by_half(
+    alloc: Global,
+    problem: &Problem,
+    starts: &[usize],
+    flags: &[bool],
+    place: usize,
+    wishes: &mut Vec<Option<u32>>,
+) -> Result<Option<Vec<bool>>, AllocError>
+    ensures { IfOk result (λ o. IfSome o (λ used. AreUsed problem.now flags.now used.items)) }
+{
+    let later = later_half(alloc, flags, place)?;
+    let refusal = refusal_by_solving(alloc, problem, starts, later.as_slice(), wishes)?;
+    Ok(refusal)
+}
+
 // The needs by which nothing serves with those that are left; none where some selection serves. First a choice is guessed, then the
-// problem with the other used needs alone is solved, which are few, and only where that doesn't tell the whole one.
+// problem with the other used needs alone is solved, which are few, then the one with the later half of the needs that are ahead, and
+// only where that doesn't tell the whole one.
 fn refusal(
     alloc: Global,
     problem: &Problem,
@@ -100,6 +130,7 @@ fn refusal(
     flags: &[bool],
     others: &[bool],
     wishes: &mut Vec<Option<u32>>,
+    place: usize,
 ) -> Result<Option<Vec<bool>>, AllocError>
     requires all { all.now ≡ all_needs problem.now }
     requires some { AreSome flags.now others.now }
@@ -113,6 +144,9 @@ fn refusal(
     }
     if is_guessed(alloc, problem, all, starts, flags, wishes)? {
         return Ok(None);
+    }
+    if let Some(used) = refusal_by_half(alloc, problem, starts, flags, place, wishes)? {
+        return Ok(Some(used));
     }
     let refusal = refusal_by_solving(alloc, problem, starts, flags, wishes)?;
     Ok(refusal)
@@ -148,6 +182,7 @@ fn look_at(
         flags.as_slice(),
         others.as_slice(),
         wishes,
+        place,
     )? {
         Some(now) => Ok(now),
         None => {

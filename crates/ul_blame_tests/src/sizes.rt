@@ -95,6 +95,20 @@ fn put_link(text: &mut String, k: u64, count: u64) {
     }
 }
 
+// Nodes demo, and u10000 and so on without a version: demo needs each of them, so that each need clashes alone.
+fn absent(alloc: Global, count: u64) -> String {
+    let mut text = String::new(alloc);
+    put(&mut text, "0 demo|1 0 0 0");
+    for k in 1..count {
+        put_number_behind(&mut text, ",", k.saturating_add(1));
+        put(&mut text, " 0 0 0");
+    }
+    for k in 0..count {
+        put_number_behind(&mut text, ";u", k.saturating_add(10000));
+    }
+    text
+}
+
 fn is_size(alloc: Global, text: &str, want: &str) -> bool {
     match read_problem(alloc, text, "newest") {
         Some(problem) => is_core(alloc, &problem, want),
@@ -102,12 +116,14 @@ fn is_size(alloc: Global, text: &str, want: &str) -> bool {
     }
 }
 
-// Two needs of 2,000 that are chosen; forty and two hundred needs.
+// Two needs of 2,000 that are chosen; the last of 2,000 that each clash alone; forty and two hundred needs.
 #[test]
 fn the_core_of_a_large_problem_has_its_lines(rt: HostRuntime) {
     let alloc = rt.alloc();
     let few = "core: 2, demo 1 needs c {1}, demo 1 needs c {2}";
     assert!(rt; is_size(alloc, long(alloc, 2000).as_str(), few));
+    let last = "core: 1, demo 1 needs u11999 {}";
+    assert!(rt; is_size(alloc, absent(alloc, 2000).as_str(), last));
     assert!(rt;
         is_size(
             alloc,
