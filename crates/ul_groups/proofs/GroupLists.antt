@@ -21,7 +21,8 @@ stops view view' (Unsupported path) part whole f h = absurd h
 stops view view' EmptyRegion part whole f h = absurd h
 stops view view' NoMemory part whole f h = tt
 
-entries_ahead : (groups : GroupByName) (expand : Expand) (group : List ℕ) (i : ℕ) (e : GroupEntry) (es : List GroupEntry) (list : ListFields) (answer : Expanding ListFields)
+-- an entry, and then the others
+pub entries_ahead : (groups : GroupByName) (expand : Expand) (group : List ℕ) (i : ℕ) (e : GroupEntry) (es : List GroupEntry) (list : ListFields) (answer : Expanding ListFields)
     → with_entry groups expand group i e list ≡ answer → with_entries groups expand group i (e ∷ es) list ≡ (answer >>= λ after. with_entries groups expand group (i + 1) es after)
 unfolding with_entries
 entries_ahead groups expand group i e es list answer h = ap (λ (a : Expanding ListFields). a >>= λ after. with_entries groups expand group (i + 1) es after) h

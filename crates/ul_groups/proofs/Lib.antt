@@ -10,4 +10,5 @@ mod GroupMaps
 mod LeftLists
 mod MadeLists
 mod NameLists
+mod Opened
 mod TakenLists

@@ -1,5 +1,5 @@
 -- Dependency groups expanded (PEP 735): each group becomes an extra of the project.
-use Rattle.std.specs.Prelude.{ℕ, zero, suc, ◌+◌, ◌-◌, List, [], ◌∷◌, ◌++◌, length, find, map, take, drop, sum, zip, Option, Some, None, Result, Ok, Err, if◌then◌else◌}
+use Rattle.std.specs.Prelude.{ℕ, zero, suc, ◌+◌, ◌-◌, ◌^◌, List, [], ◌∷◌, ◌++◌, length, find, map, take, drop, sum, zip, Option, Some, None, Result, Ok, Err, if◌then◌else◌}
 use Rattle.std.specs.BTreeMap.{is_at}
 use Rattle.std.specs.BTreeSet.{insert_key}
 use Rattle.ul_base.specs.Names.{name_cmp}
@@ -16,7 +16,7 @@ use Rattle.ul_project.specs.declared.path.ProjectPath.{ProjectPath}
 use Rattle.ul_project.specs.declared.path.ProjectPath.TheVariants.{Entry}
 
 -- why groups aren't expanded: an include at this place is refused, or groups include one another through more than
--- `deepest` levels
+-- `deepest` levels, which no machine has memory for
 pub data Stop : Type 0 where
   refused : ProjectPath → Stop
   too_deep : Stop
@@ -25,9 +25,9 @@ pub data Stop : Type 0 where
 abbrev pub Expanding : Type 0 → Type 0
 Expanding A = Result A Stop
 
--- through so many levels groups may include one another
+-- through so many levels groups may include one another: as many as a machine's word counts
 abbrev pub deepest : ℕ
-deepest = 1024
+deepest = 2 ^ 64
 
 -- a list that is being made, the groups whose expansion in it was begun, and those whose expansion is done
 pub record ListFields : Type 0 where

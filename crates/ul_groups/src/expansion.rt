@@ -2,21 +2,20 @@
 
 ghost use Rattle.std.specs.BTreeMap.{is_at};
 ghost use Rattle.std.specs.Option.{option_or};
-ghost use Rattle.std.specs.Prelude.{◌≡◌, ◌∷◌, ℕ, List, [], IfOk, OnOk, Some, cond, option_map};
+ghost use Rattle.std.specs.Prelude.{◌≡◌, ◌++◌, ◌∷◌, ℕ, List, [], IfOk, OnOk, Some, cond, option_map};
 ghost use Rattle.ul_base.specs.Names.{name_cmp};
+ghost use Rattle.ul_requirement.specs.Fields.{RequirementFields};
 ghost use Rattle.ul_groups.specs.Answers.{Gives};
 ghost use Rattle.ul_groups.specs.Expanded as Expanded;
-ghost use Rattle.ul_groups.specs.Expanded.{group_named};
+ghost use Rattle.ul_groups.specs.Expanded.{group_named, with_one};
 ghost use Rattle.ul_groups.specs.GroupMaps.{HasGroups, groups_in, list_fields};
+ghost use Rattle.ul_groups.specs.Opened.{AreNamed, Enters, GoesOn, left_of, opened, with_inner};
 
 use std::alloc::{AllocError, Global};
 use std::collections::{BTreeMap, BTreeSet};
 use ul_base::Name;
 use ul_project::{Group, GroupEntry, Place, ProjectFault, ProjectPath};
 use ul_requirement::Requirement;
-
-/// Through so many levels groups may include one another; beyond them the answer is want of memory.
-pub const DEEPEST: usize = 1024;
 
 // Puts a group at its name.
 #[tactic(auto, using(crate::proofs::GroupMaps::group_listed_at))]
@@ -82,111 +81,162 @@ fn refused(alloc: Global, group: &Name, number: u64) -> Result<ProjectFault, All
     Ok(ProjectFault::Shape(ProjectPath::Entry(place, number)))
 }
 
-// Adds the entries of a group to a list, depth first.
-#[cycle(expansion)]
-#[tactic(auto, unfolding(crate::specs::Expanded::with_group, crate::specs::Expanded::with_entries))]
-fn add_group(
-    alloc: Global,
-    groups: &BTreeMap<Name, &Group>,
-    depth: usize,
-    group: &Group,
-    list: &mut Vec<Requirement>,
-    begun: &mut BTreeSet<Name>,
-    done: &mut BTreeSet<Name>,
-) -> Result<(), ProjectFault>
-    ensures { Gives (λ _. list_fields list.new.items begun.new.keys done.new.keys) result
-        (Expanded.with_group depth (groups_in groups.now.entries) group.now
-        (list_fields list.old.items begun.old.keys done.old.keys)) }
-{
-    if depth == 0 {
-        return Err(ProjectFault::NoMemory);
-    }
-    let name: &Name = &group.name;
-    let entries: &Vec<GroupEntry> = &group.entries;
-    let mut number: u64 = 0;
-    for entry in entries {
-        add_entry(
-            alloc,
-            groups,
-            depth - 1,
-            name,
-            number,
-            entry,
-            list,
-            begun,
-            done,
-        )?;
-        number += 1;
-    }
-    Ok(())
+// A group whose entries are being added to a list, and the number of its next entry.
+#[derive(Drop)]
+pub(crate) struct Open<'a> {
+    group: &'a Group,
+    number: usize,
 }
 
-// Adds an entry of a group.
-#[cycle(expansion)]
-fn add_entry(
+// Adds an entry of a group. A group that it includes is answered, so that its entries come next.
+fn add_entry<'a>(
     alloc: Global,
-    groups: &BTreeMap<Name, &Group>,
-    depth: usize,
+    groups: &BTreeMap<Name, &'a Group>,
     group: &Name,
     number: u64,
     entry: &GroupEntry,
     list: &mut Vec<Requirement>,
     begun: &mut BTreeSet<Name>,
-    done: &mut BTreeSet<Name>,
-) -> Result<(), ProjectFault>
-    ensures { Gives (λ _. list_fields list.new.items begun.new.keys done.new.keys) result
-        (Expanded.with_entry (groups_in groups.now.entries) (Expanded.with_group depth (groups_in groups.now.entries))
-        group.now number entry.now (list_fields list.old.items begun.old.keys done.old.keys)) }
+    done: &BTreeSet<Name>,
+) -> Result<Option<&'a Group>, ProjectFault>
+    requires { AreNamed (groups_in groups.now.entries) }
+    ensures { Enters (groups_in groups.now.entries) group.now number entry.now
+        (list_fields list.old.items begun.old.keys done.now.keys) (list_fields list.new.items begun.new.keys done.now.keys)
+        result }
 {
     match entry {
         GroupEntry::Needs(requirement) => {
             list.push(requirement.copy(alloc)?)?;
-            Ok(())
+            Ok(None)
         }
-        GroupEntry::Include(name) => {
-            include(alloc, groups, depth, group, number, name, list, begun, done)
-        }
+        GroupEntry::Include(name) => include(alloc, groups, group, number, name, begun, done),
     }
 }
 
-// Adds the entries of a group that is included.
-#[cycle(expansion)]
-fn include(
+// Begins a group that is included, unless it is done.
+fn include<'a>(
     alloc: Global,
-    groups: &BTreeMap<Name, &Group>,
-    depth: usize,
+    groups: &BTreeMap<Name, &'a Group>,
     group: &Name,
     number: u64,
     name: &Name,
-    list: &mut Vec<Requirement>,
     begun: &mut BTreeSet<Name>,
-    done: &mut BTreeSet<Name>,
-) -> Result<(), ProjectFault>
-    ensures { Gives (λ _. list_fields list.new.items begun.new.keys done.new.keys) result
-        (Expanded.with_include (Expanded.with_group depth (groups_in groups.now.entries))
-        (ProjectPath.Entry (Place.Group group.now) number) name.now (groups_in groups.now.entries name.now)
-        (list_fields list.old.items begun.old.keys done.old.keys)) }
+    done: &BTreeSet<Name>,
+) -> Result<Option<&'a Group>, ProjectFault>
+    requires { AreNamed (groups_in groups.now.entries) }
+    ensures { (list : List RequirementFields) → Enters (groups_in groups.now.entries) group.now number (GroupEntry.Include name.now)
+        (list_fields list begun.old.keys done.now.keys) (list_fields list begun.new.keys done.now.keys) result }
 {
     let Some(found) = group_at(groups, name) else {
         return Err(refused(alloc, group, number)?);
     };
     if done.contains(name) {
-        return Ok(());
+        return Ok(None);
     }
-    if !begun.insert(name.copy(alloc)?)? {
+    if begun.contains(name) {
         return Err(refused(alloc, group, number)?);
     }
-    add_group(alloc, groups, depth, found, list, begun, done)?;
+    let _new = begun.insert(name.copy(alloc)?)?;
+    Ok(Some(found))
+}
+
+// Ends a group.
+fn end(alloc: Global, group: &Group, done: &mut BTreeSet<Name>) -> Result<(), AllocError>
+    ensures { OnOk result (done.new.keys ≡ with_one done.old.keys group.now.name) }
+{
+    let name: &Name = &group.name;
     let _new = done.insert(name.copy(alloc)?)?;
     Ok(())
 }
 
-/// The list of a group.
-pub(crate) fn group_list(
+// Opens a group that is included inside the others.
+#[tactic(auto, using(crate::proofs::Opened::opened_more))]
+fn open_inner<'a>(opens: &mut Vec<Open<'a>>, inner: Option<&'a Group>) -> Result<(), AllocError>
+    ensures { OnOk result (opened opens.new.items ≡ with_inner (opened opens.old.items) inner.entry) }
+{
+    let Some(group) = inner else {
+        return Ok(());
+    };
+    opens.push(Open { group, number: 0 })?;
+    Ok(())
+}
+
+// Adds the next entry of the innermost group, which is open again after it, and inside it the group that the entry
+// includes; or ends the innermost group.
+fn add_next<'a>(
     alloc: Global,
-    groups: &BTreeMap<Name, &Group>,
-    group: &Group,
+    groups: &BTreeMap<Name, &'a Group>,
+    innermost: Open<'a>,
+    opens: &mut Vec<Open<'a>>,
+    list: &mut Vec<Requirement>,
+    begun: &mut BTreeSet<Name>,
+    done: &mut BTreeSet<Name>,
+) -> Result<(), ProjectFault>
+    requires { AreNamed (groups_in groups.now.entries) }
+    ensures { GoesOn
+        (left_of (groups_in groups.now.entries) (opened opens.old.items ++ (innermost.entry.group.now, innermost.entry.number) ∷ [])
+        (list_fields list.old.items begun.old.keys done.old.keys))
+        (left_of (groups_in groups.now.entries) (opened opens.new.items)
+        (list_fields list.new.items begun.new.keys done.new.keys))
+        result }
+{
+    let Open { group, number } = innermost;
+    let entries: &Vec<GroupEntry> = &group.entries;
+    let entries = entries.as_slice();
+    if number >= entries.len() {
+        end(alloc, group, done)?;
+        return Ok(());
+    }
+    let entry = &entries[number];
+    let name: &Name = &group.name;
+    let included = add_entry(alloc, groups, name, number as u64, entry, list, begun, done)?;
+    opens.push(Open {
+        group,
+        number: number + 1,
+    })?;
+    open_inner(opens, included)?;
+    Ok(())
+}
+
+// Adds what is left of groups, the innermost first.
+fn add_all<'a>(
+    alloc: Global,
+    groups: &BTreeMap<Name, &'a Group>,
+    mut opens: Vec<Open<'a>>,
+    list: &mut Vec<Requirement>,
+    begun: &mut BTreeSet<Name>,
+    done: &mut BTreeSet<Name>,
+) -> Result<(), ProjectFault>
+    requires { AreNamed (groups_in groups.now.entries) }
+    ensures { Gives (λ _. list_fields list.new.items begun.new.keys done.new.keys) result
+        (left_of (groups_in groups.now.entries) (opened opens.entry.items)
+        (list_fields list.old.items begun.old.keys done.old.keys)) }
+{
+    for _turn in 0..usize::MAX {
+        let Some(innermost) = opens.pop() else {
+            return Ok(());
+        };
+        add_next(alloc, groups, innermost, &mut opens, list, begun, done)?;
+    }
+    Err(ProjectFault::NoMemory)
+}
+
+// The group alone, of which no entry was added.
+fn opening<'a>(alloc: Global, group: &'a Group) -> Result<Vec<Open<'a>>, AllocError>
+    ensures { IfOk result (λ v. opened v.items ≡ (group.now, 0) ∷ []) }
+{
+    let mut opens = Vec::new(alloc);
+    opens.push(Open { group, number: 0 })?;
+    Ok(opens)
+}
+
+/// The list of a group.
+pub(crate) fn group_list<'a>(
+    alloc: Global,
+    groups: &BTreeMap<Name, &'a Group>,
+    group: &'a Group,
 ) -> Result<Vec<Requirement>, ProjectFault>
+    requires { AreNamed (groups_in groups.now.entries) }
     ensures { Gives (λ v. v.items) result (Expanded.group_list (groups_in groups.now.entries) group.now) }
 {
     let mut list = Vec::new(alloc);
@@ -194,8 +244,7 @@ pub(crate) fn group_list(
     let mut done = BTreeSet::new(alloc);
     let name: &Name = &group.name;
     let _new = begun.insert(name.copy(alloc)?)?;
-    add_group(
-        alloc, groups, DEEPEST, group, &mut list, &mut begun, &mut done,
-    )?;
+    let opens = opening(alloc, group)?;
+    add_all(alloc, groups, opens, &mut list, &mut begun, &mut done)?;
     Ok(list)
 }

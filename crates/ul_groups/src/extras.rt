@@ -9,6 +9,7 @@ ghost use Rattle.ul_project.specs.Lists.{by_name, names_of, put_list};
 ghost use Rattle.ul_groups.specs.Answers.{Gives};
 ghost use Rattle.ul_groups.specs.Expanded as Expanded;
 ghost use Rattle.ul_groups.specs.GroupMaps.{groups_in};
+ghost use Rattle.ul_groups.specs.Opened.{AreNamed};
 
 use crate::expansion::{group_list, groups_by_name};
 use crate::name_lists::Requirements;
@@ -35,11 +36,12 @@ fn list_of_extra(
 }
 
 // The list of a group, under the extra that the group becomes.
-fn extra_list(
+fn extra_list<'a>(
     alloc: Global,
-    map: &BTreeMap<Name, &Group>,
-    group: &Group,
+    map: &BTreeMap<Name, &'a Group>,
+    group: &'a Group,
 ) -> Result<(Name, Requirements), ProjectFault>
+    requires { AreNamed (groups_in map.now.entries) }
     ensures { Gives (λ p. p) result (Expanded.extra_list (groups_in map.now.entries) group.now) }
 {
     let list = group_list(alloc, map, group)?;
@@ -51,11 +53,12 @@ fn extra_list(
 }
 
 // The lists of groups, each under the extra that the group becomes.
-fn group_lists(
+fn group_lists<'a>(
     alloc: Global,
-    map: &BTreeMap<Name, &Group>,
-    groups: &[Group],
+    map: &BTreeMap<Name, &'a Group>,
+    groups: &'a [Group],
 ) -> Result<Vec<(Name, Requirements)>, ProjectFault>
+    requires { AreNamed (groups_in map.now.entries) }
     ensures { Gives (λ v. v.items) result (Expanded.group_lists (groups_in map.now.entries) groups.now) }
 {
     let mut lists = Vec::new(alloc);
@@ -349,8 +352,7 @@ fn extended_project(
 /// Each group becomes the extra `group-NAME`, at its place in byte order, with the group's requirements: depth first,
 /// an include stands for the entries of its group, and for nothing where that group was already expanded in this
 /// list. The fault is that of the first include of no group, or of a group that is being expanded: `Shape` at the
-/// include's place. Any other error is want of memory, which is also answered where groups include one another
-/// through more than `DEEPEST` levels.
+/// include's place. Any other error is want of memory.
 pub fn expand(alloc: Global, project: Project) -> Result<Project, ProjectFault>
     ensures { Gives (λ p. p) result (Expanded.expanded_project project) }
 {

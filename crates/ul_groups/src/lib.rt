@@ -10,5 +10,4 @@ pub mod laws;
 mod name_lists;
 
 pub use catalogs::adjust;
-pub use expansion::DEEPEST;
 pub use extras::expand;
