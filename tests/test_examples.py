@@ -14,6 +14,7 @@ CASES = [
     ("env web_app/unilock.lock web_app/linux.json dev", 0, "web_app/linux.txt"),
     ("env web_app/unilock.lock web_app/windows.json", 0, "web_app/windows.txt"),
     ("lock by_python/pyproject.toml by_python/ix 1", 0, "by_python/unilock.lock"),
+    ("lock review/pyproject.toml review/ix 1", 0, "review/unilock.lock"),
     ("lock kept/pyproject.toml kept/ix 1 kept/old.lock", 0, "kept/unilock.lock"),
     ("lock refused/pyproject.toml refused/ix 1", 1, "refused/lock.txt"),
     ("why refused/pyproject.toml refused/ix 1", 1, "refused/why.txt"),
@@ -43,6 +44,18 @@ class Examples(unittest.TestCase):
         words = "verify web_app/pyproject.toml web_app/ix web_app/unilock.lock"
         done = subprocess.run([str(PROGRAM), *words.split()], cwd=EXAMPLES, capture_output=True, text=True)
         self.assertEqual((done.returncode, done.stdout), (0, "verified\n"))
+
+    def test_edited_locks(self) -> None:
+        for lock, status, printed in [
+            ("unilock", 0, "verified\n"),
+            ("pinned", 0, "verified\n"),
+            ("pinned_too_far", 9, "rejected: a 1.0\n"),
+            ("left_out", 9, "rejected: shop 1.0\n"),
+        ]:
+            with self.subTest(lock):
+                words = f"verify review/pyproject.toml review/ix review/{lock}.lock"
+                done = subprocess.run([str(PROGRAM), *words.split()], cwd=EXAMPLES, capture_output=True, text=True)
+                self.assertEqual((done.returncode, done.stdout), (status, printed))
 
 
 class InWords(Folder):
