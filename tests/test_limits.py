@@ -72,6 +72,12 @@ class Limits(Folder):
         self.document("a15", {"version": "1"}, size=FILE_BYTES + 1)
         self.assert_limit("file-bytes", FILE_BYTES, self.locked())
 
+    def test_bytes_of_a_project_file(self) -> None:
+        self.write("p.toml", PROJECT.format("[]").ljust(FILE_BYTES))
+        self.assertEqual(self.locked()[0], 0)
+        self.write("p.toml", PROJECT.format("[]").ljust(FILE_BYTES + 1))
+        self.assert_limit("file-bytes", FILE_BYTES, self.locked())
+
     def test_bytes_of_a_lock_that_is_printed(self) -> None:
         names = [f"p{place}" for place in range(46)]
         for name in names:
