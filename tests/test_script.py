@@ -1,4 +1,4 @@
-"""The script `unilock`: how the program is started, and that many workers get on with little address space."""
+"""The script `unilock`: how the program is started, and what it makes of limits of address space and of files' sizes."""
 
 from __future__ import annotations
 
@@ -14,6 +14,10 @@ from making import PROGRAM, TOP, Folder, want_program
 # Prints what it was started with.
 TELLING = """#!/bin/sh
 echo "$GLIBC_TUNABLES" "$(ulimit -S -s)" "$@"
+"""
+# Prints 5,000 bytes, and ends with the status of that write.
+WRITING = """#!/bin/sh
+exec head -c 5000 /dev/zero
 """
 VARIABLES = [
     "os_name",
@@ -77,3 +81,14 @@ class Script(Folder):
         one, many = (self.asked("ulimit -v 614400", f"lock pyproject.toml ix {it}") for it in (1, 64))
         self.assertEqual(one[0], 0)
         self.assertEqual(one, many)
+
+    def test_a_file_that_may_not_grow_fails_the_write_and_ends_no_program(self) -> None:
+        self.put(self.write("writing", WRITING))
+        for limit, status, size in ((1024, 1, 1024), (8192, 0, 5000)):
+            done = subprocess.run(
+                ["bash", "-c", f"ulimit -f {limit // 1024}; exec ./unilock lock >printed"],
+                cwd=self.top,
+                stderr=subprocess.DEVNULL,
+            )
+            self.assertEqual(done.returncode, status)
+            self.assertEqual((self.top / "printed").stat().st_size, size)
