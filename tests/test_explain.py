@@ -43,8 +43,8 @@ class Sentences(Explained):
         self.assertEqual(said, [
             "No choice of versions serves the project where sys_platform == 'win32'.",
             "Such a machine: sys_platform win32.",
-            "1. q 1 needs z (`z`), and the index has no document of z.",
-            "2. the project needs q at 1 (project.dependencies[0]: `q<2; sys_platform == 'win32'`).",
+            "1. the project needs q at 1 (project.dependencies[0]: `q<2; sys_platform == 'win32'`).",
+            "2. q 1 needs z (`z`), and the index has no document of z.",
             "3. from 2 and 1: the project can't be chosen.",
             "So the project can't be served there.",
             f"Hint: no document of z stands in {EXAMPLE / 'ix'}; `tools/doctor` looks for names like it.",
