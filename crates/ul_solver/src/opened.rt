@@ -4,7 +4,8 @@
 //! before it is decided. A version whose needs clash with the facts is then excluded by its own step, without a conflict.
 //! Where a node is asked for a further version, those behind it in its order are opened with it, twice as many each time,
 //! so that a node of many versions that all clash takes few turns and few conflicts. Of a node that took part in a conflict
-//! all are: where decisions clash again and again, a version that can't be is best seen before it is decided.
+//! all are: where decisions clash again and again, a version that can't be is best seen before it is decided. Where there
+//! are more conflicts than an eighth of the versions, the rest is opened at once.
 ghost use Rattle.std.specs.Prelude.{◌≡◌, ◌+◌, ◌<◌, ◌≤◌, IfOk, IfSome, false, length};
 ghost use Rattle.ul_problem.specs.Plain.{size_of};
 ghost use Rattle.ul_solver.specs.Opened.{AreClosedTo, IsOpened, is_opened};
@@ -26,6 +27,8 @@ pub struct Opened {
     pub counts: Vec<u32>,
     /// How many facts were looked at for versions that they make certain.
     pub looked: usize,
+    /// After how many further conflicts all versions of all nodes are opened.
+    pub patience: u64,
 }
 
 // No version of any node.
@@ -41,6 +44,15 @@ fn closed_rows(alloc: Global, problem: &Problem) -> Result<Vec<Ordinals>, AllocE
     Ok(rows)
 }
 
+// How many versions all nodes have.
+fn count_versions(problem: &Problem) -> u64 {
+    let mut count = 0u64;
+    for node in 0..problem.nodes().len() {
+        count = count.saturating_add(problem.size_at(node as u64) as u64);
+    }
+    count
+}
+
 /// No version is opened, and no fact was looked at.
 pub fn none_opened(alloc: Global, problem: &Problem) -> Result<Opened, AllocError>
     ensures rows { IfOk result (λ o. AreClosedTo problem.now (length problem.now.nodes) o.versions.items) }
@@ -53,6 +65,7 @@ pub fn none_opened(alloc: Global, problem: &Problem) -> Result<Opened, AllocErro
         versions,
         counts,
         looked: 0,
+        patience: count_versions(problem) / 8,
     })
 }
 
@@ -191,6 +204,46 @@ pub fn mark_learned(counts: &mut Vec<u32>, learned: &[Step])
     }
 }
 
+// Holds the steps of all versions of all nodes.
+fn open_all(
+    alloc: Global,
+    problem: &Problem,
+    trail: &mut Trail,
+    opened: &mut Opened,
+) -> Result<(), AllocError>
+    requires state { IsState problem.now trail.old }
+    requires opened { IsOpened problem.now trail.old opened.old }
+    ensures { IfOk result (λ _. HasWidened problem.now trail.old opened.old trail.new opened.new) }
+{
+    for node in 0..problem.nodes().len() {
+        open_more(alloc, problem, trail, opened, node as u64, 0, u32::MAX)?;
+    }
+    Ok(())
+}
+
+// Holds the steps of the versions behind this one in a node's order, of so many; or of all versions, where conflicts
+// are so many that holding them costs less than finding each conflict.
+fn open_further(
+    alloc: Global,
+    problem: &Problem,
+    trail: &mut Trail,
+    opened: &mut Opened,
+    node: u64,
+    version: u32,
+    count: u32,
+) -> Result<(), AllocError>
+    requires state { IsState problem.now trail.old }
+    requires opened { IsOpened problem.now trail.old opened.old }
+    requires node { node < length problem.now.nodes }
+    ensures { IfOk result (λ _. HasWidened problem.now trail.old opened.old trail.new opened.new) }
+{
+    if opened.patience == 0 {
+        open_all(alloc, problem, trail, opened)
+    } else {
+        open_more(alloc, problem, trail, opened, node, version, count)
+    }
+}
+
 /// Holds the steps of a version that isn't opened, with those of the ones behind it.
 pub fn open_block(
     alloc: Global,
@@ -209,7 +262,7 @@ pub fn open_block(
 {
     let count = opened.counts[node as usize];
     open(alloc, problem, trail, opened, node, version)?;
-    open_more(alloc, problem, trail, opened, node, version, count)?;
+    open_further(alloc, problem, trail, opened, node, version, count)?;
     opened.counts[node as usize] = count.saturating_mul(2).saturating_add(1);
     Ok(())
 }

@@ -178,6 +178,7 @@ fn backward(
     mark_learned(&mut opened.counts, learned.as_slice());
     trail.back(alloc, problem, level, learned)?;
     opened.looked = trail.facts().len();
+    opened.patience = opened.patience.saturating_sub(1);
     let progress = trail.propagate(alloc, problem)?;
     Ok(progress)
 }
