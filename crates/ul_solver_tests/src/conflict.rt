@@ -1,8 +1,9 @@
 //! What conflicts come to.
+ghost use Rattle.std.specs.Prelude.{IfOk};
 ghost use Rattle.ul_trail.specs.Propagation.{IsTrailOf, IsConflict};
 ghost use Rattle.ul_conflict.specs.Headline.{IsOutcome};
 
-use crate::runs::{decided, run};
+use crate::runs::{begun, decided, pass, run};
 use crate::shapes::problem_of;
 use crate::told::put;
 use std::alloc::{AllocError, Global};
@@ -11,10 +12,10 @@ use ul_derivation::accepts;
 use ul_problem::{Derivation, Problem, Step};
 use ul_trail::Trail;
 
-// A problem, and what its first conflict comes to. In `crossed` the first decision, before any propagation, is a at 2,
-// against a need that b at 1 has, which is learned once more. In `distant_40` the conflict goes back to a: x is 3 or 4,
-// which b clashes with at once. In `pigeons` three cuts lead back from the third decision. The other two are closed by
-// two needs and their cut.
+// A problem, and what its first conflict comes to. In `crossed` the first decision is a at 2, whose steps are held only
+// then, against a need that b at 1 has; its own need is learned once more. In `distant_40` the conflict goes back to a:
+// x is 3 or 4, which b clashes with at once. In `pigeons` three cuts lead back from the third decision. The other two
+// are closed by two needs and their cut.
 const ROWS: &str = "crossed: 0 decisions, back to 0 by 1 steps with 0 cuts, 3 decisions;\
     distant_40: 42 decisions, back to 1 by 1 steps with 1 cuts, 0 decisions;\
     pigeons: 3 decisions, back to 2 by 3 steps with 3 cuts, 0 decisions;\
@@ -71,7 +72,7 @@ fn tell_outcome(
     Ok(())
 }
 
-// Tells the first conflict. Where there is a wish, the first decision comes before any propagation.
+// Tells the first conflict. Where there is a wish, it is what is decided first, behind two passes.
 fn tell_conflict(
     alloc: Global,
     problem: &Problem,
@@ -82,6 +83,8 @@ fn tell_conflict(
     requires { IsTrailOf problem.now trail.old }
 {
     if wish.is_some() {
+        pass(alloc, problem, trail)?;
+        pass(alloc, problem, trail)?;
         let _ = decided(alloc, problem, trail, wish)?;
     }
     let before = run(alloc, problem, trail, 100)?;
@@ -95,9 +98,20 @@ fn tell_conflict(
     }
 }
 
+// A trail that holds the steps of all versions, or with a wish those of none.
+fn trail_of(alloc: Global, problem: &Problem, wish: Option<u32>) -> Result<Trail, AllocError>
+    ensures { IfOk result (λ t. IsTrailOf problem.now t) }
+{
+    if wish.is_some() {
+        Trail::begin(alloc, problem)
+    } else {
+        begun(alloc, problem)
+    }
+}
+
 fn is_told(alloc: Global, problem: &Problem, wish: Option<u32>, want: &str) -> bool {
     let mut told = String::new(alloc);
-    if let Ok(trail) = Trail::begin(alloc, problem) {
+    if let Ok(trail) = trail_of(alloc, problem, wish) {
         let mut trail = trail;
         let _ = tell_conflict(alloc, problem, &mut trail, wish, &mut told);
     }

@@ -8,13 +8,18 @@ use ul_solver::{Answer, solve};
 
 // The order of versions, a problem, and the answer on it: the decisions in their order, each a node's place and its
 // version's; `far`, those on the problem with a clash behind many packages, a at 1 and then each u at 2; or nothing, by
-// an accepted derivation. An order that is a number puts that version first.
+// an accepted derivation. An order that is a number puts that version first. In `at_once` a version clashes with what
+// was known before it is decided; in `chained` the clash comes of b and c, which are certain once a is decided.
 const ROWS: &str = "newest crossed 3:0 0:0 1:0 2:0;\
     newest chained 4:0 0:0 5:1 3:0;\
     newest alone 1:0 0:0;\
     newest extra 0:0 1:1 2:1 3:0;\
     newest extra_below_2 0:0 1:0 2:0 3:0;\
     newest pins 1:0 4:1 2:0 0:1 3:1;\
+    newest at_once 1:0 0:0 2:0;\
+    oldest at_once 1:0 0:0 2:0;\
+    2 at_once 1:0 0:0 2:0;\
+    newest spare 1:0 0:2 2:0;\
     newest three 1:0 0:2;\
     oldest three 1:0 0:0;\
     1 three 1:0 0:1;\
@@ -28,6 +33,10 @@ const ROWS: &str = "newest crossed 3:0 0:0 1:0 2:0;\
     newest pigeons nothing;\
     newest distant_40 far;\
     newest distant_2000 far";
+
+// A problem, and how many steps the trail of its best selection holds: for demo's needs, and for those of the versions
+// of a that were about to be decided.
+const HELD: &str = "alone 1;spare 2;at_once 4";
 
 fn put_pick(told: &mut String, node: u64, version: u64) {
     put(told, if told.is_empty() { "" } else { " " }, node);
@@ -83,6 +92,25 @@ fn is_row(alloc: Global, line: &str) -> bool {
     match problem_of(alloc, shape, order) {
         Some(problem) => is_answer(alloc, &problem, want),
         None => false,
+    }
+}
+
+fn is_held(alloc: Global, problem: &Problem, want: &str) -> bool {
+    match solve(alloc, problem) {
+        Ok(Answer::Best { trail, .. }) => want.parse::<usize>() == Ok(trail.count()),
+        _ => false,
+    }
+}
+
+#[test]
+fn steps_of_few_versions_are_held(rt: HostRuntime) {
+    for line in HELD.split(';') {
+        let (shape, want) = cells(line, ' ');
+        let told = match problem_of(rt.alloc(), shape, "newest") {
+            Some(problem) => is_held(rt.alloc(), &problem, want),
+            None => false,
+        };
+        assert!(rt; told, "{line}");
     }
 }
 

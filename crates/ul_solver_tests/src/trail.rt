@@ -2,7 +2,7 @@
 ghost use Rattle.std.specs.Prelude.{IfOk};
 ghost use Rattle.ul_trail.specs.Propagation.{IsTrailOf};
 
-use crate::runs::run;
+use crate::runs::{begun, pass, run};
 use crate::shapes::problem_of;
 use crate::told::{cells, put};
 use std::alloc::{AllocError, Global};
@@ -10,8 +10,10 @@ use ul_problem::{Problem, Step, Term};
 use ul_trail::{Fact, Progress, Trail};
 
 // What is told of a trail on a problem: at its beginning; after one propagation and after two, which find that a isn't
-// 2 and that c is 1; and of its decisions before going back to the first level, and after it.
-const ROWS: &str = "crossed begins: 5 steps, 5 needs, 3 facts, 3 on c, 2 on demo, next 0;\
+// 2 and that c is 1; after passes, which hold no step of a's versions; and of its decisions before going back to the
+// first level, and after it.
+const ROWS: &str = "crossed begins: 5 steps, 5 needs, 1 facts, 3 on c, 2 on demo, next 0;\
+    crossed passes: 0 excluded, 1 derived, 4 facts;\
     crossed once: 1 excluded, 1 derived, 5 facts;\
     crossed twice: 1 excluded, 1 derived, 5 facts;\
     distant_300 goes back: 200 decisions, next 203, back at 0 with fewer facts, 302 decisions";
@@ -115,6 +117,22 @@ fn tell_propagated(
     Ok(())
 }
 
+// Tells what a trail has after three passes.
+fn tell_passed(
+    alloc: Global,
+    problem: &Problem,
+    trail: &mut Trail,
+    told: &mut String,
+) -> Result<(), AllocError>
+    requires { IsTrailOf problem.now trail.old }
+{
+    for _ in 0..3 {
+        pass(alloc, problem, trail)?;
+    }
+    tell_facts(trail.facts().as_slice(), told);
+    Ok(())
+}
+
 // Goes to the first level, and tells the next node, and whether facts were taken back.
 fn tell_rewound(
     alloc: Global,
@@ -160,13 +178,25 @@ fn tell(alloc: Global, problem: &Problem, trail: &mut Trail, word: &str, told: &
         "begins" => Ok(tell_beginning(alloc, problem, trail, told)),
         "once" => tell_propagated(alloc, problem, trail, false, told),
         "twice" => tell_propagated(alloc, problem, trail, true, told),
+        "passes" => tell_passed(alloc, problem, trail, told),
         _ => tell_returned(alloc, problem, trail, told),
     };
 }
 
+// The trail of a case: one that holds no version's steps, or one that holds those of all.
+fn trail_of(alloc: Global, problem: &Problem, word: &str) -> Result<Trail, AllocError>
+    ensures { IfOk result (λ t. IsTrailOf problem.now t) }
+{
+    if word == "passes" {
+        Trail::begin(alloc, problem)
+    } else {
+        begun(alloc, problem)
+    }
+}
+
 fn is_told(alloc: Global, problem: &Problem, word: &str, want: &str) -> bool {
     let mut told = String::new(alloc);
-    if let Ok(trail) = Trail::begin(alloc, problem) {
+    if let Ok(trail) = trail_of(alloc, problem, word) {
         let mut trail = trail;
         tell(alloc, problem, &mut trail, word, &mut told);
     }
