@@ -1,0 +1,11 @@
+//! Tests of the judge of a lock.
+#![tactic(auto)]
+
+#[cfg(test)]
+mod changes;
+#[cfg(test)]
+mod judging;
+#[cfg(test)]
+mod rows;
+#[cfg(test)]
+mod size;
