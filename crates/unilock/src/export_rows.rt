@@ -78,6 +78,18 @@ export l dev -x gpu
 =8
 extra: -x
 ~
+export l none gpu -x
+=8
+extra: gpu
+~
+export l dev[x]
+=8
+extra: dev[x]
+~
+export l désirs
+=8
+extra: désirs
+~
 export l x
 =8
 extra: x

@@ -75,12 +75,27 @@ fn put_points(told: &mut String, variable: &str, count: usize) {
     }
 }
 
-// A lock whose package q is reached under as many paths as the product of this number and 64.
-fn reached(alloc: Global, count: usize) -> String {
+// Puts the edge to a package of a number, and that package, so often that there are as many packages in a chain.
+fn put_chain(told: &mut String, count: usize) {
+    for place in 0..count {
+        let number = place.saturating_add(100);
+        let _ = write!(
+            told,
+            "\ndependencies = [\n    {{ name = \"r{number}\", version = \"1\" }},\n]\n"
+        );
+        let _ = write!(told, "\n[[package]]\nname = \"r{number}\"\nversion = \"1\"");
+    }
+}
+
+// `export` with more words, and a lock whose package q is reached under as many paths as the product of this number and
+// 64; it leads to a chain of so many packages.
+fn reached(alloc: Global, more: &str, count: usize, chained: usize) -> String {
     let mut text = String::new(alloc);
+    put(&mut text, "export l");
+    put(&mut text, more);
     put(
         &mut text,
-        "export l\n@l\nversion = 2\nroot = \"demo\"\n\n[[package]]\nname = \"a\"\nversion = \"1\"\ndependencies = [\n    { name = \"q\", version = \"1\", marker = \"",
+        "\n@l\nversion = 2\nroot = \"demo\"\n\n[[package]]\nname = \"a\"\nversion = \"1\"\ndependencies = [\n    { name = \"q\", version = \"1\", marker = \"",
     );
     put_points(&mut text, "sys_platform", 64);
     put(
@@ -92,6 +107,7 @@ fn reached(alloc: Global, count: usize) -> String {
         &mut text,
         "\" },\n]\n\n[[package]]\nname = \"q\"\nversion = \"1\"",
     );
+    put_chain(&mut text, chained);
     text
 }
 
@@ -100,7 +116,8 @@ fn case_in(alloc: Global, kind: &str, count: usize, more: &str) -> (String, &'st
     match kind {
         "forks" => (parted(alloc, more), "\n"),
         "paths" => (joined(alloc, more, count), " or "),
-        "reached" => (reached(alloc, count), " or "),
+        "reached" => (reached(alloc, more, count, 0), " or "),
+        "chained" => (reached(alloc, more, count, 350), " or "),
         _ => (compared(alloc, count), " in os_name"),
     }
 }
@@ -116,10 +133,11 @@ fn told<R: Threads + Wait + Sync>(rt: &R, alloc: Global, given: &str, word: &str
     told
 }
 
-// A kind, a number, what stands before the pairs of a marker's comparisons or behind the packages that fork, and what is
-// told: of forks the status, four lines around the forks, 44 of the packages and 17 of the project; of a marker its
-// paths; of an exported lock the paths of two markers, less one; and of comparisons one more than there are. The second row
-// has a requirement where all the platforms are.
+// A kind, a number, what stands before the pairs of a marker's comparisons, behind the packages that fork or behind the
+// words, and what is told: of forks the status, four lines around the forks, 44 of the packages and 17 of the project;
+// of a marker its paths; of an exported lock the paths of two markers, less one; and of comparisons one more than there
+// are. The second row has a requirement where all the platforms are. Of an exported lock an extra that its root doesn't
+// have is told before a marker's paths, and these before the length of the text.
 const LIMITS: &str = "forks|0||2115#\
     forks|0|'z', \"z; 'a' in platform_version and 'b' in platform_version and 'c' in platform_version and 'd' in platform_version and 'e' in platform_version and 'f' in platform_version and 'g' in platform_version and 'h' in platform_version and 'i' in platform_version and 'j' in platform_version and 'k' in platform_version and 'm' in platform_version\"|4\nlimit: forks 2048\n#\
     paths|12||4095#\
@@ -128,6 +146,10 @@ const LIMITS: &str = "forks|0||2115#\
     paths|12|sys_platform == 'x' or sys_platform == 'y' or |4\nlimit: marker-paths 4096\n#\
     reached|64||4159#\
     reached|65||4\nlimit: marker-paths 4096\n#\
+    reached|65| gpu|8\nextra: gpu\n#\
+    chained|64||4\nlimit: text-bytes 67108864\n#\
+    chained|65||4\nlimit: marker-paths 4096\n#\
+    chained|64| gpu|8\nextra: gpu\n#\
     comparisons|256||257#\
     comparisons|257||4\nlimit: comparisons 256\n";
 
