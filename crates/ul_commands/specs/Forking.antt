@@ -1,10 +1,11 @@
 -- The fork answer of a resolution, as the code has it.
-use Rattle.std.specs.Prelude.{ℕ, Option, Some, None}
+use Rattle.std.specs.Prelude.{◌≡◌, ℕ, List, Option, Some, None, map}
 use Rattle.ul_generations.specs.declared.answers.ForkFault.{ForkFault}
 use Rattle.ul_generations.specs.declared.answers.ForkFault.TheVariants.{TooManyForks, NoMemory as NoMemoryToFork}
 use Rattle.ul_generations.specs.Answers.{answer_of}
 use Rattle.ul_generations.specs.Generations.{too_many}
 use Rattle.ul_forks.specs.Forked.{ForkedMarks, HasAccepted, HasRegions}
+use Rattle.ul_forks.specs.Headline.{IsAnswer}
 use Rattle.ul_forks.specs.Judged.{answer_of_trees}
 use Rattle.ul_region.specs.Truths.{PassView}
 use Rattle.ul_inputs.specs.Refused.{Refused}
@@ -19,6 +20,13 @@ pub record AreForksOf (r : ResolutionFields) (h : PassView) (forked : ForkedMark
   pub is_answer : IsForked r (answer_of_trees (answer_of forked))
   pub accepted : HasAccepted (question_of r) forked
   pub known : HasRegions h forked
+
+-- the rounds in which a fork answer was found: one for each generation, by so many workers, with a result for each of its
+-- regions
+pub record HasRounds (r : ResolutionFields) (workers : ℕ) (forked : ForkedMarks) (rounds : List (ℕ × ℕ)) : Type 0 where
+  pub counts : List ℕ
+  pub answer : IsAnswer (question_of r) r.project.region counts (answer_of_trees (answer_of forked))
+  pub generations : rounds ≡ map (λ n. (workers, n)) counts
 
 -- what a fault says, if it isn't want of memory
 abbrev pub refused_forks : ForkFault → Option Refused

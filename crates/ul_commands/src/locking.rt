@@ -159,9 +159,10 @@ pub(crate) fn lock<R: Threads + Wait + Sync, G: Gate + Sync>(
 {
     let (interner, pass) = Interner::begin(alloc)?;
     match forks_of(rt, alloc, &interner, pass, workers, resolution, gate) {
-        Ok((forked, mut algebra)) => {
+        Ok((forked, rounds, mut algebra)) => {
             let answer = answer_for(rt, alloc, &mut algebra, resolution, &forked);
             leave(forked);
+            leave(rounds);
             leave(algebra);
             leave(interner);
             Ok(answer?)

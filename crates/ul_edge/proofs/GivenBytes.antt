@@ -1,8 +1,9 @@
--- What a reader gave, a read after a read.
-use Rattle.std.proofs.Common.{◌≡◌, ◌++◌, ◌-◌, ◌<◌, ◌≤◌, ◌∙◌, ℕ, List, [], Option, None, Some, length, take, ap, sym, append_assoc, append-nil, length-append, arith}
+-- What a reader gave and a writer took, a call after a call.
+use Rattle.std.proofs.Common.{◌≡◌, ◌++◌, ◌-◌, ◌<◌, ◌≤◌, ◌∙◌, ℕ, List, Option, None, Some, length, take, Result, Ok, Err, ap, sym, append_assoc, append-nil, length-append, arith}
 use Rattle.std.specs.Prelude.{IfSome}
 use Rattle.std.proofs.lemmas.List.{length-take, take-append-le, take-take}
-use Rattle.std.specs.Io.KnownBytes.{Consumes, IsAtEnd, Keeps}
+use Rattle.std.proofs.KnownBytes.{Keeps-trans}
+use Rattle.std.specs.Io.KnownBytes.{Appends, Consumes, IsAtEnd, Keeps, ReadConsumes, WriteAppends}
 
 -- one read more: its bytes stand behind those that were given
 pub consumes_more : (first now after : Option (List ℕ)) (bytes more : List ℕ) → Consumes first now bytes → Consumes now after more → Consumes first after (bytes ++ more)
@@ -11,12 +12,28 @@ consumes_more (Some _) None _ _ _ h _ = absurd h
 consumes_more (Some _) (Some _) None _ _ _ k = absurd k
 consumes_more (Some _) (Some _) (Some after) bytes more h k = h ∙ ap (λ t. bytes ++ t) k ∙ sym (append_assoc bytes more after)
 
--- a read that failed gave nothing
-pub consumes_same : (first now after : Option (List ℕ)) (bytes : List ℕ) → Consumes first now bytes → Keeps now after → Consumes first after bytes
-consumes_same None _ _ _ _ _ = tt
-consumes_same (Some _) None _ _ h _ = absurd h
-consumes_same (Some _) (Some _) None _ _ k = absurd k
-consumes_same (Some _) (Some _) (Some _) bytes h k = h ∙ ap (λ t. bytes ++ t) (sym k)
+-- calls that gave nothing, and then one more
+consumes_kept : (first now after : Option (List ℕ)) (bytes : List ℕ) → Keeps first now → Consumes now after bytes → Consumes first after bytes
+consumes_kept None _ _ _ _ _ = tt
+consumes_kept (Some _) None _ _ h _ = absurd h
+consumes_kept (Some _) (Some _) None _ _ k = absurd k
+consumes_kept (Some _) (Some _) (Some _) _ h k = sym h ∙ k
+
+-- reads that gave nothing, and then one more
+pub read_kept : {E : Type 0} (first now after : Option (List ℕ)) (r : Result ℕ E) (chunk : List ℕ) → Keeps first now → ReadConsumes now after r chunk → ReadConsumes first after r chunk
+read_kept first now after (Ok n) chunk h k = (consumes_kept first now after (take n chunk) h k.0, k.1)
+read_kept first now after (Err _) chunk h k = Keeps-trans first now after h k
+
+appends_kept : (first now after : Option (List ℕ)) (bytes : List ℕ) → Keeps first now → Appends now after bytes → Appends first after bytes
+appends_kept None _ _ _ _ _ = tt
+appends_kept (Some _) None _ _ h _ = absurd h
+appends_kept (Some _) (Some _) None _ _ k = absurd k
+appends_kept (Some _) (Some _) (Some _) bytes h k = k ∙ ap (λ t. t ++ bytes) h
+
+-- writes that took nothing, and then one more
+pub write_kept : {E : Type 0} (first now after : Option (List ℕ)) (r : Result ℕ E) (piece : List ℕ) → Keeps first now → WriteAppends now after r piece → WriteAppends first after r piece
+write_kept first now after (Ok n) piece h k = appends_kept first now after (take n piece) h k
+write_kept first now after (Err _) piece h k = Keeps-trans first now after h k
 
 -- a read that gave nothing at the end: what was given is all that there was
 pub all_given : (first now after : Option (List ℕ)) (bytes chunk : List ℕ) (count : ℕ) → Consumes first now bytes → Consumes now after (take count chunk) → count ≡ 0 → IsAtEnd after

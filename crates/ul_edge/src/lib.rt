@@ -4,8 +4,10 @@
 //! and a writer that tells what it holds their clauses name each byte.
 #![tactic(auto)]
 
+mod counted;
 mod reading;
 mod writing;
 
+pub use counted::Counted;
 pub use reading::read_all;
 pub use writing::write_all;

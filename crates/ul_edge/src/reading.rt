@@ -1,9 +1,11 @@
 //! Reading to the end.
 ghost use Rattle.std.specs.Prelude.{◌≤◌, ◌<◌, IfOk, IfSome, vec_len};
-ghost use Rattle.ul_edge.specs.Reading.{GivesAll};
+ghost use Rattle.ul_edge.specs.Counting.{inner_of};
+ghost use Rattle.ul_edge.specs.Reading.{FailsWith, GivesAll};
 
+use crate::counted::Counted;
 use std::alloc::{AllocError, Global};
-use std::io::{ErrorKind, Read};
+use std::io::Read;
 use ul_base::ReadRefused;
 
 // How many bytes one read asks for.
@@ -11,31 +13,31 @@ const CHUNK: usize = 16_384;
 
 /// All the bytes that a reader has left, if they are at most `limit`.
 ///
-/// `TooLong` comes exactly where they are more. `Failed` is a read that failed: it is never taken for the end, which is a
-/// read that gives nothing. A read that a signal interrupts is tried again. `NoMemory` may come in place of any answer.
-pub fn read_all<R: Read>(alloc: Global, reader: &mut R, limit: u64) -> Result<Vec<u8>, ReadRefused>
+/// `TooLong` comes exactly where they are more. `Failed` comes only where a read failed: it is never taken for the end,
+/// which is a read that gives nothing. `NoMemory` may come in place of any answer.
+pub fn read_all<R: Read>(
+    alloc: Global,
+    reader: &mut Counted<R>,
+    limit: u64,
+) -> Result<Vec<u8>, ReadRefused>
     ensures limit { IfOk result (λ v. vec_len v ≤ limit) }
-    ensures bytes { IfSome (R.remaining reader.old) (λ left. GivesAll left limit result) }
+    ensures bytes { IfSome (R.remaining (inner_of reader.old)) (λ left. GivesAll left limit result) }
+    ensures failed { FailsWith result reader.old reader.new }
 {
     let mut chunk = chunk(alloc)?;
     let mut bytes = Vec::new(alloc);
-    for _ in 0..u64::MAX {
-        match reader.read(&mut chunk) {
-            Ok(0) => return Ok(bytes),
-            Ok(count) => {
-                if count as u64 > limit - bytes.len() as u64 {
-                    return Err(ReadRefused::TooLong);
-                }
-                bytes.extend_from_slice(&chunk[..count])?;
-            }
-            Err(error) => {
-                if error.kind() != ErrorKind::Interrupted {
-                    return Err(ReadRefused::Failed);
-                }
-            }
+    loop {
+        let Ok(count) = reader.read(&mut chunk) else {
+            return Err(ReadRefused::Failed);
+        };
+        if count == 0 {
+            return Ok(bytes);
         }
+        if count as u64 > limit - bytes.len() as u64 {
+            return Err(ReadRefused::TooLong);
+        }
+        bytes.extend_from_slice(&chunk[..count])?;
     }
-    Err(ReadRefused::Failed)
 }
 
 // Room for one read. Its size stands here alone: a loop that knew it would be proved over that many bytes.

@@ -1,33 +1,26 @@
 //! Writing a whole piece.
 ghost use Rattle.std.specs.Prelude.{ℕ, OnOk, OnErr, take};
 ghost use Rattle.std.specs.Io.KnownBytes.{Appends};
+ghost use Rattle.ul_edge.specs.Counting.{HasCounted, inner_of};
 
+use crate::counted::Counted;
 use std::io;
-use std::io::{ErrorKind, Write};
+use std::io::Write;
 
 /// Writes all of a piece, by as many writes as it takes.
 ///
-/// A write that takes a part is followed by one of the rest, and one that a signal interrupts is tried again. A write that
-/// takes nothing of a piece that isn't empty is a failure. Where a write failed, a front of the piece was written.
-pub fn write_all<W: Write>(writer: &mut W, piece: &[u8]) -> io::Result<()>
-    ensures whole { OnOk result (Appends (W.contents writer.old) (W.contents writer.new) piece.now) }
+/// A write that takes a part is followed by one of the rest. An error comes only where a write failed, or took nothing of a
+/// piece that isn't empty. Then a front of the piece was written.
+pub fn write_all<W: Write>(writer: &mut Counted<W>, piece: &[u8]) -> io::Result<()>
+    ensures whole { OnOk result
+        (Appends (W.contents (inner_of writer.old)) (W.contents (inner_of writer.new)) piece.now) }
     ensures front { OnErr result ((n : ℕ)
-        × Appends (W.contents writer.old) (W.contents writer.new) (take n piece.now)) }
+        × Appends (W.contents (inner_of writer.old)) (W.contents (inner_of writer.new)) (take n piece.now)) }
+    ensures failed { HasCounted result writer.old writer.new }
 {
     let mut written = 0;
-    for _ in 0..u64::MAX {
-        if written >= piece.len() {
-            return Ok(());
-        }
-        match writer.write(&piece[written..]) {
-            Ok(0) => return Err(io::Error::from(ErrorKind::WriteZero)),
-            Ok(count) => written += count,
-            Err(error) => {
-                if error.kind() != ErrorKind::Interrupted {
-                    return Err(error);
-                }
-            }
-        }
+    while written < piece.len() {
+        written += writer.write(&piece[written..])?;
     }
-    Err(io::Error::from(ErrorKind::TimedOut))
+    Ok(())
 }

@@ -1,17 +1,22 @@
 //! The words of extras.
-ghost use Rattle.std.specs.Prelude.{◌≡◌, IfOk, map, option_map, string_bytes};
+ghost use Rattle.std.specs.Prelude.{◌≡◌, IfOk, None, Ok, map, option_map, string_bytes};
 ghost use Rattle.ul_base.specs.Names.{name_of};
 ghost use Rattle.ul_lock_commands.specs.Words as spec;
 
 use std::alloc::{AllocError, Global};
-use ul_base::{Name, NameFault};
+use ul_base::{Name, NameFault, is_name};
 use ul_lock_lines::Lock;
 use ul_lock_nodes::root_lists;
 
-// The name that a word is, if it is one.
+// The name that a word is, if it is one. To tell a word that is none takes no memory.
+#[tactic(auto, unfolding(ul_base::specs::Names::name_of))]
 fn name_in(alloc: Global, word: &str) -> Result<Option<Name>, AllocError>
-    ensures { IfOk result (λ n. n ≡ name_of word.now) }
+    ensures name { IfOk result (λ n. n ≡ name_of word.now) }
+    ensures none { name_of word.now ≡ None → result ≡ Ok None }
 {
+    if !is_name(word) {
+        return Ok(None);
+    }
     match Name::read(alloc, word) {
         Ok(name) => Ok(Some(name)),
         Err(NameFault::NoReading) => Ok(None),

@@ -1,11 +1,12 @@
 //! Files of the file system.
 ghost use Rattle.std.specs.Prelude.{◌≡◌, ◌≤◌, IfOk, IfSome, vec_len};
+ghost use Rattle.ul_program.specs.Opened.{IsFound};
 
 use std::alloc::Global;
 use std::io::{ErrorKind, Read};
-use std::{fs, rt};
+use std::{fs, io, rt};
 use ul_base::{Files, ReadRefused};
-use ul_edge::read_all;
+use ul_edge::{Counted, read_all};
 
 /// The file system. It tells no content and no path, so what is proved over it is safety and the causes of faults.
 ///
@@ -54,6 +55,22 @@ where
     }
 }
 
+// The file that was opened, if there is one. Only where the system says that it found none it is absent.
+fn found<T: Drop>(opened: io::Result<T>) -> Result<Option<T>, ReadRefused>
+    ensures { IsFound opened result }
+{
+    match opened {
+        Ok(file) => Ok(Some(file)),
+        Err(error) => {
+            if error.kind() == ErrorKind::NotFound {
+                Ok(None)
+            } else {
+                Err(ReadRefused::Failed)
+            }
+        }
+    }
+}
+
 // The bytes of the file at a path: it is opened here, and `read_all` reads it.
 fn read_file<R: rt::Files>(
     rt: &R,
@@ -63,19 +80,11 @@ fn read_file<R: rt::Files>(
 ) -> Result<Option<Vec<u8>>, ReadRefused>
 where
     R::File: Read + Drop,
-    ensures { IfOk result (λ found. IfSome found (λ v. vec_len v ≤ limit)) }
+    ensures { IfOk result (λ read. IfSome read (λ v. vec_len v ≤ limit)) }
 {
-    match fs::open(rt, path) {
-        Ok(mut file) => {
-            let bytes = read_all(alloc, &mut file, limit)?;
-            Ok(Some(bytes))
-        }
-        Err(error) => {
-            if error.kind() == ErrorKind::NotFound {
-                Ok(None)
-            } else {
-                Err(ReadRefused::Failed)
-            }
-        }
-    }
+    let Some(file) = found(fs::open(rt, path))? else {
+        return Ok(None);
+    };
+    let bytes = read_all(alloc, &mut Counted::new(file), limit)?;
+    Ok(Some(bytes))
 }

@@ -3,10 +3,11 @@ ghost use Rattle.std.specs.Prelude.{◌≡◌, ◌≢◌, ℕ, None, Err, OnOk, 
 ghost use Rattle.std.specs.Io.KnownBytes.{Appends};
 ghost use Rattle.ul_base.specs.Sinks.{WriteCause};
 ghost use Rattle.ul_base.specs.declared.sink.SinkRefused.{SinkRefused};
+ghost use Rattle.ul_edge.specs.Counting.{HasCounted, inner_of};
 
 use std::io::Write;
 use ul_base::{Sink, SinkRefused};
-use ul_edge::write_all;
+use ul_edge::{Counted, write_all};
 
 /// A writer as a sink; the program's is standard output. It tells the program no bytes, so what is proved of the program
 /// over it is safety and the causes of faults. Of a writer that tells what it holds, a write says what became of it.
@@ -14,17 +15,20 @@ use ul_edge::write_all;
 /// Failures are counted, and at the count's last value it stays there.
 #[derive(Drop)]
 pub struct OutSink<W> {
-    writer: W,
+    writer: Counted<W>,
     faults: u64,
 }
 
 impl<W: Write> OutSink<W> {
     /// A writer as a sink, with no fault so far.
     pub fn new(writer: W) -> OutSink<W>
-        ensures writer { result.writer ≡ writer }
+        ensures writer { inner_of result.writer ≡ writer }
         ensures faults { ⟦<OutSink<W> as Sink>⟧.faults result ≡ 0 }
     {
-        OutSink { writer, faults: 0 }
+        OutSink {
+            writer: Counted::new(writer),
+            faults: 0,
+        }
     }
 }
 
@@ -35,14 +39,15 @@ impl<W: Write> Sink for OutSink<W> {
 
     ghost faults = { λ s. s.faults };
 
-    /// Writes all of a piece, and never answers `NoMemory`.
+    /// Writes all of a piece, and refuses it only where the writer failed.
     fn write_all(&mut self, piece: &[u8]) -> Result<(), SinkRefused>
         ensures cause { WriteCause self.old.faults self.new.faults None None piece.now result }
         ensures sure { result ≢ Err SinkRefused.NoMemory }
         ensures whole { OnOk result
-            (Appends (W.contents self.old.writer) (W.contents self.new.writer) piece.now) }
+            (Appends (W.contents (inner_of self.old.writer)) (W.contents (inner_of self.new.writer)) piece.now) }
         ensures front { OnErr result ((n : ℕ)
-            × Appends (W.contents self.old.writer) (W.contents self.new.writer) (take n piece.now)) }
+            × Appends (W.contents (inner_of self.old.writer)) (W.contents (inner_of self.new.writer)) (take n piece.now)) }
+        ensures failed { HasCounted result self.old.writer self.new.writer }
     {
         match write_all(&mut self.writer, piece) {
             Ok(()) => Ok(()),

@@ -5,7 +5,7 @@ use std::io::{ErrorKind, Read, Write};
 use std::process::Abort;
 use std::{fs, io};
 use ul_base::{Files, ReadRefused, Sink, SinkRefused};
-use ul_edge::{read_all, write_all};
+use ul_edge::{Counted, read_all, write_all};
 use ul_program::{FolderFiles, OutSink};
 
 const TEXT: &[u8] = b"a text of thirty bytes to move";
@@ -67,10 +67,10 @@ impl Write for Taking<'_> {
 }
 
 fn given(alloc: Global, turns: &str, limit: u64) -> Result<Vec<u8>, ReadRefused> {
-    let mut reader = Giving {
+    let mut reader = Counted::new(Giving {
         turns: Turns { turns },
         left: TEXT,
-    };
+    });
     read_all(alloc, &mut reader, limit)
 }
 
@@ -138,7 +138,7 @@ fn is_taken(alloc: Global, turns: &str, is_whole: bool, count: usize) -> bool {
         turns: Turns { turns },
         taken: Vec::new(alloc),
     };
-    let is_done = write_all(&mut writer, TEXT).is_ok();
+    let is_done = write_all(&mut Counted::new(&mut writer), TEXT).is_ok();
     is_done == is_whole && has_taken(&writer, count)
 }
 
@@ -154,6 +154,69 @@ fn writes_the_whole_piece_or_fails(rt: HostRuntime) {
     for line in WRITES.split('\n') {
         assert!(rt; is_row(rt.alloc(), line), "{line}");
     }
+}
+
+// A reader and a writer that a signal interrupts at every second call; each other call moves one byte.
+#[derive(Drop)]
+struct Slow {
+    calls: u64,
+    moved: usize,
+}
+
+impl Slow {
+    // How many bytes the next call moves.
+    fn next(&mut self) -> io::Result<usize> {
+        self.calls = self.calls.saturating_add(1);
+        if self.calls % 2 == 0 {
+            return Err(io::Error::from(ErrorKind::Interrupted));
+        }
+        self.moved = self.moved.saturating_add(1);
+        Ok(1)
+    }
+}
+
+impl Read for Slow {
+    fn read(&mut self, buf: &mut [u8]) -> io::Result<usize> {
+        if buf.is_empty() || self.moved >= PIECES {
+            return Ok(0);
+        }
+        buf[0] = b'x';
+        self.next()
+    }
+}
+
+impl Write for Slow {
+    fn write(&mut self, buf: &[u8]) -> io::Result<usize> {
+        if buf.is_empty() {
+            return Ok(0);
+        }
+        self.next()
+    }
+
+    fn flush(&mut self) -> io::Result<()> {
+        Ok(())
+    }
+}
+
+// More pieces than one read asks for bytes.
+const PIECES: usize = 20_000;
+
+fn is_all(bytes: &[u8]) -> bool {
+    bytes.len() == PIECES && bytes.iter().all(|byte| *byte == b'x')
+}
+
+// Whether all pieces are read, and then written.
+fn are_moved(alloc: Global) -> Result<bool, ReadRefused> {
+    let mut reader = Counted::new(Slow { calls: 0, moved: 0 });
+    let bytes = read_all(alloc, &mut reader, PIECES as u64)?;
+    let mut writer = Slow { calls: 0, moved: 0 };
+    let is_written = write_all(&mut Counted::new(&mut writer), &bytes).is_ok();
+    Ok(is_all(&bytes) && is_written && writer.moved == PIECES)
+}
+
+#[test]
+fn many_pieces_with_interruptions_between_are_moved(rt: HostRuntime) {
+    assert!(rt; matches!(are_moved(rt.alloc()), Ok(true)));
 }
 
 // Whether a sink over a writer refuses the text, and then takes what is given.

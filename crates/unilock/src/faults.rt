@@ -41,105 +41,14 @@ dependencies = [
 ]
 ~
 read 0
-lock p.toml ix 1
-=5
-read fault: p.toml
-~
-read 1
-lock p.toml ix 1
-=5
-read fault: ix/a.json
-~
-read 2
-lock p.toml ix 1
-=5
-read fault: ix/b.json
-~
-read 1
-lock p.toml ix 1 l
-=5
-read fault: l
-~
-read 2
-lock p.toml ix 1 l
-=5
-read fault: ix/a.json
-~
-read 2
-why p.toml ix 1
-=5
-read fault: ix/b.json
-~
-read 1
-env l m.json
-=5
-read fault: m.json
-~
-read 1
-check p.toml ix d
-=5
-read fault: d
-~
-read 0
-export l
-=5
-read fault: l
-~
-read 0
 export m gpu
 =5
 read fault: m
-~
-read 0
-verify p.toml ix l
-=5
-read fault: p.toml
-~
-read 1
-verify p.toml ix l
-=5
-read fault: l
 ~
 read 1
 verify p.toml ix m
 =5
 read fault: m
-~
-read 2
-verify p.toml ix l
-=5
-read fault: ix/a.json
-~
-read 3
-verify p.toml ix l
-=5
-read fault: ix/b.json
-~
-read 4
-verify p.toml ix l
-=0
-verified
-~
-read 1
-export l
-=0
-a==1
-b==1
-~
-write 5
-lock p.toml ix 1
-=6
-versi
-~
-write 3
-export l
-=6
-a==
-~
-write 8
-verify p.toml ix l
-=6
-verified
 ~
 write 9
 verify p.toml ix m
@@ -152,8 +61,8 @@ export l gpu
 extra
 "#;
 
-// A sink of which one call fails, after so many bytes.
-fn failing_sink(alloc: Global, call: u64, bytes: u64) -> Result<MemSink, AllocError> {
+/// A sink of which one call fails, after so many bytes.
+pub(crate) fn failing_sink(alloc: Global, call: u64, bytes: u64) -> Result<MemSink, AllocError> {
     let mut failing = Vec::new(alloc);
     failing.push((call, bytes))?;
     Ok(MemSink::of(alloc, failing))

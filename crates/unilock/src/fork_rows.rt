@@ -78,6 +78,12 @@ env printed m.json gpu
 =8
 extra: gpu
 ~
+env printed m.json no!name gpu
+@m.json
+{"os_name": "posix", "sys_platform": "linux", "platform_machine": "x86_64", "platform_python_implementation": "CPython", "platform_release": "6", "platform_system": "Linux", "platform_version": "1", "implementation_name": "cpython", "implementation_version": "3.11.0", "python_full_version": "3.11.0"}
+=8
+extra: no!name
+~
 env printed m.json gpu
 @m.json
 {"os_name": "posix", "sys_platform": "linux", "platform_machine": "x86_64", "platform_python_implementation": "CPython", "platform_release": "6", "platform_system": "Linux", "platform_version": "1", "implementation_name": "cpython", "implementation_version": "3.8.18", "python_full_version": "3.8.18"}

@@ -20,6 +20,10 @@ mod faults;
 #[cfg(test)]
 mod fork_rows;
 #[cfg(test)]
+mod gates;
+#[cfg(test)]
+mod in_turn;
+#[cfg(test)]
 mod limits;
 #[cfg(test)]
 mod place_rows;

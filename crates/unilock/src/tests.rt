@@ -35,8 +35,8 @@ fn file_of(alloc: Global, text: &str) -> Result<(String, Vec<u8>), AllocError> {
     Ok((String::from_str(alloc, path)?, bytes))
 }
 
-// The files of a case.
-fn files_of(alloc: Global, text: &str, failing: u64) -> Result<MemFiles, AllocError> {
+/// The files of a case, of whose reads this one fails.
+pub(crate) fn files_of(alloc: Global, text: &str, failing: u64) -> Result<MemFiles, AllocError> {
     let mut files = Vec::new(alloc);
     for file in text.split("\n@").skip(1) {
         files.push(file_of(alloc, file)?)?;
@@ -46,8 +46,8 @@ fn files_of(alloc: Global, text: &str, failing: u64) -> Result<MemFiles, AllocEr
     Ok(MemFiles::of(alloc, files, reads))
 }
 
-// The words of a case.
-fn words_of(alloc: Global, text: &str) -> Result<Vec<String>, AllocError> {
+/// The words of a case.
+pub(crate) fn words_of(alloc: Global, text: &str) -> Result<Vec<String>, AllocError> {
     let (line, _) = cells(text, "\n");
     let mut words = Vec::new(alloc);
     for word in line.split(' ') {
@@ -129,7 +129,7 @@ pub(crate) fn printed<R: Threads + Wait + Sync>(rt: &R, alloc: Global, given: &s
 #[derive(Drop)]
 pub(crate) struct Group<'a> {
     shared: &'a str,
-    printed: &'a str,
+    pub(crate) printed: &'a str,
 }
 
 // A text in which what stands first of some text becomes another.

@@ -1,9 +1,8 @@
 use Rattle.std.proofs.Common.{ℕ, ◌+◌, List, Option, take, length, ◌-◌, drop, rules, sym, ap, subst}
 use Rattle.std.proofs.Math.Seq.{take-add}
-use Rattle.std.proofs.KnownBytes.{Appends-trans, Appends-kept}
+use Rattle.std.proofs.KnownBytes.{Appends-trans}
 use Rattle.std.proofs.lemmas.List.{take_rest}
 use Rattle.std.specs.Io.KnownBytes.{Appends}
-use Rattle.ul_edge.proofs.writing.write_all.Goals.{in-Ok, in-Err+else-ne}
 use Rattle.ul_edge.proofs.writing.write_all.Goals as goal
 
 -- a part of what is behind a front, appended behind that front
@@ -13,9 +12,8 @@ part_more a b c piece n k p q =
     let rest = ap (take k) (take_rest piece n) in
     subst (Appends a c) (sym (take-add n k piece)) (Appends-trans a b c (take n piece) (take k (drop n piece)) p (subst (Appends b c) rest q))
 
--- a write took a part more, or a signal interrupted it
-pub loop-preserved : goal.loop-preserved
-loop-preserved g c = elim c.match-write.branch [
-  | in-Ok w ↦ rw w.written-is (search rules, part_more _ _ _ c.args.piece.now c.loop.written w.in-Ok.count c.loop.invariant.1 w.in-Ok.ensures.bytes)
-  | in-Err+else-ne w ↦ rw w.written-is (c.loop.invariant.0, Appends-kept _ _ _ _ c.loop.invariant.1 w.in-Err.ensures.bytes)
-]
+-- a write took a part more
+pub loop-written-preserved : goal.loop-written-preserved
+loop-written-preserved g c =
+    let wrote = c.in_ok-written.ensures in
+    (search rules, search rules, part_more _ _ _ c.args.piece.now c.loop-written.written c.in_ok-written.field-0 c.loop-written.invariant.2 wrote.bytes)

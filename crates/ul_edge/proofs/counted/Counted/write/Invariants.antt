@@ -1,0 +1,7 @@
+use Rattle.std.proofs.Common.{◌≡◌, ◌≤◌}
+use Rattle.std.specs.Io.KnownBytes.{Keeps}
+use Rattle.ul_edge.proofs.counted.Counted.write.Given as goal
+
+abbrev pub invariant-loop : goal.invariant-loop
+invariant-loop g l = (l.self.failures ≡ l.initial.self.failures) × (l.counter ≤ l.self.interruptions)
+    × Keeps (g.W.Write.contents l.initial.self.inner) (g.W.Write.contents l.self.inner)
