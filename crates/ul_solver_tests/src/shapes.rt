@@ -12,7 +12,7 @@ use ul_test_problems::read_problem;
 // chained: nodes a, b, c, d, demo, u: a 1, a 2 (b), b 1 (c), c 1 (d>=2), d 1, d 2, u 1, u 2. demo needs a, u and d<2.
 // alone, missed, three, later: nodes a, demo: a has one version or three, and demo permits each, none, or those from the
 // second on.
-// spare: nodes a, demo, x: a 1 (x), a 2 (x), a 3 (x), x 1. demo needs a.
+// spare: nodes a, demo, x: a 1 (x) to a 8 (x), x 1. demo needs a.
 // at_once: nodes a, demo, x: a 1, a 2 (x>=2), a 3 (x>=2), x 1, x 2. demo needs a and x<2.
 // opposed: nodes demo, q: q 1, q 2. demo needs q>=2 and q<2.
 // hopeless: nodes demo, q, z: q 1 (z), q 2 (z), and z has no versions. demo needs q<2.
@@ -25,7 +25,7 @@ const SHAPES: &str = "crossed 3 a|2 2 0 2|2 2 1 2;b|2 2 0 1;c||;demo|0 2 0 2,1 1
     missed 1 a|;demo|0 1 1 1\n\
     three 1 a|||;demo|0 3 0 3\n\
     later 1 a|||;demo|0 3 1 3\n\
-    spare 1 a|2 1 0 1|2 1 0 1|2 1 0 1;demo|0 3 0 3;x|\n\
+    spare 1 a|2 1 0 1|2 1 0 1|2 1 0 1|2 1 0 1|2 1 0 1|2 1 0 1|2 1 0 1|2 1 0 1;demo|0 8 0 8;x|\n\
     at_once 1 a||2 2 1 2|2 2 1 2;demo|0 3 0 3,2 2 0 1;x||\n\
     opposed 0 demo|1 2 1 2,1 2 0 1;q||\n\
     hopeless 0 demo|1 2 0 1;q|2 0 0 0|2 0 0 0;z\n\

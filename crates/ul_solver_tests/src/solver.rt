@@ -19,7 +19,7 @@ const ROWS: &str = "newest crossed 3:0 0:0 1:0 2:0;\
     newest at_once 1:0 0:0 2:0;\
     oldest at_once 1:0 0:0 2:0;\
     2 at_once 1:0 0:0 2:0;\
-    newest spare 1:0 0:2 2:0;\
+    newest spare 1:0 0:7 2:0;\
     newest three 1:0 0:2;\
     oldest three 1:0 0:0;\
     1 three 1:0 0:1;\
