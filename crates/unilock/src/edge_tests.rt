@@ -156,69 +156,6 @@ fn writes_the_whole_piece_or_fails(rt: HostRuntime) {
     }
 }
 
-// A reader and a writer that a signal interrupts at every second call; each other call moves one byte.
-#[derive(Drop)]
-struct Slow {
-    calls: u64,
-    moved: usize,
-}
-
-impl Slow {
-    // How many bytes the next call moves.
-    fn next(&mut self) -> io::Result<usize> {
-        self.calls = self.calls.saturating_add(1);
-        if self.calls % 2 == 0 {
-            return Err(io::Error::from(ErrorKind::Interrupted));
-        }
-        self.moved = self.moved.saturating_add(1);
-        Ok(1)
-    }
-}
-
-impl Read for Slow {
-    fn read(&mut self, buf: &mut [u8]) -> io::Result<usize> {
-        if buf.is_empty() || self.moved >= PIECES {
-            return Ok(0);
-        }
-        buf[0] = b'x';
-        self.next()
-    }
-}
-
-impl Write for Slow {
-    fn write(&mut self, buf: &[u8]) -> io::Result<usize> {
-        if buf.is_empty() {
-            return Ok(0);
-        }
-        self.next()
-    }
-
-    fn flush(&mut self) -> io::Result<()> {
-        Ok(())
-    }
-}
-
-// More pieces than one read asks for bytes.
-const PIECES: usize = 20_000;
-
-fn is_all(bytes: &[u8]) -> bool {
-    bytes.len() == PIECES && bytes.iter().all(|byte| *byte == b'x')
-}
-
-// Whether all pieces are read, and then written.
-fn are_moved(alloc: Global) -> Result<bool, ReadRefused> {
-    let mut reader = Counted::new(Slow { calls: 0, moved: 0 });
-    let bytes = read_all(alloc, &mut reader, PIECES as u64)?;
-    let mut writer = Slow { calls: 0, moved: 0 };
-    let is_written = write_all(&mut Counted::new(&mut writer), &bytes).is_ok();
-    Ok(is_all(&bytes) && is_written && writer.moved == PIECES)
-}
-
-#[test]
-fn many_pieces_with_interruptions_between_are_moved(rt: HostRuntime) {
-    assert!(rt; matches!(are_moved(rt.alloc()), Ok(true)));
-}
-
 // Whether a sink over a writer refuses the text, and then takes what is given.
 fn is_refused_once(writer: &mut Taking<'_>) -> bool {
     let mut out = OutSink::new(writer);
