@@ -176,5 +176,18 @@ class OnThisMachine(Folder):
         self.assertEqual(installed, self.env.text.splitlines())
 
 
+class Cycles(Folder):
+    def test_packages_that_require_one_another(self) -> None:
+        want_program(self)
+        self.write("p.toml", '[project]\nname = "demo"\nversion = "0.1"\nrequires-python = ">=3.8"\ndependencies = ["a"]\n')
+        for name, needs in (("a", ["b"]), ("b", ["a; python_version >= '3.8'"])):
+            releases = [{"version": "1", "requires_dist": needs}]
+            self.write(f"ix/{name}.json", json.dumps({"name": name, "versions": releases}))
+        call = program.Call(self.top, ("lock", "p.toml", "ix", "1"))
+        self.write("l", program.all_said([call])[call].text)
+        call = program.Call(self.top, ("export", "l"))
+        self.assertEqual(program.all_said([call])[call].text, "a==1\nb==1\n")
+
+
 if __name__ == "__main__":
     unittest.main()
