@@ -2,7 +2,7 @@
 use Rattle.std.specs.Prelude.{ℕ, List, Bool}
 use Rattle.ul_version.specs.Fields.{Fields}
 use Rattle.ul_nodes.specs.Plain.{Plain}
-use Rattle.ul_lock_lines.specs.declared.parts.Lock.{Lock}
+use Rattle.ul_lock.specs.declared.parts.Lock.{Lock}
 use Rattle.ul_reach.specs.declared.rows.Reached.{Reached}
 
 -- what is answered

@@ -5,9 +5,9 @@ use Rattle.ul_version.specs.Fields.{Fields}
 use Rattle.ul_version.specs.Texts.{version_text}
 use Rattle.ul_tree.specs.Paths.{paths_of}
 use Rattle.ul_nodes.specs.Plain.{Plain}
-use Rattle.ul_lock_lines.specs.declared.parts.Lock.{Lock}
-use Rattle.ul_lock_text.specs.Markers.{markers_of, first_over}
-use Rattle.ul_lock_text.specs.Texts.{lock_text}
+use Rattle.ul_lock.specs.declared.parts.Lock.{Lock}
+use Rattle.ul_lock_write.specs.Markers.{markers_of, first_over}
+use Rattle.ul_lock_write.specs.Texts.{lock_text}
 use Rattle.ul_report.specs.Texts.{refusal_text}
 use Rattle.ul_reach.specs.Lines.{row_markers, rows_text}
 use Rattle.ul_reach.specs.declared.rows.Reached.{Reached}

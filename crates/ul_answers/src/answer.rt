@@ -1,6 +1,6 @@
 //! What the program answers.
 use ul_base::Name;
-use ul_lock_lines::{Lock, Region};
+use ul_lock::{Lock, Region};
 use ul_reach::Reached;
 use ul_version::Version;
 

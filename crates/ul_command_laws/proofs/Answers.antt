@@ -11,8 +11,8 @@ use Rattle.ul_problem.specs.Plain.{Plain as Problem}
 use Rattle.ul_blame.specs.Texts.{IsCoreText, core_text}
 use Rattle.ul_project.specs.Laws.{OneProject}
 use Rattle.ul_load.specs.Laws.{TurnsAgree}
-use Rattle.ul_lock.specs.Laws.{OneFault as OneLockFault, OneTextOneLock}
-use Rattle.ul_lock_lines.specs.declared.parts.Lock.{Lock}
+use Rattle.ul_lock_read.specs.Laws.{OneFault as OneLockFault, OneTextOneLock}
+use Rattle.ul_lock.specs.declared.parts.Lock.{Lock}
 use Rattle.ul_region.specs.Problem.{IsProblemOf}
 use Rattle.ul_generations.specs.Generations.{leaves_are, refused_at, too_many}
 use Rattle.ul_forks.specs.Headline.{ForkLaws, TreeAnswer, TreeRefusal}

@@ -5,8 +5,8 @@ use Rattle.ul_tree.specs.Paths.{paths_of}
 use Rattle.ul_nodes.specs.Plain.{Plain}
 use Rattle.ul_generations.specs.Generations.{leaves_are, refused_at, too_many}
 use Rattle.ul_forks.specs.Headline.{TreeAnswer, TreeLeaf}
-use Rattle.ul_lock_text.specs.Markers.{first_over, markers_of}
-use Rattle.ul_lock_text.specs.Texts.{lock_text}
+use Rattle.ul_lock_write.specs.Markers.{first_over, markers_of}
+use Rattle.ul_lock_write.specs.Texts.{lock_text}
 use Rattle.ul_report.specs.Texts.{refusal_text}
 use Rattle.ul_inputs.specs.Inputs.{answer, text_bytes}
 use Rattle.ul_inputs.specs.Locks.{lock_at}

@@ -19,14 +19,13 @@ use Rattle.ul_tree.specs.Values.{tree_holds}
 use Rattle.ul_index.specs.Catalogs.{Packages}
 use Rattle.ul_index.specs.Eligible.{eligible}
 use Rattle.ul_lines.specs.Reader.{Each}
-use Rattle.ul_lock_lines.specs.Text.{IsEdge}
-use Rattle.ul_lock_lines.specs.declared.parts.Edge.{Edge}
-use Rattle.ul_lock_lines.specs.declared.parts.Extra.{Extra}
-use Rattle.ul_lock_lines.specs.declared.parts.Lock.{Lock}
-use Rattle.ul_lock_lines.specs.declared.parts.Locked.{Locked}
-use Rattle.ul_lock_walk.specs.Targets.{has_target, have_targets, is_named, is_target, lists_option, package_leads_on}
-use Rattle.ul_lock_walk.specs.Walk.{AgreeOnLock, HasEdge, IsEdgeOf, Pick as NodeAt, Walk, WalkBegins, WalkLeads, WalksAgree}
-use Rattle.ul_lock_walk.specs.WellFormed.{IsListed, IsPackage, IsWellFormed}
+use Rattle.ul_lock.specs.WellFormed.{IsEdge, IsListed, IsPackage, IsWellFormed}
+use Rattle.ul_lock.specs.declared.parts.Edge.{Edge}
+use Rattle.ul_lock.specs.declared.parts.Extra.{Extra}
+use Rattle.ul_lock.specs.declared.parts.Lock.{Lock}
+use Rattle.ul_lock.specs.declared.parts.Locked.{Locked}
+use Rattle.ul_lock.specs.Targets.{has_target, have_targets, is_named, is_target, lists_option, package_leads_on}
+use Rattle.ul_lock.specs.Walk.{AgreeOnLock, HasEdge, IsEdgeOf, Pick as NodeAt, Walk, WalkBegins, WalkLeads, WalksAgree}
 use Rattle.ul_lock_nodes.specs.Routes.{routes_of}
 use Rattle.ul_sound.specs.Headline.{HasCatalogTexts, MergePromises}
 use Rattle.ul_sound.specs.Leaves.{supported_by}

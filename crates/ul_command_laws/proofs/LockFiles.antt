@@ -5,11 +5,11 @@ use Rattle.ul_base.specs.Files.{FileMap, content}
 use Rattle.ul_comparison.specs.Machines.{MachineFields}
 use Rattle.ul_project.specs.Laws.{OneProject}
 use Rattle.ul_load.specs.Laws.{TurnsAgree}
-use Rattle.ul_lock.specs.Laws.{OneFault, OneTextOneLock, TextIsLocks}
-use Rattle.ul_lock.specs.TextOf.{IsTextOf}
-use Rattle.ul_lock_lines.specs.declared.parts.Lock.{Lock}
-use Rattle.ul_lock_text.specs.Texts.{lock_text}
-use Rattle.ul_lock_walk.specs.WellFormed.{IsWellFormed}
+use Rattle.ul_lock_read.specs.Laws.{OneFault, OneTextOneLock, TextIsLocks}
+use Rattle.ul_lock_read.specs.TextOf.{IsTextOf}
+use Rattle.ul_lock.specs.declared.parts.Lock.{Lock}
+use Rattle.ul_lock_write.specs.Texts.{lock_text}
+use Rattle.ul_lock.specs.WellFormed.{IsWellFormed}
 use Rattle.ul_inputs.specs.Inputs.{answer, bounded, large_file, present, said_on, text_bytes}
 use Rattle.ul_inputs.specs.Refused.{Refused, limit}
 use Rattle.ul_inputs.specs.Locks.{lock_at}

@@ -5,14 +5,14 @@ use Rattle.std.specs.List.{list_all, position_from}
 use Rattle.std.specs.Cmp.{first_so, second_so}
 use Rattle.ul_lines.specs.Faults.{IsFault}
 use Rattle.ul_lines.specs.Lines.{lines_of}
-use Rattle.ul_lock_lines.specs.declared.parts.Lock.{Lock}
-use Rattle.ul_lock_text.specs.declared.sheets.Sheet.{Sheet}
-use Rattle.ul_lock_text.specs.Texts.{sheet_in, sheet_text}
-use Rattle.ul_lock_walk.specs.Targets.{all_lead_on, first_without_target, has_one_root, package_leads_on}
-use Rattle.ul_lock.specs.Headline.{LacksRoot, TextLacksTarget}
-use Rattle.ul_lock.specs.Laws.{OneFault, OneTextOneLock}
-use Rattle.ul_lock.specs.ShapedTexts.{AreShaped, IsText}
-use Rattle.ul_lock.specs.TextOf.{IsTextOf}
+use Rattle.ul_lock.specs.declared.parts.Lock.{Lock}
+use Rattle.ul_lock_write.specs.declared.sheets.Sheet.{Sheet}
+use Rattle.ul_lock_write.specs.Texts.{sheet_in, sheet_text}
+use Rattle.ul_lock.specs.Targets.{all_lead_on, first_without_target, has_one_root, package_leads_on}
+use Rattle.ul_lock_read.specs.Headline.{LacksRoot, TextLacksTarget}
+use Rattle.ul_lock_read.specs.Laws.{OneFault, OneTextOneLock}
+use Rattle.ul_lock_read.specs.ShapedTexts.{AreShaped, IsText}
+use Rattle.ul_lock_read.specs.TextOf.{IsTextOf}
 use Rattle.ul_inputs.specs.Refused.{Refused, malformed}
 use Rattle.ul_inputs.specs.Locks.{HasLockFault, IsLockOf, LockFault, fault_text, line, root, target}
 use Rattle.ul_command_laws.proofs.SheetTexts.{one_sheet_text, shaped_lines, sheet_of}

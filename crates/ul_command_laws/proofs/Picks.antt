@@ -9,9 +9,9 @@ use Rattle.std.proofs.lemmas.Slice.Eq.{bytes_eq-Decides}
 use Rattle.ul_base.proofs.ForCallers.{bytes_eq-same, contains_cases, contains_first, contains_from_map, contains_later, contains_map, none_in, only_one}
 use Rattle.ul_version.specs.Fields.{Fields}
 use Rattle.ul_requirement.specs.Truth.{with_extra}
-use Rattle.ul_lock_lines.specs.declared.parts.Extra.{Extra}
-use Rattle.ul_lock_lines.specs.declared.parts.Locked.{Locked}
-use Rattle.ul_lock_walk.specs.Walk.{Pick as NodeAt}
+use Rattle.ul_lock.specs.declared.parts.Extra.{Extra}
+use Rattle.ul_lock.specs.declared.parts.Locked.{Locked}
+use Rattle.ul_lock.specs.Walk.{Pick as NodeAt}
 use Rattle.ul_lock_nodes.specs.Flags.{is_flagged}
 use Rattle.ul_lock_nodes.specs.Routes.{Route, base_route, block_routes, extra_route, routes_of}
 use Rattle.ul_filter.specs.Picks.{flagged_extras, node_count, picks_at, picks_of}

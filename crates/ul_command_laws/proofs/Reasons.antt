@@ -13,7 +13,7 @@ use Rattle.ul_tree.specs.Regions.{IsRegionTree, NoExtra, region_of}
 use Rattle.ul_tree.specs.Values.{tree_holds}
 use Rattle.ul_index.specs.Regions.{HasWorld}
 use Rattle.ul_lines.specs.Reader.{Each}
-use Rattle.ul_lock_lines.specs.Region.{IsRegion}
+use Rattle.ul_lock.specs.Region.{IsRegion}
 use Rattle.ul_problem.specs.Plain.{Plain as Problem, node_at}
 use Rattle.ul_problem.specs.declared.problem.NodeFacts.{NodeFacts}
 use Rattle.ul_problem.specs.declared.step.Step.{Step}

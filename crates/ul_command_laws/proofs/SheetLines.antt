@@ -4,15 +4,15 @@ use Rattle.std.specs.Prelude.{flat_map, bytes_eq}
 use Rattle.ul_version.specs.Fields.{Fields}
 use Rattle.ul_nodes.specs.Plain.{Plain, truth, node}
 use Rattle.ul_requirement.specs.Fields.{FileFields}
-use Rattle.ul_lock_lines.specs.declared.parts.Edge.{Edge}
-use Rattle.ul_lock_lines.specs.declared.parts.Extra.{Extra}
-use Rattle.ul_lock_lines.specs.declared.parts.Locked.{Locked}
+use Rattle.ul_lock.specs.declared.parts.Edge.{Edge}
+use Rattle.ul_lock.specs.declared.parts.Extra.{Extra}
+use Rattle.ul_lock.specs.declared.parts.Locked.{Locked}
 use Rattle.ul_lock_lines.specs.declared.lines.Edition.{Edition}
 use Rattle.ul_lock_lines.specs.declared.lines.Line.{Line}
 use Rattle.ul_lock_lines.specs.declared.lines.Line.TheVariants.{First as first, Root as root, Supported as supported, Item as item, Close as close, Gap as gap, Entry as entry, Name as name, Version as version, File as file, Edge as edge, Opens as opens, Bare as bare}
-use Rattle.ul_lock_lines.specs.Region.{is_true}
-use Rattle.ul_lock_text.specs.declared.sheets.Sheet.{Sheet}
-use Rattle.ul_lock_text.specs.Sheet.{files_key, edges_key, supported_lines, fork_lines, file_lines, edge_lines, extra_lines, listed, table_lines, block_lines, sheet_lines}
+use Rattle.ul_lock.specs.Region.{is_true}
+use Rattle.ul_lock_write.specs.declared.sheets.Sheet.{Sheet}
+use Rattle.ul_lock_write.specs.Sheet.{files_key, edges_key, supported_lines, fork_lines, file_lines, edge_lines, extra_lines, listed, table_lines, block_lines, sheet_lines}
 
 -- ---- lines
 

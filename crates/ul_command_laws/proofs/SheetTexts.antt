@@ -9,24 +9,24 @@ use Rattle.ul_requirement.specs.Fields.{FileFields, IsFile}
 use Rattle.ul_lines.specs.Lines.{onto_first, lines_of, ends_line}
 use Rattle.ul_lines.specs.Reader.{Each}
 use Rattle.ul_lines.proofs.ForCallers.{Each-join}
-use Rattle.ul_lock_lines.specs.declared.parts.Edge.{Edge}
-use Rattle.ul_lock_lines.specs.declared.parts.Extra.{Extra}
-use Rattle.ul_lock_lines.specs.declared.parts.Lock.{Lock}
-use Rattle.ul_lock_lines.specs.declared.parts.Locked.{Locked}
+use Rattle.ul_lock.specs.declared.parts.Edge.{Edge}
+use Rattle.ul_lock.specs.declared.parts.Extra.{Extra}
+use Rattle.ul_lock.specs.declared.parts.Lock.{Lock}
+use Rattle.ul_lock.specs.declared.parts.Locked.{Locked}
 use Rattle.ul_lock_lines.specs.declared.lines.Edition.{Edition}
 use Rattle.ul_lock_lines.specs.declared.lines.Line.{Line}
 use Rattle.ul_lock_lines.specs.declared.lines.Line.TheVariants.{Item as item, Close as close, File as file, Edge as edge}
 use Rattle.ul_lock_lines.specs.LineReading.{line_of}
-use Rattle.ul_lock_lines.specs.Region.{IsRegion}
-use Rattle.ul_lock_lines.specs.Text.{Fit, IsEdge, spell}
+use Rattle.ul_lock.specs.Region.{IsRegion}
+use Rattle.ul_lock_lines.specs.Text.{Fit, spell}
+use Rattle.ul_lock.specs.WellFormed.{IsEdge, IsListed, IsPackage, IsWellFormed}
 use Rattle.ul_lock_lines.proofs.ForCallers.{line_again, line_ends}
-use Rattle.ul_lock_text.specs.declared.sheets.Sheet.{Sheet}
-use Rattle.ul_lock_text.specs.Sheet.{forks_key, files_key, edges_key, supported_lines, fork_lines, file_lines, edge_lines, extra_lines, listed, table_lines, block_top, block_front, block_lines, sheet_lines}
-use Rattle.ul_lock_text.specs.Texts.{sheet_in, sheet_text}
-use Rattle.ul_lock_walk.specs.WellFormed.{IsListed, IsPackage, IsWellFormed}
-use Rattle.ul_lock.specs.Shaped.{MayHave, IsExtra, IsBlock}
-use Rattle.ul_lock.specs.ShapedTexts.{AreShaped, IsText}
-use Rattle.ul_lock.specs.TextOf.{IsTextOf}
+use Rattle.ul_lock_write.specs.declared.sheets.Sheet.{Sheet}
+use Rattle.ul_lock_write.specs.Sheet.{forks_key, files_key, edges_key, supported_lines, fork_lines, file_lines, edge_lines, extra_lines, listed, table_lines, block_top, block_front, block_lines, sheet_lines}
+use Rattle.ul_lock_write.specs.Texts.{sheet_in, sheet_text}
+use Rattle.ul_lock_read.specs.Shaped.{MayHave, IsExtra, IsBlock}
+use Rattle.ul_lock_read.specs.ShapedTexts.{AreShaped, IsText}
+use Rattle.ul_lock_read.specs.TextOf.{IsTextOf}
 use Rattle.ul_command_laws.proofs.SheetLines.{one_sheet}
 
 -- ---- the lines of a text

@@ -4,8 +4,8 @@ use Rattle.std.specs.Prelude.{slice_get}
 use Rattle.ul_version.specs.Fields.{Fields}
 use Rattle.ul_index.specs.Catalogs.{Packages}
 use Rattle.ul_project.specs.Fields.{ProjectFields}
-use Rattle.ul_lock_lines.specs.declared.parts.Lock.{Lock}
-use Rattle.ul_lock_lines.specs.declared.parts.Locked.{Locked}
+use Rattle.ul_lock.specs.declared.parts.Lock.{Lock}
+use Rattle.ul_lock.specs.declared.parts.Locked.{Locked}
 use Rattle.ul_verified.specs.Headline.{VerifiedPromises}
 use Rattle.ul_verified.specs.Verified.{IsVerified}
 use Rattle.ul_verify.specs.Headline.{IsFirstWrong, IsWrong}

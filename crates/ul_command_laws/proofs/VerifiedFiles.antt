@@ -5,11 +5,11 @@ use Rattle.ul_requirement.specs.Fields.{ReleaseFields}
 use Rattle.ul_index.specs.Catalogs.{Packages}
 use Rattle.ul_project.specs.Fields.{ProjectFields}
 use Rattle.ul_groups.specs.Adjusted.{ByName, adjusted_package, adjusted_release, all_on}
-use Rattle.ul_lock.specs.Laws.{TextIsLocks}
-use Rattle.ul_lock.specs.TextOf.{IsTextOf}
-use Rattle.ul_lock_lines.specs.declared.parts.Lock.{Lock}
-use Rattle.ul_lock_text.specs.Texts.{lock_text}
-use Rattle.ul_lock_walk.specs.WellFormed.{IsWellFormed}
+use Rattle.ul_lock_read.specs.Laws.{TextIsLocks}
+use Rattle.ul_lock_read.specs.TextOf.{IsTextOf}
+use Rattle.ul_lock.specs.declared.parts.Lock.{Lock}
+use Rattle.ul_lock_write.specs.Texts.{lock_text}
+use Rattle.ul_lock.specs.WellFormed.{IsWellFormed}
 use Rattle.ul_verified.specs.Headline.{HasProject, VerifiedPromises}
 use Rattle.ul_verified.specs.Verified.{IsVerified}
 use Rattle.ul_inputs.specs.Inputs.{large_file, said_on}

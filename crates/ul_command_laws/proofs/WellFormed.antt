@@ -25,8 +25,8 @@ use Rattle.ul_generations.specs.Laws.{holders, one_if}
 use Rattle.ul_generations.specs.Generations.{leaves_are, refused_at, too_many}
 use Rattle.ul_forks.specs.Headline.{ForkLaws, IsAnswer, IsLeaf, TreeAnswer, TreeLeaf}
 use Rattle.ul_forks.specs.Outcome.{IsOutcome, starts_of}
-use Rattle.ul_lock_lines.specs.declared.parts.Lock.{Lock}
-use Rattle.ul_lock_walk.specs.WellFormed.{IsWellFormed}
+use Rattle.ul_lock.specs.declared.parts.Lock.{Lock}
+use Rattle.ul_lock.specs.WellFormed.{IsWellFormed}
 use Rattle.ul_report_read.specs.Proofs.{IsNamed}
 use Rattle.ul_sound.specs.Headline.{IsLeafOf, IsPick, MergePromises}
 use Rattle.ul_sound.specs.Leaves.{LeafFields}

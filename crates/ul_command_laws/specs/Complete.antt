@@ -5,9 +5,9 @@ use Rattle.ul_comparison.specs.Machines.{MachineFields}
 use Rattle.ul_project.specs.Fields.{ProjectFields}
 use Rattle.ul_generations.specs.Generations.{leaves_are}
 use Rattle.ul_forks.specs.Headline.{TreeLeaf}
-use Rattle.ul_lock_lines.specs.declared.parts.Lock.{Lock}
-use Rattle.ul_lock_text.specs.Markers.{first_over, markers_of}
-use Rattle.ul_lock_text.specs.Texts.{lock_text}
+use Rattle.ul_lock.specs.declared.parts.Lock.{Lock}
+use Rattle.ul_lock_write.specs.Markers.{first_over, markers_of}
+use Rattle.ul_lock_write.specs.Texts.{lock_text}
 use Rattle.ul_report_read.specs.declared.proof.Proof.{Proof}
 use Rattle.ul_inputs.specs.Inputs.{text_bytes}
 use Rattle.ul_inputs.specs.Locks.{lock_at}

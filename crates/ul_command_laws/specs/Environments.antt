@@ -8,8 +8,8 @@ use Rattle.ul_comparison.specs.Machines.{MachineFields, world_of}
 use Rattle.ul_comparison.specs.Worlds.{WorldFields, IsWorld}
 use Rattle.ul_index.specs.Catalogs.{Packages}
 use Rattle.ul_index.specs.Eligible.{eligible}
-use Rattle.ul_lock_lines.specs.declared.parts.Lock.{Lock}
-use Rattle.ul_lock_text.specs.Texts.{lock_text}
+use Rattle.ul_lock.specs.declared.parts.Lock.{Lock}
+use Rattle.ul_lock_write.specs.Texts.{lock_text}
 use Rattle.ul_filter.specs.Comparisons.{HasAll, lock_atoms}
 use Rattle.ul_filter.specs.Environment.{environment_text}
 use Rattle.ul_filter.specs.declared.picks.Pick.{Pick}

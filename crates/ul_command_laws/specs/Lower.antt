@@ -1,7 +1,7 @@
 -- The laws of lower crates on which one answer rests.
 use Rattle.ul_project.specs.Laws.{OneProject}
 use Rattle.ul_load.specs.Laws.{TurnsAgree}
-use Rattle.ul_lock.specs.Laws.{OneFault as OneLockFault, OneTextOneLock}
+use Rattle.ul_lock_read.specs.Laws.{OneFault as OneLockFault, OneTextOneLock}
 use Rattle.ul_reach.specs.Headline.{RowPromises}
 use Rattle.ul_placing.specs.Laws.{EqualProblems}
 use Rattle.ul_forks.specs.Headline.{ForkLaws}

@@ -1,8 +1,8 @@
 -- A lock that is answered is well formed.
 use Rattle.std.specs.Prelude.{ℕ, List, Option, Ok, map}
 use Rattle.ul_base.specs.Files.{FileMap}
-use Rattle.ul_lock_lines.specs.declared.parts.Lock.{Lock}
-use Rattle.ul_lock_walk.specs.WellFormed.{IsWellFormed}
+use Rattle.ul_lock.specs.declared.parts.Lock.{Lock}
+use Rattle.ul_lock.specs.WellFormed.{IsWellFormed}
 use Rattle.ul_generations.specs.Generations.{leaves_are}
 use Rattle.ul_forks.specs.Headline.{TreeLeaf}
 use Rattle.ul_sound.specs.Headline.{AreMergeable}

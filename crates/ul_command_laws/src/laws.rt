@@ -9,13 +9,13 @@ ghost use Rattle.ul_command_laws.specs.Verified.{EnvironmentsOfVerified, Environ
 ghost use Rattle.ul_command_laws.specs.Verified.{LocksAreVerified, VerifiedAreSound, VerifiedFilesAreSound};
 ghost use Rattle.ul_command_laws.specs.WellFormed.{ForksMerge, GivenAreWellFormed, LocksAreWellFormed};
 ghost use Rattle.ul_command_laws.specs.Workers.{OneAnswerForAll, WorkersDontMatter};
-ghost use Rattle.ul_lock.specs.Laws.{OneFault};
+ghost use Rattle.ul_lock_read.specs.Laws.{OneFault};
 
 // A lock's text has at most one fault: the law by a name of its own.
 fn lock_faults()
     ensures { OneFault }
 {
-    ul_lock::laws::one_fault();
+    ul_lock_read::laws::one_fault();
 }
 
 // Each input, each outcome and each verdict is one.
@@ -24,7 +24,7 @@ fn lower_laws()
 {
     ul_project::laws::one_project();
     ul_load::laws::turns_agree();
-    ul_lock::laws::text_laws();
+    ul_lock_read::laws::text_laws();
     lock_faults();
     ul_report_read::laws::one_text();
     ul_report_read::laws::one_fault();
@@ -61,7 +61,7 @@ pub fn why_follows_lock()
 {
     ul_project::laws::one_project();
     ul_load::laws::turns_agree();
-    ul_lock::laws::text_laws();
+    ul_lock_read::laws::text_laws();
     lock_faults();
     ul_forks::laws::fork_laws();
 }
@@ -144,7 +144,7 @@ pub fn environments_of_locks()
     locks_are_well_formed();
     ul_sound::laws::merge_laws();
     ul_version::laws::text_reads_back();
-    ul_lock_walk::laws::walk_laws();
+    ul_lock::laws::walk_laws();
     ul_filter::laws::more_comparisons();
 }
 
@@ -158,7 +158,7 @@ pub fn environments_of_files()
     ul_given::laws::given_has_texts();
     ul_project::laws::one_project();
     ul_load::laws::turns_agree();
-    ul_lock::laws::text_laws();
+    ul_lock_read::laws::text_laws();
     lock_faults();
 }
 
@@ -175,7 +175,7 @@ pub fn environments_of_verified()
 {
     verified_are_sound();
     ul_version::laws::text_reads_back();
-    ul_lock_walk::laws::walk_laws();
+    ul_lock::laws::walk_laws();
     ul_filter::laws::more_comparisons();
 }
 
@@ -198,5 +198,5 @@ pub fn locks_are_verified()
     locks_are_well_formed();
     ul_commands::laws::locks_are_sound();
     ul_verified::laws::verified_laws();
-    ul_lock::laws::text_laws();
+    ul_lock_read::laws::text_laws();
 }

@@ -1,7 +1,7 @@
 -- No command answers that the words aren't a command.
 use Rattle.std.proofs.Common.{◌≡◌, ℕ, List, Bool, true, false, Option, Some, None, Result, Ok, Err, inl, inr, subst, sym}
 use Rattle.ul_generations.specs.Generations.{leaves_are, refused_at, too_many}
-use Rattle.ul_lock_lines.specs.declared.parts.Lock.{Lock}
+use Rattle.ul_lock.specs.declared.parts.Lock.{Lock}
 use Rattle.ul_comparison.specs.Machines.{MachineFields}
 use Rattle.ul_forks.specs.Headline.{TreeAnswer}
 use Rattle.ul_report_read.specs.declared.proof.Proof.{Proof}

@@ -23,7 +23,7 @@ use Rattle.ul_sound.specs.Leaves.{Begins}
 use Rattle.ul_merge.specs.Merging.{AreLeaves, IsLeaf}
 use Rattle.ul_merge.specs.Views.{ForkLeaf, leaf_of}
 use Rattle.ul_sound.specs.Merged.{IsMergedLock}
-use Rattle.ul_lock_lines.specs.declared.parts.Lock.{Lock}
+use Rattle.ul_lock.specs.declared.parts.Lock.{Lock}
 use Rattle.ul_answers.specs.Answer.{locked, no_selection}
 use Rattle.ul_commands.specs.Locking.{AreCoreLines, IsLockAnswer, leaf_fields}
 use Rattle.ul_inputs.specs.Resolutions.{IsResolution, ResolutionFields}

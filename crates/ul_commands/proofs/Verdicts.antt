@@ -1,7 +1,7 @@
 -- What the judge of a lock answers, as the answer of `verify`.
 use Rattle.std.proofs.Common.{◌≡◌, ℕ, List, Ok, refl, inl, inr}
 use Rattle.ul_version.specs.Fields.{Fields}
-use Rattle.ul_lock_lines.specs.declared.parts.Lock.{Lock}
+use Rattle.ul_lock.specs.declared.parts.Lock.{Lock}
 use Rattle.ul_verified.specs.Verified.{IsRoot, IsVerified}
 use Rattle.ul_verify.specs.Headline.{IsWrong}
 use Rattle.ul_inputs.specs.Resolutions.{ResolutionFields}

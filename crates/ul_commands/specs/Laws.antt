@@ -2,7 +2,7 @@
 use Rattle.std.specs.Prelude.{◌≡◌, ℕ, List, Bool, true, Ok}
 use Rattle.ul_comparison.specs.Worlds.{WorldFields, IsWorld}
 use Rattle.ul_requirement.specs.declared.wish.Strategy.TheVariants.{Deep}
-use Rattle.ul_lock_lines.specs.declared.parts.Lock.{Lock}
+use Rattle.ul_lock.specs.declared.parts.Lock.{Lock}
 use Rattle.ul_nodes.specs.Plain.{Plain}
 use Rattle.ul_tree.specs.Regions.{region_of}
 use Rattle.ul_index.specs.Regions.{HasWorld}

@@ -2,7 +2,7 @@
 -- core.
 use Rattle.std.specs.Prelude.{◌≡◌, ℕ, List, Option, length, map, Result, Ok, Err}
 use Rattle.ul_nodes.specs.Plain.{Plain}
-use Rattle.ul_lock_lines.specs.declared.parts.Lock.{Lock}
+use Rattle.ul_lock.specs.declared.parts.Lock.{Lock}
 use Rattle.ul_problem.specs.Plain.{Plain as Problem}
 use Rattle.ul_blame.specs.Texts.{IsCoreText}
 use Rattle.ul_generations.specs.Generations.{leaves_are, refused_at, too_many}

@@ -2,7 +2,7 @@
 use Rattle.std.specs.Prelude.{◌≡◌, ◌⊎◌, ℕ, List, [], Result, Ok}
 use Rattle.ul_version.specs.Fields.{Fields}
 use Rattle.ul_project.specs.Fields.{ProjectFields}
-use Rattle.ul_lock_lines.specs.declared.parts.Lock.{Lock}
+use Rattle.ul_lock.specs.declared.parts.Lock.{Lock}
 use Rattle.ul_verified.specs.Verified.{IsRoot, IsVerified}
 use Rattle.ul_verify.specs.Headline.{IsWrong}
 use Rattle.ul_inputs.specs.Inputs.{Input, ◌>>=◌, answer}

@@ -5,7 +5,7 @@ ghost use Rattle.ul_answers.specs.Views.{view as answer_view};
 ghost use Rattle.ul_inputs.specs.Refusals.{Answers, Cause};
 ghost use Rattle.ul_inputs.specs.Resolutions.{HasUsable};
 ghost use Rattle.ul_commands.specs.Asked as asked;
-ghost use Rattle.ul_lock_walk.specs.WellFormed.{IsWellFormed};
+ghost use Rattle.ul_lock.specs.WellFormed.{IsWellFormed};
 ghost use Rattle.ul_lock_commands.specs.Environments as environments;
 ghost use Rattle.ul_commands.specs.Checking as checking;
 ghost use Rattle.ul_commands.specs.Commands as spec;
@@ -25,8 +25,8 @@ use std::thread::Threads;
 use ul_answers::{Answer, leave};
 use ul_base::{Files, Gate, SureFiles};
 use ul_inputs::{Refusal, lock_file, machine_file, project_file, resolution_in, resolution_with};
+use ul_lock::Lock;
 use ul_lock_commands::{env, export};
-use ul_lock_lines::Lock;
 use ul_project::Project;
 use ul_report_read::Proof;
 

@@ -30,7 +30,7 @@ use ul_blame::{core_by, lines};
 use ul_forks::{ForkAnswer, ForkLeaf, Forked};
 use ul_inputs::{Refusal, Resolution};
 use ul_interner::Interner;
-use ul_lock_lines::{Lock, Region};
+use ul_lock::{Lock, Region};
 use ul_merge::merge;
 use ul_problem::{Derivation, Problem};
 

@@ -1,6 +1,6 @@
 //! The answer of `verify`.
 ghost use Rattle.std.specs.Prelude.{IfOk, Ok};
-ghost use Rattle.ul_lock_walk.specs.WellFormed.{IsWellFormed};
+ghost use Rattle.ul_lock.specs.WellFormed.{IsWellFormed};
 ghost use Rattle.ul_answers.specs.Views.{view as answer_view};
 ghost use Rattle.ul_inputs.specs.Inputs.{only};
 ghost use Rattle.ul_inputs.specs.Refusals.{Answers};
@@ -13,7 +13,7 @@ use ul_algebra::Algebra;
 use ul_answers::{Answer, leave};
 use ul_inputs::{Refusal, Resolution};
 use ul_interner::Interner;
-use ul_lock_lines::Lock;
+use ul_lock::Lock;
 use ul_verify::{VerifyFault, verify as judged};
 
 // The answer, by an algebra.

@@ -3,8 +3,8 @@ use Rattle.std.proofs.Common.{◌≡◌, ◌⊎◌, ◌<◌, ℕ, true, false, L
 use Rattle.std.proofs.lemmas.Option.{slice_get_within}
 use Rattle.ul_base.proofs.ForCallers.{none_in}
 use Rattle.ul_comparison.specs.Worlds.{WorldFields}
-use Rattle.ul_lock_lines.specs.declared.parts.Edge.{Edge}
-use Rattle.ul_lock_walk.specs.Walk.{Pick as NodeAt, edge_holds}
+use Rattle.ul_lock.specs.declared.parts.Edge.{Edge}
+use Rattle.ul_lock.specs.Walk.{Pick as NodeAt, edge_holds}
 use Rattle.ul_lock_nodes.specs.Flags.{is_flagged, LeadsTo}
 use Rattle.ul_lock_nodes.specs.Places.{StandsAt}
 use Rattle.ul_filter.specs.Met.{IsFollowed, IsMet, IsMore}

@@ -5,8 +5,8 @@ use Rattle.std.proofs.lemmas.Option.{same_Some, slice_get_within, slice_get_read
 use Rattle.ul_base.specs.Reached.{begun}
 use Rattle.ul_base.proofs.ForCallers.{none_in}
 use Rattle.ul_comparison.specs.Worlds.{WorldFields}
-use Rattle.ul_lock_lines.specs.declared.parts.Lock.{Lock}
-use Rattle.ul_lock_walk.specs.Walk.{IsRootNode, Pick as NodeAt, Walk}
+use Rattle.ul_lock.specs.declared.parts.Lock.{Lock}
+use Rattle.ul_lock.specs.Walk.{IsRootNode, Pick as NodeAt, Walk}
 use Rattle.ul_lock_nodes.specs.Flags.{IsLeft, IsRootAt, IsWalkedAt, LeadsTo, is_flagged}
 use Rattle.ul_lock_nodes.specs.Places.{StandsAt}
 use Rattle.ul_lock_nodes.specs.Routes.{Route, routes_of}

@@ -12,8 +12,8 @@ use Rattle.ul_version.specs.Fields.{Fields, IsVersion}
 use Rattle.ul_version.specs.Order.{version_cmp}
 use Rattle.ul_lines.specs.Reader.{Each}
 use Rattle.ul_requirement.specs.Fields.{FileFields, FilesRise, IsFile, PackageFields, ReleaseFields, RequirementFields}
-use Rattle.ul_lock_walk.specs.Increasing.{Before, Rising}
-use Rattle.ul_lock_walk.specs.Orders.{file_cmp, file_less}
+use Rattle.ul_lock.specs.Increasing.{Before, Rising}
+use Rattle.ul_lock.specs.Orders.{file_cmp, file_less}
 use Rattle.ul_requirement.specs.Truth.{base, targets, with_extra}
 use Rattle.ul_index.specs.Catalogs.{Packages, release_of, releases_in, releases_of, requirements, requirements_in}
 use Rattle.ul_index.specs.Eligible.{directs_on, passes, passing, takes_pre}

@@ -1,10 +1,10 @@
 -- Refusals of locks.
 use Rattle.std.proofs.Common.{◌≡◌, ℕ, List, Option, Some, None, Result, Ok, Err, IfOk, refl}
-use Rattle.ul_lock_lines.specs.declared.parts.Lock.{Lock}
-use Rattle.ul_lock_walk.specs.WellFormed.{IsWellFormed}
-use Rattle.ul_lock.specs.Headline.{ReadsLock}
-use Rattle.ul_lock.specs.declared.locks.LockFault.{LockFault}
-use Rattle.ul_lock.specs.declared.locks.LockFault.TheVariants.{Line, Root, Target, NoMemory}
+use Rattle.ul_lock.specs.declared.parts.Lock.{Lock}
+use Rattle.ul_lock.specs.WellFormed.{IsWellFormed}
+use Rattle.ul_lock_read.specs.Headline.{ReadsLock}
+use Rattle.ul_lock_read.specs.declared.locks.LockFault.{LockFault}
+use Rattle.ul_lock_read.specs.declared.locks.LockFault.TheVariants.{Line, Root, Target, NoMemory}
 use Rattle.ul_inputs.specs.Inputs.{only}
 use Rattle.ul_inputs.specs.Locks as fault
 use Rattle.ul_inputs.specs.Locks.{IsLockOf, refused_lock}

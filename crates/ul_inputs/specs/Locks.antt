@@ -4,13 +4,13 @@ use Rattle.std.specs.Fmt.{decimal}
 use Rattle.ul_version.specs.Fields.{Fields}
 use Rattle.ul_lines.specs.Faults.{IsFault}
 use Rattle.ul_lines.specs.Lines.{lines_of}
-use Rattle.ul_lock_lines.specs.declared.parts.Lock.{Lock}
-use Rattle.ul_lock_lines.specs.declared.parts.Locked.{Locked}
-use Rattle.ul_lock.specs.declared.locks.LockFault.{LockFault as ReadFault}
-use Rattle.ul_lock.specs.declared.locks.LockFault.TheVariants.{Line, Root, Target, NoMemory}
-use Rattle.ul_lock.specs.Headline.{LacksRoot, TextLacksTarget}
-use Rattle.ul_lock.specs.ShapedTexts.{AreShaped}
-use Rattle.ul_lock.specs.TextOf.{IsTextOf}
+use Rattle.ul_lock.specs.declared.parts.Lock.{Lock}
+use Rattle.ul_lock.specs.declared.parts.Locked.{Locked}
+use Rattle.ul_lock_read.specs.declared.locks.LockFault.{LockFault as ReadFault}
+use Rattle.ul_lock_read.specs.declared.locks.LockFault.TheVariants.{Line, Root, Target, NoMemory}
+use Rattle.ul_lock_read.specs.Headline.{LacksRoot, TextLacksTarget}
+use Rattle.ul_lock_read.specs.ShapedTexts.{AreShaped}
+use Rattle.ul_lock_read.specs.TextOf.{IsTextOf}
 use Rattle.ul_inputs.specs.Inputs.{Input, ◌>>=◌, answer, just, large_file}
 use Rattle.ul_inputs.specs.Refused.{Refused, malformed}
 

@@ -1,7 +1,7 @@
 //! Locks that are read, and what an old one keeps.
 ghost use Rattle.std.specs.Prelude.{◌≡◌, Some, IfOk, Ok, bytes_eq, option_map};
 ghost use Rattle.ul_base.specs.Files.{Told};
-ghost use Rattle.ul_lock_walk.specs.WellFormed.{IsWellFormed};
+ghost use Rattle.ul_lock.specs.WellFormed.{IsWellFormed};
 ghost use Rattle.ul_inputs.specs.Inputs.{only};
 ghost use Rattle.ul_inputs.specs.Locks as spec;
 ghost use Rattle.ul_inputs.specs.Refusals.{Answers, Cause, IsRefusalFor};
@@ -11,7 +11,8 @@ use crate::refusal::{Refusal, malformed, malformed_at};
 use std::alloc::{AllocError, Global};
 use ul_base::owned::with_made;
 use ul_base::{Files, Name};
-use ul_lock::{Lock, LockFault, Locked, read};
+use ul_lock::{Lock, Locked};
+use ul_lock_read::{LockFault, read};
 use ul_version::Version;
 
 // The refusal of a lock file at a place with a number.

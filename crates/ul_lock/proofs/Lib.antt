@@ -1,11 +1,3 @@
-mod Steps
-mod Rising
-mod Kept
-mod Above
-mod Finishes
-mod Accepts
-mod WholeTexts
-mod Forms
-mod WithoutTargets
-mod Answered
-mod Halving
+pub mod ForCallers
+mod AllWorlds
+mod Walks

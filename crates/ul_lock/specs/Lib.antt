@@ -1,8 +1,6 @@
-pub mod Headline
-pub mod TextOf
-pub mod ShapedTexts
-pub mod Shaped
-pub mod Laws
-pub mod Automaton
-pub mod Answers
-pub mod Finding
+pub mod Region
+pub mod Orders
+pub mod Increasing
+pub mod Targets
+pub mod WellFormed
+pub mod Walk

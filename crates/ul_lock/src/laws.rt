@@ -1,19 +1,10 @@
-//! The laws of a lock's text.
+//! The laws of what a lock gives in a world.
 
-ghost use Rattle.ul_lock.specs.Laws.{OneTextOneLock, TextIsLocks, FirstVersion, OneFault};
+ghost use Rattle.ul_lock.specs.Walk.{WalkIsLeast, WalksAgree};
 
-/// One well formed lock has one text, which is a lock's text; different locks have different texts.
-pub fn text_laws()
-    ensures different { OneTextOneLock }
-    ensures locks_text { TextIsLocks }
-{}
-
-/// A text of version 1 stands for exactly one well formed lock, which has no files.
-pub fn first_version()
-    ensures { FirstVersion }
-{}
-
-/// A text has at most one wrong line that is the first, and none where it is shaped.
-pub fn one_fault()
-    ensures { OneFault }
+/// What a lock gives in a world is the least set of nodes at versions that has the root's nodes, and with a node the
+/// target of each of its edges that hold; and it is the same in worlds that agree on the lock's comparisons.
+pub fn walk_laws()
+    ensures least { WalkIsLeast }
+    ensures agree { WalksAgree }
 {}

@@ -1,19 +1,11 @@
-//! Reading a lock's text, exactly, in either version of the format.
+//! A lock as data, which locks are well formed, and what a lock gives in a world.
+//!
+//! `specs/WellFormed.antt` says which locks are well formed, and `specs/Walk.antt` what a lock gives in a world.
 #![tactic(auto)]
 
-mod blocks;
-mod heads;
 pub mod laws;
-mod locks;
 mod orders;
-mod states;
-mod targets;
-mod texts;
+mod parts;
 
-pub use locks::{LockFault, read};
-pub use states::State;
-pub use texts::ShapeFault;
-pub use ul_lock_lines::{
-    Edge, Edges, Edition, Extra, Extras, Files, Line, Lock, Locked, Packages, Region, Regions,
-};
-pub use ul_lock_text::{Head, Sheet, WriteFault, write};
+pub use orders::{edge_order, file_order};
+pub use parts::{Edge, Edges, Extra, Extras, Files, Lock, Locked, Packages, Region, Regions};

@@ -1,7 +1,7 @@
 -- The words of extras.
 use Rattle.std.proofs.Common.{◌≡◌, ℕ, List, [], ◌∷◌, ◌++◌, Bool, true, false, not, cond, Option, Some, None, refl}
 use Rattle.ul_base.specs.Names.{name_of}
-use Rattle.ul_lock_lines.specs.declared.parts.Lock.{Lock}
+use Rattle.ul_lock.specs.declared.parts.Lock.{Lock}
 use Rattle.ul_lock_nodes.specs.Roots.{first_unknown, root_lists}
 use Rattle.ul_lock_commands.specs.Words.{first_other, has_extra, names_in, names_of}
 

@@ -1,6 +1,6 @@
 -- The rows that are exported say what the lock gives.
 use Rattle.std.proofs.Common.{◌≡◌, ℕ, List, Option, Some, None, Result, Ok, subst, sym}
-use Rattle.ul_lock_lines.specs.declared.parts.Lock.{Lock}
+use Rattle.ul_lock.specs.declared.parts.Lock.{Lock}
 use Rattle.ul_reach.specs.Headline.{RowPromises}
 use Rattle.ul_reach.specs.Rows.{AreRows}
 use Rattle.ul_reach.specs.declared.rows.Reached.{Reached}

@@ -1,7 +1,7 @@
 -- What `env` answers: what a lock gives on a machine, with the extras of words.
 use Rattle.std.specs.Prelude.{◌≡◌, ℕ, List, Bool, true, false, Option, Some, None, Result, Ok}
 use Rattle.ul_comparison.specs.Machines.{MachineFields}
-use Rattle.ul_lock_lines.specs.declared.parts.Lock.{Lock}
+use Rattle.ul_lock.specs.declared.parts.Lock.{Lock}
 use Rattle.ul_filter.specs.Comparisons.{machine_world}
 use Rattle.ul_filter.specs.Headline.{IsEnvironment, is_supported_at}
 use Rattle.ul_inputs.specs.Inputs.{Input, ◌>>=◌, answer}

@@ -4,9 +4,9 @@ use Rattle.ul_comparison.specs.Worlds.{WorldFields, IsWorld}
 use Rattle.ul_nodes.specs.Plain.{truth}
 use Rattle.ul_marker_text.specs.Headline.{ReadsAs}
 use Rattle.ul_marker_text.specs.MarkerText.{marker_text}
-use Rattle.ul_lock_lines.specs.declared.parts.Lock.{Lock}
-use Rattle.ul_lock_walk.specs.Walk.{Pick as NodeAt}
-use Rattle.ul_lock_walk.specs.WellFormed.{IsWellFormed}
+use Rattle.ul_lock.specs.declared.parts.Lock.{Lock}
+use Rattle.ul_lock.specs.Walk.{Pick as NodeAt}
+use Rattle.ul_lock.specs.WellFormed.{IsWellFormed}
 use Rattle.ul_reach.specs.Headline.{HasRowIn, IsGiven}
 use Rattle.ul_reach.specs.Rows.{AreRows, is_supported}
 use Rattle.ul_reach.specs.declared.rows.Reached.{Reached}

@@ -1,7 +1,7 @@
 -- The words of extras on a command line, and the extras of a lock's root.
 use Rattle.std.specs.Prelude.{ℕ, List, [], ◌∷◌, Bool, false, not, find, flat_map, Option, Some, None}
 use Rattle.ul_base.specs.Names.{name_of}
-use Rattle.ul_lock_lines.specs.declared.parts.Lock.{Lock}
+use Rattle.ul_lock.specs.declared.parts.Lock.{Lock}
 use Rattle.ul_lock_nodes.specs.Roots.{root_lists}
 
 -- the root has an extra

@@ -1,6 +1,6 @@
 //! The answer of `env`.
 ghost use Rattle.std.specs.Prelude.{◌≡◌, IfOk, None, Ok, map, string_bytes, true};
-ghost use Rattle.ul_lock_walk.specs.WellFormed.{IsWellFormed};
+ghost use Rattle.ul_lock.specs.WellFormed.{IsWellFormed};
 ghost use Rattle.ul_lock_nodes.specs.Roots.{first_unknown};
 ghost use Rattle.ul_filter.specs.Comparisons.{machine_world};
 ghost use Rattle.ul_filter.specs.Headline as given;
@@ -16,7 +16,7 @@ use ul_answers::Answer;
 use ul_base::Name;
 use ul_filter::{atoms, environment};
 use ul_inputs::Refusal;
-use ul_lock_lines::Lock;
+use ul_lock::Lock;
 use ul_marker::{Machine, World, world_of};
 use ul_tree::holds;
 

@@ -1,6 +1,6 @@
 //! The answer of `export`.
 ghost use Rattle.std.specs.Prelude.{◌≡◌, IfOk, None, Ok, map, string_bytes};
-ghost use Rattle.ul_lock_walk.specs.WellFormed.{IsWellFormed};
+ghost use Rattle.ul_lock.specs.WellFormed.{IsWellFormed};
 ghost use Rattle.ul_lock_nodes.specs.Roots.{first_unknown};
 ghost use Rattle.ul_reach.specs.Rows.{AreRows};
 ghost use Rattle.ul_answers.specs.Views.{view as answer_view};
@@ -17,7 +17,7 @@ use ul_answers::{Answer, leave};
 use ul_base::Name;
 use ul_inputs::Refusal;
 use ul_interner::Interner;
-use ul_lock_lines::Lock;
+use ul_lock::Lock;
 use ul_reach::{Reached, reach};
 
 // The rows of a lock, with extras of its root.

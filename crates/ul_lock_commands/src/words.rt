@@ -5,7 +5,7 @@ ghost use Rattle.ul_lock_commands.specs.Words as spec;
 
 use std::alloc::{AllocError, Global};
 use ul_base::{Name, NameFault, is_name};
-use ul_lock_lines::Lock;
+use ul_lock::Lock;
 use ul_lock_nodes::root_lists;
 
 // The name that a word is, if it is one. To tell a word that is none takes no memory.

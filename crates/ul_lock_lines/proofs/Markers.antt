@@ -5,7 +5,7 @@ use Rattle.ul_marker_text.specs.MarkerText.{marker_text}
 use Rattle.ul_marker_text.specs.MarkerOfText.{marker_of_text, IsMarker}
 use Rattle.ul_marker_text.proofs.ForCallers.{text_again, read_is_marker, truth_is_none, marker_10, marker_92, marker_reduced, marker_no_extra, tree_is_marker}
 use Rattle.ul_lines.specs.Pieces.{has}
-use Rattle.ul_lock_lines.specs.Region.{all_worlds, is_true, IsRegion}
+use Rattle.ul_lock.specs.Region.{is_true, IsRegion}
 
 -- what is known of a tree that is read of a text
 pub record Reads (b : List ℕ) (t : Plain) : Type 0 where
@@ -29,10 +29,6 @@ no_truth t h k false e = h e
 -- a region's tree is a marker's, where it isn't the one of all worlds
 marker_of_region : (t : Plain) → IsRegion t → is_true t ≡ false → IsMarker t
 marker_of_region t h k = tree_is_marker t h.reduced h.no_extra (no_truth t h.not_false k)
-
--- all worlds are a region
-pub all_region : IsRegion all_worlds
-all_region = record { reduced = tt; not_false = λ e. absurd cc; no_extra = refl }
 
 -- what is read of a text is spelled so, and is a region
 pub region_is : (b : List ℕ) (t : Plain) → marker_of_text b ≡ Some t → Reads b t

@@ -16,13 +16,14 @@ use Rattle.ul_nodes.specs.Plain.{truth, node, Plain}
 use Rattle.ul_marker_text.specs.MarkerText.{marker_text}
 use Rattle.ul_marker_text.specs.MarkerOfText.{marker_of_text}
 use Rattle.ul_marker_text.proofs.ForCallers.{star_is_none}
-use Rattle.ul_lock_lines.proofs.Markers.{all_region, region_is, region_again, region_10, region_92}
+use Rattle.ul_lock.proofs.ForCallers.{all_region}
+use Rattle.ul_lock_lines.proofs.Markers.{region_is, region_again, region_10, region_92}
 use Rattle.ul_version.specs.Fields.{Fields}
 use Rattle.ul_requirement.specs.Fields.{FileFields, IsFile, is_file_byte, is_file_name, is_hex, is_digest}
 use Rattle.ul_lines.specs.Pieces.{has}
 use Rattle.ul_lines.specs.Lines.{ends_line}
 use Rattle.ul_lines.proofs.ForCallers.{some_is, bind_some, map_some, same_text, bytes_eq_self, has_none, skip_line}
-use Rattle.ul_lock_lines.specs.declared.parts.Edge.{Edge}
+use Rattle.ul_lock.specs.declared.parts.Edge.{Edge}
 use Rattle.ul_lock_lines.specs.declared.lines.Edition.TheVariants.{First as one, Second as two}
 use Rattle.ul_lock_lines.specs.declared.lines.Line.{Line}
 use Rattle.ul_lock_lines.specs.declared.lines.Line.TheVariants.{First as first, Root as root, Supported as supported, Item as item, Close as close, Gap as gap, Entry as entry, Name as name, Version as version, File as file, Edge as edge, Table as table, Opens as opens, Bare as bare}
@@ -30,9 +31,10 @@ use Rattle.ul_lock_lines.specs.declared.lines.RawFile.{RawFile}
 use Rattle.ul_lock_lines.specs.declared.lines.RawEdge.{RawEdge}
 use Rattle.ul_lock_lines.specs.declared.lines.RawLine.{RawLine}
 use Rattle.ul_lock_lines.specs.declared.lines.RawLine.TheVariants.{First as raw_first, Root as raw_root, Supported as raw_supported, Item as raw_item, Close as raw_close, Gap as raw_gap, Entry as raw_entry, Name as raw_name, Version as raw_version, File as raw_file, Edge as raw_edge, Table as raw_table, Opens as raw_opens, Bare as raw_bare}
-use Rattle.ul_lock_lines.specs.Region.{all_worlds, is_true, IsRegion}
+use Rattle.ul_lock.specs.Region.{all_worlds, is_true, IsRegion}
 use Rattle.ul_lock_lines.specs.Raw.{part, end_text, spell_raw}
-use Rattle.ul_lock_lines.specs.Text.{escaped, marker_line, fork_line, marker_part, raw_edge_of, raw_file_of, raw_of, spell, IsEdge, Fit}
+use Rattle.ul_lock_lines.specs.Text.{escaped, marker_line, fork_line, marker_part, raw_edge_of, raw_file_of, raw_of, spell, Fit}
+use Rattle.ul_lock.specs.WellFormed.{IsEdge}
 use Rattle.ul_lock_lines.specs.LineReading.{ascii_at, kept_name, name_at, kept_version, version_at, unescaped, marker_at, fork_at, some_text, name_option, marker_option, edge_made, edge_with_extra, edge_with_version, edge_with_name, edge_at, file_made, file_with_name, file_at, typed, candidate, line_of}
 use Rattle.ul_lock_lines.proofs.LineLaws.{Cuttable, IsKeyText, candidate_is, candidate_again}
 

@@ -1,4 +1,3 @@
-pub mod Region
 pub mod Raw
 pub mod Text
 pub mod LineReading

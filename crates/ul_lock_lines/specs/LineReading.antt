@@ -17,7 +17,7 @@ use Rattle.ul_lock_lines.specs.declared.lines.RawLine.TheVariants.{First as raw_
 use Rattle.std.specs.Char.{is_ascii}
 use Rattle.std.specs.List.{list_all}
 use Rattle.ul_marker_text.specs.MarkerOfText.{marker_of_text}
-use Rattle.ul_lock_lines.specs.Region.{all_worlds}
+use Rattle.ul_lock.specs.Region.{all_worlds}
 use Rattle.ul_lock_lines.specs.Raw.{end_text}
 use Rattle.ul_lock_lines.specs.Text.{escaped}
 

@@ -1,19 +1,20 @@
 -- The text of each line, and which values a line may have.
-use Rattle.std.specs.Prelude.{◌≡◌, ℕ, List, [], ◌∷◌, false, cond, ◌==◌, Option, Some, None, IfSome, if◌then◌else◌}
+use Rattle.std.specs.Prelude.{◌≡◌, ℕ, List, [], ◌∷◌, false, cond, ◌==◌, Option, Some, None, if◌then◌else◌}
 use Rattle.ul_base.specs.Names.{IsNormalName}
 use Rattle.ul_version.specs.Fields.{IsVersion}
 use Rattle.ul_version.specs.Texts.{version_text}
 use Rattle.ul_marker_text.specs.MarkerText.{marker_text}
 use Rattle.ul_nodes.specs.Plain.{Plain}
 use Rattle.ul_requirement.specs.Fields.{FileFields, IsFile}
-use Rattle.ul_lock_lines.specs.declared.parts.Edge.{Edge}
+use Rattle.ul_lock.specs.declared.parts.Edge.{Edge}
 use Rattle.ul_lock_lines.specs.declared.lines.Line.{Line}
 use Rattle.ul_lock_lines.specs.declared.lines.Line.TheVariants.{First as first, Root as root, Supported as supported, Item as item, Close as close, Gap as gap, Entry as entry, Name as name, Version as version, File as file, Edge as edge, Table as table, Opens as opens, Bare as bare}
 use Rattle.ul_lock_lines.specs.declared.lines.RawFile.{RawFile}
 use Rattle.ul_lock_lines.specs.declared.lines.RawEdge.{RawEdge}
 use Rattle.ul_lock_lines.specs.declared.lines.RawLine.{RawLine}
 use Rattle.ul_lock_lines.specs.declared.lines.RawLine.TheVariants.{First as raw_first, Root as raw_root, Supported as raw_supported, Item as raw_item, Close as raw_close, Gap as raw_gap, Entry as raw_entry, Name as raw_name, Version as raw_version, File as raw_file, Edge as raw_edge, Table as raw_table, Opens as raw_opens, Bare as raw_bare}
-use Rattle.ul_lock_lines.specs.Region.{is_true, IsRegion}
+use Rattle.ul_lock.specs.Region.{is_true, IsRegion}
+use Rattle.ul_lock.specs.WellFormed.{IsEdge}
 use Rattle.ul_lock_lines.specs.Raw.{spell_raw}
 
 -- each quote behind a backslash
@@ -69,13 +70,6 @@ unfoldable pub spell : Line → List ℕ
 spell l = spell_raw (raw_of l)
 
 -- ---- which values a line may have
-
--- the parts of an edge
-pub record IsEdge (e : Edge) : Type 0 where
-  pub name : IsNormalName e.target.name
-  pub version : IsVersion e.version
-  pub extra : IfSome e.target.extra IsNormalName
-  pub marker : IsRegion e.marker
 
 -- what a line may say
 abbrev pub Fit : Line → Type 0

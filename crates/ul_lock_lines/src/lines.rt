@@ -2,10 +2,10 @@
 
 ghost use Rattle.std.specs.Prelude.{◌≡◌, ℕ, List, IfOk};
 
-use crate::parts::{Edge, Region};
 use std::alloc::{AllocError, Global};
 use std::marker::Model;
 use ul_base::Name;
+use ul_lock::{Edge, Region};
 use ul_requirement::FileEntry;
 use ul_version::Version;
 

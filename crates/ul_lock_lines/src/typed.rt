@@ -11,11 +11,11 @@ ghost use Rattle.ul_requirement.specs.Fields.{is_file_byte, is_file_name, is_dig
 ghost use Rattle.ul_lock_lines.specs.Text.{escaped};
 
 use crate::lines::{Line, RawEdge, RawFile, RawLine, Text};
-use crate::parts::{Edge, Region};
 use crate::reading::any;
 use std::alloc::{AllocError, Global};
 use ul_base::{Name, NameFault, Node};
 use ul_lines::same;
+use ul_lock::{Edge, Region};
 use ul_requirement::FileEntry;
 use ul_version::{Version, VersionFault};
 

@@ -4,7 +4,7 @@
 //! `-`, and the text, in which `~` is the end of a line; or `outside`, or `extra` and the first extra that the root
 //! doesn't have.
 
-ghost use Rattle.ul_lock_walk.specs.WellFormed.{IsWellFormed};
+ghost use Rattle.ul_lock.specs.WellFormed.{IsWellFormed};
 
 use crate::sizes::chain;
 use crate::texts::text_named;
@@ -12,7 +12,8 @@ use std::alloc::Global;
 use std::fmt::Write;
 use ul_base::Name;
 use ul_filter::{WalkFault, atoms, environment, environment_text, walk};
-use ul_lock::{Lock, read};
+use ul_lock::Lock;
+use ul_lock_read::read;
 use ul_marker::{Atom, EnvFault, Machine, World, world_of};
 use ul_test_rows::{cells, put};
 

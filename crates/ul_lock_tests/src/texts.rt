@@ -2,7 +2,9 @@
 
 use std::alloc::Global;
 use std::fmt::Write;
-use ul_lock::{Lock, LockFault, WriteFault, read, write};
+use ul_lock::Lock;
+use ul_lock_read::{LockFault, read};
+use ul_lock_write::{WriteFault, write};
 use ul_test_rows::put;
 
 // A project with one dependency.

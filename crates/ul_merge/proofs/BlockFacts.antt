@@ -11,9 +11,9 @@ use Rattle.ul_algebra.specs.Spelled.{tree_of}
 use Rattle.ul_index.specs.Catalogs.{Packages, release_of, requirements, requirements_in}
 use Rattle.ul_index.specs.Laws.{EligibleRises}
 use Rattle.ul_index.specs.Serves.{Selection}
-use Rattle.ul_lock_lines.specs.declared.parts.Edge.{Edge}
-use Rattle.ul_lock_lines.specs.declared.parts.Extra.{Extra}
-use Rattle.ul_lock_walk.specs.Walk.{Pick}
+use Rattle.ul_lock.specs.declared.parts.Edge.{Edge}
+use Rattle.ul_lock.specs.declared.parts.Extra.{Extra}
+use Rattle.ul_lock.specs.Walk.{Pick}
 use Rattle.ul_region.specs.Truths.{PassView, DiagramMark}
 use Rattle.ul_region.proofs.ForCallers.{still}
 use Rattle.ul_sound.specs.Merged.{AreEdgesOf}

@@ -16,9 +16,9 @@ use Rattle.ul_index.specs.Catalogs.{Packages, releases_of}
 use Rattle.ul_index.specs.Eligible.{eligible}
 use Rattle.ul_index.specs.Laws.{EligibleRises}
 use Rattle.ul_index.specs.Serves.{Selection, choice_of}
-use Rattle.ul_lock_lines.specs.declared.parts.Extra.{Extra}
-use Rattle.ul_lock_lines.specs.declared.parts.Locked.{Locked}
-use Rattle.ul_lock_walk.specs.Orders.{block_less, extra_less}
+use Rattle.ul_lock.specs.declared.parts.Extra.{Extra}
+use Rattle.ul_lock.specs.declared.parts.Locked.{Locked}
+use Rattle.ul_lock.specs.Orders.{block_less, extra_less}
 use Rattle.ul_region.specs.Truths.{DiagramMark}
 use Rattle.ul_sound.specs.Indexes.{IsIndex}
 use Rattle.ul_sound.specs.Leaves.{HasPair, IsChosen, LeafFields}

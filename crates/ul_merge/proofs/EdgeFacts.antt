@@ -12,7 +12,7 @@ use Rattle.ul_comparison.specs.Worlds.{WorldFields, IsWorld}
 use Rattle.ul_requirement.specs.Fields.{RequirementFields}
 use Rattle.ul_requirement.specs.Truth.{applies_at}
 use Rattle.ul_nodes.specs.Plain.{Plain}
-use Rattle.ul_lock_lines.specs.declared.parts.Edge.{Edge}
+use Rattle.ul_lock.specs.declared.parts.Edge.{Edge}
 use Rattle.ul_region.specs.Truths.{PassView, DiagramMark, IsRegion, IsTruth, region_at, truth_within}
 use Rattle.ul_region.proofs.ForCallers.{is_region, truth_still}
 use Rattle.ul_merge.specs.Edges.{AreTruths, IsEdgeBy, LiesWithin, both_hold, picked}

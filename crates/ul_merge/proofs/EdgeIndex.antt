@@ -20,9 +20,9 @@ use Rattle.ul_index.specs.Catalogs.{Packages, releases_of, requirements}
 use Rattle.ul_index.specs.Eligible.{eligible}
 use Rattle.ul_index.specs.Laws.{EligibleRises}
 use Rattle.ul_index.specs.Serves.{Selection, choice_of}
-use Rattle.ul_lock_lines.specs.declared.parts.Edge.{Edge}
-use Rattle.ul_lock_walk.specs.Orders.{edge_less}
-use Rattle.ul_lock_walk.specs.Walk.{Pick}
+use Rattle.ul_lock.specs.declared.parts.Edge.{Edge}
+use Rattle.ul_lock.specs.Orders.{edge_less}
+use Rattle.ul_lock.specs.Walk.{Pick}
 use Rattle.ul_region.specs.Truths.{PassView, DiagramMark, IsTruth, region_at}
 use Rattle.ul_sound.specs.Leaves.{LeafFields}
 use Rattle.ul_sound.specs.Merged.{AreEdgesOf, IsRightEdge, IsSimplified, IsTrueEdge, IsTrueSomewhere, edge_key}

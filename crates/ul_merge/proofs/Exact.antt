@@ -16,7 +16,7 @@ use Rattle.ul_requirement.specs.Fields.{VersionsDiffer}
 use Rattle.ul_index.specs.Catalogs.{Packages, releases_of}
 use Rattle.ul_index.specs.Eligible.{eligible}
 use Rattle.ul_index.specs.Laws.{EligibleRises, IsVersionAfter, VersionsRise}
-use Rattle.ul_lock_walk.specs.Increasing.{Rising}
+use Rattle.ul_lock.specs.Increasing.{Rising}
 use Rattle.ul_sound.proofs.ForCallers.{IsStrict, before_all, strict}
 use Rattle.ul_merge.specs.Gathered.{AreGroups}
 use Rattle.ul_merge.specs.Keys.{extra_cmp, pair_cmp, pair_of, pick_cmp, pick_of}

@@ -8,7 +8,7 @@ use Rattle.std.proofs.lemmas.List.Elements.{Contains-append_left, Contains-appen
 use Rattle.std.specs.Cmp.{IsStrictWeakOrder, IsTotalOrder, tied_itself}
 use Rattle.std.specs.Ordering.{ordering_reverse}
 use Rattle.std.specs.declared.cmp.Ordering.{Ordering}
-use Rattle.ul_lock_walk.specs.Increasing.{Rising}
+use Rattle.ul_lock.specs.Increasing.{Rising}
 use Rattle.ul_merge.specs.Gathered.{AreGroups, AreRuns, Bundle, GrowsGroup, HasBundle, HasKey, HasLevel, HasValue, HoldBundles, HasPlace, IsBehind, IsGathered, IsHeld, IsPut, IsRun, IsWithin, JoinsGroup, JoinsLast, OpensGroup, StandsAt, entry_bundle, group_bundle}
 use Rattle.ul_merge.specs.declared.gathering.Entry.{Entry}
 use Rattle.ul_merge.specs.declared.gathering.Group.{Group}

@@ -12,7 +12,7 @@ use Rattle.ul_tree.proofs.ForCallers.{has_and, holds_somewhere, no_extra, region
 use Rattle.ul_algebra.specs.Answers.{IsDiagram}
 use Rattle.ul_algebra.specs.Spelled.{tree_of}
 use Rattle.ul_algebra.specs.Truths.{HoldsJoined}
-use Rattle.ul_lock_lines.specs.declared.parts.Edge.{Edge}
+use Rattle.ul_lock.specs.declared.parts.Edge.{Edge}
 use Rattle.ul_region.specs.Truths.{PassView, DiagramMark, IsRegion, IsTruth, region_at, truth_within}
 use Rattle.ul_sound.specs.Merged.{IsSimplified}
 use Rattle.ul_merge.specs.Unions.{MeetSomewhere}

@@ -2,7 +2,7 @@
 use Rattle.std.proofs.Common.{◌≡◌, ◌⊎◌, ℕ, ◌<◌, ◌≤◌, ◌+◌, List, [], ◌∷◌, ◌++◌, length, get_or, take, Bool, true, Option, Some, None, Contains, refl, sym, ap, ap₂, ◌∙◌, subst, inl, inr, ⊎_elim}
 use Rattle.std.proofs.lemmas.List.{take_all, take_more}
 use Rattle.std.proofs.lemmas.List.Elements.{Contains-append_right, Contains-append_cases}
-use Rattle.ul_lock_walk.specs.Increasing.{Before, Rising}
+use Rattle.ul_lock.specs.Increasing.{Before, Rising}
 use Rattle.ul_sound.specs.Indexes.{IsIndex}
 use Rattle.ul_merge.specs.Made.{AreMade, at_most_one}
 use Rattle.ul_base.proofs.ForCallers.{contains_first, contains_later, contains_cases, none_in}

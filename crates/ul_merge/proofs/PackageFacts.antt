@@ -10,8 +10,8 @@ use Rattle.ul_tree.proofs.ForCallers.{no_extra}
 use Rattle.ul_algebra.specs.Spelled.{tree_of}
 use Rattle.ul_index.specs.Laws.{EligibleRises, EligibleSame}
 use Rattle.ul_index.specs.Serves.{Selection}
-use Rattle.ul_lock_lines.specs.Region.{IsRegion as IsLineRegion}
-use Rattle.ul_lock_lines.specs.declared.parts.Locked.{Locked}
+use Rattle.ul_lock.specs.Region.{IsRegion as IsLineRegion}
+use Rattle.ul_lock.specs.declared.parts.Locked.{Locked}
 use Rattle.ul_project.specs.Fields.{ProjectFields}
 use Rattle.ul_region.specs.Truths.{PassView}
 use Rattle.ul_sound.specs.Leaves.{HasPair, LeafFields}

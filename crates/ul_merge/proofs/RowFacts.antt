@@ -8,7 +8,7 @@ use Rattle.ul_version.specs.Fields.{Fields}
 use Rattle.ul_requirement.specs.Fields.{RequirementFields}
 use Rattle.ul_requirement.specs.Truth.{targets}
 use Rattle.ul_index.specs.Serves.{Selection, choice_of}
-use Rattle.ul_lock_walk.specs.Walk.{Pick}
+use Rattle.ul_lock.specs.Walk.{Pick}
 use Rattle.ul_region.proofs.ForCallers.{chosen_in}
 use Rattle.ul_sound.specs.Merged.{Pair}
 use Rattle.ul_merge.specs.Chosen.{choice_at, choice_in}

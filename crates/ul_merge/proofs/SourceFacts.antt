@@ -17,9 +17,9 @@ use Rattle.ul_index.specs.Catalogs.{Packages, release_of, releases_of}
 use Rattle.ul_index.specs.Eligible.{eligible}
 use Rattle.ul_index.specs.Laws.{EligibleSame}
 use Rattle.ul_index.specs.Serves.{Selection, choice_of}
-use Rattle.ul_lock_lines.specs.declared.parts.Extra.{Extra}
-use Rattle.ul_lock_lines.specs.declared.parts.Locked.{Locked}
-use Rattle.ul_lock_walk.specs.Orders.{extra_less}
+use Rattle.ul_lock.specs.declared.parts.Extra.{Extra}
+use Rattle.ul_lock.specs.declared.parts.Locked.{Locked}
+use Rattle.ul_lock.specs.Orders.{extra_less}
 use Rattle.ul_project.specs.Fields.{ProjectFields}
 use Rattle.ul_region.specs.Truths.{PassView, DiagramMark, IsRegion, region_at}
 use Rattle.ul_region.proofs.ForCallers.{still, truth_still}

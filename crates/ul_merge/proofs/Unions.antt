@@ -5,7 +5,7 @@ use Rattle.ul_tree.specs.Views.{tree_view}
 use Rattle.ul_tree.specs.declared.tree.Tree.{Tree}
 use Rattle.ul_algebra.specs.Answers.{IsDiagram}
 use Rattle.ul_algebra.specs.Spelled.{tree_of}
-use Rattle.ul_lock_lines.specs.Region.{IsRegion as IsLineRegion}
+use Rattle.ul_lock.specs.Region.{IsRegion as IsLineRegion}
 use Rattle.ul_region.specs.Truths.{PassView, DiagramMark, IsRegion}
 use Rattle.ul_sound.proofs.ForCallers.{simplified_region}
 use Rattle.ul_merge.specs.Unions.{MeetSomewhere}

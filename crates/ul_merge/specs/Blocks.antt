@@ -10,10 +10,10 @@ use Rattle.ul_algebra.specs.Spelled.{tree_of}
 use Rattle.ul_index.specs.Catalogs.{Packages, release_of, releases_of}
 use Rattle.ul_index.specs.Eligible.{eligible}
 use Rattle.ul_index.specs.Serves.{Selection, choice_of}
-use Rattle.ul_lock_lines.specs.declared.parts.Extra.{Extra}
-use Rattle.ul_lock_lines.specs.declared.parts.Locked.{Locked}
-use Rattle.ul_lock_walk.specs.Orders.{extra_less}
-use Rattle.ul_lock_walk.specs.Walk.{Pick}
+use Rattle.ul_lock.specs.declared.parts.Extra.{Extra}
+use Rattle.ul_lock.specs.declared.parts.Locked.{Locked}
+use Rattle.ul_lock.specs.Orders.{extra_less}
+use Rattle.ul_lock.specs.Walk.{Pick}
 use Rattle.ul_region.specs.Truths.{PassView, DiagramMark, IsRegion}
 use Rattle.ul_sound.specs.Indexes.{IsIndex}
 use Rattle.ul_sound.specs.Leaves.{LeafFields, IsChosen}

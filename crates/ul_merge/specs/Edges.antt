@@ -9,7 +9,7 @@ use Rattle.ul_requirement.specs.Fields.{RequirementFields}
 use Rattle.ul_requirement.specs.Truth.{applies_at}
 use Rattle.ul_nodes.specs.Plain.{Plain}
 use Rattle.ul_algebra.specs.Spelled.{tree_of}
-use Rattle.ul_lock_lines.specs.declared.parts.Edge.{Edge}
+use Rattle.ul_lock.specs.declared.parts.Edge.{Edge}
 use Rattle.ul_region.specs.Truths.{PassView, DiagramMark, IsTruth, region_at, truth_within}
 use Rattle.ul_sound.specs.Merged.{IsSimplified}
 use Rattle.ul_merge.specs.Made.{at_most_one}

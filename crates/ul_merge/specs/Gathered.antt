@@ -3,7 +3,7 @@ use Rattle.std.specs.Prelude.{◌≡◌, ◌⊎◌, ◌<◌, ◌-◌, ℕ, List,
 use Rattle.std.specs.Ordering.{is_lt}
 use Rattle.std.specs.declared.cmp.Ordering.{Ordering}
 use Rattle.std.specs.declared.cmp.Ordering.TheVariants.{Equal}
-use Rattle.ul_lock_walk.specs.Increasing.{Rising}
+use Rattle.ul_lock.specs.Increasing.{Rising}
 use Rattle.ul_merge.specs.declared.gathering.Entry.{Entry}
 use Rattle.ul_merge.specs.declared.gathering.Group.{Group}
 

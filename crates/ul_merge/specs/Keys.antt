@@ -5,7 +5,7 @@ use Rattle.std.specs.Ordering.{on, then_cmp}
 use Rattle.std.specs.declared.cmp.Ordering.{Ordering}
 use Rattle.ul_base.specs.Names.{name_cmp}
 use Rattle.ul_version.specs.Order.{version_cmp}
-use Rattle.ul_lock_walk.specs.Walk.{Pick}
+use Rattle.ul_lock.specs.Walk.{Pick}
 use Rattle.ul_sound.specs.Merged.{Pair}
 use Rattle.ul_merge.specs.declared.keys.ExtraKey.{ExtraKey}
 use Rattle.ul_merge.specs.declared.keys.PairKey.{PairKey}

@@ -5,7 +5,7 @@ use Rattle.ul_version.specs.Fields.{Fields}
 use Rattle.ul_requirement.specs.Fields.{RequirementFields}
 use Rattle.ul_requirement.specs.Truth.{targets}
 use Rattle.ul_index.specs.Serves.{Selection, choice_of}
-use Rattle.ul_lock_walk.specs.Walk.{Pick}
+use Rattle.ul_lock.specs.Walk.{Pick}
 use Rattle.ul_sound.specs.Merged.{Pair}
 use Rattle.ul_merge.specs.Chosen.{choice_at}
 use Rattle.ul_merge.specs.Keys.{pair_of, pick_of}

@@ -22,7 +22,7 @@ use std::sync::Wait;
 use ul_algebra::Algebra;
 use ul_base::Node;
 use ul_base::owned::{beside, made_from, with_made};
-use ul_lock_lines::{Edges, Extra, Extras, Locked};
+use ul_lock::{Edges, Extra, Extras, Locked};
 use ul_requirement::{Release, Requirement};
 
 // The edges of a node at a version.

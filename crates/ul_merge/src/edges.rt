@@ -16,7 +16,7 @@ use std::sync::Wait;
 use ul_algebra::{Algebra, Diagram};
 use ul_base::Node;
 use ul_base::owned::{beside, made_from};
-use ul_lock_lines::{Edge, Region};
+use ul_lock::{Edge, Region};
 use ul_region::truth_at;
 use ul_requirement::Requirement;
 use ul_version::Version;

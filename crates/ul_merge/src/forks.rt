@@ -14,7 +14,7 @@ use ul_algebra::{Algebra, Diagram};
 use ul_base::Node;
 use ul_base::owned::with_made;
 use ul_generations::Leaf;
-use ul_lock_lines::Regions;
+use ul_lock::Regions;
 use ul_version::Version;
 
 // What each leaf's region becomes under the supported one, in order.

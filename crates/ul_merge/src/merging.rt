@@ -21,7 +21,7 @@ use ul_base::owned::{beside, made_from, with_made};
 use ul_base::{Name, Node};
 use ul_generations::Leaf;
 use ul_index::Catalog;
-use ul_lock_lines::{Lock, Packages, Region};
+use ul_lock::{Lock, Packages, Region};
 use ul_project::Project;
 use ul_tree::Tree;
 use ul_version::Version;

@@ -10,7 +10,7 @@ use std::alloc::{AllocError, Global};
 use ul_base::Name;
 use ul_base::owned::with_made;
 use ul_index::Catalog;
-use ul_lock_lines::Files;
+use ul_lock::Files;
 use ul_requirement::{FileEntry, Package, Release, Requirement};
 use ul_version::Version;
 

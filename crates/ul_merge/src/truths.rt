@@ -12,7 +12,7 @@ use crate::targets::Use;
 use std::alloc::{AllocError, Global};
 use std::sync::Wait;
 use ul_algebra::{Algebra, Diagram};
-use ul_lock_lines::Region;
+use ul_lock::Region;
 use ul_region::unions::{either, nowhere};
 
 // What a truth becomes under the supported region.

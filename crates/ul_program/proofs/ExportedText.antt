@@ -1,9 +1,9 @@
 -- What `export` prints says what the lock of its file gives.
 use Rattle.std.proofs.Common.{◌≡◌, ℕ, List, Bool, true, false, if◌then◌else◌, codes, length, nat_le, Option, Some, None, Result, Ok, Err, refl, sym, subst, inl, inr, arith}
 use Rattle.ul_base.specs.Files.{FileMap}
-use Rattle.ul_lock_lines.specs.declared.parts.Lock.{Lock}
-use Rattle.ul_lock_walk.specs.WellFormed.{IsWellFormed}
-use Rattle.ul_lock_text.specs.Markers.{first_over}
+use Rattle.ul_lock.specs.declared.parts.Lock.{Lock}
+use Rattle.ul_lock.specs.WellFormed.{IsWellFormed}
+use Rattle.ul_lock_write.specs.Markers.{first_over}
 use Rattle.ul_reach.specs.Lines.{row_markers, rows_text}
 use Rattle.ul_inputs.specs.Inputs.{text_bytes}
 use Rattle.ul_inputs.specs.Locks.{lock_at}

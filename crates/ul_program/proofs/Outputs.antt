@@ -1,11 +1,11 @@
 -- What is printed is the output for the words.
 use Rattle.std.proofs.Common.{◌≡◌, ◌≢◌, ◌≤◌, ◌++◌, ℕ, List, [], Bool, true, false, if◌then◌else◌, nat_eq, nat_le, length, codes, IfOk, IfSome, Option, Some, None, Result, Ok, Err, String, Global, string_bytes, refl, ap, sym, ◌∙◌, subst, arith}
 use Rattle.ul_base.specs.Files.{Told}
-use Rattle.ul_lock_lines.specs.declared.parts.Lock.{Lock as LockData}
+use Rattle.ul_lock.specs.declared.parts.Lock.{Lock as LockData}
 use Rattle.ul_tree.specs.Paths.{paths_of}
 use Rattle.ul_nodes.specs.Plain.{Plain}
-use Rattle.ul_lock_text.specs.Markers.{first_over, markers_of}
-use Rattle.ul_lock_text.specs.Texts.{lock_text}
+use Rattle.ul_lock_write.specs.Markers.{first_over, markers_of}
+use Rattle.ul_lock_write.specs.Texts.{lock_text}
 use Rattle.ul_report.specs.Texts.{refusal_text}
 use Rattle.ul_reach.specs.Lines.{row_markers, rows_text}
 use Rattle.ul_inputs.specs.Inputs.{text_bytes}

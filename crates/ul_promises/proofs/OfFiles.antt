@@ -3,7 +3,7 @@ use Rattle.std.proofs.Common.{◌≡◌, ◌∙◌, ℕ, List, [], Bool, true, f
 use Rattle.ul_base.specs.Files.{FileMap}
 use Rattle.ul_comparison.specs.Machines.{MachineFields}
 use Rattle.ul_project.specs.Fields.{ProjectFields}
-use Rattle.ul_lock_lines.specs.declared.parts.Lock.{Lock}
+use Rattle.ul_lock.specs.declared.parts.Lock.{Lock}
 use Rattle.ul_filter.specs.Comparisons.{machine_world}
 use Rattle.ul_filter.specs.Headline.{is_supported_at}
 use Rattle.ul_inputs.specs.Inputs.{answer}

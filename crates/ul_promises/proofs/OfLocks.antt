@@ -1,9 +1,9 @@
 -- What `lock` prints.
 use Rattle.std.proofs.Common.{◌≡◌, ◌++◌, ◌∙◌, ◌≤◌, ℕ, List, length, Option, Some, Result, Ok, ap, sym, subst}
 use Rattle.ul_base.specs.Files.{FileMap}
-use Rattle.ul_lock_lines.specs.declared.parts.Lock.{Lock}
-use Rattle.ul_lock_text.specs.Markers.{first_over, markers_of}
-use Rattle.ul_lock_text.specs.Texts.{lock_text}
+use Rattle.ul_lock.specs.declared.parts.Lock.{Lock}
+use Rattle.ul_lock_write.specs.Markers.{first_over, markers_of}
+use Rattle.ul_lock_write.specs.Texts.{lock_text}
 use Rattle.ul_generations.specs.Generations.{leaves_are, refused_at, too_many}
 use Rattle.ul_forks.specs.Headline.{TreeAnswer}
 use Rattle.ul_report.specs.Texts.{refusal_text}

@@ -6,9 +6,9 @@ use Rattle.ul_comparison.specs.Atoms.{AtomFields}
 use Rattle.ul_comparison.specs.Machines.{MachineFields, world_of}
 use Rattle.ul_comparison.specs.Worlds.{IsWorld}
 use Rattle.ul_nodes.specs.Plain.{Plain}
-use Rattle.ul_lock_lines.specs.declared.parts.Lock.{Lock}
-use Rattle.ul_lock_text.specs.Texts.{lock_text}
-use Rattle.ul_lock_walk.specs.WellFormed.{IsWellFormed}
+use Rattle.ul_lock.specs.declared.parts.Lock.{Lock}
+use Rattle.ul_lock_write.specs.Texts.{lock_text}
+use Rattle.ul_lock.specs.WellFormed.{IsWellFormed}
 use Rattle.ul_filter.specs.Comparisons.{HasAll, lock_atoms}
 use Rattle.ul_sound.specs.Sound.{AreProjectExtras, IsEligible, IsSound}
 use Rattle.ul_report.specs.Texts.{refusal_text}

@@ -1,5 +1,5 @@
 //! Which rows are told of a lock, and what is printed of them.
-ghost use Rattle.ul_lock_walk.specs.WellFormed.{IsWellFormed};
+ghost use Rattle.ul_lock.specs.WellFormed.{IsWellFormed};
 
 use crate::locks::text_named;
 use std::alloc::Global;
@@ -8,7 +8,8 @@ use std::sync::Wait;
 use ul_algebra::{Algebra, DiagramLabel};
 use ul_base::Name;
 use ul_interner::Interner;
-use ul_lock::{Lock, read};
+use ul_lock::Lock;
+use ul_lock_read::read;
 use ul_reach::{ExportFault, ReachFault, Reached, export_text, reach};
 use ul_test_rows::{cells, put};
 

@@ -5,7 +5,7 @@ use Rattle.ul_lines.specs.Faults.{IsFault}
 use Rattle.ul_lines.specs.Lines.{lines_of}
 use Rattle.ul_lines.specs.Reader.{Each, read_text}
 use Rattle.ul_lines.proofs.ForCallers.{one_fault, right_has_none}
-use Rattle.ul_lock_lines.specs.Region.{IsRegion}
+use Rattle.ul_lock.specs.Region.{IsRegion}
 use Rattle.ul_problem.specs.Plain.{Plain}
 use Rattle.ul_problem.specs.Problems.{IsWellFormed}
 use Rattle.ul_problem.specs.Steps.{AreRightAfter}

@@ -10,8 +10,8 @@ use Rattle.std.proofs.lemmas.Fmt.{decimal_nonempty}
 use Rattle.ul_lines.specs.Lines.{ends_line}
 use Rattle.ul_lines.specs.Pieces.{has, strip, until}
 use Rattle.ul_lines.proofs.ForCallers.{some_is, bind_some, map_some, same_text, skip_line, strip_is, strip_again, until_is, until_again}
-use Rattle.ul_lock_lines.specs.Region.{IsRegion, all_worlds}
-use Rattle.ul_lock_lines.proofs.ForCallers.{all_region}
+use Rattle.ul_lock.specs.Region.{IsRegion, all_worlds}
+use Rattle.ul_lock.proofs.ForCallers.{all_region}
 use Rattle.ul_marker_text.specs.MarkerOfText.{IsMarker, marker_of_text}
 use Rattle.ul_marker_text.specs.MarkerText.{marker_text}
 use Rattle.ul_marker_text.proofs.ForCallers.{text_again, read_is_marker, truth_is_none, star_is_none, marker_10, marker_reduced, marker_no_extra, tree_is_marker}

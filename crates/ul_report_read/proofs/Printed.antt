@@ -5,7 +5,7 @@ use Rattle.std.proofs.lemmas.List.{length-append, length-map}
 use Rattle.std.proofs.lemmas.Option.{none-some, same_Some, slice_get_within}
 use Rattle.ul_base.specs.Nodes.{node_cmp, node_cmp-total}
 use Rattle.ul_lines.specs.Reader.{Each}
-use Rattle.ul_lock_lines.specs.Region.{IsRegion}
+use Rattle.ul_lock.specs.Region.{IsRegion}
 use Rattle.ul_problem.specs.Plain.{Plain, node_at, size_in}
 use Rattle.ul_problem.specs.Problems.{Increases, IncreasesFrom, IsWellFormed, NodeBefore, VersionBefore}
 use Rattle.ul_problem.specs.Steps.{AreRightAfter, AreTermsOf, AreWritten, IsIncompat, IsRight, IsStepWithin, IsTermOf, step_of, term_to_say}

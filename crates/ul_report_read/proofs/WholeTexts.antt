@@ -9,8 +9,8 @@ use Rattle.ul_lines.specs.Lines.{lines_of, onto_first}
 use Rattle.ul_lines.specs.Pieces.{has}
 use Rattle.ul_lines.specs.Reader.{Accepts, AreLines, Begins, Each, HasText, IsReader, read_text, text_by}
 use Rattle.ul_lines.proofs.ForCallers.{bytes_eq_self, eqb_self, run_one, same_text, some_is, text_again, text_fault, text_taken, one_text as one_by}
-use Rattle.ul_lock_lines.specs.Region.{all_worlds}
-use Rattle.ul_lock_lines.proofs.ForCallers.{all_region}
+use Rattle.ul_lock.specs.Region.{all_worlds}
+use Rattle.ul_lock.proofs.ForCallers.{all_region}
 use Rattle.ul_marker_text.specs.MarkerText.{marker_text}
 use Rattle.ul_report.specs.Texts.{first_line, line_end, lines_from, lines_text, path_text, step_line, steps_text, world_text}
 use Rattle.ul_report.specs.declared.text_steps.TextStep.{TextStep}

@@ -7,7 +7,7 @@ use Rattle.std.proofs.lemmas.List.Elements.{All-head, All-tail}
 use Rattle.ul_lines.specs.Pieces.{has}
 use Rattle.ul_lines.specs.Reader.{Each}
 use Rattle.ul_lines.proofs.ForCallers.{has_none}
-use Rattle.ul_lock_lines.specs.Region.{IsRegion}
+use Rattle.ul_lock.specs.Region.{IsRegion}
 use Rattle.ul_comparison.specs.Atoms.{AtomFields, IsAtom, is_literal, is_literal_byte, text_number}
 use Rattle.ul_comparison.specs.Printed.{atom_text, comparison_text, kind_sign, quote_of, quoted_text, sides, variable_name}
 use Rattle.ul_comparison.specs.Worlds.{IsWorld, WorldFields, text_at}

@@ -2,7 +2,7 @@
 use Rattle.std.specs.Prelude.{◌≡◌, ℕ, ◌<◌, ◌^◌, List, [], Bool, length, Result}
 use Rattle.ul_lines.specs.Faults.{IsFault}
 use Rattle.ul_lines.specs.Reader.{Each}
-use Rattle.ul_lock_lines.specs.Region.{IsRegion}
+use Rattle.ul_lock.specs.Region.{IsRegion}
 use Rattle.ul_problem.specs.Plain.{Plain}
 use Rattle.ul_problem.specs.Problems.{IsWellFormed}
 use Rattle.ul_problem.specs.Steps.{AreRightAfter}

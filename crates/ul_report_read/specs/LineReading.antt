@@ -2,7 +2,7 @@
 use Rattle.std.specs.Prelude.{ℕ, List, [], ◌∷◌, Bool, true, false, Option, Some, None, option_and_then, option_map, bytes_eq, codes, ◌==◌, if◌then◌else◌}
 use Rattle.std.specs.Char.{is_ascii_digit}
 use Rattle.ul_lines.specs.Pieces.{strip, until}
-use Rattle.ul_lock_lines.specs.Region.{all_worlds}
+use Rattle.ul_lock.specs.Region.{all_worlds}
 use Rattle.ul_marker_text.specs.MarkerOfText.{marker_of_text}
 use Rattle.ul_report_read.specs.StepReading.{number_front_at, or_else, step_at}
 use Rattle.ul_report_read.specs.declared.line.Line.{Line}

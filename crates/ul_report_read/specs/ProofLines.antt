@@ -1,7 +1,7 @@
 -- The lines of a derivation file, and the text of each.
 use Rattle.std.specs.Prelude.{◌≡◌, ℕ, ◌+◌, ◌<◌, ◌^◌, List, [], ◌∷◌, ◌++◌, codes, false}
 use Rattle.ul_lines.specs.Pieces.{has}
-use Rattle.ul_lock_lines.specs.Region.{IsRegion}
+use Rattle.ul_lock.specs.Region.{IsRegion}
 use Rattle.ul_marker_text.specs.MarkerText.{marker_text}
 use Rattle.ul_report.specs.Texts.{first_line, line_end, path_text, step_line, world_text}
 use Rattle.ul_report.specs.declared.text_steps.TextStep.{TextStep}

@@ -6,7 +6,7 @@ use Rattle.ul_base.specs.Nodes.{node_cmp}
 use Rattle.ul_base.specs.declared.node.Node.{Node}
 use Rattle.ul_lines.specs.Lines.{lines_of}
 use Rattle.ul_lines.specs.Reader.{Each}
-use Rattle.ul_lock_lines.specs.Region.{IsRegion}
+use Rattle.ul_lock.specs.Region.{IsRegion}
 use Rattle.ul_problem.specs.Problems.{Increases, VersionBefore}
 use Rattle.ul_report.specs.Texts.{refusal_text, steps_text}
 use Rattle.ul_report.specs.declared.text_steps.TextTerm.{TextTerm}

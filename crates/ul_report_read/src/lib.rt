@@ -16,4 +16,3 @@ pub use line::Line;
 pub use proof::{Path, Proof};
 pub use reading::{ProofFault, read};
 pub use states::State;
-pub use ul_lock_lines::Region;

@@ -1,6 +1,7 @@
 //! What stands on one line.
 use crate::proof::Path;
-use ul_lock_lines::{Region, Text};
+use ul_lock::Region;
+use ul_lock_lines::Text;
 use ul_report::TextStep;
 
 /// A line of a derivation file.

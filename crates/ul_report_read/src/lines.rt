@@ -9,7 +9,8 @@ use crate::proof::Path;
 use crate::steps::{number_front, step};
 use std::alloc::{AllocError, Global};
 use ul_lines::{divided, same, stripped};
-use ul_lock_lines::{Region, Text};
+use ul_lock::Region;
+use ul_lock_lines::Text;
 
 // The step of a path that a digit says.
 fn digit(byte: u8) -> Option<bool>

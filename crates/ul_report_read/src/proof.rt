@@ -2,7 +2,7 @@
 ghost use Rattle.std.specs.Prelude.{◌≡◌};
 
 use std::marker::Model;
-use ul_lock_lines::Region;
+use ul_lock::Region;
 use ul_report::Steps;
 
 /// The path of a fork: at each split, whether it is the second part.

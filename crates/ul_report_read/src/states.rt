@@ -12,7 +12,8 @@ use crate::proof::{Path, Proof};
 use std::alloc::{AllocError, Global};
 use ul_base::owned::{beside, refused, with_one};
 use ul_lines::same;
-use ul_lock_lines::{Region, Text};
+use ul_lock::Region;
+use ul_lock_lines::Text;
 use ul_report::{Steps, TextStep, sample_text};
 
 /// What has been read of a text.

@@ -1,7 +1,7 @@
 -- A list that has, in order, a right element for each wanted key is determined.
 use Rattle.std.proofs.Common.{◌≡◌, ◌⊎◌, ◌↔◌, List, [], ◌∷◌, Bool, true, Contains, refl, sym, ap₂, ◌∙◌, subst, inl, inr, ⊎_elim}
 use Rattle.ul_base.proofs.ForCallers.{contains_first, contains_later, contains_cases, none_in}
-use Rattle.ul_lock_walk.specs.Increasing.{Rising}
+use Rattle.ul_lock.specs.Increasing.{Rising}
 use Rattle.ul_sound.specs.Indexes.{IsIndex}
 use Rattle.ul_sound.proofs.Strict.{IsStrict}
 

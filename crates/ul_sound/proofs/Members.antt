@@ -4,7 +4,7 @@ use Rattle.std.proofs.lemmas.List.Sums.{sum_by-cons}
 use Rattle.std.specs.List.{list_all, list_any}
 use Rattle.ul_base.proofs.ForCallers.{contains_first, contains_later, contains_cases, none_in}
 use Rattle.ul_lines.specs.Reader.{Each}
-use Rattle.ul_lock_walk.specs.Increasing.{Rising}
+use Rattle.ul_lock.specs.Increasing.{Rising}
 use Rattle.ul_sound.proofs.Strict.{IsStrict}
 use Rattle.ul_sound.proofs.Indexes.{before_all}
 

@@ -13,7 +13,7 @@ use Rattle.ul_tree.specs.Simplify.{filled_results, settled_level, Simplifies, at
 use Rattle.ul_tree.specs.Values.{tree_holds, value_of}
 use Rattle.ul_nodes.proofs.ForCallers.{cmp_itself, fits_weaker}
 use Rattle.ul_tree.proofs.ForCallers.{no_extra, no_extra_fits, simplify_laws}
-use Rattle.ul_lock_lines.specs.Region.{IsRegion}
+use Rattle.ul_lock.specs.Region.{IsRegion}
 
 -- all levels come after the extra's
 abbrev IsLate : Plain → Type 0

@@ -10,12 +10,12 @@ use Rattle.ul_tree.specs.Values.{tree_holds}
 use Rattle.ul_tree.proofs.ForCallers.{one_truth_one_tree, simplify_laws}
 use Rattle.ul_index.specs.Catalogs.{Packages, release_of}
 use Rattle.ul_project.specs.Fields.{ProjectFields}
-use Rattle.ul_lock_lines.specs.declared.parts.Edge.{Edge}
-use Rattle.ul_lock_lines.specs.declared.parts.Extra.{Extra}
-use Rattle.ul_lock_lines.specs.declared.parts.Locked.{Locked}
-use Rattle.ul_lock_lines.specs.declared.parts.Lock.{Lock}
-use Rattle.ul_lock_walk.specs.Orders.{edge_less, extra_less, block_less}
-use Rattle.ul_lock_walk.specs.Walk.{Pick}
+use Rattle.ul_lock.specs.declared.parts.Edge.{Edge}
+use Rattle.ul_lock.specs.declared.parts.Extra.{Extra}
+use Rattle.ul_lock.specs.declared.parts.Locked.{Locked}
+use Rattle.ul_lock.specs.declared.parts.Lock.{Lock}
+use Rattle.ul_lock.specs.Orders.{edge_less, extra_less, block_less}
+use Rattle.ul_lock.specs.Walk.{Pick}
 use Rattle.ul_sound.specs.Leaves.{LeafFields, HasPair}
 use Rattle.ul_sound.specs.Merged.{Pair, IsSimplified, IsTrueEdge, IsTrueSomewhere, edge_key, extra_key, block_key, files_in, IsRightEdge, AreEdgesOf, IsWantedExtra, AreExtrasOf, IsBlock, AreBlocks, AreSimplified, AreForks, IsMergedLock}
 use Rattle.ul_sound.proofs.Strict.{blocks_strict, edges_strict, extras_strict}

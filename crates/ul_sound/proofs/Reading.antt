@@ -9,11 +9,11 @@ use Rattle.ul_tree.specs.Values.{tree_holds, value_of}
 use Rattle.ul_tree.proofs.ForCallers.{simplify_laws}
 use Rattle.ul_index.specs.Catalogs.{Packages}
 use Rattle.ul_project.specs.Fields.{ProjectFields}
-use Rattle.ul_lock_lines.specs.declared.parts.Edge.{Edge}
-use Rattle.ul_lock_lines.specs.declared.parts.Extra.{Extra}
-use Rattle.ul_lock_lines.specs.declared.parts.Locked.{Locked}
-use Rattle.ul_lock_lines.specs.declared.parts.Lock.{Lock}
-use Rattle.ul_lock_walk.specs.Walk.{Pick, IsEdgeOf, HasPackage, HasEdge, WalkLeads}
+use Rattle.ul_lock.specs.declared.parts.Edge.{Edge}
+use Rattle.ul_lock.specs.declared.parts.Extra.{Extra}
+use Rattle.ul_lock.specs.declared.parts.Locked.{Locked}
+use Rattle.ul_lock.specs.declared.parts.Lock.{Lock}
+use Rattle.ul_lock.specs.Walk.{Pick, IsEdgeOf, HasPackage, HasEdge, WalkLeads}
 use Rattle.ul_sound.specs.Leaves.{LeafFields, IsChosen, HasPair, supported_by}
 use Rattle.ul_sound.specs.Merged.{Pair, IsSimplified, IsTrueEdge, edge_key, block_key, IsRightEdge, AreEdgesOf, IsBlock, IsMergedLock}
 

@@ -16,8 +16,8 @@ use Rattle.ul_index.specs.Eligible.{eligible}
 use Rattle.ul_index.specs.Laws.{EligibleSame}
 use Rattle.ul_index.specs.Serves.{ServesWhole, IsMet, choice_of}
 use Rattle.ul_project.specs.Fields.{ProjectFields}
-use Rattle.ul_lock_lines.specs.declared.parts.Lock.{Lock}
-use Rattle.ul_lock_walk.specs.Walk.{Pick, HasPackage, Walk, WalkBegins, WalkLeads}
+use Rattle.ul_lock.specs.declared.parts.Lock.{Lock}
+use Rattle.ul_lock.specs.Walk.{Pick, HasPackage, Walk, WalkBegins, WalkLeads}
 use Rattle.ul_sound.specs.Leaves.{LeafFields, worlds_of, supported_by, project_nodes, HasPair}
 use Rattle.ul_sound.specs.Merged.{IsTrueEdge, IsMergedLock}
 use Rattle.ul_sound.specs.Sound.{ClosureBegins, ClosureLeads, Closure, IsSoundAt, IsSound, AreProjectExtras}

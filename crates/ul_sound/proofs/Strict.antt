@@ -4,10 +4,10 @@ use Rattle.std.specs.Cmp.{IsTotalOrder, then_total, on_total, tied_itself}
 use Rattle.std.specs.Cmp.Lexicographic.{nat_list_cmp_total, options_total}
 use Rattle.std.specs.declared.cmp.Ordering.{Ordering}
 use Rattle.ul_version.proofs.ForCallers.{version_total}
-use Rattle.ul_lock_lines.specs.declared.parts.Edge.{Edge}
-use Rattle.ul_lock_lines.specs.declared.parts.Extra.{Extra}
-use Rattle.ul_lock_lines.specs.declared.parts.Locked.{Locked}
-use Rattle.ul_lock_walk.specs.Orders.{package_cmp, edge_cmp, extra_cmp, edge_less, extra_less, block_less}
+use Rattle.ul_lock.specs.declared.parts.Edge.{Edge}
+use Rattle.ul_lock.specs.declared.parts.Extra.{Extra}
+use Rattle.ul_lock.specs.declared.parts.Locked.{Locked}
+use Rattle.ul_lock.specs.Orders.{package_cmp, edge_cmp, extra_cmp, edge_less, extra_less, block_less}
 
 -- nothing stands above itself, and what stands above stands above all that is below
 pub record IsStrict {A : Type 0} (less : A → A → Bool) : Type 0 where

@@ -25,17 +25,16 @@ use Rattle.ul_index.specs.Eligible.{eligible}
 use Rattle.ul_index.specs.Laws.{EligibleSame}
 use Rattle.ul_index.specs.Serves.{choice_of}
 use Rattle.ul_project.specs.Fields.{ProjectFields}
-use Rattle.ul_lock_lines.specs.Region.{IsRegion}
-use Rattle.ul_lock_lines.specs.Text.{IsEdge}
-use Rattle.ul_lock_lines.specs.declared.parts.Edge.{Edge}
-use Rattle.ul_lock_lines.specs.declared.parts.Extra.{Extra}
-use Rattle.ul_lock_lines.specs.declared.parts.Locked.{Locked}
-use Rattle.ul_lock_lines.specs.declared.parts.Lock.{Lock}
-use Rattle.ul_lock_walk.specs.Increasing.{Rising, NoneOrSeveral}
-use Rattle.ul_lock_walk.specs.Orders.{block_less, file_less}
-use Rattle.ul_lock_walk.specs.Targets.{count_named, lists_option, is_named, is_target, has_target, have_targets, package_leads_on}
-use Rattle.ul_lock_walk.specs.Walk.{Pick}
-use Rattle.ul_lock_walk.specs.WellFormed.{AreEdges, IsListed, IsPackage, IsWellFormed}
+use Rattle.ul_lock.specs.Region.{IsRegion}
+use Rattle.ul_lock.specs.WellFormed.{IsEdge, AreEdges, IsListed, IsPackage, IsWellFormed}
+use Rattle.ul_lock.specs.declared.parts.Edge.{Edge}
+use Rattle.ul_lock.specs.declared.parts.Extra.{Extra}
+use Rattle.ul_lock.specs.declared.parts.Locked.{Locked}
+use Rattle.ul_lock.specs.declared.parts.Lock.{Lock}
+use Rattle.ul_lock.specs.Increasing.{Rising, NoneOrSeveral}
+use Rattle.ul_lock.specs.Orders.{block_less, file_less}
+use Rattle.ul_lock.specs.Targets.{count_named, lists_option, is_named, is_target, has_target, have_targets, package_leads_on}
+use Rattle.ul_lock.specs.Walk.{Pick}
 use Rattle.ul_sound.specs.Leaves.{LeafFields, IsChosen, HasPair}
 use Rattle.ul_sound.specs.Merged.{Pair, IsTrueSomewhere, edge_key, block_key, files_in, IsRightEdge, AreEdgesOf, IsWantedExtra, IsBlock, AreSimplified, AreForks, IsMergedLock}
 use Rattle.ul_sound.specs.Headline.{IsPick, IsLeafOf, AreMergeable}

@@ -12,11 +12,11 @@ use Rattle.ul_index.specs.Catalogs.{Packages, release_of}
 use Rattle.ul_index.specs.Eligible.{eligible}
 use Rattle.ul_index.specs.Serves.{choice_of}
 use Rattle.ul_project.specs.Fields.{ProjectFields, IsProject}
-use Rattle.ul_lock_lines.specs.declared.parts.Lock.{Lock}
-use Rattle.ul_lock_lines.specs.declared.parts.Locked.{Locked}
-use Rattle.ul_lock_walk.specs.Increasing.{Rising}
-use Rattle.ul_lock_walk.specs.Orders.{file_less}
-use Rattle.ul_lock_walk.specs.WellFormed.{IsWellFormed}
+use Rattle.ul_lock.specs.declared.parts.Lock.{Lock}
+use Rattle.ul_lock.specs.declared.parts.Locked.{Locked}
+use Rattle.ul_lock.specs.Increasing.{Rising}
+use Rattle.ul_lock.specs.Orders.{file_less}
+use Rattle.ul_lock.specs.WellFormed.{IsWellFormed}
 use Rattle.ul_sound.specs.Leaves.{LeafFields, worlds_of, supported_by, project_nodes, Begins, Cover, AreApart, ServeWhole}
 use Rattle.ul_sound.specs.Merged.{IsMergedLock}
 use Rattle.ul_sound.specs.Sound.{IsSound}

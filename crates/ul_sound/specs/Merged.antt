@@ -12,12 +12,12 @@ use Rattle.ul_index.specs.Applied.{IsApplied}
 use Rattle.ul_index.specs.Catalogs.{Packages, release_of, requirements}
 use Rattle.ul_index.specs.Serves.{choice_of}
 use Rattle.ul_project.specs.Fields.{ProjectFields}
-use Rattle.ul_lock_lines.specs.declared.parts.Edge.{Edge}
-use Rattle.ul_lock_lines.specs.declared.parts.Extra.{Extra}
-use Rattle.ul_lock_lines.specs.declared.parts.Locked.{Locked}
-use Rattle.ul_lock_lines.specs.declared.parts.Lock.{Lock}
-use Rattle.ul_lock_walk.specs.Orders.{edge_less, extra_less, block_less}
-use Rattle.ul_lock_walk.specs.Walk.{Pick}
+use Rattle.ul_lock.specs.declared.parts.Edge.{Edge}
+use Rattle.ul_lock.specs.declared.parts.Extra.{Extra}
+use Rattle.ul_lock.specs.declared.parts.Locked.{Locked}
+use Rattle.ul_lock.specs.declared.parts.Lock.{Lock}
+use Rattle.ul_lock.specs.Orders.{edge_less, extra_less, block_less}
+use Rattle.ul_lock.specs.Walk.{Pick}
 use Rattle.ul_sound.specs.Leaves.{LeafFields, worlds_of, IsChosen, HasPair}
 use Rattle.ul_sound.specs.Indexes.{IsIndex}
 

@@ -13,8 +13,8 @@ use Rattle.ul_requirement.specs.Truth.{applies_at, base, meets, targets, with_ex
 use Rattle.ul_index.specs.Catalogs.{Packages, requirements, is_fit}
 use Rattle.ul_index.specs.Eligible.{eligible}
 use Rattle.ul_project.specs.Fields.{ProjectFields}
-use Rattle.ul_lock_lines.specs.declared.parts.Lock.{Lock}
-use Rattle.ul_lock_walk.specs.Walk.{Walk}
+use Rattle.ul_lock.specs.declared.parts.Lock.{Lock}
+use Rattle.ul_lock.specs.Walk.{Walk}
 use Rattle.ul_sound.specs.Leaves.{supported_by}
 
 -- two versions are equal: by the order of versions, for which zeros at the end of a release count as nothing

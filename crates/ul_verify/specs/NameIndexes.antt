@@ -4,7 +4,7 @@ use Rattle.std.specs.List.Sorted.{IsSortedBy}
 use Rattle.std.specs.Ordering.{is_lt}
 use Rattle.ul_base.specs.Names.{name_cmp}
 use Rattle.ul_requirement.specs.Fields.{RequirementFields}
-use Rattle.ul_lock_lines.specs.declared.parts.Edge.{Edge}
+use Rattle.ul_lock.specs.declared.parts.Edge.{Edge}
 use Rattle.ul_verify.specs.declared.name_index.Entry.{Entry}
 use Rattle.ul_verify.specs.declared.name_index.NameIndex.{NameIndex}
 

@@ -5,7 +5,7 @@ ghost use Rattle.ul_verify.specs.NameIndexes.{Covers, IsIndexOf, is_before, requ
 
 use std::alloc::{AllocError, Global};
 use ul_base::{Name, Node};
-use ul_lock_lines::Edge;
+use ul_lock::Edge;
 use ul_requirement::Requirement;
 
 /// A name, and a place at which it stands.

@@ -6,7 +6,7 @@ use ul_base::{Name, SureFiles};
 use ul_index::Catalog;
 use ul_interner::Interner;
 use ul_load::load_project;
-use ul_lock::read;
+use ul_lock_read::read;
 use ul_project::{Project, project};
 use ul_test_rows::{cells, put};
 use ul_verify::{VerifyFault, verify};

@@ -1,6 +1,6 @@
 use Rattle.std.proofs.Common.{refl, sym, ◌∙◌, subst, map, take, ◌++◌, ◌∷◌, [], List}
 use Rattle.std.proofs.lemmas.Option.{slice_get_read}
-use Rattle.ul_lock_lines.specs.declared.parts.Edge.{Edge}
+use Rattle.ul_lock.specs.declared.parts.Edge.{Edge}
 use Rattle.ul_lock_nodes.specs.Places.{FindsPlace}
 use Rattle.ul_filter.specs.Met.{IsFollowed}
 use Rattle.ul_lock_nodes.specs.Routes.{route_of}

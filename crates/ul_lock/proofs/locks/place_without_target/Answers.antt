@@ -1,7 +1,0 @@
-use Rattle.std.proofs.Common.{sym, subst}
-use Rattle.ul_lock.specs.Finding.{AreSorted}
-use Rattle.ul_lock.proofs.Forms.{sorted_of}
-use Rattle.ul_lock.proofs.locks.place_without_target.Goals as goal
-
-pub package_without_target-requires : goal.package_without_target-requires
-package_without_target-requires c = subst (λ z. AreSorted z) (sym c.as_slice.ensures) (sorted_of c.args.sheet.now c.requires)

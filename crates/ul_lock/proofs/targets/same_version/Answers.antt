@@ -1,6 +1,0 @@
-use Rattle.std.proofs.Common.{◌≡◌, Bool, true, sym, ap}
-use Rattle.ul_lock.proofs.Halving.{same_texts}
-use Rattle.ul_lock.proofs.targets.same_version.Goals as goal
-
-pub returns : goal.returns
-returns c = same_texts c.args.version.now c.args.other.now c.same.result c.is_proper.ensures c.is_proper-2.ensures c.same.ensures

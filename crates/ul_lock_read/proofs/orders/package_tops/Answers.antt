@@ -1,0 +1,6 @@
+use Rattle.std.proofs.Common.{rules, sym}
+use Rattle.ul_lock_read.proofs.Rising.{name_tops_last}
+use Rattle.ul_lock_read.proofs.orders.package_tops.Goals as goal
+
+pub returns-in-Some : goal.returns-in-Some
+returns-in-Some c = rw (name_tops_last _ _ _ (sym c.in-Some.ensures.value)) (search rules)

@@ -1,7 +1,0 @@
-use Rattle.std.proofs.Common.{◌≡◌, drop}
-use Rattle.std.specs.Prelude.{flat_map}
-use Rattle.ul_lock_text.specs.Markers.{edge_marker, first_over}
-use Rattle.ul_lock_text.proofs.paths.of_edges.Given as goal
-
-abbrev pub invariant-loop-edge : goal.invariant-loop-edge
-invariant-loop-edge l = first_over (flat_map edge_marker (drop l.edge-index l.edges)) ≡ first_over (flat_map edge_marker l.edges)

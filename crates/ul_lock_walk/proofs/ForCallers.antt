@@ -1,6 +1,0 @@
--- The lemmas that crates above may cite.
-
--- the walk is the least such set, and the same in worlds that agree on the lock's comparisons
-pub use Rattle.ul_lock_walk.proofs.Walks.{walk_is_least, walks_agree}
--- worlds that agree on a tree's comparisons give it one truth
-pub use Rattle.ul_lock_walk.proofs.Walks.{holds_alike}
