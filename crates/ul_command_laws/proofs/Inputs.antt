@@ -8,7 +8,7 @@ use Rattle.ul_project.specs.Laws.{OneProject}
 use Rattle.ul_project.specs.ProjectFile.{FileFields}
 use Rattle.ul_project.specs.Shapes.{Fault}
 use Rattle.ul_groups.specs.Adjusted.{adjusted_catalog}
-use Rattle.ul_groups.specs.Expanded.{Expanding, expanded_project, refused, too_deep}
+use Rattle.ul_groups.specs.Expanded.{Expanding, expanded_project, refused}
 use Rattle.ul_load.specs.Laws.{TurnsAgree}
 use Rattle.ul_load.specs.Loading.{Traced}
 use Rattle.ul_lock_read.specs.Laws.{OneFault, OneTextOneLock}
@@ -56,7 +56,6 @@ expanded_once : (path : List ℕ) (x : Expanding ProjectFields) (a b : Result Pr
     → IsExpanded path x a → IsExpanded path x b → a ≡ b
 expanded_once path (Ok p) a b g h = g ∙ sym h
 expanded_once path (Err (refused place)) a b g h = g ∙ sym h
-expanded_once path (Err too_deep) a b g h = absurd g
 
 one_project_said : OneProject → (path bytes : List ℕ) (m : FileMap) → IsOne (project_said path bytes m)
 one_project_said laws path bytes m =

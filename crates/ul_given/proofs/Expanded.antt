@@ -103,7 +103,7 @@ entries_named groups expand finds keeps group i (x ∷ xs) list after is h e =
 
 group_keeps : (groups : GroupByName) → FindsTexts groups → (depth : ℕ) → KeepsNamed (with_group depth groups)
 unfolding with_group
-group_keeps groups finds zero g list after is h e = absurd (cc e)
+group_keeps groups finds zero g list after is h e = same_list list after e h
 group_keeps groups finds (suc depth) g list after is h e =
     entries_named groups (with_group depth groups) finds (group_keeps groups finds depth) g.name 0 g.entries list after is.entries h e
 

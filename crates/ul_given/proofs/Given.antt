@@ -6,7 +6,7 @@ use Rattle.ul_load.specs.Begun.{BeginsWith}
 use Rattle.ul_load.specs.Loading.{Found, LoadAnswer}
 use Rattle.ul_project.specs.Fields.{IsProject, ProjectFields}
 use Rattle.ul_groups.specs.Adjusted.{adjusted_catalog, adjusted_package, adjusted_release, all_on}
-use Rattle.ul_groups.specs.Expanded.{Expanding, expanded_project, refused, too_deep}
+use Rattle.ul_groups.specs.Expanded.{Expanding, expanded_project, refused}
 use Rattle.ul_inputs.specs.Catalogs.{BeginsAdjusted, beginning, catalog_in, documents, found_or_refused}
 use Rattle.ul_inputs.specs.Inputs.{◌>>=◌, GoesOn, Input, answer, just, small_file}
 use Rattle.ul_inputs.specs.Locks.{Kept, old_lock}
@@ -29,7 +29,6 @@ same_value x y e = cc
 pub expanded_is : (path : List ℕ) (expanded : Expanding ProjectFields) (q : ProjectFields) → IsExpanded path expanded (Ok q) → expanded ≡ Ok q
 expanded_is path (Ok p) q is = let e : q ≡ p = same_value q p is in ap (λ (x : ProjectFields). Ok x) (sym e)
 expanded_is path (Err (refused place)) q is = absurd (cc is)
-expanded_is path (Err too_deep) q is = absurd is
 
 -- a project with its one release
 abbrev pub AreRight : ProjectFields → Type 0

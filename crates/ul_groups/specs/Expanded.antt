@@ -15,17 +15,16 @@ use Rattle.ul_project.specs.declared.path.Place.TheVariants.{Group}
 use Rattle.ul_project.specs.declared.path.ProjectPath.{ProjectPath}
 use Rattle.ul_project.specs.declared.path.ProjectPath.TheVariants.{Entry}
 
--- why groups aren't expanded: an include at this place is refused, or groups include one another through more than
--- `deepest` levels, which no machine has memory for
+-- why groups aren't expanded: an include at this place is refused
 pub data Stop : Type 0 where
   refused : ProjectPath → Stop
-  too_deep : Stop
 
 -- what is expanded, or the first reason against it
 abbrev pub Expanding : Type 0 → Type 0
 Expanding A = Result A Stop
 
--- through so many levels groups may include one another: as many as a machine's word counts
+-- so many levels of includes are followed, as many as a machine's word counts: more than there are groups, and a group
+-- that is being expanded isn't begun again
 abbrev pub deepest : ℕ
 deepest = 2 ^ 64
 
@@ -75,7 +74,7 @@ with_entries groups expand group i (e ∷ es) list =
 
 -- a group's entries depth first, through this many levels
 unfoldable pub with_group : ℕ → GroupByName → Expand
-with_group zero groups g list = Err too_deep
+with_group zero groups g list = Ok list
 with_group (suc depth) groups g list = with_entries groups (with_group depth groups) g.name 0 g.entries list
 
 -- the list of a group

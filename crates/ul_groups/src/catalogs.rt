@@ -13,9 +13,25 @@ use ul_base::Name;
 use ul_base::owned::{beside, with_made};
 use ul_index::Catalog;
 use ul_project::Project;
+use ul_ranges::SharedList;
 use ul_requirement::{FileEntry, Package, Release, Requirement};
 use ul_specifier::Specifiers;
 use ul_version::Version;
+
+// Requirements that are adjusted, as a list that releases may share.
+fn adjusted_requirements(
+    alloc: Global,
+    constraints: &BTreeMap<Name, Requirements>,
+    overrides: &BTreeMap<Name, Requirements>,
+    requirements: &[Requirement],
+) -> Result<SharedList<Requirement>, AllocError>
+    ensures { IfOk result (λ s. s
+        ≡ Adjusted.adjusted_list (at_name constraints.now.entries) (at_name overrides.now.entries) requirements.now) }
+{
+    let list = adjusted_list(alloc, constraints, overrides, requirements)?;
+    let shared = SharedList::of(alloc, list)?;
+    Ok(shared)
+}
 
 // A release whose requirements are adjusted.
 fn adjusted_release(
@@ -31,8 +47,8 @@ fn adjusted_release(
     let version = version.copy(alloc)?;
     let python: &Specifiers = &release.python;
     let (version, python) = beside(version, copy_specifiers(alloc, python))?;
-    let requirements: &Vec<Requirement> = &release.requirements;
-    let requirements = adjusted_list(alloc, constraints, overrides, requirements);
+    let requirements = release.requirements.as_slice();
+    let requirements = adjusted_requirements(alloc, constraints, overrides, requirements);
     let (kept, requirements) = beside((version, python), requirements)?;
     let files: &Vec<FileEntry> = &release.files;
     let (kept, files) = beside((kept, requirements), copy_files(alloc, files))?;

@@ -3,8 +3,9 @@
 ghost use Rattle.std.specs.Prelude.{◌≡◌, IfOk};
 
 use std::alloc::{AllocError, Global};
-use ul_base::owned::with_made;
-use ul_requirement::FileEntry;
+use ul_base::owned::{made_from, with_made};
+use ul_ranges::SharedList;
+use ul_requirement::{FileEntry, Requirement};
 use ul_specifier::{Clause, Specifiers};
 
 // Equal clauses.
@@ -39,4 +40,29 @@ pub(crate) fn copy_files(alloc: Global, files: &[FileEntry]) -> Result<Vec<FileE
         list = with_made(list, file.copy(alloc))?;
     }
     Ok(list)
+}
+
+// Equal requirements.
+fn copy_requirements(
+    alloc: Global,
+    requirements: &[Requirement],
+) -> Result<Vec<Requirement>, AllocError>
+    ensures { IfOk result (λ v. v.items ≡ requirements.now) }
+{
+    let mut list = Vec::with_capacity(alloc, requirements.len())?;
+    for requirement in requirements {
+        list = with_made(list, requirement.copy(alloc))?;
+    }
+    Ok(list)
+}
+
+/// The requirements of a list, with one owner.
+pub(crate) fn own_requirements(
+    alloc: Global,
+    requirements: SharedList<Requirement>,
+) -> Result<Vec<Requirement>, AllocError>
+    ensures { IfOk result (λ v. v.items ≡ requirements) }
+{
+    let made = copy_requirements(alloc, requirements.as_slice());
+    made_from(made, requirements)
 }

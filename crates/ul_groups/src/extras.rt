@@ -11,6 +11,7 @@ ghost use Rattle.ul_groups.specs.Expanded as Expanded;
 ghost use Rattle.ul_groups.specs.GroupMaps.{groups_in};
 ghost use Rattle.ul_groups.specs.Opened.{AreNamed};
 
+use crate::copies::own_requirements;
 use crate::expansion::{group_list, groups_by_name};
 use crate::name_lists::Requirements;
 use std::alloc::{AllocError, Global};
@@ -18,6 +19,7 @@ use std::collections::BTreeMap;
 use ul_base::Name;
 use ul_base::owned::{beside, with_made, with_one};
 use ul_project::{Group, Project, ProjectFault, group_extra, of_extra};
+use ul_ranges::SharedList;
 use ul_requirement::{Package, Release, Requirement};
 
 // The requirements of an extra, as the project's.
@@ -228,6 +230,30 @@ fn joined_requirements(
     Ok((requirements, extras, sizes))
 }
 
+// The same of a list that releases may share.
+fn joined_list(
+    alloc: Global,
+    requirements: SharedList<Requirement>,
+    extras: Vec<Name>,
+    sizes: Vec<u64>,
+    lists: Vec<(Name, Requirements)>,
+) -> Result<(SharedList<Requirement>, Vec<Name>, Vec<u64>), AllocError>
+    ensures requirements { IfOk result (λ t. t.0 ≡ take (Expanded.own_size sizes.items requirements) requirements
+        ++ Expanded.joined_lists (Expanded.lists_with extras.items sizes.items requirements lists.items)) }
+    ensures extras { IfOk result (λ t. t.1.items
+        ≡ names_of (Expanded.lists_with extras.items sizes.items requirements lists.items)) }
+    ensures sizes { IfOk result (λ t. t.2.items
+        ≡ map Extras.extra_size (Expanded.lists_with extras.items sizes.items requirements lists.items)) }
+    ensures rises { IfOk result (λ t. IsStrictlySortedBy name_cmp t.1.items) }
+{
+    let own = own_requirements(alloc, requirements);
+    let ((extras, sizes, lists), own) = beside((extras, sizes, lists), own)?;
+    let (list, extras, sizes) = joined_requirements(alloc, own, extras, sizes, lists)?;
+    let (kept, shared) = beside((extras, sizes), SharedList::of(alloc, list))?;
+    let (extras, sizes) = kept;
+    Ok((shared, extras, sizes))
+}
+
 // A release with these lists among those of its extras, its extras, and how many requirements each has.
 fn release_with(
     alloc: Global,
@@ -251,7 +277,7 @@ fn release_with(
         yanked,
         files,
     } = release;
-    let joined = joined_requirements(alloc, requirements, extras, sizes, lists);
+    let joined = joined_list(alloc, requirements, extras, sizes, lists);
     let (kept, joined) = beside((version, python, files), joined)?;
     let (version, python, files) = kept;
     let (requirements, extras, sizes) = joined;

@@ -108,7 +108,7 @@ fn put_release(alloc: Global, told: &mut String, release: &Release) {
         put(told, version.as_str());
     }
     put(told, ": ");
-    put_requirements(alloc, told, &release.requirements);
+    put_requirements(alloc, told, release.requirements.as_slice());
 }
 
 fn adjusted_catalog(alloc: Global, read: &Project, packages: &str) -> Option<Catalog> {

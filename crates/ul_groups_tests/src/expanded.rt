@@ -40,7 +40,7 @@ fn put_extras(told: &mut String, read: &Project) {
 
 fn put_short(alloc: Global, told: &mut String, read: &Project) {
     for release in &read.package.releases {
-        put_requirements(alloc, told, &release.requirements);
+        put_requirements(alloc, told, release.requirements.as_slice());
     }
     put_extras(told, read);
     put_number(told, read.groups.len() as u64);
@@ -161,7 +161,7 @@ fn star(alloc: Global, count: u64) -> String {
 fn is_large(read: &Project) -> bool {
     let mut count = 0;
     for release in &read.package.releases {
-        count = release.requirements.len();
+        count = release.requirements.as_slice().len();
     }
     read.extras.len() == 100_001 && count == 200_001
 }

@@ -15,6 +15,7 @@ mod Serving
 mod Inserted
 mod OrderedPlaces
 mod Finding
+mod DirectPlaces
 mod NamePlaces
 mod ReleaseExamples
 mod DocumentExamples

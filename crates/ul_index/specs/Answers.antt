@@ -46,9 +46,13 @@ files_view v = v.items
 abbrev pub releases_view : {Z : Type 0} → Vec ReleaseFields Z → List ReleaseFields
 releases_view v = v.items
 
--- the requirements of values that stand behind a reference, where each is a text with a reading
+-- the requirements of values, where each is a text with a reading
+abbrev pub required_by : List Value → Option (List RequirementFields)
+required_by vs = read_each requirement_in (items_list (items_view vs))
+
+-- the same of values that stand behind a reference
 abbrev pub requirements_of_values : Bor (List Value) → Option (List RequirementFields)
-requirements_of_values vs = read_each requirement_in (values_view vs)
+requirements_of_values vs = required_by vs.now
 
 -- an entry, by its parts
 abbrev pub entry_with : Option Fields → Option (List ClauseFields) → Option (List RequirementFields) → Bool → List FileFields → EntryFields

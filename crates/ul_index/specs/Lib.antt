@@ -1,5 +1,6 @@
 pub mod Regions
 pub mod Catalogs
+pub mod DirectPlaces
 pub mod NamePlaces
 pub mod Eligible
 pub mod Applied

@@ -11,6 +11,7 @@ ghost use Rattle.ul_index.specs.Seen.{Follows, Tells};
 ghost use Rattle.ul_index.specs.Usable.{before, release_of_entry};
 
 use crate::entries::{Entry, entry_at};
+use crate::required::LastRead;
 use crate::seen::Seen;
 use crate::shapes::{items_at, json, object_at, text_at};
 use crate::{IndexFault, Place};
@@ -118,11 +119,12 @@ fn releases(alloc: Global, items: &[Value]) -> Result<Vec<Release>, IndexFault>
     ensures releases { Gives releases_view result (Documents.releases_of_items (items_list (items_view items.now))) }
     ensures differ { IfOk result (λ v. VersionsDiffer v.items) }
 {
+    let mut last = LastRead::new(alloc)?;
     let mut seen = Seen::new(alloc);
     let mut list = Vec::new(alloc);
     let mut number: u64 = 0;
     for item in items {
-        let entry = entry_at(alloc, number, item)?;
+        let entry = entry_at(alloc, &mut last, number, item)?;
         let release = next_release(alloc, &mut seen, entry)?;
         add(&mut list, release)?;
         number += 1;

@@ -1,15 +1,14 @@
 //! Eligible releases.
 
-ghost use Rattle.std.specs.Prelude.{◌≡◌, ◌<◌, ◌^◌, Bool, false, filter, length, map, IfOk, Some};
+ghost use Rattle.std.specs.Prelude.{◌≡◌, ◌<◌, ◌^◌, Bool, false, length, map, IfOk, Some};
 ghost use Rattle.std.specs.List.{list_all, list_any};
-ghost use Rattle.std.specs.Str.{bytes_eq};
 ghost use Rattle.ul_version.specs.Fields.{is_pre_of};
 ghost use Rattle.ul_specifier.specs.Meaning.{lower_list, meets_list, names_pre_of, pins_of};
 ghost use Rattle.ul_comparison.specs.Truth.{python_release};
 ghost use Rattle.ul_requirement.specs.Fields.{RequirementFields, VersionsDiffer};
 ghost use Rattle.ul_index.specs.Catalogs.{is_release_fit, releases_of};
 ghost use Rattle.ul_index.specs.Eligible as Eligible;
-ghost use Rattle.ul_index.specs.Eligible.{eligible, on_name, version_at};
+ghost use Rattle.ul_index.specs.Eligible.{eligible, version_at};
 ghost use Rattle.ul_index.specs.Preference.{is_direct};
 ghost use Rattle.ul_index.specs.VersionOrders.{IsOrder};
 
@@ -20,13 +19,6 @@ use ul_base::Name;
 use ul_requirement::{Release, Requirement};
 use ul_specifier::Specifiers;
 use ul_version::Version;
-
-fn is_on(requirement: &Requirement, name: &Name) -> bool
-    ensures { result ≡ bytes_eq requirement.now.name name.now }
-{
-    let own: &Name = &requirement.name;
-    own.text() == name.text()
-}
 
 fn names_pre(requirement: &Requirement) -> bool
     ensures { result ≡ names_pre_of requirement.now.specifiers }
@@ -42,24 +34,24 @@ fn pins(requirement: &Requirement, version: &Version) -> bool
     specifiers.pins(version)
 }
 
-// Whether a direct requirement on the name names a pre-release.
-fn any_names_pre(directs: &[Requirement], name: &Name) -> bool
-    ensures { result ≡ list_any (λ q. names_pre_of q.specifiers) (filter (on_name name.now) directs.now) }
+// Whether a requirement names a pre-release.
+fn any_names_pre(directs: &[&Requirement]) -> bool
+    ensures { result ≡ list_any (λ q. names_pre_of q.specifiers) (map (λ q. q.now) directs.now) }
 {
     for requirement in directs {
-        if is_on(requirement, name) && names_pre(requirement) {
+        if names_pre(requirement) {
             return true;
         }
     }
     false
 }
 
-// Whether a direct requirement on the name pins the version.
-fn any_pins(directs: &[Requirement], name: &Name, version: &Version) -> bool
-    ensures { result ≡ list_any (λ q. pins_of q.specifiers version.now) (filter (on_name name.now) directs.now) }
+// Whether a requirement pins the version.
+fn any_pins(directs: &[&Requirement], version: &Version) -> bool
+    ensures { result ≡ list_any (λ q. pins_of q.specifiers version.now) (map (λ q. q.now) directs.now) }
 {
     for requirement in directs {
-        if is_on(requirement, name) && pins(requirement, version) {
+        if pins(requirement, version) {
             return true;
         }
     }
@@ -85,11 +77,11 @@ fn are_pre(releases: &[Release]) -> bool
     true
 }
 
-// Whether pre-releases of the name count.
-fn takes_pre(directs: &[Requirement], name: &Name, releases: &[Release]) -> bool
-    ensures { result ≡ Eligible.takes_pre (filter (on_name name.now) directs.now) releases.now }
+// Whether pre-releases of a package count, by the direct requirements on it.
+fn takes_pre(directs: &[&Requirement], releases: &[Release]) -> bool
+    ensures { result ≡ Eligible.takes_pre (map (λ q. q.now) directs.now) releases.now }
 {
-    any_names_pre(directs, name) || are_pre(releases)
+    any_names_pre(directs) || are_pre(releases)
 }
 
 fn version_of(release: &Release) -> &Version
@@ -99,32 +91,31 @@ fn version_of(release: &Release) -> &Version
     version
 }
 
-// Whether a release counts.
-fn passes(directs: &[Requirement], name: &Name, pre: bool, release: &Release) -> bool
-    ensures { result ≡ Eligible.passes (filter (on_name name.now) directs.now) pre release.now }
+// Whether a release of a package counts, by the direct requirements on it.
+fn passes(directs: &[&Requirement], pre: bool, release: &Release) -> bool
+    ensures { result ≡ Eligible.passes (map (λ q. q.now) directs.now) pre release.now }
 {
     let version: &Version = &release.version;
-    (!version.is_pre() || pre) && (!release.yanked || any_pins(directs, name, version))
+    (!version.is_pre() || pre) && (!release.yanked || any_pins(directs, version))
 }
 
-// The places of the releases that count, in the order of their versions.
+// The places of the releases of a package that count, in the order of their versions, by the direct requirements on it.
 fn order<'a>(
     alloc: Global,
-    directs: &[Requirement],
-    name: &Name,
+    directs: &[&Requirement],
     releases: &'a [Release],
 ) -> Result<VersionOrder<'a>, AllocError>
     requires differ { VersionsDiffer releases.now }
     requires few { length releases.now < 2 ^ 32 }
-    ensures { IfOk result (IsOrder (filter (on_name name.now) directs.now) releases.now) }
+    ensures { IfOk result (IsOrder (map (λ q. q.now) directs.now) releases.now) }
 {
-    let pre = takes_pre(directs, name, releases);
+    let pre = takes_pre(directs, releases);
     let mut order = VersionOrder::new(alloc);
     let mut place = releases.len();
     while place > 0 {
         place -= 1;
         let release: &Release = &releases[place];
-        if !passes(directs, name, pre, release) {
+        if !passes(directs, pre, release) {
             continue;
         }
         let _added = order.add(version_of(release), place as u32)?;
@@ -142,13 +133,14 @@ pub fn eligible(alloc: Global, catalog: &Catalog, name: &Name) -> Result<Vec<u32
     ensures { IfOk result (λ places.
         map (version_at (releases_of catalog.now name.now)) places.items ≡ map Some (eligible catalog.now name.now)) }
 {
+    let directs = catalog.directs_on(alloc, name)?;
     let releases = catalog.releases_of(name);
-    let order = order(alloc, catalog.directs(), name, releases)?;
+    let order = order(alloc, directs.as_slice(), releases)?;
     order.places(alloc)
 }
 
-/// The places of the eligible releases of a name on which the project has no requirement: those of [`eligible`], found without a
-/// look at the project's requirements.
+/// The places of the eligible releases of a name on which the project has no requirement: those of [`eligible`], found
+/// without a look at the project's requirements.
 pub fn eligible_indirect(
     alloc: Global,
     catalog: &Catalog,
@@ -159,6 +151,6 @@ pub fn eligible_indirect(
         map (version_at (releases_of catalog.now name.now)) places.items ≡ map Some (eligible catalog.now name.now)) }
 {
     let releases = catalog.releases_of(name);
-    let order = order(alloc, &[], name, releases)?;
+    let order = order(alloc, &[], releases)?;
     order.places(alloc)
 }

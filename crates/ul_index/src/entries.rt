@@ -1,24 +1,25 @@
 //! An entry of a document.
 
-ghost use Rattle.std.specs.Prelude.{◌≡◌, IfOk, option_map, is_some};
+ghost use Rattle.std.specs.Prelude.{◌≡◌, IfOk, is_some};
 ghost use Rattle.serde_json.specs.Find.{as_str};
 ghost use Rattle.serde_json.specs.View.{items_view, view};
 ghost use Rattle.ul_version.specs.Reading.{version_of};
 ghost use Rattle.ul_requirement.specs.Fields.{FilesRise};
-ghost use Rattle.ul_index.specs.Answers.{Gives, entry_with, requirements_of_values, requirements_view, text_view, value_view};
+ghost use Rattle.ul_index.specs.Answers.{Gives, entry_with, required_by, requirements_of_values, text_view, value_view};
 ghost use Rattle.ul_index.specs.Documents as Documents;
-ghost use Rattle.ul_index.specs.Documents.{requirement_in};
 ghost use Rattle.ul_index.specs.Json.{items_list};
 ghost use Rattle.ul_index.specs.Results.{read_each};
 
 use crate::files::files_at;
+use crate::required::LastRead;
 use crate::shapes::{object_at, optional_items_at, optional_text_at, text_at, yanked_at};
 use crate::{EntryKey, IndexFault, Place};
 use serde_json::Value;
 use std::alloc::{AllocError, Global};
 use std::marker::Model;
-use ul_base::owned::{beside, refused, with_one};
-use ul_requirement::{FileEntry, ReqFault, Requirement};
+use ul_base::owned::beside;
+use ul_ranges::SharedList;
+use ul_requirement::{FileEntry, Requirement};
 use ul_specifier::{SpecFault, Specifiers};
 use ul_version::{Version, VersionFault};
 
@@ -28,7 +29,7 @@ use ul_version::{Version, VersionFault};
 pub(crate) struct Entry {
     pub version: Option<Version>,
     pub python: Option<Specifiers>,
-    pub requirements: Option<Vec<Requirement>>,
+    pub requirements: Option<SharedList<Requirement>>,
     pub yanked: bool,
     pub files: Vec<FileEntry>,
 }
@@ -36,16 +37,15 @@ pub(crate) struct Entry {
 impl Model for Entry {
     ghost use Rattle.std.specs.Coded.{codes};
     ghost use Rattle.ul_comparison.specs.Codes.{formula_code};
-    ghost use Rattle.std.specs.Prelude.{option_map};
     ghost use Rattle.ul_index.specs.Usable.{EntryFields, IsEntry};
 
     ghost Value = { EntryFields };
 
     ghost coded = { Prim.hlevel (codes, formula_code) };
 
-    ghost view = { λ e. record { version = e.version; python = e.python; requirements = option_map (λ v. v.items) e.requirements; yanked = e.yanked; files = e.files.items } };
+    ghost view = { λ e. record { version = e.version; python = e.python; requirements = e.requirements; yanked = e.yanked; files = e.files.items } };
 
-    ghost invariant = { λ e. IsEntry (record { version = e.version; python = e.python; requirements = option_map (λ v. v.items) e.requirements; yanked = e.yanked; files = e.files.items }) };
+    ghost invariant = { λ e. IsEntry (record { version = e.version; python = e.python; requirements = e.requirements; yanked = e.yanked; files = e.files.items }) };
 }
 
 // The version of a text, where it has a reading.
@@ -98,53 +98,25 @@ fn texts_at<'a>(place: Place, value: Option<&'a Value>) -> Result<&'a [Value], I
     Ok(items)
 }
 
-// The requirement of a value that is a text, where it has a reading.
-fn requirement(alloc: Global, value: &Value) -> Result<Option<Requirement>, AllocError>
-    ensures { IfOk result (λ q. requirement_in (view value.now) ≡ q) }
-{
-    let Some(text) = value.as_str() else {
-        return Ok(None);
-    };
-    match Requirement::read(alloc, text) {
-        Ok(requirement) => Ok(Some(requirement)),
-        Err(ReqFault::Url) => Ok(None),
-        Err(ReqFault::NoReading) => Ok(None),
-        Err(ReqFault::NoMemory) => Err(AllocError),
-    }
-}
-
-// The requirements of values, where each is a text with a reading.
-fn requirements(alloc: Global, items: &[Value]) -> Result<Option<Vec<Requirement>>, AllocError>
-    ensures { IfOk result (λ o. read_each requirement_in (items_list (items_view items.now)) ≡ requirements_view o) }
-{
-    let mut list = Vec::with_capacity(alloc, items.len())?;
-    for item in items {
-        let (kept, found) = beside(list, requirement(alloc, item))?;
-        let Some(requirement) = found else {
-            return Ok(refused(kept));
-        };
-        list = with_one(kept, requirement)?;
-    }
-    Ok(Some(list))
-}
-
 // The entry of texts and files.
-fn entry_of(
+fn entry_of<'a>(
     alloc: Global,
+    last: &mut LastRead<'a>,
     version_text: &str,
     python_text: Option<&str>,
-    requirement_texts: &[Value],
+    requirement_texts: &'a [Value],
     yanked: bool,
     files: Vec<FileEntry>,
 ) -> Result<Entry, AllocError>
     requires { FilesRise files.items }
     ensures { IfOk result (λ e. e ≡ entry_with (version_of version_text.now)
         (Documents.python_of (text_view python_text.entry))
-        (read_each requirement_in (items_list (items_view requirement_texts.now))) yanked files.items) }
+        (required_by requirement_texts.now) yanked files.items) }
 {
     let (files, version) = beside(files, version(alloc, version_text))?;
     let (kept, python) = beside((files, version), python(alloc, python_text))?;
-    let (kept, requirements) = beside((kept, python), requirements(alloc, requirement_texts))?;
+    let requirements = last.requirements(alloc, requirement_texts);
+    let (kept, requirements) = beside((kept, python), requirements)?;
     let ((files, version), python) = kept;
     Ok(Entry {
         version,
@@ -155,9 +127,14 @@ fn entry_of(
     })
 }
 
-/// What the entry at a place says.
+/// What the entry at a place says; its requirements are read only where they aren't those that were read last.
 #[tactic(auto, unfolding(crate::specs::Documents::entry_at))]
-pub(crate) fn entry_at(alloc: Global, index: u64, value: &Value) -> Result<Entry, IndexFault>
+pub(crate) fn entry_at<'a>(
+    alloc: Global,
+    last: &mut LastRead<'a>,
+    index: u64,
+    value: &'a Value,
+) -> Result<Entry, IndexFault>
     ensures { Gives (λ e. e) result (Documents.entry_at index (view value.now)) }
 {
     object_at(Place::Entry(index), value)?;
@@ -169,6 +146,6 @@ pub(crate) fn entry_at(alloc: Global, index: u64, value: &Value) -> Result<Entry
     let requirements = texts_at(requirements_place, value.get("requires_dist"))?;
     let yanked = yanked_at(Place::Key(index, EntryKey::Yanked), value.get("yanked"))?;
     let files = files_at(alloc, index, value.get("files"))?;
-    let entry = entry_of(alloc, version, python, requirements, yanked, files)?;
+    let entry = entry_of(alloc, last, version, python, requirements, yanked, files)?;
     Ok(entry)
 }

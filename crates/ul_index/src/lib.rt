@@ -2,6 +2,7 @@
 #![tactic(auto)]
 
 mod catalog;
+mod direct_index;
 mod documents;
 mod eligibility;
 mod entries;
@@ -10,6 +11,7 @@ mod file_set;
 mod files;
 pub mod laws;
 mod place;
+mod required;
 mod seen;
 mod shapes;
 mod version_order;

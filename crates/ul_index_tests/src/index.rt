@@ -76,7 +76,11 @@ const ELIGIBLE: &str = "a|2/1+2.0a1 |2.0a1|\"a\"\n\
     a|2/0+1.9 1.9+x 1.9.post1 1.10 1!0 |1.10 1.9 1!0 1.9.post1 1.9+x|\n\
     b|2/2-|1 2|\"a\", \"b\"\n\
     demo|2/2+0 |1 2|\"a\", \"b\"\n\
-    a|2/2+1 2 |1 2|\"a\", \"b\"";
+    a|2/2+1 2 |1 2|\"a\", \"b\"\n\
+    a|2/5+1.0 2.0a1 |2.0a1 1.0|\"b\", \"a\", \"c\", \"a>=2.0a0\", \"b\"\n\
+    a|2/5+1.0 |2.0a1 1.0|\"b>=2.0a0\", \"a\", \"b==2.0a1\", \"a<3\", \"c==2.0a1\"\n\
+    a|2/5+1 2 3 |2! 1 3! 4!|\"a==2\", \"b==4\", \"a==3\", \"a>=1\", \"c==4\"\n\
+    b|2/3-|2! 1|\"a==2\", \"b==1\", \"a==1\"";
 
 // Puts the name of a file, and the first two digits of its sum.
 fn put_file(told: &mut String, entry: &FileEntry) {
@@ -96,7 +100,7 @@ fn put_version(alloc: Global, told: &mut String, version: &Version) {
 fn put_release(alloc: Global, told: &mut String, release: &Release) {
     put_version(alloc, told, &release.version);
     put(told, if release.yanked { "!/" } else { "/" });
-    put_number(told, release.requirements.len() as u64);
+    put_number(told, release.requirements.as_slice().len() as u64);
     for entry in &release.files {
         put_file(told, entry);
     }
@@ -361,16 +365,52 @@ fn are_in_order(alloc: Global, count: u64) -> bool {
     is_catalog_row(alloc, line.as_str())
 }
 
+// Puts so many requirements on other names, with a comma behind each.
+fn put_others(line: &mut String, count: u64) {
+    for number in 0..count {
+        let _ = write!(line, "\"p{number}\", ");
+    }
+}
+
+// Whether two requirements on `a` count that stand among 20,000 on other names.
+fn are_found_among_others(alloc: Global) -> bool {
+    let mut line = String::new(alloc);
+    put(&mut line, "a|2/20002+1 2 3a1 |3a1 2! 1|");
+    put_others(&mut line, 10_000);
+    put(&mut line, "\"a==2\", ");
+    put_others(&mut line, 10_000);
+    put(&mut line, "\"a<=3a1\"");
+    is_catalog_row(alloc, line.as_str())
+}
+
 #[test]
 fn eligible_releases(rt: HostRuntime) {
     for line in ELIGIBLE.lines() {
         assert!(rt; is_catalog_row(rt.alloc(), line), "{line}");
     }
     assert!(rt; are_in_order(rt.alloc(), 10_000));
+    assert!(rt; are_found_among_others(rt.alloc()));
 }
 
-// Puts an entry of a number, with twenty requirements.
-fn put_large_entry(text: &mut String, number: u64) {
+// Which entries have the same requirements: all, every other one, or none.
+#[derive(Clone, Copy, Drop)]
+enum Repeated {
+    Always,
+    EveryOther,
+    Never,
+}
+
+// The number in the requirements of an entry.
+fn bound(repeated: Repeated, number: u64) -> u64 {
+    match repeated {
+        Repeated::Always => 0,
+        Repeated::EveryOther => number % 2,
+        Repeated::Never => number,
+    }
+}
+
+// Puts an entry of a number, with twenty requirements, which have a bound.
+fn put_large_entry(text: &mut String, number: u64, bound: u64) {
     put(
         text,
         if number > 0 {
@@ -385,37 +425,37 @@ fn put_large_entry(text: &mut String, number: u64) {
         "\",\"requires_python\":\">=3.9\",\"requires_dist\":[\"b\"",
     );
     for more in 1..20 {
-        let _ = write!(text, ",\"package-{more}>={number}\"");
+        let _ = write!(text, ",\"package-{more}>={bound}\"");
     }
     put(text, "],\"yanked\":false}");
 }
 
 // A document of `a` with so many such entries.
-fn large_document(alloc: Global, count: u64) -> String {
+fn large_document(alloc: Global, count: u64, repeated: Repeated) -> String {
     let mut text = String::new(alloc);
     put(&mut text, "{\"name\": \"a\", \"versions\": [");
     for number in 0..count {
-        put_large_entry(&mut text, number);
+        put_large_entry(&mut text, number, bound(repeated, number));
     }
     put(&mut text, "]}");
     text
 }
 
-// Whether a package has 10,000 entries and releases, and each of these twenty requirements.
-fn is_whole(found: &Package) -> bool {
+// Whether a package has so many entries and releases, and each of these twenty requirements.
+fn is_whole(found: &Package, count: u64) -> bool {
     for release in &found.releases {
-        if release.requirements.len() != 20 {
+        if release.requirements.as_slice().len() != 20 {
             return false;
         }
     }
-    found.entries == 10_000 && found.releases.len() == 10_000
+    found.entries == count && found.releases.len() as u64 == count
 }
 
-fn is_read_whole(alloc: Global) -> bool {
-    let text = large_document(alloc, 10_000);
+fn is_read_whole(alloc: Global, count: u64, repeated: Repeated) -> bool {
+    let text = large_document(alloc, count, repeated);
     match package(alloc, "a", text.as_str()) {
         Some(found) => {
-            let whole = is_whole(&found);
+            let whole = is_whole(&found, count);
             drop(found);
             whole
         }
@@ -425,5 +465,11 @@ fn is_read_whole(alloc: Global) -> bool {
 
 #[test]
 fn large_documents(rt: HostRuntime) {
-    assert!(rt; is_read_whole(rt.alloc()));
+    assert!(rt; is_read_whole(rt.alloc(), 10_000, Repeated::Never));
+}
+
+#[test]
+fn large_documents_of_equal_lists(rt: HostRuntime) {
+    assert!(rt; is_read_whole(rt.alloc(), 3_000, Repeated::Always));
+    assert!(rt; is_read_whole(rt.alloc(), 3_000, Repeated::EveryOther));
 }

@@ -7,7 +7,7 @@ use Rattle.ul_project.specs.ProjectFile.{file_of}
 use Rattle.ul_project.specs.Shapes.{Fault, not_toml, requirement_fault, shape, unsupported}
 use Rattle.ul_project.specs.declared.fault.ProjectFault.{ProjectFault}
 use Rattle.ul_project.specs.declared.fault.ProjectFault.TheVariants.{NotToml, Shape, Requirement, Unsupported, EmptyRegion, NoMemory}
-use Rattle.ul_groups.specs.Expanded.{Expanding, expanded_project, refused, too_deep}
+use Rattle.ul_groups.specs.Expanded.{Expanding, expanded_project, refused}
 use Rattle.ul_inputs.specs.Inputs.{Input, ◌>>=◌, answer, small_file}
 use Rattle.ul_inputs.specs.Refused.{Refused, malformed}
 
@@ -43,11 +43,10 @@ abbrev pub IsProjectOf : (path bytes : List ℕ) → Result ProjectFields Refuse
 IsProjectOf path bytes (Ok p) = IsSaid bytes p
 IsProjectOf path bytes (Err e) = HasFault path bytes e ⊎ HasNoWorld path bytes e
 
--- the project with its groups as extras; groups that nest too deep have no answer
+-- the project with its groups as extras, or the first include that is refused
 abbrev pub IsExpanded : List ℕ → Expanding ProjectFields → Result ProjectFields Refused → Type 0
 IsExpanded path (Ok p) r = r ≡ Ok p
 IsExpanded path (Err (refused place)) r = r ≡ Err (malformed path (codes "shape " ++ path_text place))
-IsExpanded path (Err too_deep) r = ⊥
 
 -- the project of bytes: what they say, with its groups as extras
 abbrev pub project_said : (path bytes : List ℕ) → Input ProjectFields

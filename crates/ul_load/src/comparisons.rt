@@ -95,7 +95,7 @@ impl Comparisons {
         ensures { OnOk result (atoms_view self.new
             ≡ comparisons_with (atoms_view self.old) (atoms_in release.now.requirements)) }
     {
-        let requirements: &Vec<Requirement> = &release.requirements;
+        let requirements: &Vec<Requirement> = release.requirements.as_vec();
         self.add_requirements(alloc, requirements)
     }
 

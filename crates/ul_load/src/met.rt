@@ -55,7 +55,7 @@ fn meet_release(
 ) -> Result<(), AllocError>
     ensures { OnOk result (names.new.keys ≡ names_with names.old.keys (names_of release.now.requirements)) }
 {
-    let requirements: &Vec<Requirement> = &release.requirements;
+    let requirements: &Vec<Requirement> = release.requirements.as_vec();
     meet_requirements(alloc, names, requirements)
 }
 

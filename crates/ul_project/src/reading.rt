@@ -28,6 +28,7 @@ use toml::Table;
 use ul_base::Name;
 use ul_base::owned::{beside, with_one};
 use ul_marker::Marker;
+use ul_ranges::SharedList;
 use ul_requirement::{Package, Release, Requirement};
 use ul_specifier::Specifiers;
 use ul_tree::Tree;
@@ -154,6 +155,8 @@ fn package_of(
 ) -> Result<Package, AllocError>
     ensures { IfOk result (λ p. p ≡ ProjectFile.package_with name version requirements.items) }
 {
+    let requirements = SharedList::of(alloc, requirements);
+    let ((name, version), requirements) = beside((name, version), requirements)?;
     let release = Release {
         version,
         python: Specifiers {

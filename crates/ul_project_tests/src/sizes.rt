@@ -49,7 +49,7 @@ fn put_counts(told: &mut String, project: &Project) {
     put_number(told, project.extras.len() as u64);
     for release in &project.package.releases {
         put(told, " ");
-        put_number(told, release.requirements.len() as u64);
+        put_number(told, release.requirements.as_slice().len() as u64);
     }
     put(told, " ");
     put_number(told, project.groups.len() as u64);

@@ -61,7 +61,7 @@ fn put_release(alloc: Global, told: &mut String, release: &Release) {
         put(told, version.as_str());
     }
     put(told, " ");
-    put_requirements(told, &release.requirements);
+    put_requirements(told, release.requirements.as_slice());
     if release.yanked || !release.files.is_empty() || !release.python.clauses.is_empty() {
         put(told, "?");
     }

@@ -7,7 +7,7 @@ use Rattle.ul_marker.specs.Comparisons.{comparison_of, containment, extra_litera
 use Rattle.ul_marker.specs.Reading.{atom_at, before_close, chain_at, chain_with, each, inner_tokens, marker_of, part_at, pieces_from}
 use Rattle.ul_marker.specs.Words.{front_literal, front_sign, front_token, front_word, tokens_in, tokens_of, word_token}
 use Rattle.ul_requirement.specs.Reading.{names_of, extras_in, extras_front, front_of, specifiers_in, marker_in, tail_of, reading_of}
-use Rattle.ul_requirement.specs.Vectors.{Addresses, NoReadings, Readings, Truths}
+use Rattle.ul_requirement.specs.Vectors.{Addresses, MayBeTrue, NoReadings, Readings, Truths}
 
 pub readings : Readings
 unfolding is_name normal_form name_of after_white before_white after_word digits after_digits value_after number required_number marked_digits epoch points release pre post dev segment segments local fields_of version_of operator star_clause plain_clause clause_after clause_of clauses_of clause_with specifiers_of comparison_of containment extra_literal sign_formula versions_of within atom_at before_close chain_at chain_with each inner_tokens marker_of part_at pieces_from front_literal front_sign front_token front_word tokens_in tokens_of word_token names_of extras_in extras_front front_of specifiers_in marker_in tail_of reading_of
@@ -68,4 +68,18 @@ truths = record {
   without_marker = refl;
   without_marker_at_extra = refl;
   aims = refl;
+}
+
+pub may_be_true : MayBeTrue
+may_be_true = record {
+  named = refl;
+  other_named = refl;
+  negated = refl;
+  other_negated = refl;
+  empty_literal = refl;
+  empty_literal_negated = refl;
+  named_within = refl;
+  of_the_base_alone = refl;
+  without_marker = refl;
+  at_base = refl;
 }

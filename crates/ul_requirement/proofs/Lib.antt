@@ -4,3 +4,4 @@ mod Names
 mod Faults
 mod Spelled
 mod Examples
+mod NamedExtras

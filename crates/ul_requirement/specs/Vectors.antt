@@ -1,15 +1,16 @@
--- Worked examples: texts and the requirements that they spell, texts without a reading, and truths at nodes.
+-- Worked examples: texts and the requirements that they spell, texts without a reading, truths at nodes, and nodes at
+-- which requirements may be true.
 use Rattle.std.specs.Prelude.{◌≡◌, ℕ, Bool, true, false, List, [], ◌∷◌, codes, Option, Some, None}
 use Rattle.ul_version.specs.Fields.{plain}
 use Rattle.ul_specifier.specs.Clauses.{ClauseFields}
 use Rattle.ul_specifier.specs.declared.clause.Op.{Op}
 use Rattle.ul_specifier.specs.declared.clause.Op.TheVariants.{Equal, AtLeast, Less}
-use Rattle.ul_comparison.specs.Formulas.{Formula, extra, python, text, any, formulas_of}
+use Rattle.ul_comparison.specs.Formulas.{Formula, extra, python, text, all, any, formulas_of}
 use Rattle.ul_comparison.specs.Worlds.{WorldFields}
 use Rattle.ul_comparison.specs.declared.variable.Variable.TheVariants.{OsName}
 use Rattle.ul_requirement.specs.Fields.{RequirementFields}
 use Rattle.ul_requirement.specs.Reading.{reading_of, requirement, by_url, unread}
-use Rattle.ul_requirement.specs.Truth.{applies_at, base, targets, with_extra}
+use Rattle.ul_requirement.specs.Truth.{applies_at, base, may_apply, targets, with_extra}
 
 -- a requirement of a name
 abbrev pub asks : List ℕ → List (List ℕ) → List ClauseFields → Option Formula → RequirementFields
@@ -92,3 +93,20 @@ pub record Truths : Type 0 where
   pub without_marker : applies_at (asks (codes "q") [] [] None) (base (codes "p")) (world_of_os []) ≡ true
   pub without_marker_at_extra : applies_at (asks (codes "q") [] [] None) (with_extra (codes "p") (codes "x")) (world_of_os []) ≡ false
   pub aims : targets with_x_or_a ≡ base (codes "q") ∷ with_extra (codes "q") (codes "u") ∷ with_extra (codes "q") (codes "v") ∷ []
+
+-- a requirement of a marker
+abbrev pub marked : Formula → RequirementFields
+marked m = asks (codes "q") [] [] (Some m)
+
+-- the nodes at which requirements may be true
+pub record MayBeTrue : Type 0 where
+  pub named : may_apply (marked (extra (codes "a") true)) (with_extra (codes "p") (codes "a")) ≡ true
+  pub other_named : may_apply (marked (extra (codes "a") true)) (with_extra (codes "p") (codes "b")) ≡ false
+  pub negated : may_apply (marked (extra (codes "a") false)) (with_extra (codes "p") (codes "a")) ≡ true
+  pub other_negated : may_apply (marked (extra (codes "a") false)) (with_extra (codes "p") (codes "b")) ≡ false
+  pub empty_literal : may_apply (marked (extra [] true)) (with_extra (codes "p") (codes "a")) ≡ true
+  pub empty_literal_negated : may_apply (marked (extra [] false)) (with_extra (codes "p") (codes "b")) ≡ true
+  pub named_within : may_apply (marked (all (formulas_of (on_a ∷ any (formulas_of (extra (codes "a") true ∷ extra (codes "b") true ∷ [])) ∷ [])))) (with_extra (codes "p") (codes "b")) ≡ true
+  pub of_the_base_alone : may_apply (marked on_a) (with_extra (codes "p") (codes "a")) ≡ false
+  pub without_marker : may_apply (asks (codes "q") [] [] None) (with_extra (codes "p") (codes "a")) ≡ false
+  pub at_base : may_apply (marked (extra (codes "a") true)) (base (codes "p")) ≡ true

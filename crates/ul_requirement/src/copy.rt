@@ -73,20 +73,6 @@ impl Requirement {
     }
 }
 
-// Equal requirements.
-fn copy_requirements(
-    alloc: Global,
-    requirements: &[Requirement],
-) -> Result<Vec<Requirement>, AllocError>
-    ensures { IfOk result (λ v. v.items ≡ requirements.now) }
-{
-    let mut list = Vec::with_capacity(alloc, requirements.len())?;
-    for requirement in requirements {
-        list.push(requirement.copy(alloc)?)?;
-    }
-    Ok(list)
-}
-
 impl FileEntry {
     /// An equal file.
     pub fn copy(&self, alloc: Global) -> Result<FileEntry, AllocError>
@@ -110,7 +96,7 @@ fn copy_files(alloc: Global, files: &[FileEntry]) -> Result<Vec<FileEntry>, Allo
 }
 
 impl Release {
-    /// An equal release.
+    /// An equal release. It shares the list of requirements.
     pub fn copy(&self, alloc: Global) -> Result<Release, AllocError>
         ensures { IfOk result (λ r. r ≡ self.now) }
     {
@@ -118,8 +104,7 @@ impl Release {
         let version = version.copy(alloc)?;
         let python: &Specifiers = &self.python;
         let python = copy_specifiers(alloc, python)?;
-        let requirements: &Vec<Requirement> = &self.requirements;
-        let requirements = copy_requirements(alloc, requirements)?;
+        let requirements = self.requirements.copy()?;
         let files: &Vec<FileEntry> = &self.files;
         let files = copy_files(alloc, files)?;
         Ok(Release {

@@ -3,6 +3,7 @@
 use crate::Requirement;
 use std::marker::Model;
 use ul_base::Name;
+use ul_ranges::SharedList;
 use ul_specifier::Specifiers;
 use ul_version::Version;
 
@@ -37,7 +38,8 @@ pub struct Release {
     pub version: Version,
     /// The interpreters that it asks for; none where it asks for nothing.
     pub python: Specifiers,
-    pub requirements: Vec<Requirement>,
+    /// Releases of a package mostly ask for the same; those share one list.
+    pub requirements: SharedList<Requirement>,
     /// Whether it was withdrawn (PEP 592).
     pub yanked: bool,
     pub files: Vec<FileEntry>,
@@ -52,9 +54,9 @@ impl Model for Release {
 
     ghost coded = { Prim.hlevel (codes, formula_code) };
 
-    ghost view = { λ r. record { version = r.version; python = r.python; requirements = r.requirements.items; yanked = r.yanked; files = r.files.items } };
+    ghost view = { λ r. record { version = r.version; python = r.python; requirements = r.requirements; yanked = r.yanked; files = r.files.items } };
 
-    ghost invariant = { λ r. IsRelease (record { version = r.version; python = r.python; requirements = r.requirements.items; yanked = r.yanked; files = r.files.items }) };
+    ghost invariant = { λ r. IsRelease (record { version = r.version; python = r.python; requirements = r.requirements; yanked = r.yanked; files = r.files.items }) };
 }
 
 /// A package: its usable releases, in the order of its document.

@@ -1,8 +1,8 @@
 //! Where a requirement applies, and what it aims at.
 
 ghost use Rattle.std.specs.Prelude.{◌≡◌, IfOk, option_map};
-ghost use Rattle.ul_marker.specs.Views.{marker_view};
-ghost use Rattle.ul_requirement.specs.Truth.{applies_at, atoms_in, atoms_of_requirement, may_hold, targets, with_extra};
+ghost use Rattle.ul_marker.specs.Views.{marker_view, markers_view};
+ghost use Rattle.ul_requirement.specs.Truth.{applies_at, atoms_in, atoms_of_requirement, marker_names, may_apply, may_hold, names_extra, some_names_extra, targets, with_extra};
 
 use crate::Requirement;
 use std::alloc::{AllocError, Global};
@@ -19,7 +19,57 @@ fn may_hold(marker: &Option<Marker>, world: &World, extra: &str) -> bool
     }
 }
 
+// Whether a comparison of a marker may tell an extra from the empty one.
+#[cycle(names)]
+fn names_extra(marker: &Marker, extra: &str) -> bool
+    ensures { result ≡ names_extra extra.now (marker_view marker.now) }
+{
+    match marker {
+        Marker::Extra { literal, .. } => literal.is_empty() || literal.as_str() == extra,
+        Marker::All(parts) => some_names_extra(parts, extra),
+        Marker::Any(parts) => some_names_extra(parts, extra),
+        Marker::Python { .. }
+        | Marker::PythonList { .. }
+        | Marker::Text { .. }
+        | Marker::Opaque { .. } => false,
+    }
+}
+
+// Whether a comparison of some of these may tell an extra from the empty one.
+#[cycle(names)]
+fn some_names_extra(parts: &[Marker], extra: &str) -> bool
+    ensures { result ≡ some_names_extra extra.now (markers_view parts.now) }
+{
+    for part in parts {
+        if names_extra(part, extra) {
+            return true;
+        }
+    }
+    false
+}
+
+// The same of a marker, where there is one.
+fn marker_names(marker: &Option<Marker>, extra: &str) -> bool
+    ensures { result ≡ marker_names (option_map marker_view marker.now) extra.now }
+{
+    match marker {
+        Some(marker) => names_extra(marker, extra),
+        None => false,
+    }
+}
+
 impl Requirement {
+    /// Whether the requirement may be true at a node in some world: at a node with an extra only where its marker
+    /// names that extra or the empty one.
+    pub fn may_apply(&self, node: &Node) -> bool
+        ensures { result ≡ may_apply self.now node.now }
+    {
+        match &node.extra {
+            Some(extra) => marker_names(&self.marker, extra.text()),
+            None => true,
+        }
+    }
+
     /// Whether the requirement is true at a node in a world.
     ///
     /// At a base its marker holds there with the empty extra. At a node with an extra it holds with that

@@ -16,7 +16,7 @@ loop-item-init c = (refl, ([], c.new-seen.ensures, releases-start c.new-list.res
 
 pub returns-in_err-entry-clause-releases : goal.returns-in_err-entry-clause-releases
 returns-in_err-entry-clause-releases c =
-    let p = err_from_is_err_and c.from_residual.result c.from_residual.ensures.1 in
+    let p = err_from_is_err_and c.from_residual-in_err-entry.result c.from_residual-in_err-entry.ensures.1 in
     let i = c.loop-item.item-index in
     let vs = c.args.items.now in
     let n = c.loop-item.number in

@@ -1,6 +1,6 @@
-use Rattle.std.proofs.Common.{◌≡◌, ◌+◌, ◌-◌, ◌<◌, arith, ap, filter, length, sym, ◌∙◌}
+use Rattle.std.proofs.Common.{◌≡◌, ◌+◌, ◌-◌, ◌<◌, arith, ap, length, map, sym, ◌∙◌}
 use Rattle.std.specs.BTreeSet.{insert_key}
-use Rattle.ul_index.specs.Eligible.{on_name, passes}
+use Rattle.ul_index.specs.Eligible.{passes}
 use Rattle.ul_index.specs.VersionOrders.{by_version, places_in}
 use Rattle.ul_index.proofs.OrderedPlaces.{places-take, versions-take}
 use Rattle.ul_index.proofs.eligibility.order.Goals as goal
@@ -10,7 +10,7 @@ loop-place-preserved c =
     let n = c.loop-place.place in
     let rs = c.args.releases.now in
     let r = c.index-releases-place.result in
-    let qs = filter (on_name c.args.name.now) c.args.directs.now in
+    let qs = map (λ q. q.now) c.args.directs.now in
     let inv = c.loop-place.invariant in
     let up : n ≡ (n - 1) + 1 = omega arith in
     let lt : n - 1 < length rs = omega (arith, inv.0) in

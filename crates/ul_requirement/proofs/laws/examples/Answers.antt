@@ -1,4 +1,4 @@
-use Rattle.ul_requirement.proofs.Examples.{addresses, no_readings, readings, truths}
+use Rattle.ul_requirement.proofs.Examples.{addresses, may_be_true, no_readings, readings, truths}
 use Rattle.ul_requirement.proofs.laws.examples.Goals as goal
 
 pub returns-clause-readings : goal.returns-clause-readings
@@ -12,3 +12,6 @@ returns-clause-no_readings c = no_readings
 
 pub returns-clause-truths : goal.returns-clause-truths
 returns-clause-truths c = truths
+
+pub returns-clause-may_be_true : goal.returns-clause-may_be_true
+returns-clause-may_be_true c = may_be_true

@@ -4,7 +4,7 @@ use Rattle.ul_index.specs.Documents.{requirement_in}
 use Rattle.ul_index.specs.Json.{items_list}
 use Rattle.ul_index.specs.Results.{read_each}
 use Rattle.ul_index.proofs.EachRead.{found_then}
-use Rattle.ul_index.proofs.entries.requirements.Given as goal
+use Rattle.ul_index.proofs.required.requirements.Given as goal
 
 abbrev pub invariant-loop-item : goal.invariant-loop-item
 invariant-loop-item l =

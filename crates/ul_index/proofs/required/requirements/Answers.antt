@@ -4,7 +4,7 @@ use Rattle.ul_index.specs.Documents.{requirement_in}
 use Rattle.ul_index.specs.Results.{read_each}
 use Rattle.ul_index.proofs.EachRead.{found_then, found_then-one}
 use Rattle.ul_index.proofs.Values.{values-next, values_from}
-use Rattle.ul_index.proofs.entries.requirements.Goals as goal
+use Rattle.ul_index.proofs.required.requirements.Goals as goal
 
 pub loop-item-preserved : goal.loop-item-preserved
 loop-item-preserved c =
