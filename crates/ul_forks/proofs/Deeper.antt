@@ -1,6 +1,6 @@
 -- Where the core of a region that nothing serves splits it.
 use Rattle.std.specs.Prelude.{All, Contains, slice_get}
-use Rattle.std.proofs.Common.{◌≡◌, ◌<◌, ◌≤◌, ◌+◌, ◌∙◌, ℕ, List, [], ◌∷◌, length, get_or, map, take, zero, suc, Bool, true, false, not, arith, Option, Some, None, refl, sym, ap, subst, inl, inr}
+use Rattle.std.proofs.Common.{◌≡◌, ◌<◌, ◌≤◌, ◌+◌, ◌∙◌, ℕ, List, [], ◌∷◌, length, get_or, take, zero, suc, Bool, true, false, not, arith, Option, Some, None, refl, sym, ap, subst, inl, inr}
 use Rattle.std.proofs.lemmas.Option.{none-some, same_Some, slice_get_within, get_or_from_slice_get}
 use Rattle.std.proofs.lemmas.List.{take_all}
 use Rattle.std.proofs.lemmas.List.Elements.{All-contains, All-cons, All-head, All-more, All-nil, All-tail}
@@ -27,7 +27,7 @@ use Rattle.ul_blame.specs.declared.needs.CoreNeed.{CoreNeed}
 use Rattle.ul_algebra.specs.Spelled.{tree_of}
 use Rattle.ul_region.specs.Asked.{IsAtNode}
 use Rattle.ul_region.specs.Problem.{IsProblemOf}
-use Rattle.ul_region.specs.Rows.{IsRow, requirement_of}
+use Rattle.ul_region.specs.Rows.{IsRow}
 use Rattle.ul_region.specs.Truths.{DiagramMark, PassView, IsTruth, region_at}
 use Rattle.ul_region.specs.declared.at_node.AtNode.{AtNode}
 use Rattle.ul_region.specs.declared.in_region.InRegion.{InRegion}
@@ -48,12 +48,12 @@ use Rattle.ul_forks.proofs.Picking.{taken_picked}
 
 module _ (h : PassView) (c : Packages) (truths : List DiagramMark) (R : Region) (p : Problem) (k : CoreNeed) (d : Chosen) (is : IsPicked h c truths p (k.node, k.version) d) where
   -- the row has the requirements of the version's release
-  same_requirements : requirements c d.node.now.name is.version ≡ map requirement_of d.row.now.asked.items
+  same_requirements : requirements c d.node.now.name is.version ≡ d.row.now.release.now.requirements
   same_requirements = requirements_found c d.node.now.name is.version d.row.now.release.now
-      (subst (λ (n : Node). release_of c n.name is.version ≡ Some d.row.now.release.now) (sym is.node) is.found) ∙ sym is.row.same
+      (subst (λ (n : Node). release_of c n.name is.version ≡ Some d.row.now.release.now) (sym is.node) is.found)
 
   -- what the need comes from in the row is what it comes from in the catalog
-  pub asked_by : (q : RequirementFields) → ComesFrom (IsFirm (map requirement_of d.row.now.asked.items) R d.node.now) (map requirement_of d.row.now.asked.items) k.place q → IsAskedBy c R p k d.node.now q
+  pub asked_by : (q : RequirementFields) → ComesFrom (IsFirm d.row.now.release.now.requirements R d.node.now) d.row.now.release.now.requirements k.place q → IsAskedBy c R p k d.node.now q
   asked_by q from = record {
     facts = is.facts;
     at = is.at;
@@ -73,7 +73,7 @@ module _ (h : PassView) (c : Packages) (truths : List DiagramMark) (R : Region) 
     same_version : a.version ≡ is.version
     same_version = same_Some a.version is.version (sym a.stands ∙ (ap (λ (f : NodeFacts). slice_get f.versions k.version) same_facts ∙ is.stands))
 
-    pub in_row : ComesFrom (IsFirm (map requirement_of d.row.now.asked.items) R d.node.now) (map requirement_of d.row.now.asked.items) k.place q
+    pub in_row : ComesFrom (IsFirm d.row.now.release.now.requirements R d.node.now) d.row.now.release.now.requirements k.place q
     in_row = subst (λ (qs : List RequirementFields). ComesFrom (IsFirm qs R d.node.now) qs k.place q) same_requirements
         (subst (λ (v : Fields). ComesFrom (IsFirm (requirements c d.node.now.name v) R d.node.now) (requirements c d.node.now.name v) k.place q) same_version
         (subst (λ (m : Node). ComesFrom (IsFirm (requirements c m.name a.version) R m) (requirements c m.name a.version) k.place q) same_node a.from))

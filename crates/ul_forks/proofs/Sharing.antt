@@ -1,5 +1,5 @@
 -- What threads may share of what all regions share.
-use denote.Param.Send.{IsSync, sendable, recorded_sync, struct_sync}
+use denote.Param.Send.{IsSend, IsSync, sendable, recorded_sync, struct_sync}
 use denote.Ref.{NamedLft}
 use denote.Struct.Declared.{shape}
 use Rattle.ul_prepared.specs.contracts.prepared.Prepared
@@ -30,6 +30,7 @@ use Rattle.ul_problem.proofs.problem.NeedRow.TheSendSync as needrow_threads
 use Rattle.ul_problem.proofs.problem.NeedRows.TheSendSync as needrows_threads
 use Rattle.ul_ranges.proofs.forms.Form.TheSendSync as form_threads
 use Rattle.ul_ranges.proofs.ordinals.Ordinals.TheSendSync as ordinals_threads
+use Rattle.ul_ranges.proofs.shared.SharedList.TheSendSync as sharedlist_threads
 use Rattle.ul_region.specs.contracts.rows.Truths
 use Rattle.ul_requirement.proofs.package.FileEntry.TheSendSync as fileentry_threads
 use Rattle.ul_requirement.proofs.wish.Mode.TheSendSync as mode_threads
@@ -70,6 +71,8 @@ ruleset parts = (
   variable_threads.the_send,
   variable_threads.the_field_sync,
   variable_threads.the_sync,
+  sharedlist_threads.the_send,
+  sharedlist_threads.the_sync,
   fileentry_threads.the_send,
   fileentry_threads.the_sync,
   clause_threads.the_send,
@@ -104,8 +107,11 @@ ruleset parts = (
 pub requirement_sync : IsSync Requirement.the_row
 requirement_sync = search parts depth 60 fits 20000
 
+requirement_send : IsSend Requirement.the_row
+requirement_send = search parts depth 60 fits 20000
+
 pub release_sync : IsSync Release.the_row
-release_sync = search (requirement_sync, parts) depth 60 fits 20000
+release_sync = search (requirement_send, requirement_sync, parts) depth 60 fits 20000
 
 pub package_sync : IsSync Package.the_row
 package_sync = search (release_sync, parts) depth 60 fits 20000
@@ -189,6 +195,8 @@ pub ruleset shared = (
   form_threads.the_sync,
   ordinals_threads.the_send,
   ordinals_threads.the_sync,
+  sharedlist_threads.the_send,
+  sharedlist_threads.the_sync,
   fileentry_threads.the_send,
   fileentry_threads.the_sync,
   mode_threads.the_field_send,

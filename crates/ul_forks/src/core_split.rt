@@ -20,9 +20,9 @@ use ul_region::{AtNode, InRegion};
 use ul_requirement::{Strategy, Wish};
 
 // The truth of the requirement that a need comes from, where it fails at some world of the region.
-fn failing_need<'p>(
+fn failing_need<'p, 'r>(
     algebra: &Algebra<'_>,
-    prepared: &'p Prepared<'p>,
+    prepared: &'p Prepared<'r>,
     place: &'p InRegion<'p>,
     placed: &'p Placed,
     need: CoreNeed,
@@ -46,9 +46,9 @@ fn failing_need<'p>(
 }
 
 // The truth of the first need whose requirement fails at some world of the region.
-fn first_failing<'p>(
+fn first_failing<'p, 'r>(
     algebra: &Algebra<'_>,
-    prepared: &'p Prepared<'p>,
+    prepared: &'p Prepared<'r>,
     place: &'p InRegion<'p>,
     placed: &'p Placed,
     needs: &[CoreNeed],
@@ -68,10 +68,10 @@ fn first_failing<'p>(
 
 // The truth by which the core of a region that nothing serves splits it; none where the core holds throughout. The
 // derivation is one that nothing serves it.
-fn core_truth<'p>(
+fn core_truth<'p, 'r>(
     alloc: Global,
     algebra: &Algebra<'_>,
-    prepared: &'p Prepared<'p>,
+    prepared: &'p Prepared<'r>,
     extras: &[Name],
     place: &'p InRegion<'p>,
     placed: &'p Placed,
@@ -90,10 +90,10 @@ fn core_truth<'p>(
 }
 
 // The truth by which a region that nothing serves is split further, where the strategy says so.
-pub(crate) fn deeper_truth<'p>(
+pub(crate) fn deeper_truth<'p, 'r>(
     alloc: Global,
     algebra: &Algebra<'_>,
-    prepared: &'p Prepared<'p>,
+    prepared: &'p Prepared<'r>,
     extras: &[Name],
     place: &'p InRegion<'p>,
     placed: &'p Placed,

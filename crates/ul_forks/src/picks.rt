@@ -47,12 +47,12 @@ pub(crate) fn named_picks(
 }
 
 // A pick with its row, which stands at the place of its node.
-pub(crate) fn chosen_at<'p>(
-    prepared: &'p Prepared<'p>,
+pub(crate) fn chosen_at<'p, 'r>(
+    prepared: &'p Prepared<'r>,
     placed: &'p Placed,
     node: u64,
     version: u32,
-) -> Chosen<'p>
+) -> Chosen<'p, 'r>
     requires pick { HasPick placed.now.problem (node, version) }
     requires places { ArePlaced prepared.now placed.now.problem placed.now.places.items }
     ensures { IsTaken prepared.now placed.now.problem (node, version) result }
@@ -67,12 +67,12 @@ pub(crate) fn chosen_at<'p>(
 }
 
 // Picks with their rows.
-pub(crate) fn chosen_of<'p>(
+pub(crate) fn chosen_of<'p, 'r>(
     alloc: Global,
-    prepared: &'p Prepared<'p>,
+    prepared: &'p Prepared<'r>,
     placed: &'p Placed,
     picks: &[(u64, u32)],
-) -> Result<Vec<Chosen<'p>>, AllocError>
+) -> Result<Vec<Chosen<'p, 'r>>, AllocError>
     requires picks { All (HasPick placed.now.problem) picks.now }
     requires places { ArePlaced prepared.now placed.now.problem placed.now.places.items }
     ensures { IfOk result (λ ds. OneForOne (IsTaken prepared.now placed.now.problem) picks.now ds.items) }

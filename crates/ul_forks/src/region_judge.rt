@@ -34,8 +34,8 @@ type Judged = Outcome<Diagram, Decisions, Derivation>;
 
 // Judges regions by the problems that it makes of what all regions share.
 #[derive(Drop)]
-pub(crate) struct RegionJudge<'a> {
-    pub(crate) prepared: &'a Prepared<'a>,
+pub(crate) struct RegionJudge<'a, 'p> {
+    pub(crate) prepared: &'a Prepared<'p>,
     // The project's extras that are asked for.
     pub(crate) extras: &'a [Name],
 }
@@ -44,7 +44,7 @@ pub(crate) struct RegionJudge<'a> {
 fn judge_picks<R: Wait>(
     rt: &R,
     alloc: Global,
-    judge: &RegionJudge<'_>,
+    judge: &RegionJudge<'_, '_>,
     algebra: &mut Algebra<'_>,
     place: &InRegion<'_>,
     placed: &Placed,
@@ -80,7 +80,7 @@ fn judge_picks<R: Wait>(
 fn judge_refused<R: Wait>(
     rt: &R,
     alloc: Global,
-    judge: &RegionJudge<'_>,
+    judge: &RegionJudge<'_, '_>,
     algebra: &mut Algebra<'_>,
     place: &InRegion<'_>,
     placed: &Placed,
@@ -121,7 +121,7 @@ fn judge_refused<R: Wait>(
 fn judge_problem<R: Wait>(
     rt: &R,
     alloc: Global,
-    judge: &RegionJudge<'_>,
+    judge: &RegionJudge<'_, '_>,
     algebra: &mut Algebra<'_>,
     place: &InRegion<'_>,
     placed: &Placed,
@@ -151,7 +151,7 @@ fn judge_problem<R: Wait>(
 fn judge_in<R: Wait>(
     rt: &R,
     alloc: Global,
-    judge: &RegionJudge<'_>,
+    judge: &RegionJudge<'_, '_>,
     algebra: &mut Algebra<'_>,
     region: &Diagram,
 ) -> Result<Judged, AllocError>
@@ -168,7 +168,7 @@ fn judge_in<R: Wait>(
     Ok(judged)
 }
 
-impl<'a> Judge<DiagramLabel> for RegionJudge<'a> {
+impl<'a, 'p> Judge<DiagramLabel> for RegionJudge<'a, 'p> {
     type Region = Diagram;
 
     type Done = Decisions;

@@ -24,6 +24,8 @@ use ul_workers::Round;
 // others the first that fails somewhere does. A release that isn't fit everywhere splits by its interpreters where the
 // strategy lets it in, and else gives way to an older one. Of two refused regions the first is answered.
 //
+// A requirement of an extra stands in no group with one of another extra, nor is a need counted for it there.
+//
 // Under `deep` a clash is split by the first need of its core that fails somewhere, also one of a package that the
 // project doesn't name, and again below it. What is served where it was split is split by interpreters as elsewhere. A
 // region whose core holds throughout is refused; so is one below a split, in the part that has no selection.
@@ -161,6 +163,33 @@ fork-strategy = 'deep'
 ----
 1 2
 [0] refused in sys_platform == 'win32'
+====
+'p[x]'
+| | p {"version": "1", "requires_dist": ["q<2; extra == 'x' and os_name == 'nt'", "q<1; extra == 'y'", "q>=2; extra == 'x' and os_name != 'nt'"]}
+q {"version": "1"}, {"version": "2"}
+----
+1 2
+[0] demo-0.1 p-1 p-1 q-1 in os_name == 'nt'
+[1] demo-0.1 p-1 p-1 q-2 in os_name != 'nt'
+====
+'p[x,y]'
+| | p {"version": "1", "requires_dist": ["q<2; extra == 'x' and os_name == 'nt'", "q>=2; extra == 'y' and os_name != 'nt'"]}
+q {"version": "1"}, {"version": "2"}
+----
+1
+[] refused in python_version >= '0'
+====
+'p[x]', 's'
+| [tool.uv]
+fork-strategy = 'deep'
+| p {"version": "1", "requires_dist": ["z; extra == 'y'", "r[u]; extra == 'x' or extra == 'y'", "c<2; extra == 'x' and os_name == 'nt'"]}
+s {"version": "1", "requires_dist": ["c>=2; os_name != 'nt'"]}
+r {"version": "1"}
+c {"version": "1"}, {"version": "2"}
+----
+1 2
+[0] demo-0.1 p-1 p-1 s-1 r-1 r-1 c-1 in os_name == 'nt'
+[1] demo-0.1 p-1 p-1 s-1 r-1 r-1 c-2 in os_name != 'nt'
 "#;
 
 // Puts the digits of a path.

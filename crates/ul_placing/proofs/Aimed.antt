@@ -1,6 +1,6 @@
 -- What the needs of firm requirements aim at is led to.
 use Rattle.std.specs.Prelude.{Contains, slice_get, flat_map}
-use Rattle.std.proofs.Common.{◌≡◌, ◌<◌, ℕ, List, [], ◌∷◌, length, map, Some, sym, ap, subst, ◌∙◌, inl, inr, ⊎_elim}
+use Rattle.std.proofs.Common.{◌≡◌, ◌<◌, ℕ, List, [], ◌∷◌, length, Some, sym, ap, subst, ◌∙◌, inl, inr, ⊎_elim}
 use Rattle.std.proofs.lemmas.List.Elements.{Contains-append_cases}
 use Rattle.std.proofs.lemmas.Option.{same_Some, slice_get_within}
 use Rattle.ul_base.specs.Reached.{led}
@@ -16,7 +16,6 @@ use Rattle.ul_index.specs.Eligible.{eligible}
 use Rattle.ul_index.specs.Regions.{Region}
 use Rattle.ul_region.specs.Best.{Need, needs_of}
 use Rattle.ul_region.specs.Problem.{Leads}
-use Rattle.ul_region.specs.Rows.{requirement_of}
 use Rattle.ul_region.specs.Truths.{PassView}
 use Rattle.ul_region.specs.declared.rows.Asked.{Asked}
 use Rattle.ul_region.specs.declared.rows.Row.{Row}
@@ -65,10 +64,10 @@ that_of P names nodes (a ∷ asked) (x ∷ xs) ks k (inl h) r c = ⊎_elim
     (Contains-append_cases x h.rest k (subst (λ (z : List PlaceNeed). Contains z k) h.are c))
 that_of P names nodes (a ∷ asked) (x ∷ xs) ks k (inr h) r c = later_one P names nodes a asked k (that_of P names nodes asked xs ks k h.more r.1 c)
 
--- the requirements of a version's release are those of its row
-pub own_requirements : (c : Packages) (n : Node) (x : Fields) (r : ReleaseFields) (qs : List RequirementFields) → release_of c n.name x ≡ Some r → qs ≡ r.requirements → requirements c n.name x ≡ qs
+-- the requirements of a version whose release is found
+pub own_requirements : (c : Packages) (n : Node) (x : Fields) (r : ReleaseFields) → release_of c n.name x ≡ Some r → requirements c n.name x ≡ r.requirements
 unfolding requirements
-own_requirements c n x r qs e same = ap requirements_in e ∙ sym same
+own_requirements c n x r e = ap requirements_in e
 
 need_target : (q : RequirementFields) (t : Need) → Contains (needs_of q) t → Contains (targets q) t.node
 need_target q t h = let f = contains_from_map (λ (m : Node). record { node = m; specifiers = q.specifiers }) (targets q) t h in
@@ -86,8 +85,8 @@ leads_to : (h : PassView) (R : Region) (p : Prepared) (planned : Planned) (x : F
     → AreFirmNeeds R planned.node row aims ks → Contains ks k
     → (m : Planned) × (slice_get p.nodes.items k.node ≡ Some m) × Leads p.catalog.now R planned.node m.node
 leads_to h R p planned x row aims ks k is listed firm c =
-    let f = that_of (IsFirmIn R planned.node row) p.names.items p.nodes.items row.asked.items aims ks k firm is.aimed c in
-    let same = own_requirements p.catalog.now planned.node x row.release.now (map requirement_of row.asked.items) is.found is.holds.same in (
+    let f = that_of (IsFirmIn R planned.node row) p.names.items p.nodes.items row.asked aims ks k firm is.aimed c in
+    let same = own_requirements p.catalog.now planned.node x row.release.now is.found in (
       f.of.aim.at.planned,
       f.of.aim.at.at,
       record {

@@ -59,7 +59,7 @@ row_is h truths p v row is l e = let aims = there p.aims.items v (subst (λ (n :
 
 -- its requirements have their lists of needs
 pub row_long : (h : PassView) (truths : List DiagramMark) (p : Planned) (v : ℕ) (row : Row) (aims : List (List Need)) → AreRowsOf h truths p → v < length p.rows.items → row ≡ get_or p.rows.items v row → aims ≡ get_or p.aims.items v aims
-    → length aims ≡ length row.asked.items
+    → length aims ≡ length row.asked
 row_long h truths p v row aims is l e d = (is.each v row aims (read_there p.rows.items v row l e) (read_there p.aims.items v aims (subst (λ (n : ℕ). v < n) (sym is.count) l) d)).1
 
 -- a list with one element more is longer by one

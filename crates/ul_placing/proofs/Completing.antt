@@ -9,6 +9,7 @@ use Rattle.ul_base.proofs.ForCallers.{none_in, contains_first, contains_later, c
 use Rattle.ul_version.specs.Fields.{Fields}
 use Rattle.ul_problem.specs.declared.problem.Need.{Need as PlaceNeed}
 use Rattle.ul_requirement.specs.Fields.{RequirementFields}
+use Rattle.ul_requirement.specs.Laws.{UnnamedNeverApplies}
 use Rattle.ul_requirement.specs.Truth.{base, base_of, with_extra, targets}
 use Rattle.ul_index.specs.Applied.{IsFirm}
 use Rattle.ul_index.specs.Catalogs.{Packages}
@@ -16,9 +17,9 @@ use Rattle.ul_index.specs.Eligible.{eligible}
 use Rattle.ul_index.specs.Regions.{Region}
 use Rattle.ul_region.specs.Best.{Need, needs_of}
 use Rattle.ul_region.specs.Problem.{Leads}
-use Rattle.ul_region.specs.Rows.{requirement_of}
 use Rattle.ul_region.specs.Truths.{PassView}
 use Rattle.ul_region.specs.declared.rows.Asked.{Asked}
+use Rattle.ul_region.proofs.ForCallers.{asked_firm}
 use Rattle.ul_prepared.specs.Prepared.{IsPrepared, IsAim, IsNodeAt, AreAims, AreNodesAt, AreRowAims, HasBaseAt}
 use Rattle.ul_prepared.specs.Project.{IsProjectOf}
 use Rattle.ul_prepared.specs.declared.prepared.NameFacts.{NameFacts}
@@ -84,7 +85,7 @@ target_of list a k c d = contains_flat targets_of list a k.node c (contains_map 
 need_for : (q : RequirementFields) (n : Node) → Contains (targets q) n → Contains (needs_of q) (record { node = n; specifiers = q.specifiers })
 need_for q n c = contains_map (λ (m : Node). record { node = m; specifiers = q.specifiers }) (targets q) n c
 
-module _ (h : PassView) (R : Region) (p : Prepared) (aims : List (Option NodeAims)) (all : IsPrepared h p) (reach : IsReached R p aims) where
+module _ (law : UnnamedNeverApplies) (h : PassView) (R : Region) (p : Prepared) (aims : List (Option NodeAims)) (all : IsPrepared h p) (reach : IsReached R p aims) where
   start_looked : (n : Node) → Contains p.starts.now n → IsNodeLooked p aims n
   start_looked n c =
       let r = node_root p.nodes.items p.roots.items p.starts.now n all.roots c in
@@ -103,14 +104,15 @@ module _ (h : PassView) (R : Region) (p : Prepared) (aims : List (Option NodeAim
       let row = there planned.rows.items v.0 (subst (λ (n : ℕ). v.0 < n) (sym is.count) within) in
       let xs = there planned.aims.items v.0 (subst (λ (n : ℕ). v.0 < n) (sym is.aimed) within) in
       let version = is.rows v.0 l.version row.0 xs.0 v.1 row.1 xs.1 in
-      let same = own_requirements p.catalog.now planned.node l.version row.0.release.now (map requirement_of row.0.asked.items) version.found version.holds.same in
-      let firm : IsFirm (map requirement_of row.0.asked.items) R planned.node l.requirement = subst (λ (qs : List RequirementFields). IsFirm qs R planned.node l.requirement) same l.firm in
-      let one = contains_from_map requirement_of row.0.asked.items l.requirement firm.applied.listed in
+      let qs = row.0.release.now.requirements in
+      let same = own_requirements p.catalog.now planned.node l.version row.0.release.now version.found in
+      let firm : IsFirm qs R planned.node l.requirement = subst (λ (rs : List RequirementFields). IsFirm rs R planned.node l.requirement) same l.firm in
+      let one = asked_firm law h planned.node p.truths.marks.items qs row.0.asked version.holds.are R l.requirement firm in
       let of = reach.right k own looked planned at in
       let a = there own.versions.items v.0 (subst (λ (n : ℕ). v.0 < n) (sym (of.count ∙ is.count)) within) in
-      let f = those_have (IsFirmIn R planned.node row.0) p.names.items p.nodes.items row.0.asked.items xs.0 a.0 one.0 (record { node = b; specifiers = one.0.requirement.now.specifiers })
-      (of.each v.0 row.0 xs.0 a.0 row.1 xs.1 a.1) version.aimed one.1 (subst (λ (q : RequirementFields). IsFirm (map requirement_of row.0.asked.items) R planned.node q) one.2 firm)
-      (need_for one.0.requirement.now b (subst (λ (q : RequirementFields). Contains (targets q) b) one.2 l.aimed)) in
+      let f = those_have (IsFirmIn R planned.node row.0) p.names.items p.nodes.items row.0.asked xs.0 a.0 one.0 (record { node = b; specifiers = one.0.requirement.now.specifiers })
+      (of.each v.0 row.0 xs.0 a.0 row.1 xs.1 a.1) version.aimed one.1 (subst (λ (q : RequirementFields). IsFirm qs R planned.node q) (sym one.2) firm)
+      (need_for one.0.requirement.now b (subst (λ (q : RequirementFields). Contains (targets q) b) (sym one.2) l.aimed)) in
       let next = reach.closed k f.need.node own looked (target_of own.versions.items a.0 f.need (listed_at own.versions.items v.0 a.0 a.1) f.listed) in
       record { place = f.need.node; planned = f.aim.at.planned; own = next.0; at = f.aim.at.at; node = f.aim.at.node; looked = next.1 }
 
@@ -152,14 +154,14 @@ base_there names nodes n None b f h e = absurd (none-some b e)
 base_there names nodes n (Some c) b f h e = (h.0, subst (λ (z : ℕ). IsNodeAt names nodes z (base_of n) f) (same_Some c b e) h.1)
 
 -- the base of a node that was looked at was looked at
-pub base_looked : (h : PassView) (R : Region) (p : Prepared) (aims : List (Option NodeAims)) (k b : ℕ) (planned : Planned) (own : NodeAims) → IsPrepared h p → IsProjectOf p.catalog.now p.starts.now → IsReached R p aims
+pub base_looked : UnnamedNeverApplies → (h : PassView) (R : Region) (p : Prepared) (aims : List (Option NodeAims)) (k b : ℕ) (planned : Planned) (own : NodeAims) → IsPrepared h p → IsProjectOf p.catalog.now p.starts.now → IsReached R p aims
     → slice_get p.nodes.items k ≡ Some planned → IsLookedAt aims k own → planned.base ≡ Some b → (a : NodeAims) × IsLookedAt aims b a
-base_looked h R p aims k b planned own all project reach at looked e =
+base_looked law h R p aims k b planned own all project reach at looked e =
     let is = planned_at h p k planned all at in
     let told = base_there p.names.items p.nodes.items planned.node planned.base b is.facts is.base e in
     let r = reach.reached k own looked in
     let same : planned ≡ r.0 = same_Some planned r.0 (sym at ∙ r.1) in
-    let found = reached_looked h R p aims all reach (base_of planned.node)
+    let found = reached_looked law h R p aims all reach (base_of planned.node)
     (base_reached p.catalog.now p.starts.now R planned.node project (subst (λ (z : Planned). Reached (Contains p.starts.now) (Leads p.catalog.now R) z.node) (sym same) r.2)) in
     let place : found.place ≡ b = one_planned p.nodes.items found.place b found.planned told.1.planned all.increasing found.at told.1.at (found.node ∙ sym told.1.node) in
     (found.own, subst (λ (z : ℕ). IsLookedAt aims z found.own) place found.looked)

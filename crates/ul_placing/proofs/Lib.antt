@@ -3,6 +3,7 @@ pub mod Marking
 pub mod Shared
 pub mod Aiming
 pub mod Barring
+pub mod Asking
 pub mod Aimed
 pub mod Reaching
 pub mod Rising

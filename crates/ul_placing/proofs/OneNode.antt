@@ -2,6 +2,7 @@
 use Rattle.std.specs.Prelude.{Contains, slice_get, flat_map}
 use Rattle.std.proofs.Common.{◌≡◌, ◌<◌, ℕ, zero, suc, List, [], ◌∷◌, length, get_or, map, option_map, Bool, not, Decides, Option, Some, None, refl, sym, ap, subst, ◌∙◌}
 use Rattle.std.proofs.lemmas.Option.{none-some, same_Some, slice_get_within}
+use Rattle.ul_base.specs.Kept.{Kept}
 use Rattle.ul_base.specs.declared.node.Node.{Node}
 use Rattle.ul_base.proofs.ForCallers.{some_is, long_map}
 use Rattle.ul_ranges.specs.Flags.{has}
@@ -11,6 +12,7 @@ use Rattle.ul_problem.specs.Problems.{AllAre, AreNeeds, HasBase, Increases, IsBa
 use Rattle.ul_problem.specs.declared.problem.Need.{Need as PlaceNeed}
 use Rattle.ul_problem.specs.declared.problem.NodeFacts.{NodeFacts}
 use Rattle.ul_requirement.specs.Fields.{RequirementFields, ReleaseFields}
+use Rattle.ul_requirement.specs.Laws.{UnnamedNeverApplies}
 use Rattle.ul_requirement.specs.declared.wish.Strategy.{Strategy}
 use Rattle.ul_index.specs.Applied.{IsFirm}
 use Rattle.ul_index.specs.Catalogs.{Packages, release_of, is_fit, is_fit_in, is_release_fit}
@@ -20,7 +22,6 @@ use Rattle.ul_index.specs.Regions.{Region}
 use Rattle.ul_index.specs.Serves.{Suits}
 use Rattle.ul_region.specs.Best.{AreNeeds as AreNamedNeeds, needs_of}
 use Rattle.ul_region.specs.Problem.{AreVersionsAt, HasNeedsAt, IsFactsOf}
-use Rattle.ul_region.specs.Rows.{requirement_of}
 use Rattle.ul_region.specs.Truths.{PassView}
 use Rattle.ul_region.specs.declared.rows.Row.{Row}
 use Rattle.ul_prepared.specs.Prepared.{IsPrepared, IsName, IsVersionRow, HasBaseAt}
@@ -36,6 +37,7 @@ use Rattle.ul_placing.specs.declared.reach.NodeAims.{NodeAims}
 use Rattle.ul_placing.proofs.Lists.{there, listed_at}
 use Rattle.ul_placing.proofs.Shared.{IsPlannedIn, planned_at, name_of}
 use Rattle.ul_placing.proofs.Aimed.{own_requirements}
+use Rattle.ul_placing.proofs.Asking.{firm_kept}
 use Rattle.ul_placing.proofs.Completing.{base_looked, target_of}
 use Rattle.ul_placing.proofs.Needing.{placed_at, needs_at, needs_after, those_needs}
 
@@ -60,7 +62,7 @@ has_base : (nodes : List NodeFacts) (f : NodeFacts) (x : Option (List ℕ)) (j :
 has_base nodes f None j n h = absurd (n refl)
 has_base nodes f (Some x) j n h = h
 
-module _ (h : PassView) (R : Region) (p : Prepared) (aims : List (Option NodeAims)) (ranks : List ℕ) (fs : List NodeFacts)
+module _ (law : UnnamedNeverApplies) (h : PassView) (R : Region) (p : Prepared) (aims : List (Option NodeAims)) (ranks : List ℕ) (fs : List NodeFacts)
     (all : IsPrepared h p) (project : IsProjectOf p.catalog.now p.starts.now) (reach : IsReached R p aims) (rank : ranks ≡ ranks_from 0 aims) (facts : AreFacts R p ranks p.nodes.items aims fs)
     (k : ℕ) (planned : Planned) (own : NodeAims) (f : NodeFacts) (at : slice_get p.nodes.items k ≡ Some planned) (looked : IsLookedAt aims k own) (is : IsFacts R p ranks planned own f) where
   plan : IsPlannedIn h p planned
@@ -105,12 +107,12 @@ module _ (h : PassView) (R : Region) (p : Prepared) (aims : List (Option NodeAim
 
   needs_right : (v : ℕ) (a : List PlaceNeed) → slice_get own.versions.items v ≡ Some a → AreNeeds fs (needs_ranked ranks a)
   needs_right v a e = let s = version_at v a e in
-      needs_after h R p aims ranks fs all rank facts _ s.row.asked.items s.aimed a s.firm s.right.aimed (targets_looked v a e)
+      needs_after h R p aims ranks fs all rank facts _ s.row.asked s.aimed a s.firm s.right.aimed (targets_looked v a e)
 
   base_of_base : (o : Option ℕ) → planned.base ≡ o → HasBaseAt p.names.items p.nodes.items planned.node o plan.facts → HasBase fs f f.node.extra (option_map (rank_in ranks) o)
   base_of_base None e t = subst (λ (x : Option (List ℕ)). HasBase fs f x None) (sym (ap (λ (z : Node). z.extra) is.node ∙ t)) tt
   base_of_base (Some b) e t =
-      let a = base_looked h R p aims k b planned own all project reach at looked e in
+      let a = base_looked law h R p aims k b planned own all project reach at looked e in
       let q = placed_at R p aims ranks fs b t.1.planned a.0 rank facts t.1.at a.1 in
       let same : q.facts.versions ≡ f.versions = q.is.versions ∙ (ap (λ (z : NameFacts). z.versions) (some_is q.is.at t.1.facts) ∙ sym own_versions) in
       let node : q.facts.node ≡ record { name = planned.node.name; extra = None } = q.is.node ∙ t.1.node in
@@ -135,15 +137,17 @@ module _ (h : PassView) (R : Region) (p : Prepared) (aims : List (Option NodeAim
       let a = there own.versions.items v within in
       let s = version_at v a.0 a.1 in
       let same : s.version ≡ x = same_Some s.version x (sym s.at_version ∙ (ap (λ (z : List Fields). slice_get z v) (sym own_versions) ∙ e)) in
-      let qs = own_requirements p.catalog.now planned.node s.version s.row.release.now (map requirement_of s.row.asked.items) s.right.found s.right.holds.same in
-      let own_needs = those_needs (λ (q : RequirementFields). IsFirm (map requirement_of s.row.asked.items) R planned.node q) p.names.items p.nodes.items s.row.asked.items s.aimed a.0 s.firm s.right.aimed in
+      let qs = s.row.release.now.requirements in
+      let found = own_requirements p.catalog.now planned.node s.version s.row.release.now s.right.found in
+      let own_needs = those_needs (IsFirm qs R planned.node) p.names.items p.nodes.items s.row.asked s.aimed a.0 s.firm s.right.aimed in
+      let kept = firm_kept law qs R planned.node own_needs.firm (subst (λ (rs : List RequirementFields). Kept (IsFirm qs R planned.node) rs own_needs.firm) s.right.holds.are.same own_needs.kept) in
       let placed = needs_at h R p aims ranks fs all rank facts roots a.0 (flat_map needs_of own_needs.firm) own_needs.aims (targets_looked v a.0 a.1) in
       let list : get_or f.needs v [] ≡ needs_ranked ranks a.0 = ap (λ (z : List (List PlaceNeed)). get_or z v []) is.needs ∙ map_at (needs_ranked ranks) own.versions.items v a.0 a.1 in
       subst (λ (z : List PlaceNeed). HasNeedsAt p.catalog.now R (record { roots = roots; nodes = fs }) f.node x z) (sym list)
       (subst (λ (n : Node). HasNeedsAt p.catalog.now R (record { roots = roots; nodes = fs }) n x (needs_ranked ranks a.0)) (sym is.node)
       (subst (λ (y : Fields). HasNeedsAt p.catalog.now R (record { roots = roots; nodes = fs }) planned.node y (needs_ranked ranks a.0)) same (record {
         needs = flat_map needs_of own_needs.firm;
-        are = subst (λ (z : List RequirementFields). AreNamedNeeds z R planned.node (flat_map needs_of own_needs.firm)) (sym qs) (record { firm = own_needs.firm; kept = own_needs.kept; are = refl });
+        are = subst (λ (z : List RequirementFields). AreNamedNeeds z R planned.node (flat_map needs_of own_needs.firm)) (sym found) (record { firm = own_needs.firm; kept = kept; are = refl });
         at = placed;
       })))
 

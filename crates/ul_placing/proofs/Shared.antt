@@ -48,7 +48,7 @@ row_at h p planned is v row aims e d =
 pub rows_right : (h : PassView) (p : Prepared) (planned : Planned) → IsPlannedIn h p planned → AreRowsOf h p.truths.marks.items planned
 rows_right h p planned is = record {
   count = is.aimed ∙ sym is.count;
-  each = λ v row aims e d. let r = row_at h p planned is v row aims e d in (r.2.holds, row_aims_long p.names.items p.nodes.items aims row.asked.items r.2.aimed);
+  each = λ v row aims e d. let r = row_at h p planned is v row aims e d in (r.2.holds, row_aims_long p.names.items p.nodes.items aims row.asked r.2.aimed);
 }
 
 -- a node has few versions

@@ -13,6 +13,7 @@ use Rattle.ul_problem.specs.Plain.{size_in, base_in}
 use Rattle.ul_problem.specs.Problems.{AllAre, AreOneBase, Increases, IncreasesFrom, IsExtraOf, IsNodeOf, IsSingle, IsWellFormed, NodeBefore, PlaceBefore}
 use Rattle.ul_problem.specs.declared.problem.NodeFacts.{NodeFacts}
 use Rattle.ul_requirement.specs.Fields.{PackageFields, ReleaseFields, RequirementFields}
+use Rattle.ul_requirement.specs.Laws.{UnnamedNeverApplies}
 use Rattle.ul_requirement.specs.Truth.{base, base_of, with_extra}
 use Rattle.ul_index.specs.Catalogs.{Packages, releases_of, releases_in}
 use Rattle.ul_index.specs.Eligible.{directs_on, eligible, in_order, passes, passing, takes_pre}
@@ -83,7 +84,7 @@ all_are_here : {A : Type 0} (P : A → Type 0) (xs : List A) → ((k : ℕ) (x :
 all_are_here P [] h = tt
 all_are_here P (x ∷ xs) h = (h 0 x refl, all_are_here P xs (λ k y e. h (suc k) y e))
 
-module _ (h : PassView) (R : Region) (p : Prepared) (aims : List (Option NodeAims)) (ranks : List ℕ) (fs : List NodeFacts)
+module _ (law : UnnamedNeverApplies) (h : PassView) (R : Region) (p : Prepared) (aims : List (Option NodeAims)) (ranks : List ℕ) (fs : List NodeFacts)
     (all : IsPrepared h p) (project : IsProjectOf p.catalog.now p.starts.now) (reach : IsReached R p aims) (rank : ranks ≡ ranks_from 0 aims) (facts : AreFacts R p ranks p.nodes.items aims fs) where
   -- places that were looked at
   abbrev AreRootsLooked : List ℕ → Type 0
@@ -158,7 +159,7 @@ module _ (h : PassView) (R : Region) (p : Prepared) (aims : List (Option NodeAim
       )
 
   one_of : (j : ℕ) (f : NodeFacts) → slice_get fs j ≡ Some f → IsNodeOf fs f
-  one_of j f e = let q = place_looked R p ranks 0 p.nodes.items aims fs j f facts e in node_right h R p aims ranks fs all project reach rank facts q.place q.planned q.own f q.at q.looked q.is
+  one_of j f e = let q = place_looked R p ranks 0 p.nodes.items aims fs j f facts e in node_right law h R p aims ranks fs all project reach rank facts q.place q.planned q.own f q.at q.looked q.is
 
   reached_of : (j : ℕ) (f : NodeFacts) → slice_get fs j ≡ Some f → Reached (Contains p.starts.now) (Leads p.catalog.now R) f.node
   reached_of j f e =
@@ -184,15 +185,15 @@ module _ (h : PassView) (R : Region) (p : Prepared) (aims : List (Option NodeAim
   problem_right roots e = record {
     well_formed = well_formed roots e;
     roots = subst (λ (z : List ℕ). AreAt (record { roots = roots; nodes = fs }) z p.starts.now) (sym e) (roots_at roots p.roots.items p.starts.now all.roots reach.rooted);
-    facts = λ j f at. let q = place_looked R p ranks 0 p.nodes.items aims fs j f facts at in facts_right h R p aims ranks fs all project reach rank facts q.place q.planned q.own f q.at q.looked q.is roots;
+    facts = λ j f at. let q = place_looked R p ranks 0 p.nodes.items aims fs j f facts at in facts_right law h R p aims ranks fs all project reach rank facts q.place q.planned q.own f q.at q.looked q.is roots;
     reached = reached_of;
   }
 
 -- the same, where the lists are lent
-pub problem_by : (h : PassView) (R : Region) (p : Prepared) (aims a1 a3 : List (Option NodeAims)) (ranks r2 r4 k5 roots : List ℕ) (fs : List NodeFacts) → IsPrepared h p → IsProjectOf p.catalog.now p.starts.now → IsReached R p aims
+pub problem_by : UnnamedNeverApplies → (h : PassView) (R : Region) (p : Prepared) (aims a1 a3 : List (Option NodeAims)) (ranks r2 r4 k5 roots : List ℕ) (fs : List NodeFacts) → IsPrepared h p → IsProjectOf p.catalog.now p.starts.now → IsReached R p aims
     → a1 ≡ aims → a3 ≡ aims → r2 ≡ ranks → r4 ≡ ranks → k5 ≡ p.roots.items → ranks ≡ ranks_from 0 a1 → AreFacts R p r2 p.nodes.items a3 fs → roots ≡ map (rank_in r4) k5
     → IsProblemOf p.catalog.now p.starts.now p.wish.now R (record { roots = roots; nodes = fs })
-problem_by h R p aims a1 a3 ranks r2 r4 k5 roots fs all project reach e1 e3 e2 e4 e5 rank facts placed =
-    problem_right h R p aims ranks fs all project reach (rank ∙ ap (ranks_from 0) e1)
+problem_by law h R p aims a1 a3 ranks r2 r4 k5 roots fs all project reach e1 e3 e2 e4 e5 rank facts placed =
+    problem_right law h R p aims ranks fs all project reach (rank ∙ ap (ranks_from 0) e1)
     (subst (λ (z : List (Option NodeAims)). AreFacts R p ranks p.nodes.items z fs) e3 (subst (λ (z : List ℕ). AreFacts R p z p.nodes.items a3 fs) e2 facts)) roots
     (placed ∙ (ap (λ (z : List ℕ). map (rank_in z) k5) e4 ∙ ap (map (rank_in ranks)) e5))

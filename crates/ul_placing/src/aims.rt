@@ -32,12 +32,14 @@ fn push_needs(alloc: Global, needs: &mut NeedRow, more: &[Need]) -> Result<(), A
     Ok(())
 }
 
-// Room for so many needs, where so many more would make a list: a version with few firm requirements takes no memory.
+// Room for so many needs, where so many more make a list of the first two: a version with few firm requirements takes no
+// memory.
 fn make_room(alloc: Global, needs: &mut NeedRow, more: usize, size: usize) -> Result<(), AllocError>
     ensures { IfOk result (λ _. needs.new ≡ needs.old) }
 {
-    let count = needs.as_slice().len().saturating_add(more);
-    if count > 2 {
+    let held = needs.as_slice().len();
+    let count = held.saturating_add(more);
+    if held <= 2 && count > 2 {
         needs.make_room(alloc, size.max(count))?;
     }
     Ok(())
@@ -47,11 +49,11 @@ fn make_room(alloc: Global, needs: &mut NeedRow, more: usize, size: usize) -> Re
 fn version_aims(
     alloc: Global,
     algebra: &Algebra<'_>,
-    at: &AtNode<'_>,
+    at: &AtNode<'_, '_>,
     aims: &[NeedRow],
 ) -> Result<NeedRow, AllocError>
     requires at { IsAtNode algebra.now at.now }
-    requires aims { length aims.now ≡ length at.now.row.now.asked.items }
+    requires aims { length aims.now ≡ length at.now.row.now.asked }
     ensures { IfOk result (AreFirmNeeds (region_asked at.now) at.now.node.now at.now.row.now aims.now) }
 {
     let asked: &[Asked<'_>] = at.row.asked.as_slice();
@@ -72,11 +74,11 @@ fn version_aims(
 /// # Errors
 ///
 /// Only for want of memory.
-pub(crate) fn node_aims<'p>(
+pub(crate) fn node_aims<'p, 'r>(
     alloc: Global,
     algebra: &Algebra<'_>,
     place: &'p InRegion<'p>,
-    planned: &'p Planned<'p>,
+    planned: &'p Planned<'r>,
 ) -> Result<Vec<NeedRow>, AllocError>
     requires place { IsInRegion algebra.now place.now }
     requires rows { AreRowsOf algebra.now place.now.truths.now planned.now }

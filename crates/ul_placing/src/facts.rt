@@ -44,7 +44,7 @@ fn ranked_rows(ranks: &[u64], versions: Vec<NeedRow>) -> NeedRows
 }
 
 // Whether a release is fit where the strategy asks it to be.
-fn suits(algebra: &Algebra<'_>, at: &AtNode<'_>, strategy: Strategy) -> bool
+fn suits(algebra: &Algebra<'_>, at: &AtNode<'_, '_>, strategy: Strategy) -> bool
     requires { IsAtNode algebra.now at.now }
     ensures { Decides result (Suits strategy (region_asked at.now) (is_release_fit at.now.row.now.release.now)) }
 {
@@ -55,12 +55,12 @@ fn suits(algebra: &Algebra<'_>, at: &AtNode<'_>, strategy: Strategy) -> bool
 }
 
 // The versions of a node that the strategy bars.
-fn barred_of<'p>(
+fn barred_of<'p, 'r>(
     alloc: Global,
     algebra: &Algebra<'_>,
     place: &'p InRegion<'p>,
     strategy: Strategy,
-    planned: &'p Planned<'p>,
+    planned: &'p Planned<'r>,
 ) -> Result<Ordinals, AllocError>
     requires place { IsInRegion algebra.now place.now }
     requires rows { AreRowsOf algebra.now place.now.truths.now planned.now }
@@ -85,13 +85,13 @@ fn barred_of<'p>(
 }
 
 // What is known of a node in a region, by ranks.
-fn facts_of<'p>(
+fn facts_of<'p, 'r>(
     alloc: Global,
     algebra: &Algebra<'_>,
-    prepared: &'p Prepared<'p>,
+    prepared: &'p Prepared<'r>,
     place: &'p InRegion<'p>,
     ranks: &[u64],
-    planned: &'p Planned<'p>,
+    planned: &'p Planned<'r>,
     aims: NodeAims,
 ) -> Result<NodeFacts, AllocError>
     requires place { IsInRegion algebra.now place.now }
@@ -122,10 +122,10 @@ fn facts_of<'p>(
 /// # Errors
 ///
 /// Only for want of memory.
-pub(crate) fn reached_facts<'p>(
+pub(crate) fn reached_facts<'p, 'r>(
     alloc: Global,
     algebra: &Algebra<'_>,
-    prepared: &'p Prepared<'p>,
+    prepared: &'p Prepared<'r>,
     place: &'p InRegion<'p>,
     ranks: &[u64],
     mut aims: Vec<Option<NodeAims>>,

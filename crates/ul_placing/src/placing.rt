@@ -34,9 +34,9 @@ pub struct Placed {
 /// # Errors
 ///
 /// Only for want of memory.
-pub fn problem_in<'p>(
+pub fn problem_in<'p, 'r>(
     alloc: Global,
-    prepared: &'p Prepared<'p>,
+    prepared: &'p Prepared<'r>,
     algebra: &Algebra<'_>,
     place: &'p InRegion<'p>,
 ) -> Result<Placed, AllocError>
@@ -48,6 +48,7 @@ pub fn problem_in<'p>(
         prepared.now.wish.now (region_at place.now.region.now) r.problem) }
     ensures places { IfOk result (λ r. ArePlaced prepared.now r.problem r.places.items) }
 {
+    ul_requirement::laws::unnamed_never_applies();
     let reach = reach_of(alloc, algebra, prepared, place)?;
     let ranks = ranks_of(alloc, reach.aims.as_slice())?;
     let places = places_of(alloc, reach.aims.as_slice())?;

@@ -99,10 +99,10 @@ fn no_aims(alloc: Global, size: usize) -> Result<Vec<Option<NodeAims>>, AllocErr
 }
 
 // The nodes that a region starts from are marks, and none was looked at.
-fn reach_from<'p>(
+fn reach_from<'p, 'r>(
     alloc: Global,
     algebra: &Algebra<'_>,
-    prepared: &'p Prepared<'p>,
+    prepared: &'p Prepared<'r>,
     place: &'p InRegion<'p>,
 ) -> Result<Reach, AllocError>
     requires prepared { IsPrepared algebra.now prepared.now }
@@ -117,10 +117,10 @@ fn reach_from<'p>(
 }
 
 // Looks at the node at a place of the queue.
-fn look_at<'p>(
+fn look_at<'p, 'r>(
     alloc: Global,
     algebra: &Algebra<'_>,
-    prepared: &'p Prepared<'p>,
+    prepared: &'p Prepared<'r>,
     place: &'p InRegion<'p>,
     step: usize,
     reach: &mut Reach,
@@ -144,10 +144,10 @@ fn look_at<'p>(
 /// # Errors
 ///
 /// Only for want of memory.
-pub(crate) fn reach_of<'p>(
+pub(crate) fn reach_of<'p, 'r>(
     alloc: Global,
     algebra: &Algebra<'_>,
-    prepared: &'p Prepared<'p>,
+    prepared: &'p Prepared<'r>,
     place: &'p InRegion<'p>,
 ) -> Result<Reach, AllocError>
     requires prepared { IsPrepared algebra.now prepared.now }

@@ -26,7 +26,13 @@ const ROWS: &str = "\
     0 ; demo 0 -0 | 1:11 1:10; q 1 0 -00 | |#sys_platform == 'win32'#'q>=1', 'q<2; sys_platform == \"win32\"'###q:1/2\n\
     0 ; demo 0 -0 | 1:1 2:1 3:1; p 0 -0 |; p/none of 1 0 -0 |; p/x of 1 0 -0 | 4:1; q 0 -0 |#python_version >= '0'#'p[x,none]'###p:1@@q;extra=='x'|q:1\n\
     2 ; a 0 -0 | 1:1; b 0 -0 | 0:1; demo 0 -0 | 0:1#python_version >= '0'#'a'###a:1@@b|b:1@@a;python_version>='3.8'\n\
-    1 ; a 1 0 -01 | |; demo 0 -0 | 0:11#python_full_version >= '3.9'#'a'###a:0.9@>=3.8/1@>=3.10";
+    1 ; a 1 0 -01 | |; demo 0 -0 | 0:11#python_full_version >= '3.9'#'a'###a:0.9@>=3.8/1@>=3.10\n\
+    0 ; demo 0 -0 | 1:1 2:1 3:1; p 0 -0 |; p/x of 1 0 -0 | 4:011 5:1; p/y of 1 0 -0 | 4:110 5:1; q 2 1 0 -000 | | |; r 0 -0 |#python_version >= '0'#'p[x,y]'###p:1@@q>=1;extra=='x',q<2;extra=='y',r;extra=='x' or extra=='y'|q:0/1/2|r:1\n\
+    0 ; demo 0 -0 | 1:1 2:1; p 0 -0 | 3:110; p/x of 1 0 -0 | 3:011; q 2 1 0 -000 | | |#python_version >= '0'#'p[x]'###p:1@@q<2,q>=1;extra=='x'|q:0/1/2\n\
+    0 ; demo 0 -0 | 1:1 2:1 3:1; p 0 -0 |; p/x of 1 0 -0 |; p/y of 1 0 -0 | 4:100; q 2 1 0 -000 | | |#python_version >= '0'#'p[x,y]'###p:1@@q>=1;extra=='x' and sys_platform=='win32',q<1;extra=='y',q<2;extra=='x'|q:0/1/2\n\
+    0 ; demo 0 -0 | 1:1 2:1 3:1; p 0 -0 |; p/x of 1 0 -0 | 4:011 4:110; p/y of 1 0 -0 | 4:100; q 2 1 0 -000 | | |#sys_platform == 'win32'#'p[x,y]'###p:1@@q>=1;extra=='x' and sys_platform=='win32',q<1;extra=='y',q<2;extra=='x'|q:0/1/2\n\
+    0 ; demo 0 -0 | 1:111 2:111; p 2 1 0 -000 | | |; p/x of 1 2 1 0 -000 | 3:1 | 3:1 | 4:1; q 0 -0 |; r 0 -0 |#python_version >= '0'#'p[x]'###p:1@@q;extra=='x'/2@@q;extra=='x'/3@@r;extra=='x'|q:1|r:1\n\
+    0 ; demo 0 -0 | 1:1 2:1; p 0 -0 | 3:1; p/x of 1 0 -0 |; q 0 -0 |#python_version >= '0'#'p[x]'###p:1@@q;extra!='x',q;extra=='y'|q:1";
 
 // The row's parts behind a `#`: the first, and the rest.
 fn cut(text: &str) -> (&str, &str) {

@@ -11,13 +11,11 @@ use Rattle.ul_base.specs.Nodes.{node_cmp}
 use Rattle.ul_base.proofs.ForCallers.{node_cmp_same}
 use Rattle.ul_specifier.specs.Clauses.{ClauseFields}
 use Rattle.ul_specifier.specs.Meaning.{meets_list}
-use Rattle.ul_requirement.specs.Fields.{ReleaseFields, RequirementFields}
 use Rattle.ul_problem.specs.declared.problem.Need.{Need as PlaceNeed}
 use Rattle.ul_region.specs.Best.{Need, needs_of}
-use Rattle.ul_region.specs.Rows.{requirement_of}
 use Rattle.ul_region.specs.declared.rows.Asked.{Asked}
 use Rattle.ul_prepared.specs.Prepared.{AreAims, AreRowAims, IsAim}
-use Rattle.ul_prepared.specs.Aims.{AreReleaseAims, AreRequirementAims, HasNode, needs_on}
+use Rattle.ul_prepared.specs.Aims.{HasNode, needs_on}
 use Rattle.ul_prepared.specs.Permitted.{IsPermitted}
 use Rattle.ul_prepared.specs.declared.prepared.NameFacts.{NameFacts}
 use Rattle.ul_prepared.specs.declared.prepared.Planned.{Planned}
@@ -55,40 +53,19 @@ module _ (names : List NameFacts) (nodes : List Planned) where
       (ap (λ (u : Node). needs_on specifiers (take i targets) ++ record { node = u; specifiers = specifiers } ∷ []) at ∙ sym (map_more (λ (u : Node). record { node = u; specifiers = specifiers }) targets i t l))
       (aims_push done (needs_on specifiers (take i targets)) k (record { node = t; specifiers = specifiers }) h one))
 
-  rows_push : (kss : List (List PlaceNeed)) (qs : List RequirementFields) (ks : List PlaceNeed) (q : RequirementFields) → AreRequirementAims names nodes kss qs → AreAims names nodes ks (needs_of q) → AreRequirementAims names nodes (kss ++ ks ∷ []) (qs ++ q ∷ [])
-  rows_push [] [] ks q h i = (i, tt)
-  rows_push [] (u ∷ qs) ks q h i = absurd h
-  rows_push (js ∷ kss) [] ks q h i = absurd h
-  rows_push (js ∷ kss) (u ∷ qs) ks q h i = (h.0, rows_push kss qs ks q h.1 i)
+  rows_push : (kss : List (List PlaceNeed)) (asked : List Asked) (ks : List PlaceNeed) (a : Asked) → AreRowAims names nodes kss asked → AreAims names nodes ks (needs_of a.requirement.now) → AreRowAims names nodes (kss ++ ks ∷ []) (asked ++ a ∷ [])
+  rows_push [] [] ks a h i = (i, tt)
+  rows_push [] (b ∷ asked) ks a h i = absurd h
+  rows_push (js ∷ kss) [] ks a h i = absurd h
+  rows_push (js ∷ kss) (b ∷ asked) ks a h i = (h.0, rows_push kss asked ks a h.1 i)
 
   -- one requirement more
-  pub rows_more : (done now : List (List PlaceNeed)) (qs : List RequirementFields) (i : ℕ) (ks : List PlaceNeed) (q : RequirementFields) → now ≡ done ++ ks ∷ [] → AreRequirementAims names nodes done (take i qs)
-      → AreAims names nodes ks (needs_of q) → i < length qs → q ≡ get_or qs i q → AreRequirementAims names nodes now (take (i + 1) qs)
-  rows_more done now qs i ks q e h one l at =
-      subst (λ (zs : List (List PlaceNeed)). AreRequirementAims names nodes zs (take (i + 1) qs)) (sym e)
-      (subst (λ (zs : List RequirementFields). AreRequirementAims names nodes (done ++ ks ∷ []) zs) (ap (λ (u : RequirementFields). take i qs ++ u ∷ []) at ∙ sym (take_more qs i q l))
-      (rows_push done (take i qs) ks q h one))
-
-  releases_push : (done : List (List (List PlaceNeed))) (rs : List ReleaseFields) (kss : List (List PlaceNeed)) (r : ReleaseFields) → AreReleaseAims names nodes done rs → AreRequirementAims names nodes kss r.requirements → AreReleaseAims names nodes (done ++ kss ∷ []) (rs ++ r ∷ [])
-  releases_push [] [] kss r h i = (i, tt)
-  releases_push [] (u ∷ rs) kss r h i = absurd h
-  releases_push (jss ∷ done) [] kss r h i = absurd h
-  releases_push (jss ∷ done) (u ∷ rs) kss r h i = (h.0, releases_push done rs kss r h.1 i)
-
-  -- one release more, of lent ones
-  pub releases_more : {A : Type 0} (view : A → ReleaseFields) (done now : List (List (List PlaceNeed))) (ls : List A) (i : ℕ) (kss : List (List PlaceNeed)) (a : A) → now ≡ done ++ kss ∷ [] → AreReleaseAims names nodes done (map view (take i ls))
-      → AreRequirementAims names nodes kss (view a).requirements → i < length ls → a ≡ get_or ls i a → AreReleaseAims names nodes now (map view (take (i + 1) ls))
-  releases_more view done now ls i kss a e h one l at =
-      subst (λ (zs : List (List (List PlaceNeed))). AreReleaseAims names nodes zs (map view (take (i + 1) ls))) (sym e)
-      (subst (λ (zs : List ReleaseFields). AreReleaseAims names nodes (done ++ kss ∷ []) zs) (ap (λ u. map view (take i ls) ++ view u ∷ []) at ∙ sym (map_more view ls i a l))
-      (releases_push done (map view (take i ls)) kss (view a) h one))
-
-  -- the needs of a release's requirements are those of its row
-  pub row_aims : (kss : List (List PlaceNeed)) (asked : List Asked) → AreRequirementAims names nodes kss (map requirement_of asked) → AreRowAims names nodes kss asked
-  row_aims [] [] h = tt
-  row_aims [] (a ∷ asked) h = absurd h
-  row_aims (ks ∷ kss) [] h = absurd h
-  row_aims (ks ∷ kss) (a ∷ asked) h = (h.0, row_aims kss asked h.1)
+  pub rows_more : (done now : List (List PlaceNeed)) (asked : List Asked) (i : ℕ) (ks : List PlaceNeed) (a : Asked) → now ≡ done ++ ks ∷ [] → AreRowAims names nodes done (take i asked)
+      → AreAims names nodes ks (needs_of a.requirement.now) → i < length asked → a ≡ get_or asked i a → AreRowAims names nodes now (take (i + 1) asked)
+  rows_more done now asked i ks a e h one l at =
+      subst (λ (zs : List (List PlaceNeed)). AreRowAims names nodes zs (take (i + 1) asked)) (sym e)
+      (subst (λ (zs : List Asked). AreRowAims names nodes (done ++ ks ∷ []) zs) (ap (λ (u : Asked). take i asked ++ u ∷ []) at ∙ sym (take_more asked i a l))
+      (rows_push done (take i asked) ks a h one))
 
 something : {A : Type 0} (xs : List A) (k : ℕ) → k < length xs → (x : A) × (slice_get xs k ≡ Some x)
 something [] k l = absurd (omega (arith, l))

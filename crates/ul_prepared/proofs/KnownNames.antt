@@ -1,36 +1,25 @@
 -- Names that are taken in one after another, and nodes in order.
 use Rattle.std.specs.Prelude.{All, slice_get}
-use Rattle.std.proofs.Common.{◌≡◌, ◌<◌, ◌-◌, ℕ, zero, suc, List, [], ◌∷◌, ◌++◌, length, get_or, Some, true, arith, sym, ap, subst, ◌∙◌, refl}
-use Rattle.std.specs.List.{AllZip}
+use Rattle.std.proofs.Common.{◌≡◌, ◌-◌, ℕ, zero, suc, List, [], ◌∷◌, ◌++◌, length, Some, true, arith, sym, ap, subst, refl}
 use Rattle.std.specs.Ordering.{is_lt}
 use Rattle.std.specs.declared.cmp.Ordering.{Ordering}
 use Rattle.std.specs.declared.cmp.Ordering.TheVariants.{Less, Equal, Greater}
 use Rattle.std.proofs.lemmas.List.Elements.{All-nil, All-cons, All-weaker}
-use Rattle.std.proofs.lemmas.Option.{none-some, same_Some, slice_get-get_or}
+use Rattle.std.proofs.lemmas.Slice.Zip.{AllZip-long}
 use Rattle.ul_version.specs.Fields.{Fields}
 use Rattle.ul_requirement.specs.Fields.{WishFields}
 use Rattle.ul_problem.specs.Problems.{Increases, IncreasesFrom}
 use Rattle.ul_index.specs.Catalogs.{Packages}
 use Rattle.ul_index.specs.Eligible.{eligible}
-use Rattle.ul_prepared.specs.Gathered.{AreKnown, ComesAfter, HasName, IsKnown, releases_in}
+use Rattle.ul_prepared.specs.Gathered.{AreKnown, ComesAfter, IsKnown}
+use Rattle.ul_prepared.specs.Lists.{AreListed, releases_in}
 use Rattle.ul_prepared.specs.Permitted.{IsRising}
 use Rattle.ul_prepared.specs.Prepared.{IsName, PlannedBefore}
 use Rattle.ul_prepared.specs.Releases.{AreReleasesOf}
-use Rattle.ul_prepared.specs.declared.gathering.Releases.{Releases}
 use Rattle.ul_prepared.specs.declared.prepared.NameFacts.{NameFacts}
 use Rattle.ul_prepared.specs.declared.prepared.Planned.{Planned}
-
-zip_push : {A B : Type 0} (R : A → B → Type 0) (xs : List A) (ys : List B) (x : A) (y : B) → AllZip R xs ys → R x y → AllZip R (xs ++ x ∷ []) (ys ++ y ∷ [])
-zip_push R [] [] x y h k = (k, tt)
-zip_push R [] (b ∷ ys) x y h k = absurd h
-zip_push R (a ∷ xs) [] x y h k = absurd h
-zip_push R (a ∷ xs) (b ∷ ys) x y h k = (h.0, zip_push R xs ys x y h.1 k)
-
-zip_at : {A B : Type 0} (R : A → B → Type 0) (xs : List A) (ys : List B) (k : ℕ) (x : A) (y : B) → AllZip R xs ys → slice_get xs k ≡ Some x → slice_get ys k ≡ Some y → R x y
-zip_at R [] ys k x y h d e = absurd (none-some x d)
-zip_at R (a ∷ xs) [] k x y h d e = absurd h
-zip_at {A} {B} R (a ∷ xs) (b ∷ ys) zero x y h d e = subst (λ (z : A). R z y) (same_Some a x d) (subst (λ (z : B). R a z) (same_Some b y e) h.0)
-zip_at R (a ∷ xs) (b ∷ ys) (suc k) x y h d e = zip_at R xs ys k x y h.1 d e
+use Rattle.ul_prepared.specs.declared.releases.Releases.{Releases}
+use Rattle.ul_prepared.proofs.Zipped.{zip_at, zip_push}
 
 pub is_less : (o : Ordering) → is_lt o ≡ true → o ≡ Less
 is_less Less e = refl
@@ -39,11 +28,12 @@ is_less Greater e = cc
 
 module _ (c : Packages) (wish : WishFields) where
   -- what is known of a name, with its releases
-  pub known_is : (f : NameFacts) (r : Releases) (n : List ℕ) → f.name ≡ n → IsName c wish f → AreReleasesOf c n (eligible c n) (releases_in r) → IsKnown c wish f r
-  known_is f r n named is are = record {
+  pub known_is : (f : NameFacts) (r : Releases) (n : List ℕ) → f.name ≡ n → IsName c wish f → AreReleasesOf c n (eligible c n) (releases_in r) → AreListed r → IsKnown c wish f r
+  known_is f r n named is are listed = record {
     name = is;
     releases = subst (λ (vs : List Fields). AreReleasesOf c f.name vs (releases_in r)) (sym is.versions)
         (subst (λ (m : List ℕ). AreReleasesOf c m (eligible c m) (releases_in r)) (sym named) are);
+    listed = listed;
   }
 
   -- one name more
@@ -68,6 +58,17 @@ module _ (c : Packages) (wish : WishFields) where
   pub known_rising : (fs : List NameFacts) (rs : List Releases) → AreKnown c wish fs rs → All IsRising fs
   known_rising fs rs h = All-weaker (IsName c wish) IsRising (λ f k. record { few = k.few; rising = k.increasing }) fs (names_known fs rs h)
 
+  -- the releases of each name have their lists
+  pub known_listed : (fs : List NameFacts) (rs : List Releases) → AreKnown c wish fs rs → All AreListed rs
+  known_listed [] [] h = All-nil AreListed
+  known_listed [] (r ∷ rs) h = absurd h
+  known_listed (f ∷ fs) [] h = absurd h
+  known_listed (f ∷ fs) (r ∷ rs) h = All-cons AreListed r rs h.0.listed (known_listed fs rs h.1)
+
+  -- each name has its releases
+  pub known_size : (fs : List NameFacts) (rs : List Releases) → AreKnown c wish fs rs → length rs ≡ length fs
+  known_size fs rs h = AllZip-long (IsKnown c wish) fs rs h
+
 increases_from : {A : Type 0} (R : A → A → Type 0) (x : A) (xs : List A) (y : A) (m : ℕ) → m ≡ length xs → IncreasesFrom R x xs → ((p : A) → slice_get (x ∷ xs) m ≡ Some p → R p y) → IncreasesFrom R x (xs ++ y ∷ [])
 increases_from R x [] y m e h last = (last x (ap (slice_get (x ∷ [])) e), tt)
 increases_from R x (z ∷ zs) y zero e h last = absurd (omega arith)
@@ -80,7 +81,3 @@ increases_push R (x ∷ xs) y h last = increases_from R x xs y (length (x ∷ xs
 -- one node more, after the last
 pub nodes_more : (done now : List Planned) (p : Planned) → now ≡ done ++ p ∷ [] → Increases PlannedBefore done → ComesAfter done p.node → Increases PlannedBefore now
 nodes_more done now p e h after = subst (Increases PlannedBefore) (sym e) (increases_push PlannedBefore done p h after)
-
--- a name that is found at a place
-pub name_found : (names : List NameFacts) (k : ℕ) (n : List ℕ) (f : NameFacts) → k < length names → f ≡ get_or names k f → f.name ≡ n → HasName names n k
-name_found names k n f l at named = (f, slice_get-get_or names k f l ∙ ap Some (sym at), named)

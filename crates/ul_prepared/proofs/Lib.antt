@@ -13,5 +13,9 @@ mod NameSets
 pub mod ForCallers
 mod Still
 mod KeptPlaces
+mod Zipped
 mod KnownNames
+mod ListPlaces
+mod Taken
+mod SharedFacts
 mod NodeRows

@@ -1,5 +1,5 @@
 -- The releases of eligible versions.
-use Rattle.std.specs.Prelude.{find, slice_get, if◌then◌else◌}
+use Rattle.std.specs.Prelude.{All, find, slice_get, if◌then◌else◌}
 use Rattle.std.proofs.Common.{◌≡◌, ◌<◌, ◌≤◌, ◌^◌, ℕ, zero, suc, List, [], ◌∷◌, length, filter, map, cond, not, Bool, true, false, Option, Some, None, option_map, refl, sym, ap, subst, ◌∙◌, arith}
 use Rattle.std.specs.Ordering.{is_eq, is_lt, ordering_reverse}
 use Rattle.std.specs.declared.cmp.Ordering.{Ordering}
@@ -7,7 +7,7 @@ use Rattle.std.specs.declared.cmp.Ordering.TheVariants.{Less, Equal, Greater}
 use Rattle.std.proofs.lemmas.Option.{none-some, same_Some, slice_get_within, get_or_from_slice_get}
 use Rattle.std.proofs.lemmas.List.{length-map}
 use Rattle.std.proofs.lemmas.List.Filters.{length-filter_both}
-use Rattle.std.proofs.lemmas.List.Elements.{All-contains}
+use Rattle.std.proofs.lemmas.List.Elements.{All-nil, All-cons, All-contains}
 use Rattle.ul_version.specs.Fields.{Fields}
 use Rattle.ul_version.specs.Order.{version_cmp}
 use Rattle.ul_requirement.specs.Fields.{ReleaseFields, VersionsDiffer, IsOtherVersion}
@@ -22,6 +22,18 @@ use Rattle.ul_prepared.specs.Releases.{AreReleasesOf}
 
 cons_same : {A : Type 0} (x y : A) (xs ys : List A) → x ∷ xs ≡ y ∷ ys → (x ≡ y) × (xs ≡ ys)
 cons_same x y xs ys e = (cc, cc)
+
+version_within : (rs : List ReleaseFields) (p : ℕ) (v : Fields) → version_at rs p ≡ Some v → p < length rs
+version_within [] p v e = absurd (none-some v e)
+version_within (r ∷ rs) zero v e = omega arith
+version_within (r ∷ rs) (suc p) v e = let l = version_within rs p v e in omega (arith, l)
+
+-- places that have versions are those of releases
+pub places_within : (rs : List ReleaseFields) (ps : List ℕ) (vs : List Fields) → map (version_at rs) ps ≡ map (λ (v : Fields). Some v) vs → All (λ (p : ℕ). p < length rs) ps
+places_within rs [] vs e = All-nil (λ (p : ℕ). p < length rs)
+places_within rs (p ∷ ps) [] e = cc
+places_within rs (p ∷ ps) (v ∷ vs) e = let same = cons_same (version_at rs p) (Some v) (map (version_at rs) ps) (map (λ (v : Fields). Some v) vs) e in
+    All-cons (λ (p : ℕ). p < length rs) p ps (version_within rs p v same.0) (places_within rs ps vs same.1)
 
 -- the versions of the releases at places, where each place has one
 pub chosen_versions : (rs xs : List ReleaseFields) (ps : List ℕ) (vs : List Fields) → map (λ (x : ReleaseFields). Some x) xs ≡ map (slice_get rs) ps → map (version_at rs) ps ≡ map (λ (v : Fields). Some v) vs → map (λ (r : ReleaseFields). r.version) xs ≡ vs

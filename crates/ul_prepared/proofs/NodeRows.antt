@@ -3,10 +3,11 @@ use Rattle.std.specs.Prelude.{All, slice_get}
 use Rattle.std.proofs.Common.{◌≡◌, ◌<◌, ◌+◌, ℕ, zero, suc, List, [], ◌∷◌, ◌++◌, length, get_or, map, take, Option, Some, None, sym, ap, subst, ◌∙◌, refl}
 use Rattle.std.proofs.lemmas.List.{length-map, take_more}
 use Rattle.std.proofs.lemmas.List.Elements.{All-contains, All-push, All-weaker}
-use Rattle.std.proofs.lemmas.Option.{none-some, same_Some, slice_get_within, get_or_from_slice_get}
+use Rattle.std.proofs.lemmas.Option.{none-some, same_Some, slice_get_within, slice_get-get_or, get_or_from_slice_get}
+use Rattle.std.proofs.lemmas.Slice.Zip.{AllZip-long}
 use Rattle.ul_base.specs.declared.node.Node.{Node}
 use Rattle.ul_base.specs.Nodes.{node_cmp}
-use Rattle.ul_requirement.specs.Fields.{ReleaseFields, RequirementFields, WishFields}
+use Rattle.ul_requirement.specs.Fields.{ReleaseFields, WishFields}
 use Rattle.ul_problem.specs.Problems.{Increases, IncreasesFrom}
 use Rattle.ul_problem.specs.declared.problem.Need.{Need as PlaceNeed}
 use Rattle.ul_algebra.specs.Answers.{IsDiagram}
@@ -17,27 +18,26 @@ use Rattle.ul_region.specs.Truths.{DiagramMark, IsGrown, PassView}
 use Rattle.ul_region.specs.declared.rows.Asked.{Asked}
 use Rattle.ul_region.specs.declared.rows.Row.{Row}
 use Rattle.ul_region.proofs.ForCallers.{row_grown}
-use Rattle.ul_prepared.specs.Aims.{AreReleaseAims, AreRequirementAims, HasNode}
-use Rattle.ul_prepared.specs.Gathered.{AreKnown, AreSameNodes, HasOwnRows, HasRows, node_in, release_in, releases_in}
+use Rattle.ul_prepared.specs.Aims.{HasNode}
+use Rattle.ul_prepared.specs.Gathered.{AreAimsOf, AreKnown, AreSameNodes, HasOwnRows, HasRows, node_in, release_in}
+use Rattle.ul_prepared.specs.Lists.{releases_in}
 use Rattle.ul_prepared.specs.Prepared.{AreAims, AreNodesAt, AreRowAims, HasBaseAt, IsAim, IsNodeAt, IsPlanned, IsPrepared, PlannedBefore}
 use Rattle.ul_prepared.specs.Releases.{AreReleasesOf}
-use Rattle.ul_prepared.specs.declared.gathering.Releases.{Releases}
+use Rattle.ul_prepared.specs.Shared.{releases_shared}
 use Rattle.ul_prepared.specs.declared.prepared.NameFacts.{NameFacts}
 use Rattle.ul_prepared.specs.declared.prepared.Planned.{Planned}
 use Rattle.ul_prepared.specs.declared.prepared.Prepared.{Prepared}
-use Rattle.ul_prepared.proofs.Aiming.{row_aims}
+use Rattle.ul_prepared.specs.declared.releases.Releases.{Releases}
+use Rattle.ul_prepared.specs.declared.shared.Shared.{Shared}
 use Rattle.ul_prepared.proofs.KnownNames.{known_at, known_names}
+use Rattle.ul_prepared.proofs.Zipped.{image_at, zip_at}
 
 -- ---- where more is known
 
 rows_grown : (g h : PassView) (n : Node) (ms ns : List DiagramMark) (rows : List Row) → IsGrown g ms h ns → All (IsRow g n ms) rows → All (IsRow h n ns) rows
 rows_grown g h n ms ns rows more a = All-weaker (IsRow g n ms) (IsRow h n ns) (λ row k. row_grown g h n ms ns row more k) rows a
 
--- one row more
-pub rows_more : (g h : PassView) (n : Node) (ms ns : List DiagramMark) (done now : List Row) (row : Row) → now ≡ done ++ row ∷ [] → IsGrown g ms h ns → All (IsRow g n ms) done → IsRow h n ns row → All (IsRow h n ns) now
-rows_more g h n ms ns done now row e more a k = subst (All (IsRow h n ns)) (sym e) (All-push (IsRow h n ns) done row (rows_grown g h n ms ns done more a) k)
-
-module _ (names : List NameFacts) (nodes : List Planned) (own : List Releases) where
+module _ (names : List NameFacts) (nodes : List Planned) (own : List (List ReleaseFields)) where
   planned_grown : (g h : PassView) (ms ns : List DiagramMark) (p : Planned) → IsGrown g ms h ns → HasOwnRows g names nodes ms own p → HasOwnRows h names nodes ns own p
   planned_grown g h ms ns p more o = (
     o.0,
@@ -105,7 +105,7 @@ module _ (names : List NameFacts) (ps qs : List Planned) (same : AreSameNodes qs
     rows = λ v x row aims e d u. let r = k.rows v x row aims e d u in record {
       found = r.found;
       holds = r.holds;
-      aimed = row_over aims row.asked.items r.aimed;
+      aimed = row_over aims row.asked r.aimed;
     };
   }
 
@@ -130,25 +130,20 @@ same_increase (x ∷ ps) (y ∷ qs) same h =
 
 -- ---- rows of the releases of a name
 
-count_aims : (names : List NameFacts) (nodes : List Planned) (aims : List (List (List PlaceNeed))) (rs : List ReleaseFields) → AreReleaseAims names nodes aims rs → length aims ≡ length rs
-count_aims names nodes [] [] h = refl
-count_aims names nodes [] (r ∷ rs) h = absurd h
-count_aims names nodes (kss ∷ rest) [] h = absurd h
-count_aims names nodes (kss ∷ rest) (r ∷ rs) h = ap suc (count_aims names nodes rest rs h.1)
+-- a node with the rows of what its name's nodes share, which stands at the place of the name
+pub own_rows : (h : PassView) (names : List NameFacts) (nodes : List Planned) (truths : List DiagramMark) (all : List Shared) (own : Shared) (p q : Planned) → node_in p ≡ node_in q → q.name < length all → own ≡ get_or all q.name own
+    → HasRows h names nodes truths (releases_shared own) p → HasOwnRows h names nodes truths (map releases_shared all) p
+own_rows h names nodes truths all own p q same l at has = (
+  releases_shared own,
+  ap (λ (z : Node × ℕ). slice_get (map releases_shared all) z.1) same ∙ image_at releases_shared all q.name own (slice_get-get_or all q.name own l ∙ ap Some (sym at)),
+  has,
+)
 
-aims_there : (names : List NameFacts) (nodes : List Planned) (aims : List (List (List PlaceNeed))) (rs : List ReleaseFields) (v : ℕ) (kss : List (List PlaceNeed)) (r : ReleaseFields)
-    → AreReleaseAims names nodes aims rs → slice_get aims v ≡ Some kss → slice_get rs v ≡ Some r → AreRequirementAims names nodes kss r.requirements
-aims_there names nodes [] rs v kss r h d e = absurd (none-some kss d)
-aims_there names nodes (js ∷ rest) [] v kss r h d e = absurd h
-aims_there names nodes (js ∷ rest) (s ∷ rs) zero kss r h d e =
-    subst (λ (z : List (List PlaceNeed)). AreRequirementAims names nodes z r.requirements) (same_Some js kss d)
-    (subst (λ (z : ReleaseFields). AreRequirementAims names nodes js z.requirements) (same_Some s r e) h.0)
-aims_there names nodes (js ∷ rest) (s ∷ rs) (suc v) kss r h d e = aims_there names nodes rest rs v kss r h.1 d e
-
-released : (rows : List Row) (v : ℕ) (row : Row) → slice_get rows v ≡ Some row → slice_get (map release_in rows) v ≡ Some (release_in row)
-released [] v row e = absurd (none-some row e)
-released (x ∷ rows) zero row e = ap (λ (z : Row). Some (release_in z)) (same_Some x row e)
-released (x ∷ rows) (suc v) row e = released rows v row e
+-- the releases of the name at a place
+mapped_at : (own : List Releases) (k : ℕ) (rs : List ReleaseFields) → slice_get (map releases_in own) k ≡ Some rs → (r : Releases) × (slice_get own k ≡ Some r) × (releases_in r ≡ rs)
+mapped_at [] k rs e = absurd (none-some rs e)
+mapped_at (r ∷ own) zero rs e = (r, refl, same_Some (releases_in r) rs e)
+mapped_at (r ∷ own) (suc k) rs e = mapped_at own k rs e
 
 row_there : (P : Row → Type 0) (rows : List Row) (v : ℕ) (row : Row) → All P rows → slice_get rows v ≡ Some row → P row
 row_there P rows v row a e = All-contains P rows row a (v, slice_get_within rows v row e, get_or_from_slice_get rows v row row e)
@@ -156,29 +151,30 @@ row_there P rows v row a e = All-contains P rows row a (v, slice_get_within rows
 module _ (c : Packages) (wish : WishFields) (h : PassView) (names : List NameFacts) (nodes : List Planned) (truths : List DiagramMark) where
   rows_are : (f : NameFacts) (rs : List ReleaseFields) (p : Planned) → slice_get names p.name ≡ Some f → AreReleasesOf c f.name f.versions rs → HasRows h names nodes truths rs p → IsPlanned c h names nodes truths p
   rows_are f rs p at known has =
-      let named : f.name ≡ p.node.name = ap (λ (z : NameFacts). z.name) (same_Some f has.named.0 (sym at ∙ has.named.1)) ∙ has.named.2 in record {
+      let named : f.name ≡ p.node.name = ap (λ (z : NameFacts). z.name) (same_Some f has.named.0 (sym at ∙ has.named.1)) ∙ has.named.2 in
+      let count : length p.rows.items ≡ length f.versions = sym (length-map p.rows.items release_in) ∙ (ap (λ (z : List ReleaseFields). length z) has.releases ∙ known.count) in record {
         facts = f;
         at = at;
         named = named;
         base = subst (HasBaseAt names nodes p.node p.base) (same_Some has.base.0 f (sym has.base.1 ∙ at)) has.base.2;
-        count = sym (length-map p.rows.items release_in) ∙ (ap (λ (z : List ReleaseFields). length z) has.releases ∙ known.count);
-        aimed = count_aims names nodes p.aims.items rs has.aims ∙ known.count;
+        count = count;
+        aimed = sym (AllZip-long (AreAimsOf names nodes) p.aims.items p.rows.items has.aims) ∙ count;
         rows = λ v x row aims e d u.
-            let there : slice_get rs v ≡ Some (release_in row) = ap (λ (z : List ReleaseFields). slice_get z v) (sym has.releases) ∙ released p.rows.items v row d in
-            let holds : IsRow h p.node truths row = row_there (IsRow h p.node truths) p.rows.items v row has.rows d in record {
+            let there : slice_get rs v ≡ Some (release_in row) = ap (λ (z : List ReleaseFields). slice_get z v) (sym has.releases) ∙ image_at release_in p.rows.items v row d in record {
               found = subst (λ (n : List ℕ). release_of c n x ≡ Some row.release.now) named (known.each v x (release_in row) e there);
-              holds = holds;
-              aimed = row_aims names nodes aims row.asked.items (subst (λ (qs : List RequirementFields). AreRequirementAims names nodes aims qs) (sym holds.same)
-                  (aims_there names nodes p.aims.items rs v aims (release_in row) has.aims u there));
+              holds = row_there (IsRow h p.node truths) p.rows.items v row has.rows d;
+              aimed = zip_at (AreAimsOf names nodes) p.aims.items p.rows.items v aims row has.aims u d;
             };
       }
 
-  own_planned : (own : List Releases) (p : Planned) → AreKnown c wish names own → HasOwnRows h names nodes truths own p → IsPlanned c h names nodes truths p
-  own_planned own p known has = rows_are has.2.named.0 (releases_in has.0) p has.2.named.1 (known_at c wish names own p.name has.2.named.0 has.0 known has.2.named.1 has.1).releases has.2
+  own_planned : (own : List Releases) (p : Planned) → AreKnown c wish names own → HasOwnRows h names nodes truths (map releases_in own) p → IsPlanned c h names nodes truths p
+  own_planned own p known has = let r = mapped_at own p.name has.0 has.1 in
+      rows_are has.2.named.0 has.0 p has.2.named.1
+      (subst (AreReleasesOf c has.2.named.0.name has.2.named.0.versions) r.2 (known_at c wish names own p.name has.2.named.0 r.0 known has.2.named.1 r.1).releases) has.2
 
   -- the nodes that were made are right among themselves
-  pub all_planned : (own : List Releases) (made : List Planned) → AreSameNodes made nodes → AreKnown c wish names own → All (HasOwnRows h names nodes truths own) made → All (IsPlanned c h names made truths) made
-  all_planned own made same known a = All-weaker (HasOwnRows h names nodes truths own) (IsPlanned c h names made truths) (λ p k. planned_over names nodes made same c h truths p (own_planned own p known k)) made a
+  pub all_planned : (own : List Releases) (made : List Planned) → AreSameNodes made nodes → AreKnown c wish names own → All (HasOwnRows h names nodes truths (map releases_in own)) made → All (IsPlanned c h names made truths) made
+  all_planned own made same known a = All-weaker (HasOwnRows h names nodes truths (map releases_in own)) (IsPlanned c h names made truths) (λ p k. planned_over names nodes made same c h truths p (own_planned own p known k)) made a
 
 -- ---- places of nodes
 
@@ -201,14 +197,14 @@ nodes_at_more names nodes done now starts i k n e h there l at =
 -- what all regions share, of its parts
 pub prepared_is : (h : PassView) (p : Prepared) (names : List NameFacts) (bare nodes made : List Planned) (own rs : List Releases)
     → names ≡ p.names.items → nodes ≡ bare → own ≡ rs → made ≡ p.nodes.items → AreKnown p.catalog.now p.wish.now p.names.items rs → Increases PlannedBefore bare → AreSameNodes p.nodes.items nodes
-    → All (HasOwnRows h names nodes p.truths.marks.items own) p.nodes.items → AreNodesAt made p.roots.items p.starts.now → All (IsDiagram h) p.truths.marks.items → IsPrepared h p
+    → All (HasOwnRows h names nodes p.truths.marks.items (map releases_in own)) p.nodes.items → AreNodesAt made p.roots.items p.starts.now → All (IsDiagram h) p.truths.marks.items → IsPrepared h p
 prepared_is h p names bare nodes made own rs ns bs os ms known rising same rows roots truths = record {
   names = known_names p.catalog.now p.wish.now p.names.items rs known;
   increasing = same_increase bare p.nodes.items same_bare rising;
   nodes = all_planned p.catalog.now p.wish.now h p.names.items bare p.truths.marks.items rs p.nodes.items same_bare known
-      (subst (λ (z : List NameFacts). All (HasOwnRows h z bare p.truths.marks.items rs) p.nodes.items) ns
-      (subst (λ (z : List Planned). All (HasOwnRows h names z p.truths.marks.items rs) p.nodes.items) bs
-      (subst (λ (z : List Releases). All (HasOwnRows h names nodes p.truths.marks.items z) p.nodes.items) os rows)));
+      (subst (λ (z : List NameFacts). All (HasOwnRows h z bare p.truths.marks.items (map releases_in rs)) p.nodes.items) ns
+      (subst (λ (z : List Planned). All (HasOwnRows h names z p.truths.marks.items (map releases_in rs)) p.nodes.items) bs
+      (subst (λ (z : List Releases). All (HasOwnRows h names nodes p.truths.marks.items (map releases_in z)) p.nodes.items) os rows)));
   roots = subst (λ (z : List Planned). AreNodesAt z p.roots.items p.starts.now) ms roots;
   truths = truths;
 }

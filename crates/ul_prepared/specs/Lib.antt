@@ -8,4 +8,6 @@ pub mod Parts
 pub mod Clauses
 pub mod Permitted
 pub mod Aims
+pub mod Lists
+pub mod Shared
 pub mod Gathered

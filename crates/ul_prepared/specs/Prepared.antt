@@ -51,7 +51,7 @@ AreAims names nodes [] (t ∷ ts) = ⊥
 AreAims names nodes (k ∷ ks) [] = ⊥
 AreAims names nodes (k ∷ ks) (t ∷ ts) = IsAim names nodes k t × AreAims names nodes ks ts
 
--- of each requirement of a release, in order, its needs
+-- of each requirement that is asked about, in order, its needs
 abbrev pub AreRowAims : List NameFacts → List Planned → List (List PlaceNeed) → List Asked → Type 0
 AreRowAims names nodes [] [] = Unit {0}
 AreRowAims names nodes [] (a ∷ asked) = ⊥
@@ -62,7 +62,7 @@ AreRowAims names nodes (ks ∷ kss) (a ∷ asked) = AreAims names nodes ks (need
 pub record IsVersionRow (c : Packages) (h : PassView) (names : List NameFacts) (nodes : List Planned) (truths : List DiagramMark) (n : Node) (x : Fields) (row : Row) (aims : List (List PlaceNeed)) : Type 0 where
   pub found : release_of c n.name x ≡ Some row.release.now
   pub holds : IsRow h n truths row
-  pub aimed : AreRowAims names nodes aims row.asked.items
+  pub aimed : AreRowAims names nodes aims row.asked
 
 -- the place of the base, where the node has an extra
 abbrev pub HasBaseAt : List NameFacts → List Planned → Node → Option ℕ → NameFacts → Type 0

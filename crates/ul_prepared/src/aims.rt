@@ -1,34 +1,28 @@
 //! Needs of requirements by places of nodes.
-ghost use Rattle.std.specs.Prelude.{◌≡◌, All, IfOk, IsTrue, map};
+ghost use Rattle.std.specs.Prelude.{◌≡◌, All, Decides, IfOk};
+ghost use Rattle.std.specs.List.{AllZip};
 ghost use Rattle.ul_base.specs.Owned.{HasOneMore};
-ghost use Rattle.ul_prepared.specs.Aims.{AreReleaseAims, AreRequirementAims, HasNode, needs_on};
+ghost use Rattle.ul_prepared.specs.Aims.{HasNode, needs_on};
 ghost use Rattle.ul_prepared.specs.Permitted.{IsRising, IsSetOf};
-ghost use Rattle.ul_prepared.specs.Prepared.{AreAims, IsAim};
+ghost use Rattle.ul_prepared.specs.Prepared.{AreAims, AreRowAims, IsAim};
 ghost use Rattle.ul_region.specs.Best.{needs_of};
 
 use crate::permitted::Sets;
 use crate::prepared::{NameFacts, Planned};
 use std::alloc::{AllocError, Global};
 use std::collections::HashMap;
+use ul_base::Node;
 use ul_base::owned::{beside, made_from, with_made};
-use ul_base::{Name, Node};
-use ul_problem::{Need, NeedRow, NeedRows};
-use ul_requirement::{Release, Requirement};
+use ul_problem::{Need, NeedRow};
+use ul_ranges::SharedList;
+use ul_region::Asked;
+use ul_requirement::Requirement;
 use ul_specifier::Specifiers;
 
 fn is_same(one: &Node, other: &Node) -> bool
-    ensures { IsTrue result → one.now ≡ other.now }
+    ensures { Decides result (one.now ≡ other.now) }
 {
-    let mine: &Name = &one.name;
-    let own: &Name = &other.name;
-    if mine.text() != own.text() {
-        return false;
-    }
-    match (&one.extra, &other.extra) {
-        (None, None) => true,
-        (Some(mine), Some(own)) => mine.text() == own.text(),
-        _ => false,
-    }
+    one == other
 }
 
 /// The place of a node. Each node that is asked for has a place.
@@ -147,58 +141,51 @@ fn with_need(
     Ok(both.0)
 }
 
-// The needs of each requirement, in order.
-fn requirement_aims<'a>(
+// The needs of each requirement that is asked about, in order.
+fn asked_aims<'a>(
     alloc: Global,
     sets: &mut Sets<'a>,
     index: &HashMap<Node, usize>,
     names: &[NameFacts],
     nodes: &[Planned<'_>],
-    requirements: &'a [Requirement],
-) -> Result<NeedRows, AllocError>
+    asked: &[Asked<'a>],
+) -> Result<SharedList<NeedRow>, AllocError>
     requires rising { All IsRising names.now }
     requires sets { All (IsSetOf names.now) sets.old.list.items }
     ensures sets { All (IsSetOf names.now) sets.new.list.items }
-    ensures aims { IfOk result (λ rows. AreRequirementAims names.now nodes.now rows requirements.now) }
+    ensures aims { IfOk result (λ rows. AreRowAims names.now nodes.now rows asked.now) }
 {
-    let mut rows = Vec::with_capacity(alloc, requirements.len())?;
-    for requirement in requirements {
+    let mut rows = Vec::with_capacity(alloc, asked.len())?;
+    for one in asked {
+        let requirement: &'a Requirement = one.requirement;
         let aims = aims_of(alloc, sets, index, names, nodes, requirement);
         rows = with_made(rows, aims)?;
     }
-    Ok(NeedRows::of(rows))
+    SharedList::of(alloc, rows)
 }
 
-fn requirements_in(release: &Release) -> &[Requirement]
-    ensures { result.now ≡ release.now.requirements }
-{
-    let requirements: &Vec<Requirement> = &release.requirements;
-    requirements.as_slice()
-}
-
-/// The needs of the requirements of each release, in order.
+/// The needs of the requirements in each list, in order.
 ///
 /// # Errors
 ///
 /// Only for want of memory.
-pub(crate) fn release_aims<'a>(
+pub(crate) fn list_aims<'a>(
     alloc: Global,
     sets: &mut Sets<'a>,
     index: &HashMap<Node, usize>,
     names: &[NameFacts],
     nodes: &[Planned<'_>],
-    releases: &[&'a Release],
-) -> Result<Vec<NeedRows>, AllocError>
+    lists: &[SharedList<Asked<'a>>],
+) -> Result<Vec<SharedList<NeedRow>>, AllocError>
     requires rising { All IsRising names.now }
     requires sets { All (IsSetOf names.now) sets.old.list.items }
     ensures sets { All (IsSetOf names.now) sets.new.list.items }
-    ensures aims { IfOk result (λ v. AreReleaseAims names.now nodes.now v.items (map (λ r. r.now) releases.now)) }
+    ensures aims { IfOk result (λ v. AllZip (AreRowAims names.now nodes.now) v.items lists.now) }
 {
-    let mut list = Vec::with_capacity(alloc, releases.len())?;
-    for release in releases {
-        let release: &'a Release = release;
-        let rows = requirement_aims(alloc, sets, index, names, nodes, requirements_in(release));
-        list = with_made(list, rows)?;
+    let mut list = Vec::with_capacity(alloc, lists.len())?;
+    for asked in lists {
+        let aims = asked_aims(alloc, sets, index, names, nodes, asked.as_slice());
+        list = with_made(list, aims)?;
     }
     Ok(list)
 }

@@ -1,24 +1,22 @@
 //! The names and nodes that any requirement of an eligible release reaches, whatever the region.
-ghost use Rattle.std.specs.Prelude.{◌≡◌, [], All, IfOk, IsTrue};
+ghost use Rattle.std.specs.Prelude.{◌≡◌, All, Decides, IfOk};
+ghost use Rattle.ul_requirement.specs.Fields.{WishFields};
+ghost use Rattle.ul_index.specs.Catalogs.{Packages};
 ghost use Rattle.ul_problem.specs.Problems.{Increases};
-ghost use Rattle.ul_prepared.specs.Gathered.{AreKnown, ComesAfter, HasName, IsKnown, IsNamed};
+ghost use Rattle.ul_prepared.specs.Gathered.{ArePlaces, ComesAfter, HasName, HasPlace};
+ghost use Rattle.ul_prepared.specs.Gathered.{IsGathered, IsKnown, IsNamed, IsPlacedNode};
 ghost use Rattle.ul_prepared.specs.Prepared.{PlannedBefore};
 
 use crate::names::{name_facts, releases_of};
 use crate::prepared::{NameFacts, Planned};
+use crate::releases::{Releases, listed_releases};
 use crate::sources::Sources;
 use std::alloc::{AllocError, Global};
 use std::collections::{HashMap, HashSet};
-use ul_base::owned::{beside, made_from, with_made};
+use ul_base::owned::{beside, made_from, with_one};
 use ul_base::{Name, Node};
 use ul_index::Catalog;
-use ul_requirement::{Release, Requirement, Wish};
-
-/// The releases of a name's eligible versions, in the order of the versions.
-#[derive(Drop)]
-pub(crate) struct Releases<'a> {
-    pub(crate) list: Vec<&'a Release>,
-}
+use ul_requirement::{Requirement, Wish};
 
 /// What was reached.
 #[derive(Drop)]
@@ -34,24 +32,25 @@ pub(crate) struct Gathered<'a> {
     seen: HashSet<Node>,
 }
 
-// What is known of a name, and the releases of its eligible versions.
+// What is known of a name, and the releases of its eligible versions with the lists of their requirements.
 fn known_of<'a>(
     alloc: Global,
     sources: &Sources<'a, '_>,
     name: &Name,
 ) -> Result<(NameFacts, Releases<'a>), AllocError>
-    ensures { IfOk result (λ k. IsKnown sources.now.0 sources.now.1 k.0 k.1) }
+    ensures known { IfOk result (λ k. IsKnown sources.now.0 sources.now.1 k.0 k.1) }
+    ensures name { IfOk result (λ k. k.0.name ≡ name.now) }
 {
     let direct = sources.is_direct(name);
     let list = releases_of(alloc, sources.catalog(), name, direct)?;
     let facts = name_facts(alloc, sources, name, list.as_slice())?;
-    Ok((facts, Releases { list }))
+    let listed = listed_releases(alloc, list.as_slice());
+    beside(facts, made_from(listed, list))
 }
 
 impl<'a> Gathered<'a> {
     pub(crate) fn new(alloc: Global) -> Gathered<'a>
-        ensures names { result.names.items ≡ [] }
-        ensures releases { result.releases.items ≡ [] }
+        ensures { (c : Packages) (wish : WishFields) → IsGathered c wish result }
     {
         Gathered {
             names: Vec::new(alloc),
@@ -69,8 +68,9 @@ impl<'a> Gathered<'a> {
         sources: &Sources<'a, '_>,
         name: &Name,
     ) -> Result<(), AllocError>
-        requires { AreKnown sources.now.0 sources.now.1 self.old.names.items self.old.releases.items }
-        ensures { IfOk result (λ _. AreKnown sources.now.0 sources.now.1 self.new.names.items self.new.releases.items) }
+        requires { IsGathered sources.now.0 sources.now.1 self.old }
+        ensures gathered { IfOk result (λ _. IsGathered sources.now.0 sources.now.1 self.new) }
+        ensures placed { IfOk result (λ _. HasPlace self.new.places name.now) }
     {
         if self.places.contains_key(name) {
             return Ok(());
@@ -93,8 +93,8 @@ impl<'a> Gathered<'a> {
         sources: &Sources<'a, '_>,
         node: &Node,
     ) -> Result<(), AllocError>
-        requires { AreKnown sources.now.0 sources.now.1 self.old.names.items self.old.releases.items }
-        ensures { IfOk result (λ _. AreKnown sources.now.0 sources.now.1 self.new.names.items self.new.releases.items) }
+        requires { IsGathered sources.now.0 sources.now.1 self.old }
+        ensures { IfOk result (λ _. IsGathered sources.now.0 sources.now.1 self.new) }
     {
         if self.seen.contains(node) {
             return Ok(());
@@ -114,8 +114,8 @@ impl<'a> Gathered<'a> {
         sources: &Sources<'a, '_>,
         start: &Node,
     ) -> Result<(), AllocError>
-        requires { AreKnown sources.now.0 sources.now.1 self.old.names.items self.old.releases.items }
-        ensures { IfOk result (λ _. AreKnown sources.now.0 sources.now.1 self.new.names.items self.new.releases.items) }
+        requires { IsGathered sources.now.0 sources.now.1 self.old }
+        ensures { IfOk result (λ _. IsGathered sources.now.0 sources.now.1 self.new) }
     {
         let base = Node {
             name: start.name.copy(alloc)?,
@@ -132,8 +132,8 @@ impl<'a> Gathered<'a> {
         sources: &Sources<'a, '_>,
         requirement: &Requirement,
     ) -> Result<(), AllocError>
-        requires { AreKnown sources.now.0 sources.now.1 self.old.names.items self.old.releases.items }
-        ensures { IfOk result (λ _. AreKnown sources.now.0 sources.now.1 self.new.names.items self.new.releases.items) }
+        requires { IsGathered sources.now.0 sources.now.1 self.old }
+        ensures { IfOk result (λ _. IsGathered sources.now.0 sources.now.1 self.new) }
     {
         // a name is taken in with its base
         if requirement.extras.is_empty() && self.places.contains_key(&requirement.name) {
@@ -146,20 +146,28 @@ impl<'a> Gathered<'a> {
         Ok(())
     }
 
-    // Takes in what a release's requirements aim at.
-    fn meet_release(
+    // Takes in what requirements aim at.
+    fn meet_list(
         &mut self,
         alloc: Global,
         sources: &Sources<'a, '_>,
-        release: &Release,
+        requirements: &[Requirement],
     ) -> Result<(), AllocError>
-        requires { AreKnown sources.now.0 sources.now.1 self.old.names.items self.old.releases.items }
-        ensures { IfOk result (λ _. AreKnown sources.now.0 sources.now.1 self.new.names.items self.new.releases.items) }
+        requires { IsGathered sources.now.0 sources.now.1 self.old }
+        ensures { IfOk result (λ _. IsGathered sources.now.0 sources.now.1 self.new) }
     {
-        for requirement in &release.requirements {
+        for requirement in requirements {
             self.meet_targets(alloc, sources, requirement)?;
         }
         Ok(())
+    }
+
+    // In how many lists the requirements of the name at a place stand.
+    fn list_count(&self, place: usize) -> usize {
+        match self.releases.get(place) {
+            Some(own) => own.lists.len(),
+            None => 0,
+        }
     }
 
     // Takes in what the releases of the name at a place aim at.
@@ -169,20 +177,21 @@ impl<'a> Gathered<'a> {
         sources: &Sources<'a, '_>,
         place: usize,
     ) -> Result<(), AllocError>
-        requires { AreKnown sources.now.0 sources.now.1 self.old.names.items self.old.releases.items }
-        ensures { IfOk result (λ _. AreKnown sources.now.0 sources.now.1 self.new.names.items self.new.releases.items) }
+        requires { IsGathered sources.now.0 sources.now.1 self.old }
+        ensures { IfOk result (λ _. IsGathered sources.now.0 sources.now.1 self.new) }
     {
-        for k in 0..usize::MAX {
+        let count = self.list_count(place);
+        for k in 0..count {
             let Some(own) = self.releases.get(place) else {
                 return Ok(());
             };
-            let Some(release) = own.list.get(k) else {
+            let Some(list) = own.lists.get(k) else {
                 return Ok(());
             };
-            let release: &'a Release = *release;
-            self.meet_release(alloc, sources, release)?;
+            let list: &'a [Requirement] = *list;
+            self.meet_list(alloc, sources, list)?;
         }
-        Err(AllocError)
+        Ok(())
     }
 
     // Takes in all that is reached from the nodes that a region starts from.
@@ -192,19 +201,18 @@ impl<'a> Gathered<'a> {
         sources: &Sources<'a, '_>,
         starts: &[Node],
     ) -> Result<(), AllocError>
-        requires { AreKnown sources.now.0 sources.now.1 self.old.names.items self.old.releases.items }
-        ensures { IfOk result (λ _. AreKnown sources.now.0 sources.now.1 self.new.names.items self.new.releases.items) }
+        requires { IsGathered sources.now.0 sources.now.1 self.old }
+        ensures { IfOk result (λ _. IsGathered sources.now.0 sources.now.1 self.new) }
     {
         for start in starts {
             self.meet_start(alloc, sources, start)?;
         }
-        for place in 0..usize::MAX {
-            if place >= self.names.len() {
-                return Ok(());
-            }
+        let mut place = 0;
+        while place < self.names.len() {
             self.meet_releases(alloc, sources, place)?;
+            place += 1;
         }
-        Err(AllocError)
+        Ok(())
     }
 }
 
@@ -219,7 +227,7 @@ pub(crate) fn gather_all<'a>(
     starts: &[Node],
     wish: &Wish,
 ) -> Result<Gathered<'a>, AllocError>
-    ensures { IfOk result (λ g. AreKnown catalog.now wish.now g.names.items g.releases.items) }
+    ensures { IfOk result (IsGathered catalog.now wish.now) }
 {
     let sources = Sources::of(alloc, catalog, wish)?;
     let mut all = Gathered::new(alloc);
@@ -228,37 +236,21 @@ pub(crate) fn gather_all<'a>(
     Ok(both.0)
 }
 
-fn has_name(facts: &NameFacts, name: &Name) -> bool
-    ensures { IsTrue result → facts.now.name ≡ name.now }
+// The place of a name that has one.
+fn name_place(names: &[NameFacts], places: &HashMap<Name, usize>, name: &Name) -> usize
+    requires places { ArePlaces names.now places.now }
+    requires placed { HasPlace places.now name.now }
+    ensures { HasName names.now name.now result }
 {
-    let own: &Name = &facts.name;
-    own.text() == name.text()
-}
-
-// The place of a name. Each name that is asked for has one.
-fn name_place(
-    names: &[NameFacts],
-    places: &HashMap<Name, usize>,
-    name: &Name,
-) -> Result<usize, AllocError>
-    ensures { IfOk result (HasName names.now name.now) }
-{
-    let Some(found) = places.get(name) else {
-        return Err(AllocError);
-    };
-    let place = *found;
-    if place >= names.len() {
-        return Err(AllocError);
+    match places.get(name) {
+        Some(place) => *place,
+        None => 0,
     }
-    if !has_name(&names[place], name) {
-        return Err(AllocError);
-    }
-    Ok(place)
 }
 
 // Whether a node comes after the last one.
 fn comes_after(bare: &[Planned<'_>], node: &Node) -> bool
-    ensures { IsTrue result → ComesAfter bare.now node.now }
+    ensures { Decides result (ComesAfter bare.now node.now) }
 {
     match bare.last() {
         Some(last) => last.node.cmp(node).is_lt(),
@@ -272,19 +264,20 @@ fn bare_node<'a>(
     names: &[NameFacts],
     places: &HashMap<Name, usize>,
     node: Node,
-) -> Result<Planned<'a>, AllocError>
-    ensures node { IfOk result (λ p. p.node ≡ node) }
-    ensures named { IfOk result (IsNamed names.now) }
+) -> Planned<'a>
+    requires places { ArePlaces names.now places.now }
+    requires placed { HasPlace places.now node.name }
+    ensures node { result.node ≡ node }
+    ensures named { IsNamed names.now result }
 {
     let name = name_place(names, places, &node.name);
-    let (node, name) = beside(node, name)?;
-    Ok(Planned {
+    Planned {
         node,
         base: None,
         name,
         rows: Vec::new(alloc),
         aims: Vec::new(alloc),
-    })
+    }
 }
 
 /// The nodes without their rows, in order, each once.
@@ -298,6 +291,8 @@ pub(crate) fn bare_nodes<'a>(
     places: &HashMap<Name, usize>,
     nodes: Vec<Node>,
 ) -> Result<Vec<Planned<'a>>, AllocError>
+    requires places { ArePlaces names.now places.now }
+    requires placed { All (IsPlacedNode places.now) nodes.items }
     ensures increasing { IfOk result (λ v. Increases PlannedBefore v.items) }
     ensures named { IfOk result (λ v. All (IsNamed names.now) v.items) }
 {
@@ -307,7 +302,7 @@ pub(crate) fn bare_nodes<'a>(
     for node in nodes {
         if comes_after(bare.as_slice(), &node) {
             let one = bare_node(alloc, names, places, node);
-            bare = with_made(bare, one)?;
+            bare = with_one(bare, one)?;
         }
     }
     Ok(bare)

@@ -9,6 +9,9 @@ mod parts;
 mod permitted;
 mod planning;
 mod prepared;
+mod releases;
+mod rows;
+mod shared;
 mod sources;
 mod wish_index;
 

@@ -1,5 +1,5 @@
 //! What is known of a name: its eligible versions, and the order in which they are tried.
-ghost use Rattle.std.specs.Prelude.{◌≡◌, ◌<◌, ◌^◌, IfOk, ◌++◌, Some, filter, length, map, not, reverse, slice_get};
+ghost use Rattle.std.specs.Prelude.{◌≡◌, ◌<◌, ◌^◌, All, IfOk, ◌++◌, Some, filter, length, map, not, reverse, slice_get};
 ghost use Rattle.std.specs.List.{list_any};
 ghost use Rattle.std.specs.Ordering.{is_eq};
 ghost use Rattle.ul_version.specs.Order.{version_cmp};
@@ -24,13 +24,11 @@ use ul_requirement::{Mode, Release};
 use ul_version::Version;
 
 // The release at a place.
-fn release_at<'a>(releases: &'a [Release], place: u32) -> Result<&'a Release, AllocError>
-    ensures { IfOk result (λ r. Some r.now ≡ slice_get releases.now place) }
+fn release_at<'a>(releases: &'a [Release], place: u32) -> &'a Release
+    requires { place < length releases.now }
+    ensures { Some result.now ≡ slice_get releases.now place }
 {
-    match releases.get(place as usize) {
-        Some(release) => Ok(release),
-        None => Err(AllocError),
-    }
+    &releases[place as usize]
 }
 
 // The releases at places.
@@ -39,11 +37,12 @@ fn releases_at<'a>(
     releases: &'a [Release],
     places: &[u32],
 ) -> Result<Vec<&'a Release>, AllocError>
+    requires { All (λ p. p < length releases.now) places.now }
     ensures { IfOk result (λ v. map (λ r. Some r.now) v.items ≡ map (slice_get releases.now) places.now) }
 {
     let mut found = Vec::with_capacity(alloc, places.len())?;
     for place in places {
-        let release = release_at(releases, *place)?;
+        let release = release_at(releases, *place);
         found.push(release)?;
     }
     Ok(found)

@@ -1,5 +1,5 @@
 //! Which of a name's versions specifiers permit. Equal specifiers on one name share one set.
-ghost use Rattle.std.specs.Prelude.{◌≡◌, ◌<◌, [], All, IfOk, IsTrue, MatchOption, length, map};
+ghost use Rattle.std.specs.Prelude.{◌≡◌, ◌<◌, [], All, IfOk, MatchOption, length, map};
 ghost use Rattle.ul_specifier.specs.Meaning.{meets_list};
 ghost use Rattle.ul_prepared.specs.Permitted.{IsPermitted, IsRising, IsSetOf};
 
@@ -9,6 +9,7 @@ use std::alloc::{AllocError, Global};
 use std::collections::HashMap;
 use ul_base::owned::beside;
 use ul_ranges::Ordinals;
+use ul_requirement::same_specifiers;
 use ul_specifier::{Clause, Op, Specifiers};
 use ul_version::Version;
 
@@ -37,32 +38,6 @@ fn permitted_of(
     ensures { IfOk result (λ s. s ≡ map (meets_list specifiers.now) facts.now.versions) }
 {
     permitted(alloc, specifiers, facts.versions.as_slice())
-}
-
-fn same_clause(one: &Clause, other: &Clause) -> bool
-    ensures { IsTrue result → one.now ≡ other.now }
-{
-    one.op == other.op && one.prefix == other.prefix && one.version.same(&other.version)
-}
-
-fn same_clauses(some: &[Clause], others: &[Clause]) -> bool
-    ensures { IsTrue result → some.now ≡ others.now }
-{
-    if some.len() != others.len() {
-        return false;
-    }
-    for k in 0..some.len() {
-        if !same_clause(&some[k], &others[k]) {
-            return false;
-        }
-    }
-    true
-}
-
-fn same_specifiers(some: &Specifiers, others: &Specifiers) -> bool
-    ensures { IsTrue result → some.now ≡ others.now }
-{
-    same_clauses(some.clauses.as_slice(), others.clauses.as_slice())
 }
 
 fn mixed(seed: u64, number: u64) -> u64 {

@@ -1,47 +1,53 @@
 //! Nodes with what their releases ask in every region.
-ghost use Rattle.std.specs.Prelude.{◌≡◌, All, IfOk, Some, map, slice_get};
+ghost use Rattle.std.specs.Prelude.{◌≡◌, ◌<◌, All, IfOk, get_or, length, map};
+ghost use Rattle.std.specs.List.{AllZip};
 ghost use Rattle.ul_algebra.specs.Answers.{IsDiagram};
-ghost use Rattle.ul_region.specs.Rows.{IsRow};
+ghost use Rattle.ul_region.specs.Rows.{AreAsked};
 ghost use Rattle.ul_region.specs.Truths.{IsGrown};
-ghost use Rattle.ul_prepared.specs.Gathered.{AreSameNodes, HasBaseFor, HasOwnRows, IsNamed};
-ghost use Rattle.ul_prepared.specs.Gathered.{node_in, release_in};
+ghost use Rattle.ul_prepared.specs.Gathered.{AreSameNodes, HasBaseFor, HasOwnRows, HasRows, IsNamed, node_in};
+ghost use Rattle.ul_prepared.specs.Lists.{AreListed, lists_of, releases_in};
 ghost use Rattle.ul_prepared.specs.Permitted.{IsRising, IsSetOf};
 ghost use Rattle.ul_prepared.specs.Prepared.{AreNodesAt};
+ghost use Rattle.ul_prepared.specs.Shared.{IsShared, releases_shared};
 
-use crate::aims::{place_of, release_aims};
-use crate::gathering::{Releases, index_of};
+use crate::aims::{list_aims, place_of};
+use crate::gathering::index_of;
 use crate::permitted::Sets;
 use crate::prepared::{NameFacts, Planned};
+use crate::releases::Releases;
+use crate::rows::rows_of;
+use crate::shared::{Fitted, Shared, shared_names};
 use std::alloc::{AllocError, Global};
 use std::collections::HashMap;
 use std::sync::Wait;
 use ul_algebra::Algebra;
 use ul_base::Node;
 use ul_base::owned::{beside, made_from, with_made};
-use ul_region::{Row, Truths, row_of};
-use ul_requirement::Release;
+use ul_ranges::SharedList;
+use ul_region::{Asked, Truths, asked_at};
+use ul_requirement::Requirement;
 
-// The rows of releases at a node, in order.
-fn rows_of<'a, R: Wait>(
+// Of each list of requirements those that may be true at a node.
+fn asked_lists<'a, R: Wait>(
     rt: &R,
     alloc: Global,
     algebra: &mut Algebra<'_>,
     truths: &mut Truths,
     node: &Node,
-    releases: &[&'a Release],
-) -> Result<Vec<Row<'a>>, AllocError>
+    lists: &[&'a [Requirement]],
+) -> Result<Vec<SharedList<Asked<'a>>>, AllocError>
     requires { All (IsDiagram algebra.old) truths.old.marks.items }
     ensures grown { IsGrown algebra.old truths.old.marks.items algebra.new truths.new.marks.items }
-    ensures rows { IfOk result (λ v. All (IsRow algebra.new node.now truths.new.marks.items) v.items) }
-    ensures releases { IfOk result (λ v. map release_in v.items ≡ map (λ r. r.now) releases.now) }
+    ensures asked { IfOk result (λ v. AllZip (AreAsked algebra.new node.now truths.new.marks.items)
+        (lists_of lists.now) v.items) }
 {
-    let mut rows = Vec::with_capacity(alloc, releases.len())?;
-    for release in releases {
-        let release: &'a Release = release;
-        let row = row_of(rt, alloc, algebra, truths, node, release);
-        rows = with_made(rows, row)?;
+    let mut list = Vec::with_capacity(alloc, lists.len())?;
+    for requirements in lists {
+        let requirements: &'a [Requirement] = requirements;
+        let asked = asked_at(rt, alloc, algebra, truths, node, requirements);
+        list = with_made(list, asked)?;
     }
-    Ok(rows)
+    Ok(list)
 }
 
 // The place of a node's base, where it has an extra. Base and extras have one name's place.
@@ -69,19 +75,6 @@ fn base_of(
     Ok(Some(place as u64))
 }
 
-// The releases of the name at a place.
-fn own_releases<'r, 'a>(
-    releases: &'r [Releases<'a>],
-    place: usize,
-) -> Result<&'r Releases<'a>, AllocError>
-    ensures { IfOk result (λ r. slice_get releases.now place ≡ Some r.now) }
-{
-    match releases.get(place) {
-        Some(own) => Ok(own),
-        None => Err(AllocError),
-    }
-}
-
 // A node with the rows of its name's releases, and their needs.
 fn planned_at<'a, R: Wait>(
     rt: &R,
@@ -92,26 +85,30 @@ fn planned_at<'a, R: Wait>(
     index: &HashMap<Node, usize>,
     names: &[NameFacts],
     nodes: &[Planned<'_>],
-    releases: &[Releases<'a>],
+    own: &Shared<'a>,
     planned: &Planned<'_>,
 ) -> Result<Planned<'a>, AllocError>
     requires truths { All (IsDiagram algebra.old) truths.old.marks.items }
     requires rising { All IsRising names.now }
     requires sets { All (IsSetOf names.now) sets.old.list.items }
+    requires shared { IsShared algebra.old truths.old.marks.items own.now }
     requires named { IsNamed names.now planned.now }
     ensures grown { IsGrown algebra.old truths.old.marks.items algebra.new truths.new.marks.items }
     ensures sets { All (IsSetOf names.now) sets.new.list.items }
     ensures node { IfOk result (λ p. node_in p ≡ node_in planned.now) }
-    ensures rows { IfOk result (HasOwnRows algebra.new names.now nodes.now truths.new.marks.items releases.now) }
+    ensures rows { IfOk result (HasRows algebra.new names.now nodes.now truths.new.marks.items
+        (releases_shared own.now)) }
 {
-    let own = own_releases(releases, planned.name)?;
-    let own: &[&'a Release] = own.list.as_slice();
     let base = base_of(alloc, index, names, nodes, planned)?;
-    let rows = rows_of(rt, alloc, algebra, truths, &planned.node, own)?;
-    let aims = release_aims(alloc, sets, index, names, nodes, own);
-    let asked = beside(rows, aims)?;
-    let (kept, node) = beside(asked, planned.node.copy(alloc))?;
-    let (rows, aims) = kept;
+    let lists: &[&'a [Requirement]] = own.lists.as_slice();
+    let asked = asked_lists(rt, alloc, algebra, truths, &planned.node, lists)?;
+    let aims = list_aims(alloc, sets, index, names, nodes, asked.as_slice());
+    let (asked, aims) = beside(asked, aims)?;
+    let releases: &[Fitted<'a>] = own.releases.as_slice();
+    let rows = rows_of(alloc, asked.as_slice(), aims.as_slice(), releases);
+    let rows = made_from(rows, (asked, aims))?;
+    let (both, node) = beside(rows, planned.node.copy(alloc))?;
+    let (rows, aims) = both;
     Ok(Planned {
         node,
         base,
@@ -119,6 +116,14 @@ fn planned_at<'a, R: Wait>(
         rows,
         aims,
     })
+}
+
+// What the nodes of the name at a place share.
+fn own_shared<'r, 'a>(shared: &'r [Shared<'a>], place: usize) -> &'r Shared<'a>
+    requires { place < length shared.now }
+    ensures { result.now ≡ get_or shared.now place result.now }
+{
+    &shared[place]
 }
 
 // The nodes with their rows, in the order of the bare ones; `sets` is what was found of specifiers so far.
@@ -130,22 +135,26 @@ fn planned_nodes<'a, R: Wait>(
     sets: &mut Sets<'a>,
     index: &HashMap<Node, usize>,
     names: &[NameFacts],
-    releases: &[Releases<'a>],
+    shared: &[Shared<'a>],
     bare: &[Planned<'_>],
 ) -> Result<Vec<Planned<'a>>, AllocError>
     requires truths { All (IsDiagram algebra.old) truths.old.marks.items }
     requires rising { All IsRising names.now }
     requires sets { All (IsSetOf names.now) sets.old.list.items }
+    requires shared { All (IsShared algebra.old truths.old.marks.items) shared.now }
+    requires size { length shared.now ≡ length names.now }
     requires named { All (IsNamed names.now) bare.now }
     ensures grown { IsGrown algebra.old truths.old.marks.items algebra.new truths.new.marks.items }
     ensures same { IfOk result (λ v. AreSameNodes v.items bare.now) }
     ensures rows { IfOk result (λ v. All
-        (HasOwnRows algebra.new names.now bare.now truths.new.marks.items releases.now) v.items) }
+        (HasOwnRows algebra.new names.now bare.now truths.new.marks.items
+        (map releases_shared shared.now)) v.items) }
 {
     let mut nodes = Vec::with_capacity(alloc, bare.len())?;
     for one in bare {
+        let own = own_shared(shared, one.name);
         let made = planned_at(
-            rt, alloc, algebra, truths, sets, index, names, bare, releases, one,
+            rt, alloc, algebra, truths, sets, index, names, bare, own, one,
         );
         nodes = with_made(nodes, made)?;
     }
@@ -170,7 +179,41 @@ fn places_of(
     Ok(places)
 }
 
+// The nodes with their rows, in the order of the bare ones, and the places of those that a region starts from.
+fn nodes_over<'a, R: Wait>(
+    rt: &R,
+    alloc: Global,
+    algebra: &mut Algebra<'_>,
+    truths: &mut Truths,
+    names: &[NameFacts],
+    shared: &[Shared<'a>],
+    bare: &[Planned<'_>],
+    starts: &[Node],
+) -> Result<(Vec<Planned<'a>>, Vec<u64>), AllocError>
+    requires truths { All (IsDiagram algebra.old) truths.old.marks.items }
+    requires rising { All IsRising names.now }
+    requires shared { All (IsShared algebra.old truths.old.marks.items) shared.now }
+    requires size { length shared.now ≡ length names.now }
+    requires named { All (IsNamed names.now) bare.now }
+    ensures grown { IsGrown algebra.old truths.old.marks.items algebra.new truths.new.marks.items }
+    ensures same { IfOk result (λ both. AreSameNodes both.0.items bare.now) }
+    ensures rows { IfOk result (λ both. All
+        (HasOwnRows algebra.new names.now bare.now truths.new.marks.items
+        (map releases_shared shared.now)) both.0.items) }
+    ensures roots { IfOk result (λ both. AreNodesAt both.0.items both.1.items starts.now) }
+{
+    let index = index_of(alloc, bare)?;
+    let mut sets = Sets::new(alloc);
+    let planned = planned_nodes(
+        rt, alloc, algebra, truths, &mut sets, &index, names, shared, bare,
+    );
+    let (places, nodes) = beside(index, made_from(planned, sets))?;
+    let roots = places_of(alloc, &places, names, nodes.as_slice(), starts);
+    beside(nodes, made_from(roots, places))
+}
+
 /// The nodes with their rows, in the order of the bare ones, and the places of those that a region starts from.
+/// `releases` has of each name its releases.
 ///
 /// # Errors
 ///
@@ -181,25 +224,32 @@ pub(crate) fn placed_nodes<'a, R: Wait>(
     algebra: &mut Algebra<'_>,
     truths: &mut Truths,
     names: &[NameFacts],
-    releases: &[Releases<'a>],
+    releases: Vec<Releases<'a>>,
     bare: &[Planned<'_>],
     starts: &[Node],
 ) -> Result<(Vec<Planned<'a>>, Vec<u64>), AllocError>
     requires truths { All (IsDiagram algebra.old) truths.old.marks.items }
     requires rising { All IsRising names.now }
+    requires listed { All AreListed releases.items }
+    requires size { length releases.items ≡ length names.now }
     requires named { All (IsNamed names.now) bare.now }
     ensures grown { IsGrown algebra.old truths.old.marks.items algebra.new truths.new.marks.items }
     ensures same { IfOk result (λ both. AreSameNodes both.0.items bare.now) }
     ensures rows { IfOk result (λ both. All
-        (HasOwnRows algebra.new names.now bare.now truths.new.marks.items releases.now) both.0.items) }
+        (HasOwnRows algebra.new names.now bare.now truths.new.marks.items
+        (map releases_in releases.entry.items)) both.0.items) }
     ensures roots { IfOk result (λ both. AreNodesAt both.0.items both.1.items starts.now) }
 {
-    let index = index_of(alloc, bare)?;
-    let mut sets = Sets::new(alloc);
-    let planned = planned_nodes(
-        rt, alloc, algebra, truths, &mut sets, &index, names, releases, bare,
+    let shared = shared_names(rt, alloc, algebra, truths, releases)?;
+    let placed = nodes_over(
+        rt,
+        alloc,
+        algebra,
+        truths,
+        names,
+        shared.as_slice(),
+        bare,
+        starts,
     );
-    let (places, nodes) = beside(index, made_from(planned, sets))?;
-    let roots = places_of(alloc, &places, names, nodes.as_slice(), starts);
-    beside(nodes, made_from(roots, places))
+    made_from(placed, shared)
 }

@@ -11,7 +11,8 @@ use ul_algebra::{Algebra, Diagram};
 use ul_base::owned::{beside, made_from};
 use ul_base::{Name, Node};
 use ul_index::Catalog;
-use ul_problem::{NeedRows, Places, Versions};
+use ul_problem::{NeedRow, Places, Versions};
+use ul_ranges::SharedList;
 use ul_region::{Row, Truths};
 use ul_requirement::Wish;
 
@@ -33,10 +34,10 @@ pub struct Planned<'a> {
     pub base: Option<u64>,
     /// The place of its name among the names.
     pub name: usize,
-    /// Of each version, what its release asks at the node.
+    /// Of each version, what its release asks at the node. Neighbours that ask for the same share it.
     pub rows: Vec<Row<'a>>,
-    /// Of each version and each requirement of its release the needs, by places of nodes.
-    pub aims: Vec<NeedRows>,
+    /// Of each version and each requirement in its row the needs, by places of nodes.
+    pub aims: Vec<SharedList<NeedRow>>,
 }
 
 /// What all regions share.
@@ -92,11 +93,11 @@ impl<'a> Prepared<'a> {
             algebra,
             &mut truths,
             names.as_slice(),
-            releases.as_slice(),
+            releases,
             bare.as_slice(),
             starts,
         );
-        let (shared, placed) = beside((names, truths), made_from(placed, (releases, bare)))?;
+        let (shared, placed) = beside((names, truths), made_from(placed, bare))?;
         let (names, truths) = shared;
         let (nodes, roots) = placed;
         Ok(Prepared {

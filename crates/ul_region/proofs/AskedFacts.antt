@@ -1,17 +1,18 @@
 -- What is known of the requirements of a release at a node in a region.
 use Rattle.std.specs.Prelude.{Contains, slice_get}
 use Rattle.std.specs.Borrow.{Bor}
-use Rattle.std.proofs.Common.{◌≡◌, ◌<◌, ℕ, List, length, get_or, Bool, true, false, not, ◌&&◌, Decides, Option, Some, None, refl, sym, ap, subst, ◌∙◌, inl, inr}
+use Rattle.std.proofs.Common.{◌≡◌, ◌<◌, ℕ, List, [], length, get_or, Bool, true, false, not, ◌&&◌, Decides, Option, Some, None, refl, sym, ap, subst, ◌∙◌, inl, inr}
 use Rattle.std.proofs.lemmas.List.Elements.{All-contains}
-use Rattle.std.proofs.lemmas.Option.{slice_get_within, slice_get-get_or, get_or_from_slice_get}
+use Rattle.std.proofs.lemmas.Option.{same_Some, slice_get_within, slice_get-get_or, get_or_from_slice_get}
 use Rattle.ul_base.specs.Kept.{IsFirst}
 use Rattle.ul_base.specs.declared.node.Node.{Node}
-use Rattle.ul_base.proofs.ForCallers.{contains_map, first_holds}
-use Rattle.ul_comparison.specs.Worlds.{WorldFields}
+use Rattle.ul_base.proofs.ForCallers.{first_holds}
+use Rattle.ul_comparison.specs.Worlds.{WorldFields, IsWorld}
 use Rattle.ul_nodes.specs.Apply.{both}
 use Rattle.ul_tree.specs.Laws.{and_of}
 use Rattle.ul_nodes.specs.Plain.{Plain}
 use Rattle.ul_tree.specs.Regions.{HasTruth}
+use Rattle.ul_tree.specs.Values.{tree_holds}
 use Rattle.ul_tree.proofs.ForCallers.{operations, has_and}
 use Rattle.ul_algebra.specs.Answers.{IsDiagram}
 use Rattle.ul_algebra.specs.Spelled.{tree_of}
@@ -20,12 +21,14 @@ use Rattle.ul_requirement.specs.Truth.{applies_at}
 use Rattle.ul_index.specs.Regions.{Region, Somewhere}
 use Rattle.ul_index.specs.Applied.{IsApplied, IsSplitGroup, IsFirm}
 use Rattle.ul_region.specs.Truths.{PassView, DiagramMark, IsTruth, IsTruthAt, AreWithin, Apart, truth_within}
-use Rattle.ul_region.specs.Rows.{IsAsked, requirement_of}
+use Rattle.ul_region.specs.Rows.{IsAsked}
 use Rattle.ul_region.specs.Asked.{IsAtNode, IsOther, asked_of, region_asked}
 use Rattle.ul_region.specs.Groups.{FailsIn, FirstOf, InSplit, PartsBy}
 use Rattle.ul_region.specs.declared.rows.Asked.{Asked}
 use Rattle.ul_region.specs.declared.at_node.AtNode.{AtNode}
 use Rattle.ul_region.proofs.Existing.{and_true, and_left, and_right, not_of_false}
+use Rattle.ul_region.proofs.Firsts.{AreAlike}
+use Rattle.ul_region.proofs.AskedLists.{asked_listed}
 
 -- ---- truths at places
 
@@ -51,16 +54,16 @@ read_at h ms k m p t e = subst (λ (x : DiagramMark). IsTruth h x p) (sym (get_o
 
 -- ---- a requirement of a row
 
-pub asked_at : (h : PassView) (s : AtNode) (a : Asked) → IsAtNode h s → Contains s.row.now.asked.items a → IsAsked h s.node.now s.place.now.truths.now a
-asked_at h s a w i = All-contains (IsAsked h s.node.now s.place.now.truths.now) s.row.now.asked.items a w.row.asked i
+pub asked_at : (h : PassView) (s : AtNode) (a : Asked) → IsAtNode h s → Contains s.row.now.asked a → IsAsked h s.node.now s.place.now.truths.now a
+asked_at h s a w i = All-contains (IsAsked h s.node.now s.place.now.truths.now) s.row.now.asked a w.row.are.known i
 
-pub asked_place : (h : PassView) (s : AtNode) (a : Asked) → IsAtNode h s → Contains s.row.now.asked.items a → a.truth < length s.place.now.within.items
+pub asked_place : (h : PassView) (s : AtNode) (a : Asked) → IsAtNode h s → Contains s.row.now.asked a → a.truth < length s.place.now.within.items
 asked_place h s a w i = place_within h s.place.now.region.now s.place.now.truths.now s.place.now.within.items a.truth (applies_at a.requirement.now s.node.now) w.place.within (asked_at h s a w i)
 
 pub fit_place : (h : PassView) (s : AtNode) → IsAtNode h s → s.row.now.fit < length s.place.now.within.items
 fit_place h s w = place_within h s.place.now.region.now s.place.now.truths.now s.place.now.within.items s.row.now.fit _ w.place.within w.row.fit
 
-pub truth_place : (h : PassView) (s : AtNode) (a : Asked) → IsAtNode h s → Contains s.row.now.asked.items a → a.truth < length s.place.now.truths.now
+pub truth_place : (h : PassView) (s : AtNode) (a : Asked) → IsAtNode h s → Contains s.row.now.asked a → a.truth < length s.place.now.truths.now
 truth_place h s a w i = let t = asked_at h s a w i in slice_get_within s.place.now.truths.now a.truth t.mark t.at
 
 pub other_decided : (R : Region) (n : Node) (one other : RequirementFields) → Somewhere R (applies_at other n) → other.name ≡ one.name → (b : Bool) → Decides b (Apart R (applies_at one n) (applies_at other n)) → Decides b (IsOther R n one other)
@@ -72,8 +75,39 @@ not_other_name R n one other f = ((λ e. cc), (λ o. absurd (f o.named)))
 pub not_other_applied : (R : Region) (n : Node) (one other : RequirementFields) → (Somewhere R (applies_at other n) → ⊥) → Decides false (IsOther R n one other)
 not_other_applied R n one other f = ((λ e. cc), (λ o. absurd (f o.somewhere)))
 
-pub applied_at : (s : AtNode) (a : Asked) → Contains s.row.now.asked.items a → Somewhere (region_asked s) (applies_at a.requirement.now s.node.now) → IsApplied (asked_of s) (region_asked s) s.node.now a.requirement.now
-applied_at s a i h = record { listed = contains_map requirement_of s.row.now.asked.items a i; somewhere = h }
+-- it is one of the release's
+pub listed_at : (h : PassView) (s : AtNode) (a : Asked) → IsAtNode h s → Contains s.row.now.asked a → Contains (asked_of s) a.requirement.now
+listed_at h s a w i = asked_listed h s.node.now s.place.now.truths.now (asked_of s) s.row.now.asked w.row.are a i
+
+pub applied_at : (h : PassView) (s : AtNode) (a : Asked) → IsAtNode h s → Contains s.row.now.asked a → Somewhere (region_asked s) (applies_at a.requirement.now s.node.now) → IsApplied (asked_of s) (region_asked s) s.node.now a.requirement.now
+applied_at h s a w i t = record { listed = listed_at h s a w i; somewhere = t }
+
+-- truths at one place are equal at each world
+same_truth : (h : PassView) (ms : List DiagramMark) (j k : ℕ) (f g : WorldFields → Bool) → j ≡ k → IsTruthAt h ms j f → IsTruthAt h ms k g → (w : WorldFields) → IsWorld w → f w ≡ g w
+same_truth h ms j k f g e a b w is =
+    let one : a.mark ≡ b.mark = same_Some a.mark b.mark (sym a.at ∙ (ap (slice_get ms) e ∙ b.at)) in
+    sym (a.is.truth.truth w [] is) ∙ (ap (λ (m : DiagramMark). tree_holds (tree_of m) w []) one ∙ b.is.truth.truth w [] is)
+
+-- of two requirements of one truth and one name, both are others or neither is
+pub other_alike : (h : PassView) (s : AtNode) (one : RequirementFields) → IsAtNode h s → AreAlike (IsOther (region_asked s) s.node.now one) s.row.now.asked
+other_alike h s one w a b i j named placed o = record {
+  somewhere = (o.somewhere.0, o.somewhere.1, o.somewhere.2, sym (equal o.somewhere.0 o.somewhere.1) ∙ o.somewhere.3);
+  named = sym ((w.row.are.numbered a b i j).0 named) ∙ o.named;
+  apart = by_side o.apart;
+}
+  where
+    n : Node
+    n = s.node.now
+
+    R : Region
+    R = region_asked s
+
+    equal : (v : WorldFields) → IsWorld v → applies_at a.requirement.now n v ≡ applies_at b.requirement.now n v
+    equal v is = same_truth h s.place.now.truths.now a.truth b.truth (applies_at a.requirement.now n) (applies_at b.requirement.now n) placed (asked_at h s a w i) (asked_at h s b w j) v is
+
+    by_side : Apart R (applies_at one n) (applies_at a.requirement.now n) → Apart R (applies_at one n) (applies_at b.requirement.now n)
+    by_side (inl t) = inl (t.0, t.1, t.2, ap (λ (c : Bool). applies_at one n t.0 && not c) (sym (equal t.0 t.1)) ∙ t.3)
+    by_side (inr t) = inr (t.0, t.1, t.2, ap (λ (c : Bool). c && not (applies_at one n t.0)) (sym (equal t.0 t.1)) ∙ t.3)
 
 -- ---- split groups
 

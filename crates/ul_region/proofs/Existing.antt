@@ -39,7 +39,8 @@ false_of_not : (b : Bool) → not b ≡ true → b ≡ false
 false_of_not true e = cc
 false_of_not false e = refl
 
-clash : (b : Bool) → b ≡ true → b ≡ false → ⊥
+-- a bit isn't both
+pub clash : (b : Bool) → b ≡ true → b ≡ false → ⊥
 clash true e f = cc
 clash false e f = cc
 

@@ -7,8 +7,8 @@ use Rattle.std.proofs.lemmas.List.Elements.{All-more}
 use Rattle.std.proofs.lemmas.Option.{same_Some, slice_get_within, slice_get-get_or, get_or_from_slice_get}
 use Rattle.ul_requirement.specs.Fields.{RequirementFields}
 use Rattle.ul_base.proofs.ForCallers.{contains_cases, none_at_all, none_in}
-use Rattle.ul_region.specs.Numbers.{IsFirstFrom}
-use Rattle.ul_region.specs.Rows.{AreLinked, next_in, number_in, requirement_of}
+use Rattle.ul_region.specs.Numbers.{IsOtherFrom}
+use Rattle.ul_region.specs.Rows.{AreLinked, next_in, number_in, requirement_of, truth_in}
 use Rattle.ul_region.specs.declared.rows.Asked.{Asked}
 
 -- none of the requirements is such
@@ -43,6 +43,10 @@ pub record IsWalked (P : RequirementFields → Type 0) (asked : List Asked) (num
   pub none : (j : ℕ) (b : Asked) → slice_get asked j ≡ Some b → j < place → P b.requirement.now → ⊥
   pub on : place < length asked → get_or (map number_in asked) place 0 ≡ number
 
+-- those of one truth and one name are such alike
+abbrev pub AreAlike : (RequirementFields → Type 0) → List Asked → Type 0
+AreAlike P asked = (a b : Asked) → Contains asked a → Contains asked b → a.name ≡ b.name → a.truth ≡ b.truth → P a.requirement.now → P b.requirement.now
+
 -- those that are such are on the name
 abbrev pub AreOn : (RequirementFields → Type 0) → List Asked → ℕ → Type 0
 AreOn P asked number = (b : Asked) → Contains asked b → P b.requirement.now → b.name ≡ number
@@ -52,6 +56,9 @@ number_read asked k b e = get_or-map number_in asked k b 0 (slice_get_within ask
 
 next_read : (asked : List Asked) (k : ℕ) (b : Asked) → slice_get asked k ≡ Some b → get_or (map next_in asked) k 0 ≡ b.next
 next_read asked k b e = get_or-map next_in asked k b 0 (slice_get_within asked k b e) ∙ ap next_in (get_or_from_slice_get asked k b b e)
+
+truth_read : (asked : List Asked) (k : ℕ) (b : Asked) → slice_get asked k ≡ Some b → get_or (map truth_in asked) k 0 ≡ b.truth
+truth_read asked k b e = get_or-map truth_in asked k b 0 (slice_get_within asked k b e) ∙ ap truth_in (get_or_from_slice_get asked k b b e)
 
 contained : (asked : List Asked) (k : ℕ) (b : Asked) → slice_get asked k ≡ Some b → Contains asked b
 contained asked k b e = (k, slice_get_within asked k b e, get_or_from_slice_get asked k b b e)
@@ -63,23 +70,27 @@ walk_begins P asked a links c on = let first = links.first a c in record {
 }
 
 -- what a link says of the place that it leads to
-link : (asked : List Asked) (number place : ℕ) (b : Asked) → AreLinked asked → slice_get asked place ≡ Some b → get_or (map number_in asked) place 0 ≡ number → IsFirstFrom (map number_in asked) (place + 1) number b.next
+link : (asked : List Asked) (number place : ℕ) (b : Asked) → AreLinked asked → slice_get asked place ≡ Some b → get_or (map number_in asked) place 0 ≡ number → IsOtherFrom (map number_in asked) (map truth_in asked) (place + 1) number b.truth b.next
 link asked number place b links at on =
-    subst (λ (n : ℕ). IsFirstFrom (map number_in asked) (place + 1) n b.next) on
-    (subst (IsFirstFrom (map number_in asked) (place + 1) (get_or (map number_in asked) place 0)) (next_read asked place b at)
-    (links.next place (subst (λ (n : ℕ). place < n) (sym (length-map asked number_in)) (slice_get_within asked place b at))))
+    subst (λ (n : ℕ). IsOtherFrom (map number_in asked) (map truth_in asked) (place + 1) n b.truth b.next) on
+    (subst (λ (t : ℕ). IsOtherFrom (map number_in asked) (map truth_in asked) (place + 1) (get_or (map number_in asked) place 0) t b.next) (truth_read asked place b at)
+    (subst (IsOtherFrom (map number_in asked) (map truth_in asked) (place + 1) (get_or (map number_in asked) place 0) (get_or (map truth_in asked) place 0)) (next_read asked place b at)
+    (links.next place (subst (λ (n : ℕ). place < n) (sym (length-map asked number_in)) (slice_get_within asked place b at)))))
 
-pub walk_more : (P : RequirementFields → Type 0) (asked ys : List Asked) (number place : ℕ) (b : Asked) → AreLinked asked → AreOn P asked number → ys ≡ asked → place < length ys → b ≡ get_or ys place b → (P b.requirement.now → ⊥) → IsWalked P asked number place
+pub walk_more : (P : RequirementFields → Type 0) (asked ys : List Asked) (number place : ℕ) (b : Asked) → AreLinked asked → AreAlike P asked → AreOn P asked number → ys ≡ asked → place < length ys → b ≡ get_or ys place b → (P b.requirement.now → ⊥) → IsWalked P asked number place
     → IsWalked P asked number b.next
-walk_more P asked ys number place b links on same l at not_so h =
+walk_more P asked ys number place b links alike on same l at not_so h =
     let here : slice_get asked place ≡ Some b = subst (λ (zs : List Asked). slice_get zs place ≡ Some b) same (slice_get-get_or ys place b l ∙ ap Some (sym at)) in
-    let next = link asked number place b links here (h.on (slice_get_within asked place b here)) in
+    let named : get_or (map number_in asked) place 0 ≡ number = h.on (slice_get_within asked place b here) in
+    let next = link asked number place b links here named in
     record {
       none = λ j x e m p. elim (cases_lt j place) [
         | inl before ↦ h.none j x e before p
         | inr from ↦ elim (cases_eq j place) [
           | inl equal ↦ not_so (subst (λ (y : Asked). P y.requirement.now) (same_Some x b (sym e ∙ (ap (slice_get asked) equal ∙ here))) p)
-          | inr apart ↦ next.apart j (omega (arith, from, apart)) m (number_read asked j x e ∙ on x (contained asked j x e) p)
+          | inr apart ↦ (let own : x.name ≡ number = on x (contained asked j x e) p in
+              let truth : get_or (map truth_in asked) j 0 ≡ b.truth = next.alike j (omega (arith, from, apart)) m (number_read asked j x e ∙ own) in
+              not_so (alike x b (contained asked j x e) (contained asked place b here) (own ∙ (sym named ∙ number_read asked place b here)) (sym (truth_read asked j x e) ∙ truth) p))
         ]
       ];
       on = λ m. next.same (subst (λ (n : ℕ). b.next < n) (sym (length-map asked number_in)) m);

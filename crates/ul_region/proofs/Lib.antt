@@ -10,8 +10,10 @@ pub mod Existing
 pub mod TruthFacts
 pub mod MarkerFacts
 pub mod Firsts
+pub mod Lent
 pub mod NameNumbers
 pub mod RowFacts
+pub mod AskedLists
 pub mod AskedFacts
 pub mod UnionFacts
 pub mod ForCallers

@@ -1,13 +1,11 @@
 -- Diagrams of markers, part by part.
-use Rattle.std.proofs.Common.{◌≡◌, ℕ, suc, ◌+◌, ◌<◌, ◌&&◌, ◌||◌, List, [], ◌∷◌, ◌++◌, Global, Vec, length, get_or, map, Bool, true, false, refl, sym, ap, ap₂, subst, ◌∙◌, arith, rules}
+use Rattle.std.proofs.Common.{◌≡◌, ℕ, suc, ◌+◌, ◌<◌, ◌&&◌, ◌||◌, List, [], ◌∷◌, ◌++◌, Global, Vec, length, get_or, Bool, true, false, refl, sym, ap, ap₂, subst, ◌∙◌, arith, rules}
 use Rattle.ul_comparison.specs.Formulas.{Formula, extra, python, python_list, text, opaque, all, any, Formulas, none, more, AreFormulas, IsFormula}
 use Rattle.ul_comparison.specs.Truth.{marker_holds}
-use Rattle.ul_comparison.specs.Worlds.{WorldFields, IsWorld}
+use Rattle.ul_comparison.specs.Worlds.{WorldFields}
 use Rattle.ul_marker.specs.Views.{marker_view, markers_view}
 use Rattle.ul_marker.specs.declared.marker.Marker.{Marker, All, Any, the_lemmas}
 use Rattle.ul_nodes.specs.Apply.{both, either}
-use Rattle.ul_tree.specs.Values.{tree_holds}
-use Rattle.ul_algebra.specs.Spelled.{tree_of}
 use Rattle.ul_algebra.specs.Truths.{HoldsJoined}
 use Rattle.ul_region.specs.Markers.{joining_of, parts_hold}
 use Rattle.ul_region.specs.Truths.{DiagramMark, HoldsAs}

@@ -7,7 +7,7 @@ use Rattle.std.proofs.lemmas.List.{drop_more, map_more, take_all, length-map, le
 use Rattle.std.proofs.lemmas.List.Elements.{All-head, All-tail, All-more, All-from_get_or}
 use Rattle.std.proofs.lemmas.Slice.Eq.{bytes_eq-Decides}
 use Rattle.ul_requirement.specs.Fields.{RequirementFields}
-use Rattle.ul_region.specs.Numbers.{AreFirstPlaces, AreNexts, IsFirstFrom, first_on, numbers_of, or_zero, place_from}
+use Rattle.ul_region.specs.Numbers.{AreFirstPlaces, AreNextOthers, AreOthersFrom, IsFirstFrom, IsOtherFrom, first_on, numbers_of, or_zero, place_from}
 
 -- ---- a loop that looks for the first one on a name
 
@@ -107,17 +107,17 @@ numbers_below qs v e = subst (λ (z : List ℕ). All (λ (n : ℕ). n < length z
     let near = first_upto qs k q.0 l q.1 in
     omega (arith, at, near, l, size)))
 
--- ---- the next place of a number
+-- ---- the next place of another truth
 
 -- what a loop over numbers knows of the last ones
-pub record AreNextFrom (numbers seen next : List ℕ) (i : ℕ) : Type 0 where
+pub record AreNextFrom (numbers truths seen next : List ℕ) (i : ℕ) : Type 0 where
   pub count : length seen ≡ length numbers
   pub size : length next ≡ length numbers
   pub first : (m : ℕ) → m < length numbers → IsFirstFrom numbers i m (get_or seen m 0)
-  pub later : (k : ℕ) → i ≤ k → k < length numbers → IsFirstFrom numbers (k + 1) (get_or numbers k 0) (get_or next k 0)
+  pub later : AreOthersFrom numbers truths next i
 
-pub next_start : (numbers seen next : List ℕ) (n i : ℕ) → n ≡ length numbers → i ≡ length numbers → seen ≡ replicate n n → next ≡ replicate n n → AreNextFrom numbers seen next i
-next_start numbers seen next n i e f s h = record {
+pub next_start : (numbers truths seen next : List ℕ) (n i : ℕ) → n ≡ length numbers → i ≡ length numbers → seen ≡ replicate n n → next ≡ replicate n n → AreNextFrom numbers truths seen next i
+next_start numbers truths seen next n i e f s h = record {
   count = ap length s ∙ length-replicate n n ∙ e;
   size = ap length h ∙ length-replicate n n ∙ e;
   first = λ m l. subst (IsFirstFrom numbers i m) (sym (ap (λ (z : List ℕ). get_or z m 0) s ∙ get_or-replicate n m n 0 (omega (arith, l, e)))) (record {
@@ -128,16 +128,26 @@ next_start numbers seen next n i e f s h = record {
   later = λ k a b. absurd (omega (arith, a, b, f));
 }
 
-pub next_more : (numbers seen next : List ℕ) (i n number : ℕ) → All (λ (m : ℕ). m < length numbers) numbers → n ≡ i + 1 → i < length numbers → number ≡ get_or numbers i number → AreNextFrom numbers seen next n
-    → AreNextFrom numbers (set seen number i) (set next i (get_or seen number 0)) i
-next_more numbers seen next i n number below e l at h =
+-- what is known of the places behind one, for the place itself
+pub next_found : (numbers truths seen next : List ℕ) (i n number : ℕ) → All (λ (m : ℕ). m < length numbers) numbers → n ≡ i + 1 → i < length numbers → number ≡ get_or numbers i number → AreNextFrom numbers truths seen next n
+    → IsFirstFrom numbers (i + 1) (get_or numbers i 0) (get_or seen number 0)
+next_found numbers truths seen next i n number below e l at h =
+    let own : get_or numbers i 0 ≡ number = get_or_default numbers i 0 number l ∙ sym at in
+    let there : number < length numbers = subst (λ (m : ℕ). m < length numbers) (sym at) (below i number l) in
+    subst (λ (m : ℕ). IsFirstFrom numbers (i + 1) m (get_or seen number 0)) (sym own)
+    (subst (λ (x : ℕ). IsFirstFrom numbers x number (get_or seen number 0)) e (h.first number there))
+
+pub next_more : (numbers truths seen next : List ℕ) (i n number place : ℕ) → All (λ (m : ℕ). m < length numbers) numbers → n ≡ i + 1 → i < length numbers → number ≡ get_or numbers i number → AreNextFrom numbers truths seen next n
+    → IsOtherFrom numbers truths (i + 1) (get_or numbers i 0) (get_or truths i 0) place
+    → AreNextFrom numbers truths (set seen number i) (set next i place) i
+next_more numbers truths seen next i n number place below e l at h found =
     let own : get_or numbers i 0 ≡ number = get_or_default numbers i 0 number l ∙ sym at in
     let there : number < length numbers = subst (λ (m : ℕ). m < length numbers) (sym at) (below i number l) in
     let kept : number < length seen = subst (λ (m : ℕ). number < m) (sym h.count) there in
     let room : i < length next = subst (λ (m : ℕ). i < m) (sym h.size) l in
     record {
       count = length-set seen number i ∙ h.count;
-      size = length-set next i (get_or seen number 0) ∙ h.size;
+      size = length-set next i place ∙ h.size;
       first = λ m b. elim (cases_eq m number) [
         | inl same ↦ subst (IsFirstFrom numbers i m) (sym (ap (λ (x : ℕ). get_or (set seen number i) x 0) same ∙ get_or-set_same seen number i 0 kept)) (record {
           after = omega arith;
@@ -156,13 +166,11 @@ next_more numbers seen next i n number below e l at h =
             }))
       ];
       later = λ k a b. elim (cases_eq k i) [
-        | inl here ↦ subst (λ (x : ℕ). IsFirstFrom numbers (x + 1) (get_or numbers x 0) (get_or (set next i (get_or seen number 0)) x 0)) (sym here)
-            (subst (IsFirstFrom numbers (i + 1) (get_or numbers i 0)) (sym (get_or-set_same next i (get_or seen number 0) 0 room))
-            (subst (λ (m : ℕ). IsFirstFrom numbers (i + 1) m (get_or seen number 0)) (sym own)
-            (subst (λ (x : ℕ). IsFirstFrom numbers x number (get_or seen number 0)) e (h.first number there))))
-        | inr later ↦ subst (IsFirstFrom numbers (k + 1) (get_or numbers k 0)) (sym (get_or-set_other next i k (get_or seen number 0) 0 later)) (h.later k (omega (arith, a, later, e)) b)
+        | inl here ↦ subst (λ (x : ℕ). IsOtherFrom numbers truths (x + 1) (get_or numbers x 0) (get_or truths x 0) (get_or (set next i place) x 0)) (sym here)
+            (subst (IsOtherFrom numbers truths (i + 1) (get_or numbers i 0) (get_or truths i 0)) (sym (get_or-set_same next i place 0 room)) found)
+        | inr later ↦ subst (IsOtherFrom numbers truths (k + 1) (get_or numbers k 0) (get_or truths k 0)) (sym (get_or-set_other next i k place 0 later)) (h.later k (omega (arith, a, later, e)) b)
       ];
     }
 
-pub next_whole : (numbers seen next : List ℕ) (i : ℕ) → AreNextFrom numbers seen next i → i ≡ 0 → AreNexts numbers next
-next_whole numbers seen next i h e k l = h.later k (omega (arith, e)) l
+pub next_whole : (numbers truths seen next : List ℕ) (i : ℕ) → AreNextFrom numbers truths seen next i → i ≡ 0 → AreNextOthers numbers truths next
+next_whole numbers truths seen next i h e k l = h.later k (omega (arith, e)) l

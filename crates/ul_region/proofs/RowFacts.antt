@@ -1,10 +1,11 @@
 -- Rows, as more is known and more truths are put.
-use Rattle.std.specs.Prelude.{All, Contains, slice_get, if◌then◌else◌}
-use Rattle.std.proofs.Common.{◌≡◌, ◌<◌, ◌+◌, ℕ, zero, suc, List, [], ◌∷◌, ◌++◌, length, get_or, map, take, Bool, true, false, Some, refl, sym, ap, subst, ◌∙◌, ⊎_elim, bytes_eq, arith}
-use Rattle.std.proofs.lemmas.Option.{none-some, same_Some, slice_get_within, slice_get-get_or, get_or_from_slice_get}
+use Rattle.std.specs.Prelude.{All, Contains, option_map, slice_get, if◌then◌else◌}
+use Rattle.std.proofs.Common.{◌≡◌, ◌<◌, ◌+◌, ℕ, zero, suc, List, [], ◌∷◌, ◌++◌, length, get_or, map, take, Bool, true, false, Some, refl, sym, ap, subst, ◌∙◌, ⊎_elim, inl, inr, bytes_eq, arith}
+use Rattle.std.proofs.lemmas.Option.{none-some, same_Some, slice_get_within, slice_get-get_or, slice_get-map, get_or_from_slice_get}
+use Rattle.std.proofs.lemmas.Bool.{cases_eq}
 use Rattle.std.proofs.lemmas.Slice.Eq.{bytes_eq-Decides}
 use Rattle.std.proofs.lemmas.List.Elements.{All-push, All-weaker, All-contains}
-use Rattle.std.proofs.lemmas.List.{get_or-map, length-map, take_more}
+use Rattle.std.proofs.lemmas.List.{get_or-map, get_or_append_left, get_or_push, length-map, length_push, map-append, take_more}
 use Rattle.ul_base.specs.declared.node.Node.{Node}
 use Rattle.ul_base.proofs.ForCallers.{none_in, contains_cases, contains_map}
 use Rattle.ul_interner.specs.Known.{Knows}
@@ -18,10 +19,11 @@ use Rattle.ul_requirement.specs.Fields.{RequirementFields}
 use Rattle.ul_requirement.specs.Truth.{applies_at}
 use Rattle.ul_region.specs.Truths.{PassView, DiagramMark, IsTruthAt, HasTree, Grows, IsGrown}
 use Rattle.ul_index.specs.Catalogs.{is_release_fit}
-use Rattle.ul_region.specs.Rows.{IsAsked, IsRow, AreLinked, AreNumbered, next_in, number_in, requirement_of}
-use Rattle.ul_region.specs.Numbers.{AreNexts, IsFirstFrom, first_on, numbers_of}
+use Rattle.ul_region.specs.Rows.{IsAsked, AreAsked, IsRow, AreLinked, AreNumbered, AreTruthsOf, next_in, number_in, requirement_of, truth_in}
+use Rattle.ul_region.specs.Numbers.{AreNextOthers, IsFirstFrom, first_on, numbers_of}
 use Rattle.ul_region.specs.declared.rows.Asked.{Asked}
 use Rattle.ul_region.specs.declared.rows.Row.{Row}
+use Rattle.ul_region.proofs.Existing.{clash}
 use Rattle.ul_region.proofs.TruthFacts.{still, all_still}
 use Rattle.ul_region.proofs.NameNumbers.{first_upto, number_at, some_at}
 
@@ -75,37 +77,63 @@ truth_there h ms k d p t a h' = record {
 pub truth_grown : (g h : PassView) (ms ns : List DiagramMark) (k : ℕ) (p : WorldFields → Bool) → IsGrown g ms h ns → IsTruthAt g ms k p → IsTruthAt h ns k p
 truth_grown g h ms ns k p more t = record { mark = t.mark; at = more.grows k t.mark t.at; is = record { diagram = still g h t.mark more.knows t.is.diagram; truth = t.is.truth } }
 
-pub asked_grown : (g h : PassView) (n : Node) (ms ns : List DiagramMark) (xs : List Asked) → IsGrown g ms h ns → All (IsAsked g n ms) xs → All (IsAsked h n ns) xs
-asked_grown g h n ms ns xs more a = All-weaker (IsAsked g n ms) (IsAsked h n ns) (λ x t. truth_grown g h ms ns x.truth (applies_at x.requirement.now n) more t) xs a
+known_grown : (g h : PassView) (n : Node) (ms ns : List DiagramMark) (xs : List Asked) → IsGrown g ms h ns → All (IsAsked g n ms) xs → All (IsAsked h n ns) xs
+known_grown g h n ms ns xs more a = All-weaker (IsAsked g n ms) (IsAsked h n ns) (λ x t. truth_grown g h ms ns x.truth (applies_at x.requirement.now n) more t) xs a
+
+pub asked_grown : (g h : PassView) (n : Node) (ms ns : List DiagramMark) (qs : List RequirementFields) (xs : List Asked) → IsGrown g ms h ns → AreAsked g n ms qs xs → AreAsked h n ns qs xs
+asked_grown g h n ms ns qs xs more a = record { known = known_grown g h n ms ns xs more a.known; same = a.same; numbered = a.numbered; linked = a.linked }
 
 pub row_grown : (g h : PassView) (n : Node) (ms ns : List DiagramMark) (row : Row) → IsGrown g ms h ns → IsRow g n ms row → IsRow h n ns row
 row_grown g h n ms ns row more r = record {
   fit = truth_grown g h ms ns row.fit (is_release_fit row.release.now) more r.fit;
-  asked = asked_grown g h n ms ns row.asked.items more r.asked;
-  same = r.same;
-  numbered = r.numbered;
-  linked = r.linked;
+  are = asked_grown g h n ms ns row.release.now.requirements row.asked more r.are;
 }
 
+-- ---- places of truths, one more
+
+-- of the first requirements the places of their truths
+pub record AreTruthsUpTo (h : PassView) (n : Node) (truths : List DiagramMark) (qs : List RequirementFields) (places : List ℕ) (i : ℕ) : Type 0 where
+  pub size : length places ≡ i
+  pub known : (k : ℕ) (q : RequirementFields) → k < i → slice_get qs k ≡ Some q → IsTruthAt h truths (get_or places k 0) (applies_at q n)
+
+pub truths_more : (g h : PassView) (n : Node) (ms ns : List DiagramMark) (qs : List RequirementFields) (ps rs : List ℕ) (i place : ℕ) (q : RequirementFields) → AreTruthsUpTo g n ms qs ps i → IsGrown g ms h ns → rs ≡ ps ++ place ∷ []
+    → slice_get qs i ≡ Some q → IsTruthAt h ns place (applies_at q n) → AreTruthsUpTo h n ns qs rs (i + 1)
+truths_more g h n ms ns qs ps rs i place q old more e at is = record {
+  size = ap length e ∙ (length_push ps place ∙ ap (λ (m : ℕ). m + 1) old.size);
+  known = λ k x l there. elim (cases_eq k i) [
+    | inl here ↦ (let one : x ≡ q = same_Some x q (sym there ∙ (ap (slice_get qs) here ∙ at)) in
+        let read : get_or rs k 0 ≡ place = ap (λ (z : List ℕ). get_or z k 0) e ∙ get_or_push ps place 0 k (old.size ∙ sym here) in
+        subst (λ (m : ℕ). IsTruthAt h ns m (applies_at x n)) (sym read) (subst (λ (y : RequirementFields). IsTruthAt h ns place (applies_at y n)) (sym one) is))
+    | inr apart ↦ (let before : k < i = omega (arith, l, apart) in
+        let inside : k < length ps = subst (λ (m : ℕ). k < m) (sym old.size) before in
+        let read : get_or rs k 0 ≡ get_or ps k 0 = ap (λ (z : List ℕ). get_or z k 0) e ∙ get_or_append_left ps (place ∷ []) 0 k inside in
+        subst (λ (m : ℕ). IsTruthAt h ns m (applies_at x n)) (sym read) (truth_grown g h ms ns (get_or ps k 0) (applies_at x n) more (old.known k x before there)))
+  ];
+}
+
+pub truths_whole : (h : PassView) (n : Node) (ms : List DiagramMark) (qs : List RequirementFields) (ps : List ℕ) (i : ℕ) → AreTruthsUpTo h n ms qs ps i → i ≡ length qs → AreTruthsOf h n ms qs ps
+truths_whole h n ms qs ps i old e = record {
+  size = old.size ∙ e;
+  known = λ k q at. old.known k q (subst (λ (m : ℕ). k < m) (sym e) (slice_get_within qs k q at)) at;
+}
+
+-- requirements with their places are those that are asked about
+pub all_asked : (h : PassView) (n : Node) (ms : List DiagramMark) (qs : List RequirementFields) (ps : List ℕ) (asked : List Asked) → map requirement_of asked ≡ qs → map truth_in asked ≡ ps → AreTruthsOf h n ms qs ps → All (IsAsked h n ms) asked
+all_asked h n ms qs ps asked same truths are k d l =
+    let a : Asked = get_or asked k d in
+    let read : get_or ps k 0 ≡ a.truth = ap (λ (z : List ℕ). get_or z k 0) (sym truths) ∙ get_or-map truth_in asked k d 0 l in
+    let there : slice_get qs k ≡ Some a.requirement.now =
+    ap (λ (z : List RequirementFields). slice_get z k) (sym same) ∙ (slice_get-map requirement_of asked k ∙ ap (option_map requirement_of) (slice_get-get_or asked k d l)) in
+    subst (λ (m : ℕ). IsTruthAt h ms m (applies_at a.requirement.now n)) read (are.known k a.requirement.now there)
+
 -- ---- one more requirement
-
-map_more : {A B : Type 0} (f : A → B) (xs : List A) (a : A) → map f (xs ++ a ∷ []) ≡ map f xs ++ f a ∷ []
-map_more f [] a = refl
-map_more f (x ∷ xs) a = ap (λ r. f x ∷ r) (map_more f xs a)
-
-pub all_more : (P : Asked → Type 0) (xs ys : List Asked) (a : Asked) → ys ≡ xs ++ a ∷ [] → All P xs → P a → All P ys
-all_more P xs ys a e h k = subst (All P) (sym e) (All-push P xs a h k)
 
 -- what is read of the requirements, one more
 pub taken_more : {A : Type 0} (f : Asked → A) (xs ys : List Asked) (a : Asked) (zs : List A) (i : ℕ) (z : A) → ys ≡ xs ++ a ∷ [] → map f xs ≡ take i zs → f a ≡ z → i < length zs → z ≡ get_or zs i z
     → map f ys ≡ take (i + 1) zs
-taken_more {A} f xs ys a zs i z e h k l at = ap (map f) e ∙ (map_more f xs a ∙ (ap (λ (r : List A). r ++ f a ∷ []) h ∙ (ap (λ (x : A). take i zs ++ x ∷ []) (k ∙ at) ∙ sym (take_more zs i z l))))
+taken_more {A} f xs ys a zs i z e h k l at = ap (map f) e ∙ (map-append f xs (a ∷ []) ∙ (ap (λ (r : List A). r ++ f a ∷ []) h ∙ (ap (λ (x : A). take i zs ++ x ∷ []) (k ∙ at) ∙ sym (take_more zs i z l))))
 
 -- ---- numbers of names
-
-clash : (b : Bool) → b ≡ true → b ≡ false → ⊥
-clash true e f = cc
-clash false e f = cc
 
 -- the first one on a name is on it
 own_first : (n : List ℕ) (qs : List RequirementFields) (q : RequirementFields) → Contains qs q → q.name ≡ n → (x : RequirementFields) × (slice_get qs (first_on n qs) ≡ Some x) × (x.name ≡ n)
@@ -163,8 +191,8 @@ first_first qs q k l at =
           ∙ ap (λ (n : List ℕ). first_on n qs) x.2;
     }
 
--- each requirement of a row has the next one on its name
-pub linked : (qs : List RequirementFields) (asked : List Asked) → map requirement_of asked ≡ qs → map number_in asked ≡ numbers_of qs → AreNexts (numbers_of qs) (map next_in asked) → AreLinked asked
+-- each requirement of a row has the next one on its name of another truth
+pub linked : (qs : List RequirementFields) (asked : List Asked) → map requirement_of asked ≡ qs → map number_in asked ≡ numbers_of qs → AreNextOthers (map number_in asked) (map truth_in asked) (map next_in asked) → AreLinked asked
 linked qs asked same numbers next = record {
   first = λ a c.
       let size : length asked ≡ length qs = sym (length-map asked requirement_of) ∙ ap length same in
@@ -173,7 +201,7 @@ linked qs asked same numbers next = record {
       subst (λ (z : List ℕ). IsFirstFrom z 0 a.name a.name) (sym numbers)
       (subst (λ (m : ℕ). IsFirstFrom (numbers_of qs) 0 m m) (sym (number_in_row qs asked same numbers a c))
       (first_first qs a.requirement.now c.0 (subst (λ (n : ℕ). c.0 < n) size c.1) here));
-  next = subst (λ (z : List ℕ). AreNexts z (map next_in asked)) (sym numbers) next;
+  next = next;
 }
 
 pub tree_found : (ms : List DiagramMark) (k : ℕ) (m d : DiagramMark) → k < length ms → m ≡ get_or ms k m → tree_of m ≡ tree_of d → HasTree ms k (tree_of d)

@@ -1,12 +1,12 @@
 -- What a region asks of the requirements of a release at a node.
-use Rattle.std.specs.Prelude.{◌≡◌, List, map, Contains, not}
+use Rattle.std.specs.Prelude.{◌≡◌, List, Contains, not}
 use Rattle.ul_base.specs.declared.node.Node.{Node}
 use Rattle.ul_requirement.specs.Fields.{RequirementFields}
 use Rattle.ul_requirement.specs.Truth.{applies_at}
 use Rattle.ul_index.specs.Applied.{IsFirm, IsSplitGroup}
 use Rattle.ul_index.specs.Catalogs.{is_release_fit}
 use Rattle.ul_index.specs.Regions.{Region, Somewhere, Throughout}
-use Rattle.ul_region.specs.Rows.{IsRow, requirement_of}
+use Rattle.ul_region.specs.Rows.{IsRow}
 use Rattle.ul_region.specs.Truths.{PassView, Apart, AreWithin, IsRegion, region_at}
 use Rattle.ul_region.specs.declared.rows.Asked.{Asked}
 use Rattle.ul_region.specs.declared.at_node.AtNode.{AtNode}
@@ -28,7 +28,7 @@ pub record IsAtNode (h : PassView) (s : AtNode) : Type 0 where
 
 -- the requirements of the release, in order
 abbrev pub asked_of : AtNode → List RequirementFields
-asked_of s = map requirement_of s.row.now.asked.items
+asked_of s = s.row.now.release.now.requirements
 
 -- an applied requirement on the same name, of another truth in the region
 pub record IsOther (R : Region) (n : Node) (one other : RequirementFields) : Type 0 where
@@ -38,9 +38,9 @@ pub record IsOther (R : Region) (n : Node) (one other : RequirementFields) : Typ
 
 -- ---- what is asked
 
--- it is one of the row's requirements
+-- it is one of those that the row has: they may be true at the node
 abbrev pub HasAsked : AtNode → Asked → Type 0
-HasAsked s a = Contains s.row.now.asked.items a
+HasAsked s a = Contains s.row.now.asked a
 
 -- the release is fit at some world of the region
 abbrev pub IsFitSomewhere : AtNode → Type 0

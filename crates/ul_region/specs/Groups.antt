@@ -50,11 +50,11 @@ IsFailing s opener a = FailsIn (asked_of s) (region_asked s) s.node.now opener.r
 
 -- the first one in a split group, or there is none
 abbrev pub OpensGroup : AtNode → Option (Bor Asked) → Type 0
-OpensGroup s o = FirstOf s.row.now.asked.items (asked_of s) (InSplit (asked_of s) (region_asked s) s.node.now) o
+OpensGroup s o = FirstOf s.row.now.asked (asked_of s) (InSplit (asked_of s) (region_asked s) s.node.now) o
 
 -- the first one on the opener's name that fails somewhere, or there is none
 abbrev pub FailsFirst : AtNode → Asked → Option (Bor Asked) → Type 0
-FailsFirst s opener o = FirstOf s.row.now.asked.items (asked_of s) (FailsIn (asked_of s) (region_asked s) s.node.now opener.requirement.now.name) o
+FailsFirst s opener o = FirstOf s.row.now.asked (asked_of s) (FailsIn (asked_of s) (region_asked s) s.node.now opener.requirement.now.name) o
 
 -- the diagram of what parts the region, or there is no split group
 abbrev pub PartsRegion : PassView → AtNode → Option (Bor DiagramMark) → Type 0

@@ -1,8 +1,13 @@
 -- Numbers of names: the place of the first requirement on the name.
 use Rattle.std.specs.Prelude.{◌≡◌, ◌<◌, ◌≤◌, ◌+◌, ℕ, suc, List, [], ◌∷◌, Option, Some, None, cond, length, get_or, map, if◌then◌else◌}
+use Rattle.std.specs.Borrow.{Bor}
 use Rattle.std.specs.HashMap.{HashMap, get}
 use Rattle.std.specs.Str.{bytes_eq}
 use Rattle.ul_requirement.specs.Fields.{RequirementFields}
+
+-- requirements that are lent
+abbrev pub fields_in : List (Bor RequirementFields) → List RequirementFields
+fields_in rs = map (λ (r : Bor RequirementFields). r.now) rs
 
 -- the place of the first requirement on a name, or how many there are
 abbrev pub first_on : List ℕ → List RequirementFields → ℕ
@@ -33,6 +38,18 @@ pub record IsFirstFrom (numbers : List ℕ) (from number place : ℕ) : Type 0 w
   pub apart : (j : ℕ) → from ≤ j → j < place → get_or numbers j 0 ≡ number → ⊥
   pub same : place < length numbers → get_or numbers place 0 ≡ number
 
--- of the number at each place the next place that has it
-abbrev pub AreNexts : List ℕ → List ℕ → Type 0
-AreNexts numbers next = (k : ℕ) → k < length numbers → IsFirstFrom numbers (k + 1) (get_or numbers k 0) (get_or next k 0)
+-- the first place from one on that has a number and another truth than a given one, or how many numbers there are; the places
+-- before it that have the number have that truth
+pub record IsOtherFrom (numbers truths : List ℕ) (from number truth place : ℕ) : Type 0 where
+  pub after : from ≤ place
+  pub alike : (j : ℕ) → from ≤ j → j < place → get_or numbers j 0 ≡ number → get_or truths j 0 ≡ truth
+  pub same : place < length numbers → get_or numbers place 0 ≡ number
+  pub other : place < length numbers → get_or truths place 0 ≡ truth → ⊥
+
+-- of the number and the truth at each place from one on the next place that has the number and another truth
+abbrev pub AreOthersFrom : List ℕ → List ℕ → List ℕ → ℕ → Type 0
+AreOthersFrom numbers truths next from = (k : ℕ) → from ≤ k → k < length numbers → IsOtherFrom numbers truths (k + 1) (get_or numbers k 0) (get_or truths k 0) (get_or next k 0)
+
+-- of the number and the truth at each place the next place that has the number and another truth
+abbrev pub AreNextOthers : List ℕ → List ℕ → List ℕ → Type 0
+AreNextOthers numbers truths next = (k : ℕ) → k < length numbers → IsOtherFrom numbers truths (k + 1) (get_or numbers k 0) (get_or truths k 0) (get_or next k 0)

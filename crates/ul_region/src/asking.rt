@@ -1,109 +1,184 @@
 //! The rows of releases.
-ghost use Rattle.std.specs.Prelude.{◌≡◌, IfOk, All, map};
+ghost use Rattle.std.specs.Prelude.{◌≡◌, IfOk, All, length, map};
 ghost use Rattle.ul_algebra.specs.Answers.{IsDiagram};
-ghost use Rattle.ul_region.specs.Truths.{IsGrown};
-ghost use Rattle.ul_region.specs.Rows.{IsAsked, IsRow, next_in, number_in, requirement_of};
-ghost use Rattle.ul_region.specs.Numbers.{AreNexts, numbers_of};
+ghost use Rattle.ul_requirement.specs.Truth.{applies_at};
+ghost use Rattle.ul_index.specs.Catalogs.{is_release_fit};
+ghost use Rattle.ul_region.specs.Truths.{IsGrown, IsTruthAt};
+ghost use Rattle.ul_region.specs.Rows.{AreAsked, AreTruthsOf, IsAsked};
+ghost use Rattle.ul_region.specs.Rows.{next_in, number_in, requirement_of, truth_in};
+ghost use Rattle.ul_region.specs.Rows as spec;
+ghost use Rattle.ul_region.specs.Numbers.{AreNextOthers, fields_in, numbers_of};
 
-use crate::numbers::{name_numbers, next_places};
-use crate::rows::{Asked, Row, Truths};
+use crate::numbers::{name_numbers, next_others};
+use crate::rows::{Asked, Truths};
 use crate::truths::{fit_truth, truth_at};
 use std::alloc::{AllocError, Global};
 use std::sync::Wait;
 use ul_algebra::Algebra;
 use ul_base::Node;
 use ul_base::owned::with_made;
+use ul_ranges::SharedList;
 use ul_requirement::{Release, Requirement};
 
-// A requirement at a node, with the number of its name and the place of the next one on it.
-fn ask<'a, R: Wait>(
+// Those of the requirements that may be true at a node, in order.
+fn kept_at<'a>(
+    alloc: Global,
+    node: &Node,
+    requirements: &'a [Requirement],
+) -> Result<Vec<&'a Requirement>, AllocError>
+    ensures { IfOk result (λ v. fields_in v.items ≡ spec.asked_at node.now requirements.now) }
+{
+    let mut kept = Vec::new(alloc);
+    for requirement in requirements {
+        if requirement.may_apply(node) {
+            kept.push(requirement)?;
+        }
+    }
+    Ok(kept)
+}
+
+// The place of a requirement's truth at a node.
+fn truth_place<R: Wait>(
     rt: &R,
     alloc: Global,
     algebra: &mut Algebra<'_>,
     truths: &mut Truths,
     node: &Node,
-    requirement: &'a Requirement,
-    name: usize,
-    next: usize,
-) -> Result<Asked<'a>, AllocError>
+    requirement: &Requirement,
+) -> Result<usize, AllocError>
     requires { All (IsDiagram algebra.old) truths.old.marks.items }
     ensures grown { IsGrown algebra.old truths.old.marks.items algebra.new truths.new.marks.items }
-    ensures asked { IfOk result (IsAsked algebra.new node.now truths.new.marks.items) }
-    ensures same { IfOk result (λ a. a.requirement.now ≡ requirement.now) }
-    ensures name { IfOk result (λ a. a.name ≡ name) }
-    ensures next { IfOk result (λ a. a.next ≡ next) }
+    ensures truth { IfOk result (λ k.
+        IsTruthAt algebra.new truths.new.marks.items k (applies_at requirement.now node.now)) }
 {
     let truth = truth_at(rt, alloc, algebra, node, requirement)?;
-    let truth = truths.put(algebra, &truth)?;
-    Ok(Asked {
-        requirement,
-        truth,
-        name,
-        next,
-    })
+    let place = truths.put(algebra, &truth)?;
+    Ok(place)
 }
 
-// The requirements of a release at a node, in order.
+// Of each requirement the place of its truth at a node.
+fn truth_places<R: Wait>(
+    rt: &R,
+    alloc: Global,
+    algebra: &mut Algebra<'_>,
+    truths: &mut Truths,
+    node: &Node,
+    requirements: &[&Requirement],
+) -> Result<Vec<usize>, AllocError>
+    requires { All (IsDiagram algebra.old) truths.old.marks.items }
+    ensures grown { IsGrown algebra.old truths.old.marks.items algebra.new truths.new.marks.items }
+    ensures truths { IfOk result (λ v.
+        AreTruthsOf algebra.new node.now truths.new.marks.items (fields_in requirements.now) v.items) }
+{
+    let mut places = Vec::with_capacity(alloc, requirements.len())?;
+    for requirement in requirements {
+        let requirement: &Requirement = requirement;
+        let place = truth_place(rt, alloc, algebra, truths, node, requirement);
+        places = with_made(places, place)?;
+    }
+    Ok(places)
+}
+
+// The requirements, each with the place of its truth, the number of its name and the place of the next one on it.
+fn put_together<'a>(
+    alloc: Global,
+    requirements: &[&'a Requirement],
+    truths: &[usize],
+    numbers: &[usize],
+    nexts: &[usize],
+) -> Result<Vec<Asked<'a>>, AllocError>
+    requires truths { length truths.now ≡ length requirements.now }
+    requires numbers { length numbers.now ≡ length requirements.now }
+    requires nexts { length nexts.now ≡ length requirements.now }
+    ensures same { IfOk result (λ v. map requirement_of v.items ≡ fields_in requirements.now) }
+    ensures truths { IfOk result (λ v. map truth_in v.items ≡ truths.now) }
+    ensures numbers { IfOk result (λ v. map number_in v.items ≡ numbers.now) }
+    ensures nexts { IfOk result (λ v. map next_in v.items ≡ nexts.now) }
+{
+    let mut asked = Vec::with_capacity(alloc, requirements.len())?;
+    for place in 0..requirements.len() {
+        asked.push(Asked {
+            requirement: requirements[place],
+            truth: truths[place],
+            name: numbers[place],
+            next: nexts[place],
+        })?;
+    }
+    Ok(asked)
+}
+
+// The requirements at a node, in order.
 fn ask_all<'a, R: Wait>(
     rt: &R,
     alloc: Global,
     algebra: &mut Algebra<'_>,
     truths: &mut Truths,
     node: &Node,
-    requirements: &'a [Requirement],
+    requirements: &[&'a Requirement],
 ) -> Result<Vec<Asked<'a>>, AllocError>
     requires { All (IsDiagram algebra.old) truths.old.marks.items }
     ensures grown { IsGrown algebra.old truths.old.marks.items algebra.new truths.new.marks.items }
     ensures asked { IfOk result (λ v. All (IsAsked algebra.new node.now truths.new.marks.items) v.items) }
-    ensures same { IfOk result (λ v. map requirement_of v.items ≡ requirements.now) }
-    ensures numbers { IfOk result (λ v. map number_in v.items ≡ numbers_of requirements.now) }
-    ensures next { IfOk result (λ v. AreNexts (numbers_of requirements.now) (map next_in v.items)) }
+    ensures same { IfOk result (λ v. map requirement_of v.items ≡ fields_in requirements.now) }
+    ensures numbers { IfOk result (λ v. map number_in v.items ≡ numbers_of (fields_in requirements.now)) }
+    ensures next { IfOk result (λ v.
+        AreNextOthers (map number_in v.items) (map truth_in v.items) (map next_in v.items)) }
 {
+    let places = truth_places(rt, alloc, algebra, truths, node, requirements)?;
     let numbers = name_numbers(alloc, requirements)?;
-    let nexts = next_places(alloc, numbers.as_slice())?;
-    let mut asked = Vec::with_capacity(alloc, requirements.len())?;
-    for place in 0..requirements.len() {
-        let requirement = &requirements[place];
-        let one = ask(
-            rt,
-            alloc,
-            algebra,
-            truths,
-            node,
-            requirement,
-            numbers[place],
-            nexts[place],
-        );
-        asked = with_made(asked, one)?;
-    }
+    let nexts = next_others(alloc, numbers.as_slice(), places.as_slice())?;
+    let asked = put_together(
+        alloc,
+        requirements,
+        places.as_slice(),
+        numbers.as_slice(),
+        nexts.as_slice(),
+    )?;
     Ok(asked)
 }
 
-/// The requirements of a release at a node, with the places of their truths.
+/// The requirements of a list that may be true at a node, in order, with the places of their truths.
 ///
 /// # Errors
 ///
 /// Only for want of memory.
-pub fn row_of<'a, R: Wait>(
+pub fn asked_at<'a, R: Wait>(
     rt: &R,
     alloc: Global,
     algebra: &mut Algebra<'_>,
     truths: &mut Truths,
     node: &Node,
-    release: &'a Release,
-) -> Result<Row<'a>, AllocError>
+    requirements: &'a [Requirement],
+) -> Result<SharedList<Asked<'a>>, AllocError>
     requires { All (IsDiagram algebra.old) truths.old.marks.items }
     ensures grown { IsGrown algebra.old truths.old.marks.items algebra.new truths.new.marks.items }
-    ensures row { IfOk result (IsRow algebra.new node.now truths.new.marks.items) }
-    ensures release { IfOk result (λ r. r.release.now ≡ release.now) }
+    ensures asked { IfOk result
+        (AreAsked algebra.new node.now truths.new.marks.items requirements.now) }
+{
+    let kept = kept_at(alloc, node, requirements)?;
+    let asked = ask_all(rt, alloc, algebra, truths, node, kept.as_slice())?;
+    let list = SharedList::of(alloc, asked)?;
+    Ok(list)
+}
+
+/// The place of where a release is fit.
+///
+/// # Errors
+///
+/// Only for want of memory.
+pub fn fit_at<R: Wait>(
+    rt: &R,
+    alloc: Global,
+    algebra: &mut Algebra<'_>,
+    truths: &mut Truths,
+    release: &Release,
+) -> Result<usize, AllocError>
+    requires { All (IsDiagram algebra.old) truths.old.marks.items }
+    ensures grown { IsGrown algebra.old truths.old.marks.items algebra.new truths.new.marks.items }
+    ensures fit { IfOk result (λ k.
+        IsTruthAt algebra.new truths.new.marks.items k (is_release_fit release.now)) }
 {
     let fit = fit_truth(rt, alloc, algebra, release)?;
-    let fit = truths.put(algebra, &fit)?;
-    let requirements: &Vec<Requirement> = &release.requirements;
-    let asked = ask_all(rt, alloc, algebra, truths, node, requirements.as_slice())?;
-    Ok(Row {
-        release,
-        fit,
-        asked,
-    })
+    let place = truths.put(algebra, &fit)?;
+    Ok(place)
 }

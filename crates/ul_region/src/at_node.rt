@@ -8,16 +8,17 @@ use crate::in_region::InRegion;
 use crate::rows::{Asked, Row};
 use ul_algebra::{Algebra, Diagram};
 use ul_base::Node;
+use ul_requirement::laws::unnamed_never_applies;
 
-/// The requirements of a release at a node, in a region.
+/// The requirements of a release at a node, in a region. A row has a lifetime of its own, since it shares a list.
 #[derive(Drop)]
-pub struct AtNode<'a> {
+pub struct AtNode<'a, 'r> {
     pub place: &'a InRegion<'a>,
     pub node: &'a Node,
-    pub row: &'a Row<'a>,
+    pub row: &'a Row<'r>,
 }
 
-impl<'a> AtNode<'a> {
+impl<'a, 'r> AtNode<'a, 'r> {
     /// Whether the release is fit at some world of the region.
     pub fn is_fit_somewhere(&self, algebra: &Algebra<'_>) -> bool
         requires { IsAtNode algebra.now self.now }
@@ -72,7 +73,8 @@ impl<'a> AtNode<'a> {
         requires applied { IsTrueSomewhere self.now one.now }
         ensures { Decides result (HasGroup self.now one.now) }
     {
-        let asked: &[Asked<'a>] = self.row.asked.as_slice();
+        unnamed_never_applies();
+        let asked: &[Asked<'r>] = self.row.asked.as_slice();
         let mut place = one.name;
         while place < asked.len() {
             let other = &asked[place];
@@ -110,11 +112,12 @@ impl<'a> AtNode<'a> {
     }
 
     // The first requirement in a split group.
-    fn opener(&self, algebra: &Algebra<'_>) -> Option<&Asked<'a>>
+    fn opener(&self, algebra: &Algebra<'_>) -> Option<&Asked<'r>>
         requires { IsAtNode algebra.now self.now }
         ensures { OpensGroup self.now result }
     {
-        for one in &self.row.asked {
+        unnamed_never_applies();
+        for one in self.row.asked.as_slice() {
             if self.is_in_split(algebra, one) {
                 return Some(one);
             }
@@ -140,12 +143,13 @@ impl<'a> AtNode<'a> {
     }
 
     // The first requirement on the opener's name that fails at some world of the region.
-    fn failing(&self, algebra: &Algebra<'_>, opener: &Asked<'_>) -> Option<&Asked<'a>>
+    fn failing(&self, algebra: &Algebra<'_>, opener: &Asked<'_>) -> Option<&Asked<'r>>
         requires whole { IsAtNode algebra.now self.now }
         requires opener { HasAsked self.now opener.now }
         ensures { FailsFirst self.now opener.now result }
     {
-        for one in &self.row.asked {
+        unnamed_never_applies();
+        for one in self.row.asked.as_slice() {
             if self.is_failing(algebra, opener, one) {
                 return Some(one);
             }

@@ -11,7 +11,7 @@ mod rows;
 mod truths;
 pub mod unions;
 
-pub use asking::row_of;
+pub use asking::{asked_at, fit_at};
 pub use at_node::AtNode;
 pub use in_region::InRegion;
 pub use rows::{Asked, Row, Truths};

@@ -1,9 +1,10 @@
 //! Numbers of the names of a release's requirements.
-ghost use Rattle.std.specs.Prelude.{◌≡◌, ◌<◌, All, IfOk, length};
+ghost use Rattle.std.specs.Prelude.{◌≡◌, ◌<◌, ◌+◌, All, IfOk, get_or, length};
 ghost use Rattle.std.specs.HashMap.{get};
 ghost use Rattle.std.specs.Str.{bytes_eq};
 ghost use Rattle.ul_region.specs.Numbers;
-ghost use Rattle.ul_region.specs.Numbers.{AreFirstPlaces, AreNexts, numbers_of, or_zero};
+ghost use Rattle.ul_region.specs.Numbers.{AreFirstPlaces, AreNextOthers, AreOthersFrom, IsFirstFrom, IsOtherFrom};
+ghost use Rattle.ul_region.specs.Numbers.{fields_in, numbers_of, or_zero};
 
 use std::alloc::{AllocError, Global};
 use std::collections::HashMap;
@@ -22,8 +23,8 @@ fn is_on(requirement: &Requirement, name: &Name) -> bool
 }
 
 // The place of the first requirement on a name, or how many there are.
-fn first_on(requirements: &[Requirement], name: &Name) -> usize
-    ensures { result ≡ Numbers.first_on name.now requirements.now }
+fn first_on(requirements: &[&Requirement], name: &Name) -> usize
+    ensures { result ≡ Numbers.first_on name.now (fields_in requirements.now) }
 {
     for (place, requirement) in requirements.iter().enumerate() {
         if is_on(requirement, name) {
@@ -34,16 +35,16 @@ fn first_on(requirements: &[Requirement], name: &Name) -> usize
 }
 
 // The number of a requirement's name.
-fn number_of(requirements: &[Requirement], requirement: &Requirement) -> usize
-    ensures { result ≡ Numbers.first_on requirement.now.name requirements.now }
+fn number_of(requirements: &[&Requirement], requirement: &Requirement) -> usize
+    ensures { result ≡ Numbers.first_on requirement.now.name (fields_in requirements.now) }
 {
     let name: &Name = &requirement.name;
     first_on(requirements, name)
 }
 
 // The numbers of names that are compared with each other.
-fn few_numbers(alloc: Global, requirements: &[Requirement]) -> Result<Vec<usize>, AllocError>
-    ensures { IfOk result (λ v. v.items ≡ numbers_of requirements.now) }
+fn few_numbers(alloc: Global, requirements: &[&Requirement]) -> Result<Vec<usize>, AllocError>
+    ensures { IfOk result (λ v. v.items ≡ numbers_of (fields_in requirements.now)) }
 {
     let mut numbers = Vec::with_capacity(alloc, requirements.len())?;
     for requirement in requirements {
@@ -62,13 +63,13 @@ fn own_name(alloc: Global, requirement: &Requirement) -> Result<Name, AllocError
 // Where the first requirement on each name stands.
 fn first_places(
     alloc: Global,
-    requirements: &[Requirement],
+    requirements: &[&Requirement],
 ) -> Result<HashMap<Name, usize>, AllocError>
-    ensures { IfOk result (AreFirstPlaces requirements.now) }
+    ensures { IfOk result (AreFirstPlaces (fields_in requirements.now)) }
 {
     let mut places = HashMap::new(alloc);
     for place in (0..requirements.len()).rev() {
-        let name = own_name(alloc, &requirements[place])?;
+        let name = own_name(alloc, requirements[place])?;
         places.insert(name, place)?;
     }
     Ok(places)
@@ -86,8 +87,8 @@ fn place_in(places: &HashMap<Name, usize>, requirement: &Requirement) -> usize
 }
 
 // The numbers of names that are looked up.
-fn many_numbers(alloc: Global, requirements: &[Requirement]) -> Result<Vec<usize>, AllocError>
-    ensures { IfOk result (λ v. v.items ≡ numbers_of requirements.now) }
+fn many_numbers(alloc: Global, requirements: &[&Requirement]) -> Result<Vec<usize>, AllocError>
+    ensures { IfOk result (λ v. v.items ≡ numbers_of (fields_in requirements.now)) }
 {
     let places = first_places(alloc, requirements)?;
     let mut numbers = Vec::with_capacity(alloc, requirements.len())?;
@@ -105,9 +106,9 @@ fn many_numbers(alloc: Global, requirements: &[Requirement]) -> Result<Vec<usize
 #[tactic(auto, using(crate::proofs::NameNumbers::numbers_below, crate::proofs::NameNumbers::numbers_count))]
 pub(crate) fn name_numbers(
     alloc: Global,
-    requirements: &[Requirement],
+    requirements: &[&Requirement],
 ) -> Result<Vec<usize>, AllocError>
-    ensures numbers { IfOk result (λ v. v.items ≡ numbers_of requirements.now) }
+    ensures numbers { IfOk result (λ v. v.items ≡ numbers_of (fields_in requirements.now)) }
     ensures count { IfOk result (λ v. length v.items ≡ length requirements.now) }
     ensures below { IfOk result (λ v. All (λ n. n < length v.items) v.items) }
 {
@@ -119,14 +120,45 @@ pub(crate) fn name_numbers(
     Ok(numbers)
 }
 
-/// Of the number at each place the next place that has it, or how many numbers there are.
+// Of the number at a place the next place that has it and another truth, where the next place that has it is given, and
+// the places after have theirs.
+fn next_other(
+    numbers: &[usize],
+    truths: &[usize],
+    next: &[usize],
+    place: usize,
+    later: usize,
+) -> usize
+    requires place { place < length numbers.now }
+    requires truths { length truths.now ≡ length numbers.now }
+    requires count { length next.now ≡ length numbers.now }
+    requires later { IsFirstFrom numbers.now (place + 1) (get_or numbers.now place 0) later }
+    requires next { AreOthersFrom numbers.now truths.now next.now (place + 1) }
+    ensures { IsOtherFrom numbers.now truths.now (place + 1)
+        (get_or numbers.now place 0) (get_or truths.now place 0) result }
+{
+    if later >= numbers.len() {
+        return later;
+    }
+    if truths[later] != truths[place] {
+        return later;
+    }
+    next[later]
+}
+
+/// Of the number at each place the next place that has it and another truth, or how many numbers there are.
 ///
 /// # Errors
 ///
 /// Only for want of memory.
-pub(crate) fn next_places(alloc: Global, numbers: &[usize]) -> Result<Vec<usize>, AllocError>
-    requires { All (λ n. n < length numbers.now) numbers.now }
-    ensures next { IfOk result (λ v. AreNexts numbers.now v.items) }
+pub(crate) fn next_others(
+    alloc: Global,
+    numbers: &[usize],
+    truths: &[usize],
+) -> Result<Vec<usize>, AllocError>
+    requires below { All (λ n. n < length numbers.now) numbers.now }
+    requires count { length truths.now ≡ length numbers.now }
+    ensures next { IfOk result (λ v. AreNextOthers numbers.now truths.now v.items) }
     ensures count { IfOk result (λ v. length v.items ≡ length numbers.now) }
 {
     let count = numbers.len();
@@ -134,7 +166,7 @@ pub(crate) fn next_places(alloc: Global, numbers: &[usize]) -> Result<Vec<usize>
     let mut next = vec![in alloc; count; count]?;
     for place in (0..count).rev() {
         let number = numbers[place];
-        next[place] = seen[number];
+        next[place] = next_other(numbers, truths, next.as_slice(), place, seen[number]);
         seen[number] = place;
     }
     Ok(next)

@@ -7,17 +7,18 @@ ghost use Rattle.ul_region.specs.Truths.{Grows, HasTree};
 use std::alloc::{AllocError, Global};
 use std::collections::HashMap;
 use ul_algebra::{Algebra, Diagram};
+use ul_ranges::SharedList;
 use ul_requirement::{Release, Requirement};
 
-/// A requirement at a node: the place of its truth, and where those on its name stand.
+/// A requirement that may be true at a node: the place of its truth, and where those on its name stand.
 #[derive(Drop)]
 pub struct Asked<'a> {
     pub requirement: &'a Requirement,
     /// The place of its truth at the node, among truths.
     pub truth: usize,
-    /// The place of the first requirement on its name. So requirements of one release with equal numbers are those on one name.
+    /// The place of the first requirement on its name. So requirements of one row with equal numbers are those on one name.
     pub name: usize,
-    /// The place of the next requirement on its name, or how many requirements there are.
+    /// The place of the next requirement on its name that has another truth, or how many requirements there are.
     pub next: usize,
 }
 
@@ -27,8 +28,8 @@ pub struct Row<'a> {
     pub release: &'a Release,
     /// The place of where the release is fit, among truths.
     pub fit: usize,
-    /// The requirements, in order.
-    pub asked: Vec<Asked<'a>>,
+    /// The requirements that may be true at the node, in order. Releases with the same requirements share one list.
+    pub asked: SharedList<Asked<'a>>,
 }
 
 /// Truths as diagrams, mostly each once.

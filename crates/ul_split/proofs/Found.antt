@@ -4,16 +4,13 @@ use Rattle.std.specs.Prelude.{All, Contains}
 use Rattle.std.specs.Borrow.{Bor}
 use Rattle.std.proofs.lemmas.List.Elements.{All-contains}
 use Rattle.std.proofs.lemmas.Option.{slice_get_within}
-use Rattle.ul_base.specs.declared.node.Node.{Node}
 use Rattle.ul_base.specs.Kept.{IsFirst}
 use Rattle.ul_base.proofs.ForCallers.{first_holds}
-use Rattle.ul_requirement.specs.Fields.{RequirementFields}
 use Rattle.ul_requirement.specs.Truth.{applies_at}
 use Rattle.ul_index.specs.Regions.{Region}
-use Rattle.ul_index.specs.Applied.{IsSplitGroup}
 use Rattle.ul_index.specs.Catalogs.{is_release_fit}
 use Rattle.ul_region.specs.Truths.{PassView, DiagramMark, IsTruth}
-use Rattle.ul_region.specs.Groups.{IsParting, InSplit, PartsBy}
+use Rattle.ul_region.specs.Groups.{InSplit, PartsBy}
 use Rattle.ul_split.specs.Split.{Decided, IsUnfit, HasSplit}
 use Rattle.ul_split.specs.Answers.{FitsBy, GroupsBy, IsChosen, PartsAt, SplitGives, decided_of}
 use Rattle.ul_split.specs.declared.split.Chosen.{Chosen}
@@ -24,14 +21,11 @@ listed h ts xs i d a l e = subst (IsChosen h ts) (sym e) (a i d l)
 pub fails : (P : Type 0) (b : Bool) → Decides b P → b ≡ false → P → ⊥
 fails P b d e p = cc (d.1 p)
 
-pub parts_at : (h : PassView) (qs : List RequirementFields) (R : Region) (n : Node) (d : Decided) (o : Option (Bor DiagramMark)) (t : Bor DiagramMark) (m : DiagramMark) → o ≡ Some t → m ≡ t.now → qs ≡ d.release.requirements → n ≡ d.node → PartsBy h qs R n o → PartsAt h R d (Some m)
-parts_at h qs R n d o t m e same a b p = subst (λ (x : DiagramMark). PartsAt h R d (Some x)) (sym same)
-    (subst (λ (x : Node). (q : RequirementFields) × IsParting d.release.requirements R x q × IsTruth h t.now (applies_at q x)) b
-    (subst (λ (xs : List RequirementFields). (q : RequirementFields) × IsParting xs R n q × IsTruth h t.now (applies_at q n)) a (subst (PartsBy h qs R n) e p)))
+pub parts_at : (h : PassView) (R : Region) (d : Decided) (o : Option (Bor DiagramMark)) (t : Bor DiagramMark) (m : DiagramMark) → o ≡ Some t → m ≡ t.now → PartsBy h d.release.requirements R d.node o → PartsAt h R d (Some m)
+parts_at h R d o t m e same p = subst (λ (x : DiagramMark). PartsAt h R d (Some x)) (sym same) (subst (PartsBy h d.release.requirements R d.node) e p)
 
-pub no_parts_at : (h : PassView) (qs : List RequirementFields) (R : Region) (n : Node) (d : Decided) (o : Option (Bor DiagramMark)) → o ≡ None → qs ≡ d.release.requirements → n ≡ d.node → PartsBy h qs R n o → PartsAt h R d None
-no_parts_at h qs R n d o e a b p s = subst (PartsBy h qs R n) e p s.0
-    (subst (λ (xs : List RequirementFields). IsSplitGroup xs R n s.0) (sym a) (subst (λ (x : Node). IsSplitGroup d.release.requirements R x s.0) (sym b) s.1))
+pub no_parts_at : (h : PassView) (R : Region) (d : Decided) (o : Option (Bor DiagramMark)) → o ≡ None → PartsBy h d.release.requirements R d.node o → PartsAt h R d None
+no_parts_at h R d o e p s = subst (PartsBy h d.release.requirements R d.node) e p s.0 s.1
 
 pub group_here : (h : PassView) (R : Region) (d : Decided) (t : DiagramMark) → PartsAt h R d (Some t) → HasSplit R d
 group_here h R d t p = (p.1.opener.name, (first_holds (InSplit d.release.requirements R d.node) d.release.requirements p.1.opener p.1.first_group).1)

@@ -1,5 +1,4 @@
 pub mod Once
 pub mod LeafLaws
 pub mod Found
-pub mod PickFacts
 pub mod ForCallers

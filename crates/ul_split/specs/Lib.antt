@@ -1,4 +1,3 @@
 pub mod Split
 pub mod Laws
 pub mod Answers
-pub mod Picked

@@ -1,8 +1,6 @@
 //! By which truth a region is split.
 ghost use Rattle.std.specs.Prelude.{◌≡◌, ◌<◌, IfOk, All, Decides, length, get_or, map};
-ghost use Rattle.ul_index.specs.Regions.{Somewhere};
 ghost use Rattle.ul_region.specs.Truths.{region_at};
-ghost use Rattle.ul_region.specs.Rows.{IsRow};
 ghost use Rattle.ul_region.specs.Asked.{IsInRegion};
 ghost use Rattle.ul_split.specs.Split.{IsUnfit};
 ghost use Rattle.ul_split.specs.Answers.{FitsBy, GroupsBy, IsChosen, PartsAt, SplitGives, decided_of};
@@ -14,13 +12,13 @@ use ul_region::{AtNode, InRegion, Row};
 
 /// A decided node, with its release and the release's requirements.
 #[derive(Drop)]
-pub struct Chosen<'a> {
+pub struct Chosen<'a, 'r> {
     pub node: &'a Node,
-    pub row: &'a Row<'a>,
+    pub row: &'a Row<'r>,
 }
 
 // Whether a decided release isn't fit at some world of the region.
-fn is_unfit(algebra: &Algebra<'_>, place: &InRegion<'_>, one: &Chosen<'_>) -> bool
+fn is_unfit(algebra: &Algebra<'_>, place: &InRegion<'_>, one: &Chosen<'_, '_>) -> bool
     requires place { IsInRegion algebra.now place.now }
     requires one { IsChosen algebra.now place.now.truths.now one.now }
     ensures { Decides result (IsUnfit (region_at place.now.region.now) (decided_of one.now)) }
@@ -34,11 +32,11 @@ fn is_unfit(algebra: &Algebra<'_>, place: &InRegion<'_>, one: &Chosen<'_>) -> bo
 }
 
 // The first release that isn't fit throughout the region.
-fn first_unfit<'a>(
+fn first_unfit<'s, 'a, 'r>(
     algebra: &Algebra<'_>,
     place: &InRegion<'_>,
-    chosen: &'a [Chosen<'a>],
-) -> Option<&'a Chosen<'a>>
+    chosen: &'s [Chosen<'a, 'r>],
+) -> Option<&'s Chosen<'a, 'r>>
     requires place { IsInRegion algebra.now place.now }
     requires chosen { All (IsChosen algebra.now place.now.truths.now) chosen.now }
     ensures { FitsBy (region_at place.now.region.now) chosen.now (map decided_of chosen.now) result }
@@ -55,7 +53,7 @@ fn first_unfit<'a>(
 fn parting_at(
     algebra: &Algebra<'_>,
     place: &InRegion<'_>,
-    one: &Chosen<'_>,
+    one: &Chosen<'_, '_>,
 ) -> Result<Option<Diagram>, AllocError>
     requires place { IsInRegion algebra.now place.now }
     requires one { IsChosen algebra.now place.now.truths.now one.now }
@@ -77,7 +75,7 @@ fn parting_at(
 fn first_parting(
     algebra: &Algebra<'_>,
     place: &InRegion<'_>,
-    chosen: &[Chosen<'_>],
+    chosen: &[Chosen<'_, '_>],
 ) -> Result<Option<Diagram>, AllocError>
     requires place { IsInRegion algebra.now place.now }
     requires chosen { All (IsChosen algebra.now place.now.truths.now) chosen.now }
@@ -92,7 +90,7 @@ fn first_parting(
 }
 
 // Where a decided release is fit.
-fn fit_of(place: &InRegion<'_>, one: &Chosen<'_>) -> Result<Diagram, AllocError>
+fn fit_of(place: &InRegion<'_>, one: &Chosen<'_, '_>) -> Result<Diagram, AllocError>
     requires { one.now.row.now.fit < length place.now.truths.now }
     ensures { IfOk result (λ d. d ≡ get_or place.now.truths.now one.now.row.now.fit d) }
 {
@@ -108,7 +106,7 @@ fn fit_of(place: &InRegion<'_>, one: &Chosen<'_>) -> Result<Diagram, AllocError>
 pub fn split_in(
     algebra: &Algebra<'_>,
     place: &InRegion<'_>,
-    chosen: &[Chosen<'_>],
+    chosen: &[Chosen<'_, '_>],
 ) -> Result<Option<Diagram>, AllocError>
     requires place { IsInRegion algebra.now place.now }
     requires chosen { All (IsChosen algebra.now place.now.truths.now) chosen.now }

@@ -1,13 +1,16 @@
 use Rattle.std.proofs.Common.{sym, subst}
 use Rattle.ul_requirement.specs.Fields.{WishFields}
 use Rattle.ul_index.specs.Catalogs.{Packages}
-use Rattle.ul_prepared.specs.Gathered.{AreKnown}
+use Rattle.ul_prepared.specs.Gathered.{IsGathered}
 use Rattle.ul_prepared.specs.declared.gathering.Gathered.{Gathered}
 use Rattle.ul_prepared.proofs.Loops.{twice_handed}
 use Rattle.ul_prepared.proofs.gathering.gather_all.Goals as goal
 
+pub meet_all-requires : goal.meet_all-requires
+meet_all-requires c = c.new-all.ensures c.in_ok-sources.sources.0 c.in_ok-sources.sources.1
+
 pub returns : goal.returns
 returns c =
-    let met = twice_handed c.meet_all.result c.made_from-met.result c.in_ok-both.both.1 (λ z. AreKnown c.in_ok-sources.sources.0 c.in_ok-sources.sources.1 c.meet_all.new.self.names.items c.meet_all.new.self.releases.items) c.in_ok-both.ensures.1 c.made_from-met.ensures c.meet_all.ensures in
-    subst (λ (g : Gathered). AreKnown c.args.catalog.now c.args.wish.now g.names.items g.releases.items) (sym c.in_ok-both.ensures.0)
-    (subst (λ (s : Packages × WishFields). AreKnown s.0 s.1 c.meet_all.new.self.names.items c.meet_all.new.self.releases.items) c.in_ok-sources.ensures met)
+    let met = twice_handed c.meet_all.result c.made_from-met.result c.in_ok-both.both.1 (λ z. IsGathered c.in_ok-sources.sources.0 c.in_ok-sources.sources.1 c.meet_all.new.self) c.in_ok-both.ensures.1 c.made_from-met.ensures c.meet_all.ensures in
+    subst (λ (g : Gathered). IsGathered c.args.catalog.now c.args.wish.now g) (sym c.in_ok-both.ensures.0)
+    (subst (λ (s : Packages × WishFields). IsGathered s.0 s.1 c.meet_all.new.self) c.in_ok-sources.ensures met)

@@ -1,88 +1,122 @@
-use Rattle.std.proofs.Common.{◌≡◌, List, Global, Some, Vec, ap, map, sym, subst, ◌∙◌}
-use Rattle.std.specs.Prelude.{All, slice_get}
+use Rattle.std.proofs.Common.{◌≡◌, List, Global, Vec, ap, length, sym, subst, ◌∙◌}
+use Rattle.std.specs.Prelude.{All, slice_get, Some}
+use Rattle.std.specs.List.{AllZip}
+use Rattle.std.proofs.lemmas.Slice.Zip.{AllZip-long}
 use Rattle.ul_base.specs.declared.node.Node.{Node}
 use Rattle.ul_base.proofs.ForCallers.{made_holds}
 use Rattle.ul_problem.specs.declared.problem.Need.{Need as PlaceNeed}
-use Rattle.ul_region.specs.Rows.{IsRow}
+use Rattle.ul_region.specs.Rows.{AreAsked}
+use Rattle.ul_region.specs.declared.rows.Asked.{Asked}
 use Rattle.ul_region.specs.declared.rows.Row.{Row}
-use Rattle.ul_prepared.specs.Aims.{AreReleaseAims}
-use Rattle.ul_prepared.specs.Gathered.{HasName, HasRows, release_in}
-use Rattle.ul_prepared.specs.Prepared.{HasBaseAt}
+use Rattle.ul_prepared.specs.Gathered.{HasName}
+use Rattle.ul_prepared.specs.Lists.{lists_of}
+use Rattle.ul_prepared.specs.Prepared.{AreRowAims, HasBaseAt}
+use Rattle.ul_prepared.specs.Shared.{IsOfList, IsPlaced, IsRowOf}
 use Rattle.ul_prepared.specs.declared.prepared.NameFacts.{NameFacts}
 use Rattle.ul_prepared.specs.declared.prepared.Planned.{Planned}
+use Rattle.ul_prepared.specs.declared.shared.Fitted.{Fitted}
+use Rattle.ul_prepared.proofs.SharedFacts.{node_rows, placed, shared_grown}
 use Rattle.ul_prepared.proofs.planning.planned_at.Goals as goal
-use Rattle.ul_prepared.proofs.planning.planned_at.Goals.{In_ok-kept}
+use Rattle.ul_prepared.proofs.planning.planned_at.Goals.{In_ok-asked-2, In_ok-both}
 
-pub base_of-requires : goal.base_of-requires
-base_of-requires g c = c.requires.named
+-- what the node asks of each list, and its needs
+are : (g : _) (c : In_ok-asked-2 g) → AllZip (AreAsked c.asked_lists.new.algebra c.args.planned.now.node c.asked_lists.new.truths.marks.items) (lists_of c.args.own.now.lists.items) c.in_ok-asked.asked.items
+are g c = subst (λ ls. AllZip (AreAsked c.asked_lists.new.algebra c.args.planned.now.node c.asked_lists.new.truths.marks.items) (lists_of ls) c.in_ok-asked.asked.items) c.as_slice-lists.ensures.value c.in_ok-asked.ensures.asked
 
-pub rows_of-requires : goal.rows_of-requires
-rows_of-requires g c = c.requires.truths
+aimed : (g : _) (c : In_ok-asked-2 g) → AllZip (AreRowAims c.args.names.now c.args.nodes.now) c.in_ok-asked-2.aims.items c.in_ok-asked.asked.items
+aimed g c =
+    let aims = AreRowAims c.args.names.now c.args.nodes.now in
+    subst (AllZip aims c.in_ok-asked-2.aims.items) c.as_slice.ensures.value
+    (made_holds c.list_aims-aims.result c.in_ok-asked-2.aims (λ v. AllZip aims v.items c.as_slice.result.now) c.in_ok-asked-2.ensures.1 c.list_aims-aims.ensures.aims)
 
-pub release_aims-aims-requires-clause-rising : goal.release_aims-aims-requires-clause-rising
-release_aims-aims-requires-clause-rising g c = c.requires.rising
+-- there is as much of what is asked as there are lists
+many : (g : _) (c : In_ok-asked-2 g) → length c.in_ok-asked.asked.items ≡ length (lists_of c.args.own.now.lists.items)
+many g c = AllZip-long _ _ _ (are g c)
 
-pub release_aims-aims-requires-clause-sets : goal.release_aims-aims-requires-clause-sets
-release_aims-aims-requires-clause-sets g c = c.requires.sets
+same_node : (g : _) (c : In_ok-both g) → c.in_ok-both.node ≡ c.args.planned.now.node
+same_node g c = made_holds c.copy.result c.in_ok-both.node (λ n. n ≡ c.args.planned.now.node) c.in_ok-both.ensures.1 c.copy.ensures
 
-pub returns-in_err-rows-clause-grown : goal.returns-in_err-rows-clause-grown
-returns-in_err-rows-clause-grown g c = c.rows_of.ensures.grown
+pub rows_of-rows-requires-clause-asked : goal.rows_of-rows-requires-clause-asked
+rows_of-rows-requires-clause-asked g c =
+    let own = c.args.own.now in
+    let asked = c.as_slice-2.result.now in
+    subst (λ (fs : List Fitted). All (IsPlaced (length asked)) fs) (sym c.as_slice-releases.ensures.value)
+    (placed (lists_of own.lists.items) asked own.releases.items
+    (ap length (c.as_slice-2.ensures.value ∙ ap (λ z. z.items) c.in_ok-asked-2.ensures.0) ∙ many g (goal.at.rows_of-rows-requires-clause-asked g c).In_ok-asked-2) c.requires.shared.listed)
+
+pub rows_of-rows-requires-clause-aims : goal.rows_of-rows-requires-clause-aims
+rows_of-rows-requires-clause-aims g c =
+    let own = c.args.own.now in
+    let aims = c.as_slice-3.result.now in
+    let at = (goal.at.rows_of-rows-requires-clause-aims g c).In_ok-asked-2 in
+    subst (λ (fs : List Fitted). All (IsPlaced (length aims)) fs) (sym c.as_slice-releases.ensures.value)
+    (placed (lists_of own.lists.items) aims own.releases.items (ap length c.as_slice-3.ensures.value ∙ (sym (AllZip-long _ _ _ (aimed g at)) ∙ many g at)) c.requires.shared.listed)
 
 pub returns-in_err-asked-clause-grown : goal.returns-in_err-asked-clause-grown
-returns-in_err-asked-clause-grown g c = c.rows_of.ensures.grown
+returns-in_err-asked-clause-grown g c = c.asked_lists.ensures.grown
 
-pub returns-in_err-kept-clause-grown : goal.returns-in_err-kept-clause-grown
-returns-in_err-kept-clause-grown g c = c.rows_of.ensures.grown
+pub returns-in_err-asked-2-clause-grown : goal.returns-in_err-asked-2-clause-grown
+returns-in_err-asked-2-clause-grown g c = c.asked_lists.ensures.grown
+
+pub returns-in_err-rows-clause-grown : goal.returns-in_err-rows-clause-grown
+returns-in_err-rows-clause-grown g c = c.asked_lists.ensures.grown
+
+pub returns-in_err-both-clause-grown : goal.returns-in_err-both-clause-grown
+returns-in_err-both-clause-grown g c = c.asked_lists.ensures.grown
 
 pub returns-clause-grown : goal.returns-clause-grown
-returns-clause-grown g c = c.rows_of.ensures.grown
-
-pub returns-in_err-own-clause-sets : goal.returns-in_err-own-clause-sets
-returns-in_err-own-clause-sets g c = c.requires.sets
+returns-clause-grown g c = c.asked_lists.ensures.grown
 
 pub returns-in_err-base-clause-sets : goal.returns-in_err-base-clause-sets
 returns-in_err-base-clause-sets g c = c.requires.sets
 
-pub returns-in_err-rows-clause-sets : goal.returns-in_err-rows-clause-sets
-returns-in_err-rows-clause-sets g c = c.requires.sets
-
 pub returns-in_err-asked-clause-sets : goal.returns-in_err-asked-clause-sets
-returns-in_err-asked-clause-sets g c = c.release_aims-aims.ensures.sets
+returns-in_err-asked-clause-sets g c = c.requires.sets
 
-pub returns-in_err-kept-clause-sets : goal.returns-in_err-kept-clause-sets
-returns-in_err-kept-clause-sets g c = c.release_aims-aims.ensures.sets
+pub returns-in_err-asked-2-clause-sets : goal.returns-in_err-asked-2-clause-sets
+returns-in_err-asked-2-clause-sets g c = c.list_aims-aims.ensures.sets
+
+pub returns-in_err-rows-clause-sets : goal.returns-in_err-rows-clause-sets
+returns-in_err-rows-clause-sets g c = c.list_aims-aims.ensures.sets
+
+pub returns-in_err-both-clause-sets : goal.returns-in_err-both-clause-sets
+returns-in_err-both-clause-sets g c = c.list_aims-aims.ensures.sets
 
 pub returns-clause-sets : goal.returns-clause-sets
-returns-clause-sets g c = c.release_aims-aims.ensures.sets
-
-same_node : (g : _) (c : In_ok-kept g) → c.in_ok-kept.node ≡ c.args.planned.now.node
-same_node g c = made_holds c.copy.result c.in_ok-kept.node (λ n. n ≡ c.args.planned.now.node) c.in_ok-kept.ensures.1 c.copy.ensures
+returns-clause-sets g c = c.list_aims-aims.ensures.sets
 
 pub returns-clause-node : goal.returns-clause-node
-returns-clause-node g c = ap (λ n. (n, c.args.planned.now.name)) (same_node g (goal.at.returns-clause-node g c).In_ok-kept)
+returns-clause-node g c = ap (λ n. (n, c.args.planned.now.name)) (same_node g (goal.at.returns-clause-node g c).In_ok-both)
 
 pub returns-clause-rows : goal.returns-clause-rows
 returns-clause-rows g c =
+    let places = goal.at.returns-clause-rows g c in
     let names = c.args.names.now in
     let nodes = c.args.nodes.now in
-    let h = c.rows_of.new.algebra in
-    let truths = c.rows_of.new.truths.marks.items in
-    let own = c.as_slice-own.result.now in
-    let releases = map (λ r. r.now) own in
+    let h = c.asked_lists.new.algebra in
+    let truths = c.asked_lists.new.truths.marks.items in
+    let own = c.args.own.now in
     let name = c.args.planned.now.name in
     let base = c.in_ok-base.base in
-    let same = sym (same_node g (goal.at.returns-clause-rows g c).In_ok-kept) in
-    let rows = ap (λ z. z.0) c.in_ok-kept.ensures.0 ∙ c.in_ok-asked.ensures.0 in
-    let aims = made_holds c.release_aims-aims.result c.in_ok-asked.asked.1 (λ v. AreReleaseAims names nodes v.items releases) c.in_ok-asked.ensures.1 c.release_aims-aims.ensures.aims in
-    let p : Planned = record { node = c.in_ok-kept.node; base = base; name = name; rows = c.in_ok-kept.kept.0; aims = c.in_ok-kept.kept.1 } in
-    let has : HasRows h names nodes truths releases p = record {
-      named = subst (λ (n : Node). HasName names n.name name) same c.requires.named;
-      base = subst (λ (n : Node). (f : NameFacts) × (slice_get names name ≡ Some f) × HasBaseAt names nodes n base f) same c.in_ok-base.ensures;
-      rows = subst (λ (n : Node). All (IsRow h n truths) c.in_ok-kept.kept.0.items) same (subst (λ (z : Vec Row Global). All (IsRow h c.args.planned.now.node truths) z.items) (sym rows) c.in_ok-rows.ensures.rows);
-      releases = ap (λ z. map release_in z.items) rows ∙ c.in_ok-rows.ensures.releases;
-      aims = subst (λ (z : Vec (List (List PlaceNeed)) Global). AreReleaseAims names nodes z.items releases) (ap (λ z. z.1) (sym c.in_ok-kept.ensures.0)) aims;
-    } in (
-      c.in_ok-own.own.now,
-      c.in_ok-own.ensures,
-      subst (λ ls. HasRows h names nodes truths (map (λ l. l.now) ls) p) c.as_slice-own.ensures.value has,
-    )
+    let asked = c.in_ok-asked.asked.items in
+    let aims = c.in_ok-asked-2.aims.items in
+    let both = c.in_ok-both.both in
+    let same = sym (same_node g places.In_ok-both) in
+    let of_asked = c.as_slice-2.ensures.value ∙ ap (λ z. z.items) c.in_ok-asked-2.ensures.0 in
+    let rows : AllZip (IsRowOf asked) own.releases.items both.0.items =
+    subst (λ (fs : List Fitted). AllZip (IsRowOf asked) fs both.0.items) c.as_slice-releases.ensures.value
+    (subst (λ (ls : List (List Asked)). AllZip (IsRowOf ls) c.as_slice-releases.result.now both.0.items) of_asked
+    (subst (λ (z : Vec Row Global × Vec (List (List PlaceNeed)) Global). AllZip (IsRowOf c.as_slice-2.result.now) c.as_slice-releases.result.now z.0.items) (sym c.in_ok-both.ensures.0)
+    (made_holds c.rows_of-rows.result c.in_ok-rows.rows (λ z. AllZip (IsRowOf c.as_slice-2.result.now) c.as_slice-releases.result.now z.0.items) c.in_ok-rows.ensures c.rows_of-rows.ensures.rows))) in
+    let needs : AllZip (IsOfList aims) own.releases.items both.1.items =
+    subst (λ (fs : List Fitted). AllZip (IsOfList aims) fs both.1.items) c.as_slice-releases.ensures.value
+    (subst (λ (ls : List (List (List PlaceNeed))). AllZip (IsOfList ls) c.as_slice-releases.result.now both.1.items) c.as_slice-3.ensures.value
+    (subst (λ (z : Vec Row Global × Vec (List (List PlaceNeed)) Global). AllZip (IsOfList c.as_slice-3.result.now) c.as_slice-releases.result.now z.1.items) (sym c.in_ok-both.ensures.0)
+    (made_holds c.rows_of-rows.result c.in_ok-rows.rows (λ z. AllZip (IsOfList c.as_slice-3.result.now) c.as_slice-releases.result.now z.1.items) c.in_ok-rows.ensures c.rows_of-rows.ensures.aims))) in
+    let p : Planned = record { node = c.in_ok-both.node; base = base; name = name; rows = both.0; aims = both.1 } in
+    node_rows h names nodes truths own asked aims p
+    (subst (λ (n : Node). HasName names n.name name) same c.requires.named)
+    (subst (λ (n : Node). (f : NameFacts) × (slice_get names name ≡ Some f) × HasBaseAt names nodes n base f) same c.in_ok-base.ensures)
+    (shared_grown _ _ _ _ own c.asked_lists.ensures.grown c.requires.shared)
+    (subst (λ (n : Node). AllZip (AreAsked h n truths) (lists_of own.lists.items) asked) same (are g places.In_ok-asked-2))
+    (aimed g places.In_ok-asked-2) rows needs

@@ -1,4 +1,4 @@
-use Rattle.std.proofs.Common.{◌≡◌, ◌<◌, ℕ, length, sym, subst, ◌∙◌, arith}
+use Rattle.std.proofs.Common.{◌<◌, length, arith}
 use Rattle.std.proofs.lemmas.Result.{IfOk-weaker}
 use Rattle.ul_interner.proofs.ForCallers.{knows_then}
 use Rattle.ul_region.proofs.MarkerFacts.{all_formulas, all_parts_hold, all_less, any_formulas, some_part_holds, any_less, back_less, formula_one, formulas_before, formulas_behind, front_less, halves_hold, none_hold, one_holds, one_less}

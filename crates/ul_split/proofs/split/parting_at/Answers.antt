@@ -1,5 +1,3 @@
-use Rattle.std.proofs.Common.{refl, map}
-use Rattle.ul_region.specs.Rows.{requirement_of}
 use Rattle.ul_region.specs.Truths.{region_at}
 use Rattle.ul_split.specs.Answers.{decided_of}
 use Rattle.ul_split.proofs.Found.{parts_at, no_parts_at}
@@ -9,7 +7,7 @@ pub parting-requires : goal.parting-requires
 parting-requires c = record { place = c.requires.place; row = c.requires.one }
 
 pub returns-in_default : goal.returns-in_default
-returns-in_default c = no_parts_at c.args.algebra.now (map requirement_of c.args.one.now.row.now.asked.items) (region_at c.args.place.now.region.now) c.args.one.now.node.now (decided_of c.args.one.now) c.parting.result c.in_default.is c.requires.one.same refl c.parting.ensures
+returns-in_default c = no_parts_at c.args.algebra.now (region_at c.args.place.now.region.now) (decided_of c.args.one.now) c.parting.result c.in_default.is c.parting.ensures
 
 pub returns : goal.returns
-returns c = parts_at c.args.algebra.now (map requirement_of c.args.one.now.row.now.asked.items) (region_at c.args.place.now.region.now) c.args.one.now.node.now (decided_of c.args.one.now) c.parting.result c.in-Some.truth c.in_ok-truth.truth c.in-Some.is c.in_ok-truth.ensures c.requires.one.same refl c.parting.ensures
+returns c = parts_at c.args.algebra.now (region_at c.args.place.now.region.now) (decided_of c.args.one.now) c.parting.result c.in-Some.truth c.in_ok-truth.truth c.in-Some.is c.in_ok-truth.ensures c.parting.ensures

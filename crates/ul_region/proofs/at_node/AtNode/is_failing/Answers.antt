@@ -16,7 +16,7 @@ same-requires-clause-b c = c.requires.whole.place.region.diagram
 
 pub returns-then-one-opener : goal.returns-then-one-opener
 returns-then-one-opener c = not_failing_name (asked_of c.args.self.now) (region_asked c.args.self.now) c.args.self.now.node.now c.args.opener.now.requirement.now.name c.args.one.now.requirement.now
-    (λ e. c.if-one-opener.true ((c.requires.whole.row.numbered c.args.one.now c.args.opener.now c.requires.one c.requires.opener).1 e))
+    (λ e. c.if-one-opener.true ((c.requires.whole.row.are.numbered c.args.one.now c.args.opener.now c.requires.one c.requires.opener).1 e))
 
 pub returns-then-not-is_applied : goal.returns-then-not-is_applied
 returns-then-not-is_applied c = not_failing_applied (asked_of c.args.self.now) (region_asked c.args.self.now) c.args.self.now.node.now c.args.opener.now.requirement.now.name c.args.one.now.requirement.now
@@ -24,8 +24,8 @@ returns-then-not-is_applied c = not_failing_applied (asked_of c.args.self.now) (
 
 pub returns : goal.returns
 returns c = failing_decided (asked_of c.args.self.now) (region_asked c.args.self.now) c.args.self.now.node.now c.args.opener.now.requirement.now.name c.args.one.now.requirement.now _
-    (applied_at c.args.self.now c.args.one.now c.requires.one (c.is_applied.ensures.0 c.if-not-is_applied.false))
-    ((c.requires.whole.row.numbered c.args.one.now c.args.opener.now c.requires.one c.requires.opener).0 c.if-one-opener.false)
+    (applied_at c.args.algebra.now c.args.self.now c.args.one.now c.requires.whole c.requires.one (c.is_applied.ensures.0 c.if-not-is_applied.false))
+    ((c.requires.whole.row.are.numbered c.args.one.now c.args.opener.now c.requires.one c.requires.opener).0 c.if-one-opener.false)
     (throughout_decided c.args.algebra.now c.holds_at-within.result.now c.args.self.now.place.now.region.now (region_asked c.args.self.now) (applies_at c.args.one.now.requirement.now c.args.self.now.node.now)
     (c.holds_at-within.ensures c.args.algebra.now c.requires.whole.place (applies_at c.args.one.now.requirement.now c.args.self.now.node.now) (asked_at c.args.algebra.now c.args.self.now c.args.one.now c.requires.whole c.requires.one))
     c.requires.whole.place.region c.same.result c.same.ensures.tree)

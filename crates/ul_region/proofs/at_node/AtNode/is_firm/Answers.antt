@@ -12,4 +12,4 @@ returns-then-not-is_applied c = not_firm (asked_of c.args.self.now) (region_aske
 
 pub returns : goal.returns
 returns c = firm_decided (asked_of c.args.self.now) (region_asked c.args.self.now) c.args.self.now.node.now c.args.one.now.requirement.now c.is_parted-parted.result
-    (applied_at c.args.self.now c.args.one.now c.requires.one (c.is_applied.ensures.0 c.if-not-is_applied.false)) c.is_parted-parted.ensures
+    (applied_at c.args.algebra.now c.args.self.now c.args.one.now c.requires.whole c.requires.one (c.is_applied.ensures.0 c.if-not-is_applied.false)) c.is_parted-parted.ensures

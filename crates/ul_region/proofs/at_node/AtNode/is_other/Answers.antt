@@ -19,7 +19,7 @@ same-requires-clause-b c = (c.holds_at-theirs.ensures c.args.algebra.now c.requi
 
 pub returns-then-other-one : goal.returns-then-other-one
 returns-then-other-one c = not_other_name (region_asked c.args.self.now) c.args.self.now.node.now c.args.one.now.requirement.now c.args.other.now.requirement.now
-    (λ e. c.if-other-one.true ((c.requires.whole.row.numbered c.args.other.now c.args.one.now c.requires.other c.requires.one).1 e))
+    (λ e. c.if-other-one.true ((c.requires.whole.row.are.numbered c.args.other.now c.args.one.now c.requires.other c.requires.one).1 e))
 
 pub returns-then-not-is_applied : goal.returns-then-not-is_applied
 returns-then-not-is_applied c = not_other_applied (region_asked c.args.self.now) c.args.self.now.node.now c.args.one.now.requirement.now c.args.other.now.requirement.now
@@ -28,7 +28,7 @@ returns-then-not-is_applied c = not_other_applied (region_asked c.args.self.now)
 pub returns : goal.returns
 returns c = other_decided (region_asked c.args.self.now) c.args.self.now.node.now c.args.one.now.requirement.now c.args.other.now.requirement.now
     (c.is_applied.ensures.0 c.if-not-is_applied.false)
-    ((c.requires.whole.row.numbered c.args.other.now c.args.one.now c.requires.other c.requires.one).0 c.if-other-one.false) _
+    ((c.requires.whole.row.are.numbered c.args.other.now c.args.one.now c.requires.other c.requires.one).0 c.if-other-one.false) _
     (apart_decided c.args.algebra.now c.holds_at-mine.result.now c.holds_at-theirs.result.now (region_asked c.args.self.now) (applies_at c.args.one.now.requirement.now c.args.self.now.node.now) (applies_at c.args.other.now.requirement.now c.args.self.now.node.now)
     (c.holds_at-mine.ensures c.args.algebra.now c.requires.whole.place (applies_at c.args.one.now.requirement.now c.args.self.now.node.now) (asked_at c.args.algebra.now c.args.self.now c.args.one.now c.requires.whole c.requires.one))
     (c.holds_at-theirs.ensures c.args.algebra.now c.requires.whole.place (applies_at c.args.other.now.requirement.now c.args.self.now.node.now) (asked_at c.args.algebra.now c.args.self.now c.args.other.now c.requires.whole c.requires.other))

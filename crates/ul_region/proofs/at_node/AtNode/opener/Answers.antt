@@ -4,23 +4,28 @@ use Rattle.ul_region.specs.Rows.{requirement_of}
 use Rattle.ul_region.specs.Asked.{asked_of, region_asked}
 use Rattle.ul_region.specs.Groups.{InSplit}
 use Rattle.ul_region.proofs.Firsts.{none_so_far, none_at_end, item_in, fails}
+use Rattle.ul_region.proofs.AskedLists.{first_asked, may_be, none_asked}
 use Rattle.ul_region.proofs.at_node.AtNode.opener.Goals as goal
 
 pub is_in_split-requires-clause-one : goal.is_in_split-requires-clause-one
-is_in_split-requires-clause-one c = item_in c.args.self.now.row.now.asked.items c.deref-one-items.result.now c.loop-one.one-index c.one-item.result c.deref-one-items.ensures.value c.loop-one-test.true c.one-item.is
+is_in_split-requires-clause-one c = item_in c.args.self.now.row.now.asked c.as_slice-one-items.result.now c.loop-one.one-index c.one-item.result c.as_slice-one-items.ensures c.loop-one-test.true c.one-item.is
 
 pub returns-then-is_in_split : goal.returns-then-is_in_split
-returns-then-is_in_split c = (
-  item_in c.args.self.now.row.now.asked.items c.deref-one-items.result.now c.loop-one.one-index c.one-item.result c.deref-one-items.ensures.value c.loop-one-test.true c.one-item.is,
-  first_next requirement_of (λ (q : RequirementFields). InSplit (asked_of c.args.self.now) (region_asked c.args.self.now) c.args.self.now.node.now q) c.args.self.now.row.now.asked.items c.deref-one-items.result.now c.loop-one.one-index c.one-item.result
-      c.deref-one-items.ensures.value c.loop-one-test.true c.one-item.is c.loop-one.invariant (c.is_in_split.ensures.0 c.if-is_in_split.true),
+returns-then-is_in_split c = let P = λ (q : RequirementFields). InSplit (asked_of c.args.self.now) (region_asked c.args.self.now) c.args.self.now.node.now q in (
+  item_in c.args.self.now.row.now.asked c.as_slice-one-items.result.now c.loop-one.one-index c.one-item.result c.as_slice-one-items.ensures c.loop-one-test.true c.one-item.is,
+  first_asked c.args.algebra.now c.args.self.now.node.now c.args.self.now.place.now.truths.now (asked_of c.args.self.now) c.args.self.now.row.now.asked P c.one-item.result.requirement.now c.requires.row.are
+      (λ q p. may_be c.unnamed_never_applies.ensures c.args.self.now.node.now (region_asked c.args.self.now) q p.0.somewhere)
+      (first_next requirement_of P c.args.self.now.row.now.asked c.as_slice-one-items.result.now c.loop-one.one-index c.one-item.result
+      c.as_slice-one-items.ensures c.loop-one-test.true c.one-item.is c.loop-one.invariant (c.is_in_split.ensures.0 c.if-is_in_split.true)),
 )
 
 pub loop-one-preserved : goal.loop-one-preserved
 loop-one-preserved c = let P = λ (q : RequirementFields). InSplit (asked_of c.args.self.now) (region_asked c.args.self.now) c.args.self.now.node.now q in
-    none_so_far P c.args.self.now.row.now.asked.items c.deref-one-items.result.now c.loop-one.one-index c.one-item.result c.deref-one-items.ensures.value c.loop-one-test.true c.one-item.is c.loop-one.invariant
+    none_so_far P c.args.self.now.row.now.asked c.as_slice-one-items.result.now c.loop-one.one-index c.one-item.result c.as_slice-one-items.ensures c.loop-one-test.true c.one-item.is c.loop-one.invariant
     (fails (P c.one-item.result.requirement.now) c.is_in_split.result c.is_in_split.ensures c.if-is_in_split.false)
 
 pub returns : goal.returns
-returns c = none_at_end (λ (q : RequirementFields). InSplit (asked_of c.args.self.now) (region_asked c.args.self.now) c.args.self.now.node.now q) c.args.self.now.row.now.asked.items c.deref-one-items.result.now c.loop-one.one-index
-    c.deref-one-items.ensures.value c.loop-one-test.false c.loop-one.invariant
+returns c = let P = λ (q : RequirementFields). InSplit (asked_of c.args.self.now) (region_asked c.args.self.now) c.args.self.now.node.now q in
+    none_asked c.args.algebra.now c.args.self.now.node.now c.args.self.now.place.now.truths.now (asked_of c.args.self.now) c.args.self.now.row.now.asked P c.requires.row.are
+    (λ q p. may_be c.unnamed_never_applies.ensures c.args.self.now.node.now (region_asked c.args.self.now) q p.0.somewhere)
+    (none_at_end P c.args.self.now.row.now.asked c.as_slice-one-items.result.now c.loop-one.one-index c.as_slice-one-items.ensures c.loop-one-test.false c.loop-one.invariant)

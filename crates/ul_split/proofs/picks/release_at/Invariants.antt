@@ -1,8 +1,0 @@
-use Rattle.std.proofs.Common.{◌≡◌, drop}
-use Rattle.std.specs.Prelude.{find}
-use Rattle.std.specs.Ordering.{is_eq}
-use Rattle.ul_version.specs.Order.{version_cmp}
-use Rattle.ul_split.proofs.picks.release_at.Given as goal
-
-abbrev pub invariant-loop-release : goal.invariant-loop-release
-invariant-loop-release l = find (λ r. is_eq (version_cmp r.version l.version)) (drop l.release-index l.releases) ≡ find (λ r. is_eq (version_cmp r.version l.version)) l.releases
