@@ -1,13 +1,13 @@
 -- What blocks are made of, read through slices.
-use Rattle.std.proofs.Common.{◌≡◌, ℕ, List, map, length, Option, Some, Contains, refl, sym, ap, ap₂, ◌∙◌, subst}
+use Rattle.std.proofs.Common.{◌≡◌, ℕ, List, map, Option, Contains, sym, ap, ◌∙◌, subst}
 use Rattle.std.specs.Prelude.{All}
 use Rattle.std.proofs.lemmas.List.Elements.{All-contains_itself, All-weaker}
 use Rattle.ul_base.specs.declared.node.Node.{Node}
 use Rattle.ul_interner.specs.Known.{Knows}
 use Rattle.ul_version.specs.Fields.{Fields}
 use Rattle.ul_requirement.specs.Fields.{ReleaseFields, RequirementFields}
+use Rattle.ul_requirement.specs.Laws.{UnnamedNeverApplies}
 use Rattle.ul_requirement.specs.Truth.{base, with_extra}
-use Rattle.ul_algebra.specs.Spelled.{tree_of}
 use Rattle.ul_index.specs.Catalogs.{Packages, release_of, requirements, requirements_in}
 use Rattle.ul_index.specs.Laws.{EligibleRises}
 use Rattle.ul_index.specs.Serves.{Selection}
@@ -24,6 +24,7 @@ use Rattle.ul_merge.specs.Keys.{extra_cmp, pair_of, pick_of}
 use Rattle.ul_merge.specs.Made.{AreMade}
 use Rattle.ul_merge.specs.Members.{AreUses}
 use Rattle.ul_merge.specs.Rows.{aim_of, aim_rows, all_uses, base_rows, extra_entry, extra_rows, member_of}
+use Rattle.ul_region.specs.Rows.{asked_at}
 use Rattle.ul_merge.specs.declared.gathering.Entry.{Entry}
 use Rattle.ul_merge.specs.declared.gathering.Group.{Group}
 use Rattle.ul_merge.specs.declared.keys.ExtraKey.{ExtraKey}
@@ -35,7 +36,7 @@ use Rattle.ul_merge.specs.declared.targets.Aim.{Aim}
 use Rattle.ul_merge.specs.declared.targets.Use.{Use}
 use Rattle.ul_merge.proofs.BlockIndex.{base_users_are, extra_users_are, extras_index}
 use Rattle.ul_merge.proofs.EdgeFacts.{regions_still}
-use Rattle.ul_merge.proofs.EdgeIndex.{AreEdgeParts, edges_index}
+use Rattle.ul_merge.proofs.EdgeIndex.{edges_index}
 
 -- what a lock is merged of, where more is known
 pub sources_still : (g h : PassView) (s : Sources) → Knows g h → AreSources g s → AreSources h s
@@ -50,10 +51,10 @@ sources_still g h s k a = record {
 
 -- the edges of a node
 pub edges_are : (s : Sources) (k : PickKey) (h : PassView) (h0 : PassView) (users : List ℕ) (rs : List RequirementFields) (ts slice : List DiagramMark) (aims lent : List Aim) (gs groups : List (Group PickKey Use)) (eds edges : List Edge)
-    → EligibleRises → AreSources h0 s → AreUsers s.choices.now (pick_of k) users → rs ≡ requirements (catalog_in s) k.node.now.name k.version.now → AreTruths h k.node.now rs ts
+    → EligibleRises → UnnamedNeverApplies → AreSources h0 s → AreUsers s.choices.now (pick_of k) users → rs ≡ asked_at k.node.now (requirements (catalog_in s) k.node.now.name k.version.now) → AreTruths h k.node.now rs ts
     → map aim_of aims ≡ aim_rows 0 rs → lent ≡ aims → AreUses s.choices.now users (map aim_of lent) gs → slice ≡ ts → groups ≡ gs
     → AreMade (MakesEdge s.regions.now slice (supported_in s)) groups eds → edges ≡ eds → AreEdgesOf (catalog_in s) (leaves_in s) (supported_in s) (pick_of k) edges
-edges_are s k h h0 users rs ts slice aims lent gs groups eds edges law a u required truths rows lend uses e f made is =
+edges_are s k h h0 users rs ts slice aims lent gs groups eds edges law unnamed a u asked truths rows lend uses e f made is =
     subst (AreEdgesOf (catalog_in s) (leaves_in s) (supported_in s) (pick_of k)) (sym is)
     (edges_index h s.catalog.now s.regions.now s.choices.now (pick_of k) users rs ts uses.0 gs (record {
       law = law;
@@ -61,7 +62,8 @@ edges_are s k h h0 users rs ts slice aims lent gs groups eds edges law a u requi
       eligible_in = a.eligible;
       as_many = a.as_many;
       users_are = u;
-      required = required;
+      unnamed = unnamed;
+      asked = asked;
       truths = truths;
       rows = uses.1 ∙ ap (λ (xs : List (Node × ℕ)). all_uses s.choices.now users xs) (ap (map aim_of) lend ∙ rows);
       groups = uses.2;

@@ -1,9 +1,9 @@
 -- Edges of groups.
-use Rattle.std.proofs.Common.{◌≡◌, ◌⊎◌, ℕ, zero, suc, ◌+◌, ◌<◌, ◌≤◌, List, [], ◌∷◌, ◌++◌, length, get_or, map, take, Bool, true, false, ◌&&◌, Option, Some, None, Contains, refl, sym, ap, ap₂, ◌∙◌, subst, ⊎_elim, arith}
+use Rattle.std.proofs.Common.{◌≡◌, ℕ, zero, suc, ◌+◌, ◌<◌, ◌≤◌, List, [], ◌∷◌, ◌++◌, length, get_or, map, take, Bool, true, false, ◌&&◌, Option, Some, None, refl, sym, ap, ap₂, ◌∙◌, subst, arith}
 use Rattle.std.specs.Prelude.{All}
 use Rattle.std.specs.List.{slice_get}
 use Rattle.std.specs.Option.{MatchOption}
-use Rattle.std.proofs.lemmas.List.{append-nil, take_more}
+use Rattle.std.proofs.lemmas.List.{append-nil, map_more}
 use Rattle.std.proofs.lemmas.List.Elements.{All-cons, All-contains, All-nil, All-weaker}
 use Rattle.ul_base.specs.declared.node.Node.{Node}
 use Rattle.ul_version.specs.Fields.{Fields}
@@ -85,10 +85,11 @@ truths_last h n (q ∷ rs) [] r t a b = absurd a
 truths_last h n (q ∷ rs) (s ∷ ts) r t a b = (a.0, truths_last h n rs ts r t a.1 b)
 
 -- one requirement more
-pub truths_more : (g h : PassView) (n : Node) (rs : List RequirementFields) (i : ℕ) (r : RequirementFields) (ts now : List DiagramMark) (t : DiagramMark) → Knows g h → i < length rs → r ≡ get_or rs i r
-    → AreTruths g n (take i rs) ts → IsTruth h t (applies_at r n) → now ≡ ts ++ t ∷ [] → AreTruths h n (take (i + 1) rs) now
-truths_more g h n rs i r ts now t k lt at a b is = subst (λ (qs : List RequirementFields). AreTruths h n qs now) (sym (take_more rs i r lt ∙ ap (λ (q : RequirementFields). take i rs ++ q ∷ []) (sym at)))
-    (subst (AreTruths h n (take i rs ++ r ∷ [])) (sym is) (truths_last h n (take i rs) ts r t (truths_still g h n (take i rs) ts k a) b))
+pub truths_more : {A : Type 0} (f : A → RequirementFields) (g h : PassView) (n : Node) (rs : List A) (i : ℕ) (r : A) (ts now : List DiagramMark) (t : DiagramMark) → Knows g h → i < length rs → r ≡ get_or rs i r
+    → AreTruths g n (map f (take i rs)) ts → IsTruth h t (applies_at (f r) n) → now ≡ ts ++ t ∷ [] → AreTruths h n (map f (take (i + 1) rs)) now
+truths_more {A = A} f g h n rs i r ts now t k lt at a b is =
+    subst (λ (qs : List RequirementFields). AreTruths h n qs now) (sym (map_more f rs i r lt ∙ ap (λ (q : A). map f (take i rs) ++ f q ∷ []) (sym at)))
+    (subst (AreTruths h n (map f (take i rs) ++ f r ∷ [])) (sym is) (truths_last h n (map f (take i rs)) ts (f r) t (truths_still g h n (map f (take i rs)) ts k a) b))
 
 -- they are regions
 pub truths_regions : (h : PassView) (n : Node) (rs : List RequirementFields) (ts : List DiagramMark) → AreTruths h n rs ts → All (IsRegion h) ts

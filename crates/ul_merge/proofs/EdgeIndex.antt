@@ -1,6 +1,5 @@
 -- The edges of a node at a version are those that were made.
-use Rattle.std.proofs.Common.{◌≡◌, ◌⊎◌, ℕ, List, [], ◌∷◌, map, length, Bool, true, false, ◌&&◌, Option, Some, None, Contains, refl, sym, ap, ap₂, ◌∙◌, subst, inl, inr, ⊎_elim, is_lt}
-use Rattle.std.specs.Prelude.{All}
+use Rattle.std.proofs.Common.{◌≡◌, ℕ, List, [], map, length, Bool, true, false, ◌&&◌, Option, Some, None, Contains, refl, sym, ap, ap₂, ◌∙◌, subst, is_lt}
 use Rattle.std.specs.List.{slice_get}
 use Rattle.std.specs.Option.{option_cmp}
 use Rattle.std.specs.Ordering.{ordering_then}
@@ -12,6 +11,7 @@ use Rattle.ul_version.specs.Fields.{Fields}
 use Rattle.ul_version.specs.Order.{version_cmp}
 use Rattle.ul_comparison.specs.Worlds.{WorldFields, IsWorld}
 use Rattle.ul_requirement.specs.Fields.{RequirementFields, VersionsDiffer}
+use Rattle.ul_requirement.specs.Laws.{UnnamedNeverApplies}
 use Rattle.ul_requirement.specs.Truth.{applies_at, targets}
 use Rattle.ul_nodes.specs.Plain.{Plain}
 use Rattle.ul_tree.specs.Regions.{region_of}
@@ -24,24 +24,23 @@ use Rattle.ul_lock.specs.declared.parts.Edge.{Edge}
 use Rattle.ul_lock.specs.Orders.{edge_less}
 use Rattle.ul_lock.specs.Walk.{Pick}
 use Rattle.ul_region.specs.Truths.{PassView, DiagramMark, IsTruth, region_at}
-use Rattle.ul_sound.specs.Leaves.{LeafFields}
 use Rattle.ul_sound.specs.Merged.{AreEdgesOf, IsRightEdge, IsSimplified, IsTrueEdge, IsTrueSomewhere, edge_key}
 use Rattle.ul_merge.specs.Blocks.{AreUsers, leaves_by}
-use Rattle.ul_merge.specs.Chosen.{choice_at}
 use Rattle.ul_merge.specs.Edges.{AreTruths, IsMadeEdge, MakesEdge, group_truth, leaves_in, picked, requirements_in}
 use Rattle.ul_merge.specs.Gathered.{AreGroups, IsGathered}
 use Rattle.ul_merge.specs.Keys.{pick_cmp, pick_of}
 use Rattle.ul_merge.specs.Made.{AreMade}
 use Rattle.ul_merge.specs.Rows.{aim_rows, all_uses, use_row}
+use Rattle.ul_region.specs.Rows.{asked_at}
 use Rattle.ul_region.specs.Unions.{some_holds}
 use Rattle.ul_merge.specs.declared.gathering.Entry.{Entry}
 use Rattle.ul_merge.specs.declared.gathering.Group.{Group}
 use Rattle.ul_merge.specs.declared.keys.PickKey.{PickKey}
 use Rattle.ul_merge.specs.declared.targets.Use.{Use}
 use Rattle.ul_merge.proofs.Exact.{groups_through, level_picks, picks_same, picks_total, same_group}
-use Rattle.ul_merge.proofs.LeafFacts.{HoldsThere, IsPlaced, choice_here, choice_there, holds_from, holds_to, leaf_in, leaf_place, place_in, place_of, place_too, truth_of}
+use Rattle.ul_merge.proofs.LeafFacts.{HoldsThere, IsPlaced, choice_here, choice_there, holds_from, holds_to, leaf_in, leaf_place, place_in, place_of, truth_of}
 use Rattle.ul_merge.proofs.Makes.{made_index}
-use Rattle.ul_merge.proofs.RowFacts.{IsUse, aims_from, aims_to, uses_from, uses_to}
+use Rattle.ul_merge.proofs.RowFacts.{IsUse, aims_from, aims_to, asked_in, asked_where, uses_from, uses_to}
 
 and_left : (a b : Bool) → (a && b) ≡ true → a ≡ true
 and_left true b e = refl
@@ -66,7 +65,8 @@ pub record AreEdgeParts (h : PassView) (c : Packages) (ms : List DiagramMark) (s
   pub eligible_in : (s : Selection) (n : Node) (v : Fields) → Contains ss s → choice_of s n ≡ Some v → Contains (eligible c n.name) v
   pub as_many : length ms ≡ length ss
   pub users_are : AreUsers ss p users
-  pub required : rs ≡ requirements c p.0.name p.1
+  pub unnamed : UnnamedNeverApplies
+  pub asked : rs ≡ asked_at p.0 (requirements c p.0.name p.1)
   pub truths : AreTruths h p.0 rs ts
   pub rows : map use_row es ≡ all_uses ss users (aim_rows 0 rs)
   pub groups : AreGroups pick_cmp es gs
@@ -110,7 +110,8 @@ module _ (h : PassView) (c : Packages) (ms : List DiagramMark) (ss : List Select
       let t : (t : DiagramMark) × (slice_get ts v.0.requirement ≡ Some t) × IsTruth h t (applies_at r.0 p.0) = truth_of h p.0 rs ts v.0.requirement r.0 parts.truths r.1 in
       let marks : two.mark ≡ t.0 = some_is {o = slice_get ts two.place} two.at (ap (slice_get ts) v.2 ∙ t.1) in
       let holds : applies_at r.0 p.0 w ≡ true = sym (t.2.truth.truth w [] is) ∙ (ap (λ (d : DiagramMark). region_at d w) (sym marks) ∙ two.holds) in
-      let listed : Contains (requirements c p.0.name p.1) r.0 = subst (λ (qs : List RequirementFields). Contains qs r.0) parts.required (place_in rs v.0.requirement r.0 r.1) in
+      let listed : Contains (requirements c p.0.name p.1) r.0 = asked_in p.0 (requirements c p.0.name p.1) r.0
+      (subst (λ (qs : List RequirementFields). Contains qs r.0) parts.asked (place_in rs v.0.requirement r.0 r.1)) in
       record {
         leaf = record { region = tree_of one.mark; picks = there.0 };
         listed = leaf_in ms ss u.0.leaf one.mark there.0 (ap (slice_get ms) (sym u.2) ∙ one.at) there.1;
@@ -134,7 +135,8 @@ module _ (h : PassView) (c : Packages) (ms : List DiagramMark) (ss : List Select
   edge_to q w is t =
       let l : IsPlaced ms ss t.leaf = leaf_place ms ss t.leaf t.listed in
       let user : Contains users l.place = parts.users_are.all l.place (choice_here ss l.place t.leaf.picks p.0 l.picks ∙ t.source) in
-      let r : (j : ℕ) × (slice_get rs j ≡ Some t.requirement) = place_of rs t.requirement (subst (λ (qs : List RequirementFields). Contains qs t.requirement) (sym parts.required) t.applied.listed) in
+      let r : (j : ℕ) × (slice_get rs j ≡ Some t.requirement) = place_of rs t.requirement (subst (λ (qs : List RequirementFields). Contains qs t.requirement) (sym parts.asked)
+      (asked_where parts.unnamed p.0 (requirements c p.0.name p.1) t.requirement w t.applied.listed t.holds)) in
       let u : Use = record { leaf = l.place; requirement = r.0 } in
       let row : Contains (map use_row es) (q, u) = subst (λ (xs : List (Pick × Use)). Contains xs (q, u)) (sym parts.rows)
       (uses_to ss users (aim_rows 0 rs) q.0 r.0 l.place q.1 (aims_to rs r.0 t.requirement q.0 r.1 t.aimed) user (choice_here ss l.place t.leaf.picks q.0 l.picks ∙ t.target)) in

@@ -1,18 +1,22 @@
 -- What stands in rows.
-use Rattle.std.proofs.Common.{◌≡◌, ◌⊎◌, ℕ, zero, suc, ◌+◌, ◌<◌, List, [], ◌∷◌, ◌++◌, map, length, Option, Some, None, Contains, refl, sym, ap, ◌∙◌, subst, inl, inr, ⊎_elim, arith}
-use Rattle.std.proofs.lemmas.List.Elements.{Contains-append_left, Contains-append_right, Contains-append_cases}
+use Rattle.std.proofs.Common.{◌≡◌, ℕ, zero, suc, ◌+◌, ◌<◌, List, [], ◌∷◌, ◌++◌, length, get_or, take, Bool, true, false, cond, Option, Some, None, Contains, refl, sym, ap, ◌∙◌, subst, ⊎_elim, arith}
+use Rattle.std.proofs.lemmas.List.Elements.{All-contains, All-contains_itself, All-filter, Contains-append_left, Contains-append_right, Contains-append_cases, filter_more}
+use Rattle.std.specs.Prelude.{filter}
 use Rattle.std.specs.List.{slice_get}
 use Rattle.ul_base.specs.declared.node.Node.{Node}
 use Rattle.ul_base.proofs.ForCallers.{contains_cases, contains_first, contains_from_map, contains_later, contains_map, none_in, only_one, some_is}
 use Rattle.ul_version.specs.Fields.{Fields}
 use Rattle.ul_requirement.specs.Fields.{RequirementFields}
-use Rattle.ul_requirement.specs.Truth.{targets}
+use Rattle.ul_comparison.specs.Worlds.{WorldFields}
+use Rattle.ul_requirement.specs.Laws.{UnnamedNeverApplies}
+use Rattle.ul_requirement.specs.Truth.{applies_at, may_apply, targets}
 use Rattle.ul_index.specs.Serves.{Selection, choice_of}
 use Rattle.ul_lock.specs.Walk.{Pick}
 use Rattle.ul_region.proofs.ForCallers.{chosen_in}
 use Rattle.ul_sound.specs.Merged.{Pair}
-use Rattle.ul_merge.specs.Chosen.{choice_at, choice_in}
+use Rattle.ul_merge.specs.Chosen.{choice_at}
 use Rattle.ul_merge.specs.Rows.{MemberFields, aim_rows, aim_uses, aims_at, all_members, all_uses, base_row, base_rows, chosen_member, chosen_use, extra_row, extra_rows, leaf_members}
+use Rattle.ul_region.specs.Rows.{asked_at}
 use Rattle.ul_merge.specs.declared.targets.Use.{Use}
 
 -- ---- of all leaves
@@ -108,6 +112,42 @@ extra_to (d ∷ ms) n y j m e = ⊎_elim
     (contains_cases d ms (n, j) m)
 
 -- ---- of a node at a version
+
+-- what a filter keeps stands in the list, and what passes it is kept
+kept_in : {A : Type 0} (p : A → Bool) (xs : List A) (x : A) → Contains (filter p xs) x → Contains xs x
+kept_in p xs x m = All-contains (Contains xs) (filter p xs) x (All-filter p (Contains xs) xs (All-contains_itself xs)) m
+
+kept_of : {A : Type 0} (p : A → Bool) (xs : List A) (x : A) → Contains xs x → p x ≡ true → Contains (filter p xs) x
+kept_of p [] x m e = absurd (none_in x m)
+kept_of {A = A} p (y ∷ ys) x m e = ⊎_elim
+    (λ r. subst (λ (b : Bool). Contains (cond b (y ∷ filter p ys) (filter p ys)) x) (sym (ap p (sym r) ∙ e)) (subst (Contains (y ∷ filter p ys)) (sym r) (contains_first y (filter p ys))))
+    (λ r. behind (p y) (filter p ys) (kept_of p ys x r e))
+    (contains_cases y ys x m)
+  where
+    behind : (b : Bool) (zs : List A) → Contains zs x → Contains (cond b (y ∷ zs) zs) x
+    behind true zs n = contains_later y zs x n
+    behind false zs n = n
+
+-- a requirement more
+pub asked_more : (n : Node) (qs : List RequirementFields) (i : ℕ) (q : RequirementFields) (before now : List RequirementFields) → i < length qs → q ≡ get_or qs i q
+    → now ≡ before ++ cond (may_apply q n) (q ∷ []) [] → before ≡ asked_at n (take i qs) → now ≡ asked_at n (take (i + 1) qs)
+asked_more n qs i q before now lt at is have = is ∙ (λ j. have j ++ cond (may_apply (at j) n) (at j ∷ []) []) ∙ sym (filter_more (λ (p : RequirementFields). may_apply p n) qs i q lt)
+
+-- what is asked at a node is required
+pub asked_in : (n : Node) (qs : List RequirementFields) (q : RequirementFields) → Contains (asked_at n qs) q → Contains qs q
+asked_in n qs q m = kept_in (λ (p : RequirementFields). may_apply p n) qs q m
+
+-- what is true there in some world is asked
+pub asked_where : UnnamedNeverApplies → (n : Node) (qs : List RequirementFields) (q : RequirementFields) (w : WorldFields) → Contains qs q → applies_at q n w ≡ true → Contains (asked_at n qs) q
+asked_where law n qs q w m holds = kept_of (λ (p : RequirementFields). may_apply p n) qs q m (named (may_apply q n) refl)
+  where
+    named : (b : Bool) → may_apply q n ≡ b → may_apply q n ≡ true
+    named true e = e
+    named false e = absurd (never (applies_at q n w) holds (law q n w e))
+      where
+        never : (a : Bool) → a ≡ true → a ≡ false → ⊥
+        never true t f = cc
+        never false t f = cc
 
 -- a target, with a requirement that aims at it
 aims_after : (k : ℕ) (rs : List RequirementFields) (a : Node × ℕ) → Contains (aim_rows k rs) a

@@ -1,20 +1,20 @@
 -- What selections have for nodes, found by places.
-use Rattle.std.specs.Prelude.{◌≡◌, ℕ, List, Option, Some, None, option_map}
+use Rattle.std.specs.Prelude.{◌≡◌, ℕ, List, Option, Some, None, find, nat_eq}
 use Rattle.std.specs.HashMap.{HashMap, get}
 use Rattle.std.specs.List.{slice_get}
-use Rattle.ul_base.specs.Nodes.{node_eq}
 use Rattle.ul_base.specs.declared.node.Node.{Node}
 use Rattle.ul_version.specs.Fields.{Fields}
 use Rattle.ul_index.specs.Results.{option_bind}
 use Rattle.ul_index.specs.Serves.{Selection, choice_of}
+use Rattle.ul_merge.specs.Numbers.{node_number}
 
--- the version that stands at a place
-abbrev pub version_at : Selection → ℕ → Option Fields
-version_at s k = option_map (λ d. d.1) (slice_get s k)
+-- the first pick whose node has the number
+abbrev pub first_of : Selection → ℕ → Option (Node × Fields)
+first_of s u = find (λ d. nat_eq (node_number d.0) u) s
 
--- at the place of each node stands the version that the selection has for it, and the others have no place
-abbrev pub ArePlaces : {S : Type 0} → Selection → HashMap Node ℕ S → Type 0
-ArePlaces s places = (n : Node) → option_bind (get node_eq places n) (version_at s) ≡ choice_of s n
+-- at the place of each number stands the first pick whose node has it, and the others have no place
+abbrev pub ArePlaces : {S : Type 0} → Selection → HashMap ℕ ℕ S → Type 0
+ArePlaces s places = (u : ℕ) → option_bind (get nat_eq places u) (slice_get s) ≡ first_of s u
 
 -- what the selection at a place has for a node
 abbrev pub choice_in : Option Selection → Node → Option Fields

@@ -2,6 +2,7 @@ pub mod Merging
 pub mod Views
 pub mod Made
 pub mod Gathered
+pub mod Numbers
 pub mod Chosen
 pub mod Keys
 pub mod Rows

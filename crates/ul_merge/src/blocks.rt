@@ -14,9 +14,10 @@ use crate::edges::{made_edges, truths_of};
 use crate::gathering::{Group, groups_of};
 use crate::keys::{ExtraKey, PairKey, PickKey};
 use crate::members::{Member, base_users, extra_entries};
+use crate::numbers::node_number;
 use crate::releases::{files_of, release_at, requirements_of};
 use crate::sources::Sources;
-use crate::targets::{aims_of, uses_of};
+use crate::targets::{aims_of, asked_of, uses_of};
 use std::alloc::{AllocError, Global};
 use std::sync::Wait;
 use ul_algebra::Algebra;
@@ -44,8 +45,11 @@ fn edges_of<R: Wait>(
         (pick_of pick.now)) }
 {
     ul_index::laws::eligible_rises();
-    let truths = truths_of(rt, alloc, algebra, pick.node, required)?;
-    let aims = aims_of(alloc, required)?;
+    ul_requirement::laws::unnamed_never_applies();
+    let kept = asked_of(alloc, pick.node, required)?;
+    let asked = kept.as_slice();
+    let truths = truths_of(rt, alloc, algebra, pick.node, asked)?;
+    let aims = aims_of(alloc, asked)?;
     let groups = uses_of(alloc, sources.choices, users, aims.as_slice())?;
     let edges = made_edges(
         rt,
@@ -85,6 +89,7 @@ fn base_edges<R: Wait>(
     };
     let pick = PickKey {
         node: &node,
+        number: node_number(&node),
         version: group.key.version,
     };
     let edges = edges_of(
@@ -126,6 +131,7 @@ fn extra_of<R: Wait>(
     };
     let pick = PickKey {
         node: &node,
+        number: node_number(&node),
         version: pair.version,
     };
     let edges = edges_of(

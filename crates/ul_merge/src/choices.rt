@@ -1,9 +1,11 @@
 //! What leaves chose, by node.
 ghost use Rattle.std.specs.Prelude.{◌≡◌, IfOk, map, option_map};
 ghost use Rattle.ul_index.specs.Serves.{choice_of};
-ghost use Rattle.ul_merge.specs.Chosen.{ArePlaces, choice_at};
+ghost use Rattle.ul_merge.specs.Chosen.{ArePlaces, choice_at, first_of};
+ghost use Rattle.ul_merge.specs.Numbers.{node_number};
 ghost use Rattle.ul_merge.specs.Views.{picks_of};
 
+use crate::numbers::node_number;
 use std::alloc::{AllocError, Global};
 use std::collections::HashMap;
 use std::marker::Model;
@@ -17,8 +19,8 @@ use ul_version::Version;
 #[derive(Drop)]
 pub(crate) struct Choices<'a> {
     picks: &'a [(Node, Version)],
-    // Where the first pick of each node stands.
-    places: HashMap<Node, usize>,
+    // Where the first pick stands whose node has a number.
+    places: HashMap<u64, usize>,
 }
 
 impl<'a> Model for Choices<'a> {
@@ -32,17 +34,28 @@ impl<'a> Model for Choices<'a> {
     ghost invariant = { λ c. ArePlaces c.picks.now c.places };
 }
 
-// Where the first pick of each node stands.
-#[tactic(auto, unfolding(ul_index::specs::Serves::choice_of))]
-fn places_of(alloc: Global, picks: &[(Node, Version)]) -> Result<HashMap<Node, usize>, AllocError>
+// Where the first pick stands of those whose node has a number.
+fn places_of(alloc: Global, picks: &[(Node, Version)]) -> Result<HashMap<u64, usize>, AllocError>
     ensures { IfOk result (ArePlaces picks.now) }
 {
     let mut places = HashMap::new(alloc);
     for place in (0..picks.len()).rev() {
-        let node = picks[place].0.copy(alloc)?;
-        places.insert(node, place)?;
+        places.insert(node_number(&picks[place].0), place)?;
     }
     Ok(places)
+}
+
+// The version of the first pick of a node.
+#[tactic(auto, unfolding(ul_index::specs::Serves::choice_of))]
+fn version_in<'a>(picks: &'a [(Node, Version)], node: &Node) -> Option<&'a Version>
+    ensures { option_map (λ v. v.now) result ≡ choice_of picks.now node.now }
+{
+    for pick in picks {
+        if pick.0 == *node {
+            return Some(&pick.1);
+        }
+    }
+    None
 }
 
 impl<'a> Choices<'a> {
@@ -60,26 +73,44 @@ impl<'a> Choices<'a> {
         self.picks
     }
 
-    /// The version that was chosen for a node.
-    pub(crate) fn version(&self, node: &Node) -> Option<&'a Version>
+    // The first pick whose node has a number.
+    fn first(&self, number: u64) -> Option<&'a (Node, Version)>
+        ensures { option_map (λ d. d.now) result ≡ first_of self.now number }
+    {
+        let place = *self.places.get(&number)?;
+        self.picks.get(place)
+    }
+
+    /// The version that was chosen for a node, by the node's number.
+    #[tactic(auto, using(crate::proofs::Places::no_version, crate::proofs::Places::own_version))]
+    pub(crate) fn version(&self, node: &Node, number: u64) -> Option<&'a Version>
+        requires { number ≡ node_number node.now }
         ensures { option_map (λ v. v.now) result ≡ choice_of self.now node.now }
     {
-        let place = *self.places.get(node)?;
-        let pick = self.picks.get(place)?;
-        Some(&pick.1)
+        match self.first(number) {
+            Some(pick) => {
+                if pick.0 == *node {
+                    return Some(&pick.1);
+                }
+                version_in(self.picks, node)
+            }
+            None => None,
+        }
     }
 }
 
-/// The version that the leaf at a place chose for a node.
+/// The version that the leaf at a place chose for a node, by the node's number.
 pub(crate) fn version_at<'a>(
     choices: &[Choices<'a>],
     leaf: usize,
     node: &Node,
+    number: u64,
 ) -> Option<&'a Version>
+    requires { number ≡ node_number node.now }
     ensures { option_map (λ v. v.now) result ≡ choice_at choices.now leaf node.now }
 {
     match choices.get(leaf) {
-        Some(one) => one.version(node),
+        Some(one) => one.version(node, number),
         None => None,
     }
 }

@@ -210,10 +210,10 @@ pub(crate) fn truths_of<R: Wait>(
     alloc: Global,
     algebra: &mut Algebra<'_>,
     node: &Node,
-    requirements: &[Requirement],
+    requirements: &[&Requirement],
 ) -> Result<Vec<Diagram>, AllocError>
     ensures knows { Knows algebra.old algebra.new }
-    ensures truths { IfOk result (λ v. AreTruths algebra.new node.now requirements.now v.items) }
+    ensures truths { IfOk result (λ v. AreTruths algebra.new node.now (map (λ q. q.now) requirements.now) v.items) }
 {
     let mut truths = Vec::with_capacity(alloc, requirements.len())?;
     for one in requirements {

@@ -1,22 +1,9 @@
 //! What entries are gathered by: nodes at versions, packages, and extras.
 use crate::gathering::Key;
+use crate::numbers::{mixed, name_number};
 use std::cmp::Ordering;
 use ul_base::{Name, Node};
 use ul_version::Version;
-
-// A number of a list and one more.
-fn mixed(seed: u64, number: u64) -> u64 {
-    seed.wrapping_mul(1_099_511_628_211).wrapping_add(number)
-}
-
-// A number of a name.
-fn name_number(seed: u64, name: &Name) -> u64 {
-    let mut number = seed;
-    for byte in name.text().as_bytes() {
-        number = mixed(number, u64::from(*byte));
-    }
-    number
-}
 
 // A number of a version: those of one release have the same.
 fn version_number(seed: u64, version: &Version) -> u64 {
@@ -31,6 +18,8 @@ fn version_number(seed: u64, version: &Version) -> u64 {
 #[derive(Clone, Copy, Drop)]
 pub(crate) struct PickKey<'a> {
     pub(crate) node: &'a Node,
+    // A number of the node.
+    pub(crate) number: u64,
     pub(crate) version: &'a Version,
 }
 
@@ -60,11 +49,7 @@ impl<'a> Key for PickKey<'a> {
     }
 
     fn number(&self) -> u64 {
-        let number = version_number(name_number(0, &self.node.name), self.version);
-        match &self.node.extra {
-            None => number,
-            Some(extra) => name_number(number, extra),
-        }
+        version_number(self.number, self.version)
     }
 }
 

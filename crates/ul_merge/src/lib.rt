@@ -13,6 +13,7 @@ mod gathering;
 mod keys;
 mod members;
 mod merging;
+mod numbers;
 mod releases;
 mod sources;
 mod targets;

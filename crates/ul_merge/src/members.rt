@@ -6,6 +6,7 @@ ghost use Rattle.ul_merge.specs.Rows.{all_members, base_row, base_rows, chosen_m
 use crate::choices::Choices;
 use crate::gathering::{Entry, Group, groups_of};
 use crate::keys::{ExtraKey, PairKey};
+use crate::numbers::node_number;
 use std::alloc::{AllocError, Global};
 use ul_base::Node;
 use ul_version::Version;
@@ -51,7 +52,7 @@ fn put_members<'a>(
 {
     let picks = choices.picks();
     for pick in picks {
-        let version = choices.version(&pick.0);
+        let version = choices.version(&pick.0, node_number(&pick.0));
         put_member(entries, &pick.0, version, leaf)?;
     }
     Ok(())

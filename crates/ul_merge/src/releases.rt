@@ -53,7 +53,7 @@ pub(crate) fn requirements_of<'a>(release: Option<&'a Release>) -> &'a [Requirem
 {
     match release {
         Some(release) => {
-            let own: &Vec<Requirement> = &release.requirements;
+            let own: &Vec<Requirement> = release.requirements.as_vec();
             own.as_slice()
         }
         None => &[],

@@ -1,12 +1,14 @@
 //! The targets of a release's requirements, and which leaves chose them.
-ghost use Rattle.std.specs.Prelude.{◌≡◌, ◌++◌, IfOk, OnOk, map, option_map};
-ghost use Rattle.ul_requirement.specs.Truth.{targets, with_extra};
+ghost use Rattle.std.specs.Prelude.{◌≡◌, ◌++◌, ◌∷◌, [], IfOk, OnOk, cond, map, option_map};
+ghost use Rattle.ul_requirement.specs.Truth.{may_apply, targets, with_extra};
 ghost use Rattle.ul_merge.specs.Members.{AreUses};
 ghost use Rattle.ul_merge.specs.Rows.{aim_of, aim_rows, aim_uses, aims_at, all_uses, chosen_use, use_row};
+ghost use Rattle.ul_region.specs.Rows.{asked_at};
 
 use crate::choices::{Choices, version_at};
 use crate::gathering::{Entry, Group, groups_of};
 use crate::keys::PickKey;
+use crate::numbers::node_number;
 use std::alloc::{AllocError, Global};
 use ul_base::{Name, Node};
 use ul_requirement::Requirement;
@@ -24,6 +26,36 @@ pub(crate) struct Aim {
 pub(crate) struct Use {
     pub(crate) leaf: usize,
     pub(crate) requirement: usize,
+}
+
+// Adds a requirement, if it may be true at the node.
+fn put_asked<'a>(
+    asked: &mut Vec<&'a Requirement>,
+    node: &Node,
+    one: &'a Requirement,
+) -> Result<(), AllocError>
+    ensures { OnOk result (map (λ q. q.now) asked.new.items
+        ≡ map (λ q. q.now) asked.old.items ++ cond (may_apply one.now node.now) (one.now ∷ []) []) }
+{
+    if one.may_apply(node) {
+        asked.push(one)?;
+    }
+    Ok(())
+}
+
+/// The requirements that may be true at a node, in order. The others are true there in no world.
+pub(crate) fn asked_of<'a>(
+    alloc: Global,
+    node: &Node,
+    requirements: &'a [Requirement],
+) -> Result<Vec<&'a Requirement>, AllocError>
+    ensures { IfOk result (λ v. map (λ q. q.now) v.items ≡ asked_at node.now requirements.now) }
+{
+    let mut asked = Vec::new(alloc);
+    for one in requirements {
+        put_asked(&mut asked, node, one)?;
+    }
+    Ok(asked)
 }
 
 // Adds a name's extras as targets.
@@ -75,12 +107,12 @@ fn put_targets(
 }
 
 /// The targets of requirements, in order.
-pub(crate) fn aims_of(alloc: Global, requirements: &[Requirement]) -> Result<Vec<Aim>, AllocError>
-    ensures { IfOk result (λ v. map aim_of v.items ≡ aim_rows 0 requirements.now) }
+pub(crate) fn aims_of(alloc: Global, requirements: &[&Requirement]) -> Result<Vec<Aim>, AllocError>
+    ensures { IfOk result (λ v. map aim_of v.items ≡ aim_rows 0 (map (λ q. q.now) requirements.now)) }
 {
     let mut aims = Vec::new(alloc);
     for place in 0..requirements.len() {
-        put_targets(alloc, &mut aims, &requirements[place], place)?;
+        put_targets(alloc, &mut aims, requirements[place], place)?;
     }
     Ok(aims)
 }
@@ -89,6 +121,7 @@ pub(crate) fn aims_of(alloc: Global, requirements: &[Requirement]) -> Result<Vec
 fn put_use<'a>(
     entries: &mut Vec<Entry<PickKey<'a>, Use>>,
     node: &'a Node,
+    number: u64,
     version: Option<&'a Version>,
     value: Use,
 ) -> Result<(), AllocError>
@@ -97,7 +130,11 @@ fn put_use<'a>(
 {
     if let Some(version) = version {
         entries.push(Entry {
-            key: PickKey { node, version },
+            key: PickKey {
+                node,
+                number,
+                version,
+            },
             value,
         })?;
     }
@@ -114,13 +151,14 @@ fn put_uses<'a>(
     ensures { OnOk result (map use_row entries.new.items
         ≡ map use_row entries.old.items ++ aim_uses choices.now (aim_of aim.now) users.now) }
 {
+    let number = node_number(&aim.target);
     for leaf in users {
-        let version = version_at(choices, *leaf, &aim.target);
+        let version = version_at(choices, *leaf, &aim.target, number);
         let value = Use {
             leaf: *leaf,
             requirement: aim.requirement,
         };
-        put_use(entries, &aim.target, version, value)?;
+        put_use(entries, &aim.target, number, version, value)?;
     }
     Ok(())
 }
