@@ -73,16 +73,19 @@ x = [
 
 // Changes of the lock.
 //
-// Its forks, its files and the version of its format aren't looked at, a package that isn't reached has to be eligible
-// alone, the root may list more extras than the project, and a version may have other zeros at its end. The root has to
-// be the project's, and the lock has to be for the worlds that the project supports. A package may be at any eligible
-// version; it may not be at one that isn't. A node's edges are those that its release requires: one less, one that
-// holds in fewer worlds, one more, and one that holds in more worlds aren't right; of two packages that aren't right
-// the first is told.
+// Its forks, its files and the version of its format aren't looked at, nor what an edge says of worlds that the project
+// doesn't support, a package that isn't reached has to be eligible alone, the root may list more extras than the
+// project, and a version may have other zeros at its end. The root has to be the project's, and the lock has to be for
+// the worlds that the project supports. A package may be at any eligible version; it may not be at one that isn't. A
+// node's edges are those that its release requires: one less, one that holds in fewer worlds, one more, and one that
+// holds in more worlds aren't right; of two packages that aren't right the first is told.
 const LOCKS: &str = r#"verified|root|root
 verified|version = 2~root|version = 1~root
 verified|'3.9.0'"~|'3.9.0'"~resolution-markers = [~    "sys_platform == 'win32'",~    "sys_platform != 'win32'",~]~
 verified|name = "d"~version = "1"~|name = "d"~version = "1"~files = [~    { file = "d-1.tar.gz", hash = "sha256:000000000000000000000000000000000000000000000000000000000000000f" },~]~
+verified|'3.9.0'"~|'3.9.0'"~resolution-markers = [~    "sys_platform != 'win32'",~    "*",~]~&name = "c"~version = "2"~|name = "c"~version = "2"~files = [~    { file = "c-2.tar.gz", hash = "sha256:000000000000000000000000000000000000000000000000000000000000000f" },~]~
+verified|{ name = "c", version = "2" },~|{ name = "c", version = "2" },~    { name = "d", version = "1", marker = "python_full_version < '3.9.0'" },~
+verified|    { name = "c", version = "2" },~]~~[[package]]~name = "c"|    { name = "c", version = "1", marker = "python_full_version < '3.9.0'" },~    { name = "c", version = "2" },~]~~[[package]]~name = "c"~version = "1"~~[[package]]~name = "c"
 verified|[[package]]~name = "c"|[[package]]~name = "c"~version = "1"~dependencies = [~    { name = "d", version = "1" },~]~~[[package]]~name = "c"
 verified|x = [|w = [~    { name = "d", version = "1" },~]~x = [
 verified|name = "demo"~version = "0.1"|name = "demo"~version = "0.1.0"
@@ -104,6 +107,7 @@ a 1.5|name = "a"~version = "1.5"~dependencies = [~    { name = "c", version = "2
 demo 0.1|sys_platform == 'win32'|os_name == 'nt' and sys_platform == 'win32'
 demo 0.1|    { name = "c", version = "2", extra = "y" },~]|]
 a 1.5|{ name = "c", version = "2" },~|{ name = "c", version = "2" },~    { name = "d", version = "1" },~
+a 1.5|{ name = "c", version = "2" },~|{ name = "c", version = "2" },~    { name = "c", version = "2", extra = "y" },~
 d 1|name = "d"~version = "1"~|name = "d"~version = "1"~dependencies = [~    { name = "e", version = "1" },~]~&extra = "y" },~]~|extra = "y" },~]~~[[package]]~name = "e"~version = "1"~
 demo 0.1|, marker = "sys_platform == 'win32'"|
 c 2|    { name = "d", version = "1" },~|    { name = "d", version = "1" },~    { name = "e", version = "1" },~&extra = "y" },~]~|extra = "y" },~]~~[[package]]~name = "e"~version = "1"~

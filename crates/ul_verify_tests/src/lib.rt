@@ -4,6 +4,8 @@
 #[cfg(test)]
 mod changes;
 #[cfg(test)]
+mod extras;
+#[cfg(test)]
 mod judging;
 #[cfg(test)]
 mod rows;

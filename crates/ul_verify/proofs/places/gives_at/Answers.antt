@@ -1,9 +1,0 @@
-use Rattle.ul_verify.specs.Places.{Gives}
-use Rattle.ul_verify.proofs.PlaceFacts.{at_place, past_end}
-use Rattle.ul_verify.proofs.places.gives_at.Goals as goal
-
-pub returns-then-place-edges : goal.returns-then-place-edges
-returns-then-place-edges c = past_end (Gives c.args.requirement.now c.args.target.now) c.args.edges.now c.args.place c.if-place-edges.true
-
-pub returns : goal.returns
-returns c = at_place (Gives c.args.requirement.now c.args.target.now) c.args.edges.now c.args.place _ c.gives.result c.if-place-edges.false c.index-edges-place.is c.gives.ensures
