@@ -27,7 +27,8 @@ use Rattle.ul_prepared.specs.declared.prepared.Planned.{Planned}
 use Rattle.ul_prepared.specs.declared.prepared.Prepared.{Prepared}
 use Rattle.ul_placing.specs.Aims.{AreThoseOf, IsFirmIn}
 use Rattle.ul_placing.specs.Reach.{IsLookedAt, IsReached, node_of, targets_of}
-use Rattle.ul_placing.specs.declared.reach.NodeAims.{NodeAims}
+use Rattle.ul_placing.specs.Runs.{versions_in}
+use Rattle.ul_placing.specs.declared.aims.NodeAims.{NodeAims}
 use Rattle.ul_placing.proofs.Lists.{there, listed_at, place_of}
 use Rattle.ul_placing.proofs.Shared.{IsPlannedIn, planned_at, name_of}
 use Rattle.ul_placing.proofs.Aimed.{own_requirements}
@@ -109,11 +110,11 @@ module _ (law : UnnamedNeverApplies) (h : PassView) (R : Region) (p : Prepared) 
       let firm : IsFirm qs R planned.node l.requirement = subst (λ (rs : List RequirementFields). IsFirm rs R planned.node l.requirement) same l.firm in
       let one = asked_firm law h planned.node p.truths.marks.items qs row.0.asked version.holds.are R l.requirement firm in
       let of = reach.right k own looked planned at in
-      let a = there own.versions.items v.0 (subst (λ (n : ℕ). v.0 < n) (sym (of.count ∙ is.count)) within) in
+      let a = there (versions_in own) v.0 (subst (λ (n : ℕ). v.0 < n) (sym (of.count ∙ is.count)) within) in
       let f = those_have (IsFirmIn R planned.node row.0) p.names.items p.nodes.items row.0.asked xs.0 a.0 one.0 (record { node = b; specifiers = one.0.requirement.now.specifiers })
       (of.each v.0 row.0 xs.0 a.0 row.1 xs.1 a.1) version.aimed one.1 (subst (λ (q : RequirementFields). IsFirm qs R planned.node q) (sym one.2) firm)
       (need_for one.0.requirement.now b (subst (λ (q : RequirementFields). Contains (targets q) b) (sym one.2) l.aimed)) in
-      let next = reach.closed k f.need.node own looked (target_of own.versions.items a.0 f.need (listed_at own.versions.items v.0 a.0 a.1) f.listed) in
+      let next = reach.closed k f.need.node own looked (target_of (versions_in own) a.0 f.need (listed_at (versions_in own) v.0 a.0 a.1) f.listed) in
       record { place = f.need.node; planned = f.aim.at.planned; own = next.0; at = f.aim.at.at; node = f.aim.at.node; looked = next.1 }
 
   next_looked : (a b : Node) → Reached (Contains p.starts.now) (Leads p.catalog.now R) a → IsNodeLooked p aims a → Leads p.catalog.now R a b → IsNodeLooked p aims b

@@ -2,6 +2,7 @@ pub mod Lists
 pub mod Marking
 pub mod Shared
 pub mod Aiming
+pub mod Running
 pub mod Barring
 pub mod Asking
 pub mod Aimed

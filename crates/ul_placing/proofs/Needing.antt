@@ -30,7 +30,7 @@ use Rattle.ul_placing.specs.Aims.{AreThoseOf}
 use Rattle.ul_placing.specs.Facts.{AreFacts, IsFacts, need_ranked}
 use Rattle.ul_placing.specs.Ranks.{rank_in, ranks_from}
 use Rattle.ul_placing.specs.Reach.{IsLookedAt}
-use Rattle.ul_placing.specs.declared.reach.NodeAims.{NodeAims}
+use Rattle.ul_placing.specs.declared.aims.NodeAims.{NodeAims}
 use Rattle.ul_placing.proofs.Completing.{base_there}
 use Rattle.ul_placing.proofs.Ranking.{ranked}
 use Rattle.ul_placing.proofs.Rising.{one_planned}

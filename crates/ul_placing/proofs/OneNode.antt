@@ -33,7 +33,8 @@ use Rattle.ul_placing.specs.Aims.{AreFirmNeeds}
 use Rattle.ul_placing.specs.Facts.{AreFacts, IsFacts, needs_ranked}
 use Rattle.ul_placing.specs.Ranks.{rank_in, ranks_from}
 use Rattle.ul_placing.specs.Reach.{IsLookedAt, IsReached}
-use Rattle.ul_placing.specs.declared.reach.NodeAims.{NodeAims}
+use Rattle.ul_placing.specs.Runs.{versions_in}
+use Rattle.ul_placing.specs.declared.aims.NodeAims.{NodeAims}
 use Rattle.ul_placing.proofs.Lists.{there, listed_at}
 use Rattle.ul_placing.proofs.Shared.{IsPlannedIn, planned_at, name_of}
 use Rattle.ul_placing.proofs.Aimed.{own_requirements}
@@ -93,19 +94,19 @@ module _ (law : UnnamedNeverApplies) (h : PassView) (R : Region) (p : Prepared) 
     right : IsVersionRow p.catalog.now h p.names.items p.nodes.items p.truths.marks.items planned.node version row aimed
     firm : AreFirmNeeds R planned.node row aimed a
 
-  version_at : (v : ℕ) (a : List PlaceNeed) → slice_get own.versions.items v ≡ Some a → IsVersion v a
+  version_at : (v : ℕ) (a : List PlaceNeed) → slice_get (versions_in own) v ≡ Some a → IsVersion v a
   version_at v a e =
       let of = reach.right k own looked planned at in
-      let within : v < length planned.rows.items = subst (λ (n : ℕ). v < n) of.count (slice_get_within own.versions.items v a e) in
+      let within : v < length planned.rows.items = subst (λ (n : ℕ). v < n) of.count (slice_get_within (versions_in own) v a e) in
       let row = there planned.rows.items v within in
       let xs = there planned.aims.items v (subst (λ (n : ℕ). v < n) (plan.count ∙ sym plan.aimed) within) in
       let x = there plan.facts.versions v (subst (λ (n : ℕ). v < n) plan.count within) in
       record { version = x.0; row = row.0; aimed = xs.0; at_version = x.1; at_row = row.1; right = plan.rows v x.0 row.0 xs.0 x.1 row.1 xs.1; firm = of.each v row.0 xs.0 a row.1 xs.1 e }
 
-  targets_looked : (v : ℕ) (a : List PlaceNeed) → slice_get own.versions.items v ≡ Some a → (j : PlaceNeed) → Contains a j → (b : NodeAims) × IsLookedAt aims j.node b
-  targets_looked v a e j c = reach.closed k j.node own looked (target_of own.versions.items a j (listed_at own.versions.items v a e) c)
+  targets_looked : (v : ℕ) (a : List PlaceNeed) → slice_get (versions_in own) v ≡ Some a → (j : PlaceNeed) → Contains a j → (b : NodeAims) × IsLookedAt aims j.node b
+  targets_looked v a e j c = reach.closed k j.node own looked (target_of (versions_in own) a j (listed_at (versions_in own) v a e) c)
 
-  needs_right : (v : ℕ) (a : List PlaceNeed) → slice_get own.versions.items v ≡ Some a → AreNeeds fs (needs_ranked ranks a)
+  needs_right : (v : ℕ) (a : List PlaceNeed) → slice_get (versions_in own) v ≡ Some a → AreNeeds fs (needs_ranked ranks a)
   needs_right v a e = let s = version_at v a e in
       needs_after h R p aims ranks fs all rank facts _ s.row.asked s.aimed a s.firm s.right.aimed (targets_looked v a e)
 
@@ -126,15 +127,15 @@ module _ (law : UnnamedNeverApplies) (h : PassView) (R : Region) (p : Prepared) 
     has_base = subst (λ (z : Option ℕ). HasBase fs f f.node.extra z) (sym is.base) (base_of_base planned.base refl plan.base);
     is_order = subst (λ (z : List Fields). IsOrderOf (length z) f.order) (sym own_versions) (subst (λ (z : List ℕ). IsOrderOf (length plan.facts.versions) z) (sym own_order) name.whole);
     barred_size = is.barred.size ∙ row_count;
-    rows = ap length is.needs ∙ (long_map (needs_ranked ranks) own.versions.items ∙ ((reach.right k own looked planned at).count ∙ row_count));
-    needs = subst (λ (z : List (List PlaceNeed)). AllAre (AreNeeds fs) z) (sym is.needs) (all_are_map (AreNeeds fs) (needs_ranked ranks) own.versions.items needs_right);
+    rows = ap length is.needs ∙ (long_map (needs_ranked ranks) (versions_in own) ∙ ((reach.right k own looked planned at).count ∙ row_count));
+    needs = subst (λ (z : List (List PlaceNeed)). AllAre (AreNeeds fs) z) (sym is.needs) (all_are_map (AreNeeds fs) (needs_ranked ranks) (versions_in own) needs_right);
   }
 
   -- the needs of a version are those of its firm requirements
   needs_named : (roots : List ℕ) (v : ℕ) (x : Fields) → slice_get f.versions v ≡ Some x → HasNeedsAt p.catalog.now R (record { roots = roots; nodes = fs }) f.node x (get_or f.needs v [])
   needs_named roots v x e =
-      let within : v < length own.versions.items = subst (λ (n : ℕ). v < n) (sym ((reach.right k own looked planned at).count ∙ row_count)) (slice_get_within f.versions v x e) in
-      let a = there own.versions.items v within in
+      let within : v < length (versions_in own) = subst (λ (n : ℕ). v < n) (sym ((reach.right k own looked planned at).count ∙ row_count)) (slice_get_within f.versions v x e) in
+      let a = there (versions_in own) v within in
       let s = version_at v a.0 a.1 in
       let same : s.version ≡ x = same_Some s.version x (sym s.at_version ∙ (ap (λ (z : List Fields). slice_get z v) (sym own_versions) ∙ e)) in
       let qs = s.row.release.now.requirements in
@@ -142,7 +143,7 @@ module _ (law : UnnamedNeverApplies) (h : PassView) (R : Region) (p : Prepared) 
       let own_needs = those_needs (IsFirm qs R planned.node) p.names.items p.nodes.items s.row.asked s.aimed a.0 s.firm s.right.aimed in
       let kept = firm_kept law qs R planned.node own_needs.firm (subst (λ (rs : List RequirementFields). Kept (IsFirm qs R planned.node) rs own_needs.firm) s.right.holds.are.same own_needs.kept) in
       let placed = needs_at h R p aims ranks fs all rank facts roots a.0 (flat_map needs_of own_needs.firm) own_needs.aims (targets_looked v a.0 a.1) in
-      let list : get_or f.needs v [] ≡ needs_ranked ranks a.0 = ap (λ (z : List (List PlaceNeed)). get_or z v []) is.needs ∙ map_at (needs_ranked ranks) own.versions.items v a.0 a.1 in
+      let list : get_or f.needs v [] ≡ needs_ranked ranks a.0 = ap (λ (z : List (List PlaceNeed)). get_or z v []) is.needs ∙ map_at (needs_ranked ranks) (versions_in own) v a.0 a.1 in
       subst (λ (z : List PlaceNeed). HasNeedsAt p.catalog.now R (record { roots = roots; nodes = fs }) f.node x z) (sym list)
       (subst (λ (n : Node). HasNeedsAt p.catalog.now R (record { roots = roots; nodes = fs }) n x (needs_ranked ranks a.0)) (sym is.node)
       (subst (λ (y : Fields). HasNeedsAt p.catalog.now R (record { roots = roots; nodes = fs }) planned.node y (needs_ranked ranks a.0)) same (record {
@@ -153,8 +154,8 @@ module _ (law : UnnamedNeverApplies) (h : PassView) (R : Region) (p : Prepared) 
 
   barred_named : (v : ℕ) (x : Fields) → slice_get f.versions v ≡ Some x → Decides (not (has v f.barred)) (Suits p.wish.now.strategy R (is_fit p.catalog.now f.node.name x))
   barred_named v x e =
-      let within : v < length own.versions.items = subst (λ (n : ℕ). v < n) (sym ((reach.right k own looked planned at).count ∙ row_count)) (slice_get_within f.versions v x e) in
-      let a = there own.versions.items v within in
+      let within : v < length (versions_in own) = subst (λ (n : ℕ). v < n) (sym ((reach.right k own looked planned at).count ∙ row_count)) (slice_get_within f.versions v x e) in
+      let a = there (versions_in own) v within in
       let s = version_at v a.0 a.1 in
       let same : s.version ≡ x = same_Some s.version x (sym s.at_version ∙ (ap (λ (z : List Fields). slice_get z v) (sym own_versions) ∙ e)) in
       let found : release_of p.catalog.now f.node.name x ≡ Some s.row.release.now = subst (λ (n : Node). release_of p.catalog.now n.name x ≡ Some s.row.release.now) (sym is.node)

@@ -15,7 +15,7 @@ use Rattle.ul_prepared.specs.declared.prepared.Prepared.{Prepared}
 use Rattle.ul_placing.specs.Facts.{AreFacts, IsFacts}
 use Rattle.ul_placing.specs.Ranks.{ranks_from}
 use Rattle.ul_placing.specs.Reach.{IsLookedAt}
-use Rattle.ul_placing.specs.declared.reach.NodeAims.{NodeAims}
+use Rattle.ul_placing.specs.declared.aims.NodeAims.{NodeAims}
 use Rattle.ul_placing.proofs.Rising.{from_before, tail, planned_trans}
 
 -- a number, and the number of places before one

@@ -14,7 +14,8 @@ use Rattle.ul_prepared.specs.declared.prepared.Planned.{Planned}
 use Rattle.ul_prepared.specs.declared.prepared.Prepared.{Prepared}
 use Rattle.ul_placing.specs.Aims.{AreAimsOf}
 use Rattle.ul_placing.specs.Reach.{MarksPlaces, IsReachTo, IsReached, IsLookedAt, IsAimedRight, targets_of}
-use Rattle.ul_placing.specs.declared.reach.NodeAims.{NodeAims}
+use Rattle.ul_placing.specs.Runs.{versions_in}
+use Rattle.ul_placing.specs.declared.aims.NodeAims.{NodeAims}
 use Rattle.ul_placing.specs.declared.reach.Reach.{Reach}
 use Rattle.ul_placing.proofs.Lists.{there, listed_at, place_of, last_or_before}
 use Rattle.ul_placing.proofs.Marking.{stays}
@@ -90,8 +91,8 @@ earlier : (first queue : List ℕ) (j k : ℕ) → ((i m : ℕ) → slice_get fi
 earlier first queue j k front l e = let f = there first j l in f.1 ∙ (sym (front j f.0 f.1) ∙ e)
 
 module _ (h : PassView) (R : Region) (p : Prepared) (step at : ℕ) (r s : Reach) (planned : Planned) (own : NodeAims)
-    (all : IsPrepared h p) (is : IsReachTo R p step r) (l : step < length r.queue.items) (next : slice_get r.queue.items step ≡ Some at) (node : slice_get p.nodes.items at ≡ Some planned) (of : AreAimsOf R planned own.versions.items)
-    (marks : MarksPlaces (flat_map targets_of own.versions.items) r.marks.items r.queue.items s.marks.items s.queue.items) (aims : s.aims.items ≡ set r.aims.items at (Some own)) where
+    (all : IsPrepared h p) (is : IsReachTo R p step r) (l : step < length r.queue.items) (next : slice_get r.queue.items step ≡ Some at) (node : slice_get p.nodes.items at ≡ Some planned) (of : AreAimsOf R planned (versions_in own))
+    (marks : MarksPlaces (flat_map targets_of (versions_in own)) r.marks.items r.queue.items s.marks.items s.queue.items) (aims : s.aims.items ≡ set r.aims.items at (Some own)) where
   seen : has at r.marks.items ≡ true
   seen = is.marked at (listed_at r.queue.items step at next)
 
@@ -114,10 +115,10 @@ module _ (h : PassView) (R : Region) (p : Prepared) (step at : ℕ) (r s : Reach
   right : (k : ℕ) (a : NodeAims) → k ≡ at → Some a ≡ Some own → IsAimedRight R p k a
   right k a e d other f =
       let same : planned ≡ other = same_Some planned other (sym node ∙ subst (λ (z : ℕ). slice_get p.nodes.items z ≡ Some other) e f) in
-      subst (λ (z : NodeAims). AreAimsOf R other z.versions.items) (sym (same_Some a own d)) (subst (λ (z : Planned). AreAimsOf R z own.versions.items) same of)
+      subst (λ (z : NodeAims). AreAimsOf R other (versions_in z)) (sym (same_Some a own d)) (subst (λ (z : Planned). AreAimsOf R z (versions_in own)) same of)
 
-  target_within : (m : ℕ) → Contains (flat_map targets_of own.versions.items) m → m < length r.marks.items
-  target_within m c = let to = aimed_leads h R p planned own.versions.items m all (planned_at h p at planned all node) of c in
+  target_within : (m : ℕ) → Contains (flat_map targets_of (versions_in own)) m → m < length r.marks.items
+  target_within m c = let to = aimed_leads h R p planned (versions_in own) m all (planned_at h p at planned all node) of c in
       subst (λ (n : ℕ). m < n) (sym is.long) (slice_get_within p.nodes.items m to.0 to.1)
 
   -- the next node of the queue was looked at
@@ -128,12 +129,12 @@ module _ (h : PassView) (R : Region) (p : Prepared) (step at : ℕ) (r s : Reach
     marked = λ k c. ⊎_elim (λ q. marks.keeps k (is.marked k q)) (λ m. m) (marks.marked k c);
     listed = λ k e. ⊎_elim (λ g. stays r.queue.items s.queue.items k marks.front (is.listed k g)) (λ c. c.1) (marks.listed k e);
     rooted = λ k c. marks.keeps k (is.rooted k c);
-    reached = λ k e. ⊎_elim (λ g. is.reached k g) (λ c. aimed_reached h R p at k planned own.versions.items all node (is.reached at seen) of c.0) (marks.listed k e);
+    reached = λ k e. ⊎_elim (λ g. is.reached k g) (λ c. aimed_reached h R p at k planned (versions_in own) all node (is.reached at seen) of c.0) (marks.listed k e);
     looked = looked;
     known = λ k a e. ⊎_elim (λ g. marks.keeps k (is.known k a g)) (λ g. marks.keeps k (subst (λ (z : ℕ). has z r.marks.items ≡ true) (sym g.0) seen)) (cases k a e);
     right = λ k a e. ⊎_elim (λ g. is.right k a g) (λ g. right k a g.0 g.1) (cases k a e);
     closed = λ k m a e c. ⊎_elim (λ g. marks.keeps m (is.closed k m a g c))
-        (λ g. let d : Contains (flat_map targets_of own.versions.items) m = subst (λ (z : NodeAims). Contains (flat_map targets_of z.versions.items) m) (same_Some a own g.1) c in marks.all m d (target_within m d)) (cases k a e);
+        (λ g. let d : Contains (flat_map targets_of (versions_in own)) m = subst (λ (z : NodeAims). Contains (flat_map targets_of (versions_in z)) m) (same_Some a own g.1) c in marks.all m d (target_within m d)) (cases k a e);
   }
 
 -- ---- at the end

@@ -12,7 +12,7 @@ use Rattle.ul_prepared.specs.declared.prepared.Prepared.{Prepared}
 use Rattle.ul_placing.specs.Facts.{AreFacts, IsFacts}
 use Rattle.ul_placing.specs.Placed.{ArePlaced, StandsAt}
 use Rattle.ul_placing.specs.Ranks.{places_from}
-use Rattle.ul_placing.specs.declared.reach.NodeAims.{NodeAims}
+use Rattle.ul_placing.specs.declared.aims.NodeAims.{NodeAims}
 use Rattle.ul_placing.proofs.Ranking.{suc_plus, plus_none}
 use Rattle.ul_placing.proofs.Shared.{planned_at}
 

@@ -28,7 +28,7 @@ use Rattle.ul_prepared.specs.declared.prepared.Prepared.{Prepared}
 use Rattle.ul_placing.specs.Facts.{AreFacts}
 use Rattle.ul_placing.specs.Ranks.{rank_in, ranks_from}
 use Rattle.ul_placing.specs.Reach.{IsLookedAt, IsReached}
-use Rattle.ul_placing.specs.declared.reach.NodeAims.{NodeAims}
+use Rattle.ul_placing.specs.declared.aims.NodeAims.{NodeAims}
 use Rattle.ul_placing.proofs.Shared.{planned_at, name_of}
 use Rattle.ul_placing.proofs.Needing.{placed_at, base_is, no_base}
 use Rattle.ul_placing.proofs.OneNode.{node_right, facts_right}

@@ -12,7 +12,8 @@ use Rattle.ul_prepared.specs.declared.prepared.NameFacts.{NameFacts}
 use Rattle.ul_prepared.specs.declared.prepared.Planned.{Planned}
 use Rattle.ul_prepared.specs.declared.prepared.Prepared.{Prepared}
 use Rattle.ul_placing.specs.Ranks.{rank_in}
-use Rattle.ul_placing.specs.declared.reach.NodeAims.{NodeAims}
+use Rattle.ul_placing.specs.Runs.{versions_in}
+use Rattle.ul_placing.specs.declared.aims.NodeAims.{NodeAims}
 
 -- a need by the rank of its target
 abbrev pub need_ranked : List ℕ → Need → Need
@@ -37,7 +38,7 @@ pub record IsFacts (R : Region) (all : Prepared) (ranks : List ℕ) (p : Planned
   pub versions : f.versions ≡ name.versions
   pub order : f.order ≡ name.order
   pub barred : AreBarred all.wish.now.strategy R p f.barred
-  pub needs : f.needs ≡ map (needs_ranked ranks) a.versions.items
+  pub needs : f.needs ≡ map (needs_ranked ranks) (versions_in a)
 
 -- of each node that was looked at what is known of it, in order
 abbrev pub AreFacts : Region → Prepared → List ℕ → List Planned → List (Option NodeAims) → List NodeFacts → Type 0

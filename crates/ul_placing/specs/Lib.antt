@@ -1,4 +1,5 @@
 pub mod Aims
+pub mod Runs
 pub mod Reach
 pub mod Ranks
 pub mod Facts

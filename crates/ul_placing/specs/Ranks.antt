@@ -1,6 +1,6 @@
 -- The place of a reached node among the reached ones, and among all nodes.
 use Rattle.std.specs.Prelude.{ℕ, ◌+◌, List, [], ◌∷◌, Option, Some, None, get_or}
-use Rattle.ul_placing.specs.declared.reach.NodeAims.{NodeAims}
+use Rattle.ul_placing.specs.declared.aims.NodeAims.{NodeAims}
 
 -- of each node how many are reached before it, from a number on
 abbrev pub ranks_from : ℕ → List (Option NodeAims) → List ℕ

@@ -8,7 +8,8 @@ use Rattle.ul_region.specs.Problem.{Leads}
 use Rattle.ul_prepared.specs.declared.prepared.Planned.{Planned}
 use Rattle.ul_prepared.specs.declared.prepared.Prepared.{Prepared}
 use Rattle.ul_placing.specs.Aims.{AreAimsOf}
-use Rattle.ul_placing.specs.declared.reach.NodeAims.{NodeAims}
+use Rattle.ul_placing.specs.Runs.{versions_in}
+use Rattle.ul_placing.specs.declared.aims.NodeAims.{NodeAims}
 use Rattle.ul_placing.specs.declared.reach.Reach.{Reach}
 
 -- the place that a need aims at
@@ -40,7 +41,7 @@ IsNodeReached R p k = (planned : Planned) × (slice_get p.nodes.items k ≡ Some
 -- what a node aims at is right
 abbrev pub IsAimedRight : Region → Prepared → ℕ → NodeAims → Type 0
 IsAimedRight R p k a = (planned : Planned) → slice_get p.nodes.items k ≡ Some planned
-    → AreAimsOf R planned a.versions.items
+    → AreAimsOf R planned (versions_in a)
 
 -- The first ones of the queue were looked at.
 pub record IsReachTo (R : Region) (p : Prepared) (step : ℕ) (r : Reach) : Type 0 where
@@ -53,7 +54,7 @@ pub record IsReachTo (R : Region) (p : Prepared) (step : ℕ) (r : Reach) : Type
   pub looked : (j k : ℕ) → j < step → slice_get r.queue.items j ≡ Some k → (a : NodeAims) × IsLookedAt r.aims.items k a
   pub known : (k : ℕ) (a : NodeAims) → IsLookedAt r.aims.items k a → has k r.marks.items ≡ true
   pub right : (k : ℕ) (a : NodeAims) → IsLookedAt r.aims.items k a → IsAimedRight R p k a
-  pub closed : (k m : ℕ) (a : NodeAims) → IsLookedAt r.aims.items k a → Contains (flat_map targets_of a.versions.items) m
+  pub closed : (k m : ℕ) (a : NodeAims) → IsLookedAt r.aims.items k a → Contains (flat_map targets_of (versions_in a)) m
       → has m r.marks.items ≡ true
 
 -- The nodes that were looked at are those that are reached: the ones that a region starts from, and all that they aim at.
@@ -62,5 +63,5 @@ pub record IsReached (R : Region) (p : Prepared) (aims : List (Option NodeAims))
   pub rooted : (k : ℕ) → Contains p.roots.items k → (a : NodeAims) × IsLookedAt aims k a
   pub reached : (k : ℕ) (a : NodeAims) → IsLookedAt aims k a → IsNodeReached R p k
   pub right : (k : ℕ) (a : NodeAims) → IsLookedAt aims k a → IsAimedRight R p k a
-  pub closed : (k m : ℕ) (a : NodeAims) → IsLookedAt aims k a → Contains (flat_map targets_of a.versions.items) m
+  pub closed : (k m : ℕ) (a : NodeAims) → IsLookedAt aims k a → Contains (flat_map targets_of (versions_in a)) m
       → (b : NodeAims) × IsLookedAt aims m b

@@ -1,5 +1,5 @@
 //! What is known of the nodes that a region reaches.
-ghost use Rattle.std.specs.Prelude.{◌≡◌, ◌<◌, ◌^◌, IfOk, Decides, Some, length, map, slice_get};
+ghost use Rattle.std.specs.Prelude.{◌≡◌, ◌<◌, ◌^◌, ◌++◌, ◌∷◌, IfOk, IsTrue, Decides, Some, length, map, replicate, slice_get};
 ghost use Rattle.ul_index.specs.Catalogs.{is_release_fit};
 ghost use Rattle.ul_index.specs.Serves.{Suits};
 ghost use Rattle.ul_region.specs.Asked.{IsAtNode, IsInRegion, region_asked};
@@ -7,40 +7,92 @@ ghost use Rattle.ul_region.specs.Truths.{region_at};
 ghost use Rattle.ul_prepared.specs.Prepared.{IsPrepared};
 ghost use Rattle.ul_placing.specs.Aims.{AreRowsOf};
 ghost use Rattle.ul_placing.specs.Facts.{AreBarred, AreFacts, IsFacts, needs_ranked};
+ghost use Rattle.ul_placing.specs.Runs.{rows_in, rows_of};
 
-use crate::ranks::base_at;
-use crate::reach::NodeAims;
+use crate::aims::{NodeAims, Run};
+use crate::ranks::{base_at, rank_at};
 use std::alloc::{AllocError, Global};
 use ul_algebra::Algebra;
 use ul_prepared::{NameFacts, Planned, Prepared};
-use ul_problem::{NeedRow, NeedRows, NodeFacts};
+use ul_problem::{Need, NeedRow, NeedRows, NodeFacts};
 use ul_ranges::Ordinals;
 use ul_region::{AtNode, InRegion};
 use ul_requirement::{Strategy, Wish};
 
-// Puts the rank of each target in place of its place, where the needs of a version stand.
-fn rank_row(ranks: &[u64], row: &mut NeedRow)
-    ensures { row.new ≡ needs_ranked ranks.now row.old }
+// Whether each target has its place as its rank, as it has where all nodes before it are reached.
+fn are_ranked(ranks: &[u64], needs: &[Need]) -> bool
+    ensures { IsTrue result → needs_ranked ranks.now needs.now ≡ needs.now }
 {
-    row.renumber(ranks);
+    for need in needs {
+        if rank_at(ranks, need.node) != need.node {
+            return false;
+        }
+    }
+    true
 }
 
-// The same for rows.
-fn rank_rows(ranks: &[u64], rows: &mut [NeedRow])
-    ensures { rows.new ≡ map (needs_ranked ranks.now) rows.old }
+// The needs of a version by ranks: each has the rank of its target in place of its place.
+fn ranked_row(alloc: Global, ranks: &[u64], row: &NeedRow) -> Result<NeedRow, AllocError>
+    ensures { IfOk result (λ r. r ≡ needs_ranked ranks.now row.now) }
 {
-    for row in rows.iter_mut() {
-        rank_row(ranks, row);
+    let needs: &[Need] = row.as_slice();
+    if are_ranked(ranks, needs) {
+        return row.copy(alloc);
     }
+    let mut list = Vec::with_capacity(alloc, needs.len())?;
+    for need in needs {
+        let permitted = need.permitted.copy(alloc)?;
+        let node = rank_at(ranks, need.node);
+        list.push(Need { node, permitted })?;
+    }
+    NeedRow::of(alloc, list)
+}
+
+// Puts so many copies of a row behind others.
+fn push_copies(
+    alloc: Global,
+    rows: &mut Vec<NeedRow>,
+    row: &NeedRow,
+    count: usize,
+) -> Result<(), AllocError>
+    ensures { IfOk result (λ _. rows.new.items ≡ rows.old.items ++ replicate count row.now) }
+{
+    for _ in 0..count {
+        let copied = row.copy(alloc)?;
+        rows.push(copied)?;
+    }
+    Ok(())
+}
+
+// Puts the rows of a run behind others, by ranks.
+fn push_run(
+    alloc: Global,
+    ranks: &[u64],
+    rows: &mut Vec<NeedRow>,
+    run: &Run,
+) -> Result<(), AllocError>
+    ensures { IfOk result (λ _. rows.new.items ≡ rows.old.items ++ map (needs_ranked ranks.now) (rows_in run.now)) }
+{
+    let row = ranked_row(alloc, ranks, &run.needs)?;
+    push_copies(alloc, rows, &row, run.others)?;
+    rows.push(row)?;
+    Ok(())
 }
 
 // The needs of each version by ranks.
-fn ranked_rows(ranks: &[u64], versions: Vec<NeedRow>) -> NeedRows
-    ensures { result ≡ map (needs_ranked ranks.now) versions.items }
+fn ranked_rows(
+    alloc: Global,
+    ranks: &[u64],
+    runs: &[Run],
+    size: usize,
+) -> Result<NeedRows, AllocError>
+    ensures { IfOk result (λ rows. rows ≡ map (needs_ranked ranks.now) (rows_of runs.now)) }
 {
-    let mut rows = versions;
-    rank_rows(ranks, rows.as_mut_slice());
-    NeedRows::of(rows)
+    let mut rows = Vec::with_capacity(alloc, size)?;
+    for run in runs {
+        push_run(alloc, ranks, &mut rows, run)?;
+    }
+    Ok(NeedRows::of(rows))
 }
 
 // Whether a release is fit where the strategy asks it to be.
@@ -106,7 +158,7 @@ fn facts_of<'p, 'r>(
     let versions = name.versions.copy()?;
     let order = name.order.copy()?;
     let barred = barred_of(alloc, algebra, place, wish.strategy, planned)?;
-    let needs = ranked_rows(ranks, aims.versions);
+    let needs = ranked_rows(alloc, ranks, aims.runs.as_slice(), planned.rows.len())?;
     Ok(NodeFacts {
         node,
         base: base_at(ranks, planned.base),

@@ -8,4 +8,4 @@ mod placing;
 mod ranks;
 mod reach;
 
-pub use placing::{Placed, problem_in, problem_of};
+pub use placing::{Placed, problem_at, problem_in, problem_of};

@@ -65,8 +65,12 @@ pub fn problem_in<'p, 'r>(
     Ok(Placed { problem, places })
 }
 
-// The problem of a region, from what all regions share: the truths are asked where they hold in the region.
-fn problem_at<'p, R: Wait>(
+/// The problem of a region, from what all regions share: the truths are asked where they hold in the region.
+///
+/// # Errors
+///
+/// Only for want of memory.
+pub fn problem_at<'p, R: Wait>(
     rt: &R,
     alloc: Global,
     prepared: &'p Prepared<'_>,

@@ -2,7 +2,7 @@
 ghost use Rattle.std.specs.Prelude.{◌≡◌, IfOk, get_or, map, option_map};
 ghost use Rattle.ul_placing.specs.Ranks.{places_from, ranks_from};
 
-use crate::reach::NodeAims;
+use crate::aims::NodeAims;
 use std::alloc::{AllocError, Global};
 
 /// Of each node how many are reached before it.

@@ -4,19 +4,14 @@ ghost use Rattle.ul_region.specs.Asked.{IsInRegion};
 ghost use Rattle.ul_region.specs.Truths.{region_at};
 ghost use Rattle.ul_prepared.specs.Prepared.{IsPrepared};
 ghost use Rattle.ul_placing.specs.Reach.{MarksPlaces, IsReached, IsReachTo, node_of, targets_of};
+ghost use Rattle.ul_placing.specs.Runs.{rows_of};
 
-use crate::aims::node_aims;
+use crate::aims::{NodeAims, Run, node_aims};
 use std::alloc::{AllocError, Global};
 use ul_algebra::Algebra;
 use ul_prepared::Prepared;
-use ul_problem::{Need, NeedRow};
+use ul_problem::Need;
 use ul_region::InRegion;
-
-/// Of a node that was looked at: the needs of each of its versions, by the places of all nodes.
-#[derive(Drop)]
-pub(crate) struct NodeAims {
-    pub(crate) versions: Vec<NeedRow>,
-}
 
 /// Which nodes are known to be reached, by their places.
 #[derive(Drop)]
@@ -72,17 +67,13 @@ fn mark_needs(needs: &[Need], marks: &mut Vec<bool>, queue: &mut Vec<u64>) -> Re
     Ok(())
 }
 
-// Marks what the versions of a node aim at.
-fn mark_versions(
-    versions: &[NeedRow],
-    marks: &mut Vec<bool>,
-    queue: &mut Vec<u64>,
-) -> Result<(), AllocError>
-    ensures { IfOk result (λ _. MarksPlaces (flat_map targets_of versions.now) marks.old.items queue.old.items
+// Marks what the versions of a node aim at, once for each run.
+fn mark_runs(runs: &[Run], marks: &mut Vec<bool>, queue: &mut Vec<u64>) -> Result<(), AllocError>
+    ensures { IfOk result (λ _. MarksPlaces (flat_map targets_of (rows_of runs.now)) marks.old.items queue.old.items
         marks.new.items queue.new.items) }
 {
-    for needs in versions {
-        mark_needs(needs.as_slice(), marks, queue)?;
+    for run in runs {
+        mark_needs(run.needs.as_slice(), marks, queue)?;
     }
     Ok(())
 }
@@ -133,9 +124,9 @@ fn look_at<'p, 'r>(
     ensures { IfOk result (λ _. IsReachTo (region_at place.now.region.now) prepared.now (step + 1) reach.new) }
 {
     let at = reach.queue[step] as usize;
-    let versions = node_aims(alloc, algebra, place, &prepared.nodes[at])?;
-    mark_versions(versions.as_slice(), &mut reach.marks, &mut reach.queue)?;
-    reach.aims[at] = Some(NodeAims { versions });
+    let aims = node_aims(alloc, algebra, place, &prepared.nodes[at])?;
+    mark_runs(aims.runs.as_slice(), &mut reach.marks, &mut reach.queue)?;
+    reach.aims[at] = Some(aims);
     Ok(())
 }
 

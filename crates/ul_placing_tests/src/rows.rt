@@ -26,6 +26,8 @@ const ROWS: &str = "\
     0 ; demo 0 -0 | 1:11 1:10; q 1 0 -00 | |#sys_platform == 'win32'#'q>=1', 'q<2; sys_platform == \"win32\"'###q:1/2\n\
     0 ; demo 0 -0 | 1:1 2:1 3:1; p 0 -0 |; p/none of 1 0 -0 |; p/x of 1 0 -0 | 4:1; q 0 -0 |#python_version >= '0'#'p[x,none]'###p:1@@q;extra=='x'|q:1\n\
     2 ; a 0 -0 | 1:1; b 0 -0 | 0:1; demo 0 -0 | 0:1#python_version >= '0'#'a'###a:1@@b|b:1@@a;python_version>='3.8'\n\
+    4 ; a 3 2 1 0 -0000 | 1:1 2:1 3:1 5:1 | 1:1 2:1 3:1 5:1 | 1:1 2:1 3:1 | 1:1 2:1 3:1 5:1; b 0 -0 |; c 0 -0 |; d 0 -0 |; demo 0 -0 | 0:1111; e 0 -0 |#sys_platform == 'linux'#'aa; sys_platform == \"win32\"', 'a'###a:1@@b,c,d,e/2@@b,c,d,e/3@@b,c,d/4@@b,c,d,e|aa:1|b:1|c:1|d:1|e:1\n\
+    3 ; a 5 4 3 2 1 0 -000000 | 1:1 2:1 | 1:1 2:1 | 2:1 | 2:1 | | 1:1 2:1; b 0 -0 |; c 0 -0 |; demo 0 -0 | 0:111111#sys_platform == 'linux'#'a'###a:1@@b,c/2@@b,c/3@@b;sys_platform=='win32',c/4@@b;sys_platform=='win32',c/5/6@@b,c|b:1|c:1\n\
     1 ; a 1 0 -01 | |; demo 0 -0 | 0:11#python_full_version >= '3.9'#'a'###a:0.9@>=3.8/1@>=3.10\n\
     0 ; demo 0 -0 | 1:1 2:1 3:1; p 0 -0 |; p/x of 1 0 -0 | 4:011 5:1; p/y of 1 0 -0 | 4:110 5:1; q 2 1 0 -000 | | |; r 0 -0 |#python_version >= '0'#'p[x,y]'###p:1@@q>=1;extra=='x',q<2;extra=='y',r;extra=='x' or extra=='y'|q:0/1/2|r:1\n\
     0 ; demo 0 -0 | 1:1 2:1; p 0 -0 | 3:110; p/x of 1 0 -0 | 3:011; q 2 1 0 -000 | | |#python_version >= '0'#'p[x]'###p:1@@q<2,q>=1;extra=='x'|q:0/1/2\n\

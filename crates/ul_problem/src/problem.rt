@@ -1,16 +1,15 @@
 //! A problem: nodes with their versions, and what each version needs.
-ghost use Rattle.std.specs.Prelude.{◌≡◌, ◌<◌, ◌++◌, ◌∷◌, [], length, map, option_to_list, IfOk};
-ghost use Rattle.ul_problem.specs.HeldNeeds.{needs_held, need_renumbered};
+ghost use Rattle.std.specs.Prelude.{◌≡◌, ◌<◌, ◌++◌, ◌∷◌, [], length, option_to_list, IfOk};
+ghost use Rattle.ul_problem.specs.HeldNeeds.{needs_held};
 ghost use Rattle.ul_problem.specs.Plain.{base_of, needs_of, order_of, size_of};
 ghost use Rattle.ul_problem.specs.Problems.{IsWellFormed};
 
 use crate::lists::{Places, Versions};
 use std::alloc::{AllocError, Global};
 use std::marker::Model;
-use std::mem;
 use ul_base::Node;
-use ul_base::owned::{beside, with_one};
-use ul_ranges::Ordinals;
+use ul_base::owned::beside;
+use ul_ranges::{Ordinals, SharedList};
 
 /// A need of a version: a target, and which of its versions meet the need.
 #[derive(Drop)]
@@ -21,60 +20,26 @@ pub struct Need {
     pub permitted: Ordinals,
 }
 
-// Needs of a version as they are held: up to two, as most versions have, in place, and more in a list.
+impl Need {
+    /// An equal need.
+    pub fn copy(&self, alloc: Global) -> Result<Need, AllocError>
+        ensures { IfOk result (λ k. k ≡ self.now) }
+    {
+        let permitted = self.permitted.copy(alloc)?;
+        Ok(Need {
+            node: self.node,
+            permitted,
+        })
+    }
+}
+
+// Needs of a version as they are held: up to two, as most versions have, in place, and more in a list that versions may share.
 #[derive(Drop)]
 enum HeldNeeds {
     Empty,
     One([Need; 1]),
     Two([Need; 2]),
-    Listed(Vec<Need>),
-}
-
-// The item of an array of one.
-fn only_of<T>(one: [T; 1]) -> T
-    ensures { one ≡ result ∷ [] }
-{
-    let [only] = one;
-    only
-}
-
-// The same needs in a list.
-fn listed(alloc: Global, held: HeldNeeds) -> Result<Vec<Need>, AllocError>
-    ensures { IfOk result (λ list. list.items ≡ needs_held held) }
-{
-    match held {
-        HeldNeeds::Empty => Ok(Vec::new(alloc)),
-        HeldNeeds::One(one) => Ok(Vec::from_array(alloc, one)?),
-        HeldNeeds::Two(two) => Ok(Vec::from_array(alloc, two)?),
-        HeldNeeds::Listed(list) => Ok(list),
-    }
-}
-
-// Needs with one more.
-fn with_need(alloc: Global, held: HeldNeeds, need: Need) -> Result<HeldNeeds, AllocError>
-    ensures { IfOk result (λ h. needs_held h ≡ needs_held held ++ need ∷ []) }
-{
-    match held {
-        HeldNeeds::Empty => Ok(HeldNeeds::One([need])),
-        HeldNeeds::One(one) => Ok(HeldNeeds::Two([only_of(one), need])),
-        held => {
-            let (need, list) = beside(need, listed(alloc, held))?;
-            let list = with_one(list, need)?;
-            Ok(HeldNeeds::Listed(list))
-        }
-    }
-}
-
-// Puts the number at each target's place in its place, or 0 where there is none.
-fn renumber_needs(numbers: &[u64], needs: &mut [Need])
-    ensures { needs.new ≡ map (need_renumbered numbers.now) needs.old }
-{
-    for need in needs.iter_mut() {
-        need.node = match numbers.get(need.node as usize) {
-            Some(number) => *number,
-            None => 0,
-        };
-    }
+    Listed(SharedList<Need>),
 }
 
 // Needs that were taken off a list's end, of which the one before the last is there only beside it.
@@ -88,7 +53,33 @@ fn few(first: Option<Need>, last: Option<Need>) -> HeldNeeds
     }
 }
 
-/// The needs of one version.
+// Two needs equal to these.
+fn copied_two(alloc: Global, first: &Need, last: &Need) -> Result<HeldNeeds, AllocError>
+    ensures { IfOk result (λ h. needs_held h ≡ first.now ∷ last.now ∷ []) }
+{
+    let (first, last) = beside(first.copy(alloc)?, last.copy(alloc))?;
+    Ok(HeldNeeds::Two([first, last]))
+}
+
+// The same needs, held once more.
+fn copied(alloc: Global, held: &HeldNeeds) -> Result<HeldNeeds, AllocError>
+    ensures { IfOk result (λ h. needs_held h ≡ needs_held held.now) }
+{
+    match held {
+        HeldNeeds::Empty => Ok(HeldNeeds::Empty),
+        HeldNeeds::One([only]) => {
+            let only = only.copy(alloc)?;
+            Ok(HeldNeeds::One([only]))
+        }
+        HeldNeeds::Two([first, last]) => copied_two(alloc, first, last),
+        HeldNeeds::Listed(list) => {
+            let list = list.copy()?;
+            Ok(HeldNeeds::Listed(list))
+        }
+    }
+}
+
+/// The needs of one version. Those of several versions may be one list.
 #[derive(Drop)]
 pub struct NeedRow {
     held: HeldNeeds,
@@ -115,19 +106,37 @@ impl NeedRow {
     }
 
     /// The needs of a list, in its order.
-    pub fn of(mut needs: Vec<Need>) -> NeedRow
-        ensures { result ≡ needs.items }
+    ///
+    /// # Errors
+    ///
+    /// Only for want of memory.
+    pub fn of(alloc: Global, needs: Vec<Need>) -> Result<NeedRow, AllocError>
+        ensures { IfOk result (λ row. row ≡ needs.items) }
     {
         if needs.len() > 2 {
-            return NeedRow {
-                held: HeldNeeds::Listed(needs),
-            };
+            let list = SharedList::of(alloc, needs)?;
+            return Ok(NeedRow {
+                held: HeldNeeds::Listed(list),
+            });
         }
+        let mut needs = needs;
         let last = needs.pop();
         let first = needs.pop();
-        NeedRow {
+        Ok(NeedRow {
             held: few(first, last),
-        }
+        })
+    }
+
+    /// The same needs. More than two aren't copied: the two rows share them.
+    ///
+    /// # Errors
+    ///
+    /// Only for want of memory, or a count of owners at its end.
+    pub fn copy(&self, alloc: Global) -> Result<NeedRow, AllocError>
+        ensures { IfOk result (λ row. row ≡ self.now) }
+    {
+        let held = copied(alloc, &self.held)?;
+        Ok(NeedRow { held })
     }
 
     /// The needs, in their order.
@@ -139,48 +148,6 @@ impl NeedRow {
             HeldNeeds::One(needs) => &needs[..],
             HeldNeeds::Two(needs) => &needs[..],
             HeldNeeds::Listed(needs) => needs.as_slice(),
-        }
-    }
-
-    /// Puts a need at the end.
-    ///
-    /// # Errors
-    ///
-    /// Only for want of memory; the row then has no need.
-    pub fn push(&mut self, alloc: Global, need: Need) -> Result<(), AllocError>
-        ensures { IfOk result (λ _. self.new ≡ self.old ++ need ∷ []) }
-    {
-        let held = mem::replace(&mut self.held, HeldNeeds::Empty);
-        self.held = with_need(alloc, held, need)?;
-        Ok(())
-    }
-
-    /// Room for so many needs in a list, where they are more than stand in place.
-    ///
-    /// # Errors
-    ///
-    /// Only for want of memory; the row then has no need.
-    pub fn make_room(&mut self, alloc: Global, count: usize) -> Result<(), AllocError>
-        ensures { IfOk result (λ _. self.new ≡ self.old) }
-    {
-        if count > 2 {
-            let held = mem::replace(&mut self.held, HeldNeeds::Empty);
-            let mut list = listed(alloc, held)?;
-            list.reserve(count.saturating_sub(list.len()))?;
-            self.held = HeldNeeds::Listed(list);
-        }
-        Ok(())
-    }
-
-    /// Puts the number at each target's place in its place, or 0 where there is none.
-    pub fn renumber(&mut self, numbers: &[u64])
-        ensures { self.new ≡ map (need_renumbered numbers.now) self.old }
-    {
-        match &mut self.held {
-            HeldNeeds::Empty => {}
-            HeldNeeds::One(needs) => renumber_needs(numbers, &mut needs[..]),
-            HeldNeeds::Two(needs) => renumber_needs(numbers, &mut needs[..]),
-            HeldNeeds::Listed(needs) => renumber_needs(numbers, needs.as_mut_slice()),
         }
     }
 }

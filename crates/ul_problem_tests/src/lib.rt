@@ -7,6 +7,8 @@
 #[cfg(test)]
 mod derivation;
 #[cfg(test)]
+mod needs;
+#[cfg(test)]
 mod problem;
 #[cfg(test)]
 mod ranges;

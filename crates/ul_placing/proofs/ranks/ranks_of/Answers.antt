@@ -2,7 +2,7 @@ use Rattle.std.proofs.Common.{◌≡◌, ◌<◌, ◌+◌, ◌++◌, ◌∷◌, 
 use Rattle.std.specs.Prelude.{is_some}
 use Rattle.std.proofs.lemmas.List.{append-nil, append_assoc, drop_all}
 use Rattle.ul_placing.specs.Ranks.{ranks_from}
-use Rattle.ul_placing.specs.declared.reach.NodeAims.{NodeAims}
+use Rattle.ul_placing.specs.declared.aims.NodeAims.{NodeAims}
 use Rattle.ul_placing.proofs.Lists.{rest_more}
 use Rattle.ul_placing.proofs.ranks.ranks_of.Goals as goal
 use Rattle.ul_placing.proofs.ranks.ranks_of.Goals.{then-is_some, else-is_some}
