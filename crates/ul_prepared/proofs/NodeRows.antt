@@ -48,6 +48,7 @@ module _ (names : List NameFacts) (nodes : List Planned) (own : List (List Relea
       rows = rows_grown g h p.node ms ns p.rows.items more o.2.rows;
       releases = o.2.releases;
       aims = o.2.aims;
+      shared = o.2.shared;
     },
   )
 
@@ -102,6 +103,7 @@ module _ (names : List NameFacts) (ps qs : List Planned) (same : AreSameNodes qs
     base = base_over p.node p.base k.facts k.base;
     count = k.count;
     aimed = k.aimed;
+    shared = k.shared;
     rows = λ v x row aims e d u. let r = k.rows v x row aims e d u in record {
       found = r.found;
       holds = r.holds;
@@ -159,6 +161,7 @@ module _ (c : Packages) (wish : WishFields) (h : PassView) (names : List NameFac
         base = subst (HasBaseAt names nodes p.node p.base) (same_Some has.base.0 f (sym has.base.1 ∙ at)) has.base.2;
         count = count;
         aimed = sym (AllZip-long (AreAimsOf names nodes) p.aims.items p.rows.items has.aims) ∙ count;
+        shared = has.shared;
         rows = λ v x row aims e d u.
             let there : slice_get rs v ≡ Some (release_in row) = ap (λ (z : List ReleaseFields). slice_get z v) (sym has.releases) ∙ image_at release_in p.rows.items v row d in record {
               found = subst (λ (n : List ℕ). release_of c n x ≡ Some row.release.now) named (known.each v x (release_in row) e there);

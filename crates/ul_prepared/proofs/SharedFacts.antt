@@ -1,11 +1,11 @@
 -- What the nodes of a name share, and the rows that are made of it.
 use Rattle.std.specs.Prelude.{All, slice_get}
-use Rattle.std.proofs.Common.{◌≡◌, ◌<◌, ◌+◌, ℕ, List, [], ◌∷◌, ◌++◌, append_assoc, length, get_or, map, take, true, Some, refl, sym, ap, subst, ◌∙◌, arith}
-use Rattle.std.specs.Borrow.{Bor}
+use Rattle.std.proofs.Common.{◌≡◌, ◌<◌, ◌+◌, ℕ, zero, suc, List, [], ◌∷◌, ◌++◌, append_assoc, length, get_or, map, take, true, Some, refl, sym, ap, subst, ◌∙◌, arith}
 use Rattle.std.specs.List.{AllZip}
-use Rattle.std.proofs.lemmas.List.{map-append, map_more}
-use Rattle.std.proofs.lemmas.List.Elements.{All-nil, All-cons, All-head, All-tail, All-push, All-weaker}
-use Rattle.std.proofs.lemmas.Option.{slice_get_within}
+use Rattle.std.proofs.lemmas.List.{length-map, map-append}
+use Rattle.std.proofs.lemmas.List.Elements.{All-contains, All-nil, All-cons, All-head, All-tail, All-push, All-weaker}
+use Rattle.std.proofs.lemmas.Option.{get_or_from_slice_get, none-some, same_Some, slice_get_within}
+use Rattle.std.proofs.lemmas.Slice.Zip.{AllZip-long}
 use Rattle.ul_base.specs.declared.node.Node.{Node}
 use Rattle.ul_version.specs.Fields.{plain}
 use Rattle.ul_comparison.specs.Truth.{python_release}
@@ -20,16 +20,16 @@ use Rattle.ul_region.specs.declared.rows.Asked.{Asked}
 use Rattle.ul_region.specs.declared.rows.Row.{Row}
 use Rattle.ul_region.proofs.ForCallers.{asked_grown, truth_grown}
 use Rattle.ul_prepared.specs.Gathered.{AreAimsOf, HasBaseFor, HasRows, IsNamed, release_in}
-use Rattle.ul_prepared.specs.Lists.{AreListed, IsListed, listed_in, lists_of, release_listed, releases_in}
-use Rattle.ul_prepared.specs.Prepared.{AreRowAims}
-use Rattle.ul_prepared.specs.Shared.{HasList, IsFitted, IsOfList, IsPlaced, IsRowOf, IsShared, fitted_in, release_fitted, releases_shared}
+use Rattle.ul_prepared.specs.Lists.{AreListed, IsListed, listed_in, release_listed, releases_in}
+use Rattle.ul_prepared.specs.Prepared.{AreRowAims, AreSharedLists}
+use Rattle.ul_prepared.specs.Shared.{HasList, IsFitted, IsOfList, IsPlaced, IsRowOf, IsShared, fitted_in, list_in, release_fitted, releases_shared}
 use Rattle.ul_prepared.specs.declared.prepared.NameFacts.{NameFacts}
 use Rattle.ul_prepared.specs.declared.prepared.Planned.{Planned}
 use Rattle.ul_prepared.specs.declared.releases.Listed.{Listed}
 use Rattle.ul_prepared.specs.declared.releases.Releases.{Releases}
 use Rattle.ul_prepared.specs.declared.shared.Fitted.{Fitted}
 use Rattle.ul_prepared.specs.declared.shared.Shared.{Shared}
-use Rattle.ul_prepared.proofs.Zipped.{zip_at, zip_push}
+use Rattle.ul_prepared.proofs.Zipped.{made_second, zip_at}
 
 -- ---- the same releases
 
@@ -147,22 +147,61 @@ rows_aims names nodes aims asked (f ∷ fs) (row ∷ rows) (kss ∷ own) all are
     (zip_at (AreRowAims names nodes) aims asked f.list kss row.asked all has.0 are.0.asked, rows_aims names nodes aims asked fs rows own all are.1 has.1)
 
 -- one list more
-pub asked_more : (g h : PassView) (n : Node) (ms ns : List DiagramMark) (ls : List (Bor (List RequirementFields))) (done now : List (List Asked)) (i : ℕ) (l : Bor (List RequirementFields)) (asked : List Asked)
-    → now ≡ done ++ asked ∷ [] → IsGrown g ms h ns → AllZip (AreAsked g n ms) (lists_of (take i ls)) done → AreAsked h n ns l.now asked → i < length ls → l ≡ get_or ls i l → AllZip (AreAsked h n ns) (lists_of (take (i + 1) ls)) now
-asked_more g h n ms ns ls done now i l asked e more a one lt at =
-    subst (λ (z : List (List Asked)). AllZip (AreAsked h n ns) (lists_of (take (i + 1) ls)) z) (sym e)
-    (subst (λ (z : List (List RequirementFields)). AllZip (AreAsked h n ns) z (done ++ asked ∷ []))
-    (ap (λ (b : Bor (List RequirementFields)). lists_of (take i ls) ++ b.now ∷ []) at ∙ sym (map_more (λ (b : Bor (List RequirementFields)). b.now) ls i l lt))
-    (zip_push (AreAsked h n ns) (lists_of (take i ls)) done l.now asked (all_asked_grown g h n ms ns (lists_of (take i ls)) done more a) one))
+pub asked_more : (g h : PassView) (n : Node) (ms ns : List DiagramMark) (qss : List (List RequirementFields)) (done now : List (List Asked)) (i : ℕ) (qs : List RequirementFields) (asked : List Asked)
+    → now ≡ done ++ asked ∷ [] → IsGrown g ms h ns → AllZip (AreAsked g n ms) (take i qss) done → AreAsked h n ns qs asked → i < length qss → qs ≡ get_or qss i qs → AllZip (AreAsked h n ns) (take (i + 1) qss) now
+asked_more g h n ms ns qss done now i qs asked e more a one lt at =
+    made_second (AreAsked h n ns) qss done now i qs asked e (all_asked_grown g h n ms ns (take i qss) done more a) one lt at
+
+-- ---- lists that versions share
+
+-- the release whose list's place stands at a place
+list_there : (fs : List Fitted) (k l : ℕ) → slice_get (map list_in fs) k ≡ Some l → (f : Fitted) × (slice_get fs k ≡ Some f) × (f.list ≡ l)
+list_there [] k l e = absurd (none-some l e)
+list_there (f ∷ fs) zero l e = (f, refl, same_Some f.list l e)
+list_there (f ∷ fs) (suc k) l e = list_there fs k l e
+
+has_there : (lists : List (List RequirementFields)) (fs : List Fitted) (k : ℕ) (f : Fitted) → All (HasList lists) fs → slice_get fs k ≡ Some f → HasList lists f
+has_there lists fs k f a e = All-contains (HasList lists) fs f a (k, slice_get_within fs k f e, get_or_from_slice_get fs k f f e)
+
+module _ (lists : List (List RequirementFields)) (asked : List (List Asked)) (aims : List (List (List PlaceNeed))) (fs : List Fitted) (p : Planned) (has : All (HasList lists) fs)
+    (rows : AllZip (IsRowOf asked) fs p.rows.items) (needs : AllZip (IsOfList aims) fs p.aims.items) (places : p.lists.items ≡ map list_in fs) where
+  listed_at : (k l : ℕ) → slice_get p.lists.items k ≡ Some l → (f : Fitted) × (slice_get fs k ≡ Some f) × (f.list ≡ l)
+  listed_at k l e = list_there fs k l (ap (λ (z : List ℕ). slice_get z k) (sym places) ∙ e)
+
+  own_list : (k l : ℕ) (row : Row) → slice_get p.lists.items k ≡ Some l → slice_get p.rows.items k ≡ Some row → (slice_get lists l ≡ Some row.release.now.requirements) × (slice_get asked l ≡ Some row.asked)
+  own_list k l row at there =
+      let t = listed_at k l at in
+      let is = zip_at (IsRowOf asked) fs p.rows.items k t.0 row rows t.1 there in (
+        subst (λ (i : ℕ). slice_get lists i ≡ Some row.release.now.requirements) t.2
+            (has_there lists fs k t.0 has t.1 ∙ ap (λ (r : ReleaseFields). Some r.requirements) (sym is.release)),
+        subst (λ (i : ℕ). slice_get asked i ≡ Some row.asked) t.2 is.asked,
+      )
+
+  own_aims : (k l : ℕ) (kss : List (List PlaceNeed)) → slice_get p.lists.items k ≡ Some l → slice_get p.aims.items k ≡ Some kss → slice_get aims l ≡ Some kss
+  own_aims k l kss at there =
+      let t = listed_at k l at in
+      subst (λ (i : ℕ). slice_get aims i ≡ Some kss) t.2 (zip_at (IsOfList aims) fs p.aims.items k t.0 kss needs t.1 there)
+
+  -- versions with one list have the same of it
+  pub shared_lists : AreSharedLists p
+  shared_lists = record {
+    size = ap (λ (z : List ℕ). length z) places ∙ (length-map fs list_in ∙ sym (AllZip-long (IsRowOf asked) fs p.rows.items rows));
+    asked = λ j k l a b at_j at_k there_j there_k.
+        let x = own_list j l a at_j there_j in
+        let y = own_list k l b at_k there_k in
+        (same_Some a.release.now.requirements b.release.now.requirements (sym x.0 ∙ y.0), same_Some a.asked b.asked (sym x.1 ∙ y.1));
+    aims = λ j k l x y at_j at_k there_j there_k. same_Some x y (sym (own_aims j l x at_j there_j) ∙ own_aims k l y at_k there_k);
+  }
 
 -- a node with the rows that are made of what its name's nodes share
 pub node_rows : (h : PassView) (names : List NameFacts) (nodes : List Planned) (truths : List DiagramMark) (own : Shared) (asked : List (List Asked)) (aims : List (List (List PlaceNeed))) (p : Planned) → IsNamed names p → HasBaseFor names nodes p p.base
-    → IsShared h truths own → AllZip (AreAsked h p.node truths) (lists_of own.lists.items) asked → AllZip (AreRowAims names nodes) aims asked → AllZip (IsRowOf asked) own.releases.items p.rows.items → AllZip (IsOfList aims) own.releases.items p.aims.items
-    → HasRows h names nodes truths (releases_shared own) p
-node_rows h names nodes truths own asked aims p named base shared are aimed rows needs = record {
+    → IsShared h truths own → AllZip (AreAsked h p.node truths) own.lists.items asked → AllZip (AreRowAims names nodes) aims asked → AllZip (IsRowOf asked) own.releases.items p.rows.items → AllZip (IsOfList aims) own.releases.items p.aims.items
+    → p.lists.items ≡ map list_in own.releases.items → HasRows h names nodes truths (releases_shared own) p
+node_rows h names nodes truths own asked aims p named base shared are aimed rows needs places = record {
   named = named;
   base = base;
-  rows = rows_right h p.node truths (lists_of own.lists.items) asked are own.releases.items p.rows.items shared.fitted shared.listed rows;
+  rows = rows_right h p.node truths own.lists.items asked are own.releases.items p.rows.items shared.fitted shared.listed rows;
   releases = rows_releases asked own.releases.items p.rows.items rows;
   aims = rows_aims names nodes aims asked own.releases.items p.rows.items p.aims.items aimed rows needs;
+  shared = shared_lists own.lists.items asked aims own.releases.items p shared.listed rows needs places;
 }

@@ -18,6 +18,7 @@ planned_still g h p planned more known is = record {
   base = is.base;
   count = is.count;
   aimed = is.aimed;
+  shared = is.shared;
   rows = λ v x row aims e d c. let r = is.rows v x row aims e d c in record {
     found = r.found;
     holds = row_grown g h planned.node p.truths.marks.items p.truths.marks.items row (grown_knows g h p.truths.marks.items more known) r.holds;

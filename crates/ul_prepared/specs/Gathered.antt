@@ -12,7 +12,7 @@ use Rattle.ul_region.specs.Rows.{IsRow}
 use Rattle.ul_region.specs.declared.rows.Row.{Row}
 use Rattle.ul_region.specs.Truths.{DiagramMark, PassView}
 use Rattle.ul_prepared.specs.Lists.{AreListed, releases_in}
-use Rattle.ul_prepared.specs.Prepared.{AreRowAims, HasBaseAt, IsName}
+use Rattle.ul_prepared.specs.Prepared.{AreRowAims, AreSharedLists, HasBaseAt, IsName}
 use Rattle.ul_prepared.specs.Releases.{AreReleasesOf}
 use Rattle.ul_prepared.specs.declared.releases.Releases.{Releases}
 use Rattle.ul_prepared.specs.declared.gathering.Gathered.{Gathered}
@@ -78,6 +78,7 @@ pub record HasRows (h : PassView) (names : List NameFacts) (nodes : List Planned
   pub rows : All (IsRow h p.node truths) p.rows.items
   pub releases : map release_in p.rows.items ≡ rs
   pub aims : AllZip (AreAimsOf names nodes) p.aims.items p.rows.items
+  pub shared : AreSharedLists p
 
 -- a node with the rows of its name's releases
 abbrev pub HasOwnRows : PassView → List NameFacts → List Planned → List DiagramMark → List (List ReleaseFields) → Planned → Type 0

@@ -69,6 +69,16 @@ abbrev pub HasBaseAt : List NameFacts → List Planned → Node → Option ℕ �
 HasBaseAt names nodes n None f = n.extra ≡ None
 HasBaseAt names nodes n (Some b) f = (n.extra ≡ None → ⊥) × IsNodeAt names nodes b (record { name = n.name; extra = None }) f
 
+-- the place of each version's list of requirements among those of the node's name: versions with one place have the same list, the
+-- same requirements that are asked about, and the same needs
+pub record AreSharedLists (p : Planned) : Type 0 where
+  pub size : length p.lists.items ≡ length p.rows.items
+  pub asked : (j k l : ℕ) (a b : Row) → slice_get p.lists.items j ≡ Some l → slice_get p.lists.items k ≡ Some l
+      → slice_get p.rows.items j ≡ Some a → slice_get p.rows.items k ≡ Some b
+      → (a.release.now.requirements ≡ b.release.now.requirements) × (a.asked ≡ b.asked)
+  pub aims : (j k l : ℕ) (x y : List (List PlaceNeed)) → slice_get p.lists.items j ≡ Some l → slice_get p.lists.items k ≡ Some l
+      → slice_get p.aims.items j ≡ Some x → slice_get p.aims.items k ≡ Some y → x ≡ y
+
 -- a node: what is known of its name, its base, and the row of each version
 pub record IsPlanned (c : Packages) (h : PassView) (names : List NameFacts) (nodes : List Planned) (truths : List DiagramMark) (p : Planned) : Type 0 where
   pub facts : NameFacts
@@ -77,6 +87,7 @@ pub record IsPlanned (c : Packages) (h : PassView) (names : List NameFacts) (nod
   pub base : HasBaseAt names nodes p.node p.base facts
   pub count : length p.rows.items ≡ length facts.versions
   pub aimed : length p.aims.items ≡ length facts.versions
+  pub shared : AreSharedLists p
   pub rows : (v : ℕ) (x : Fields) (row : Row) (aims : List (List PlaceNeed)) → slice_get facts.versions v ≡ Some x → slice_get p.rows.items v ≡ Some row
       → slice_get p.aims.items v ≡ Some aims → IsVersionRow c h names nodes truths p.node x row aims
 

@@ -5,7 +5,6 @@ use Rattle.ul_index.specs.Catalogs.{is_release_fit}
 use Rattle.ul_region.specs.Truths.{DiagramMark, IsTruthAt, PassView}
 use Rattle.ul_region.specs.declared.rows.Asked.{Asked}
 use Rattle.ul_region.specs.declared.rows.Row.{Row}
-use Rattle.ul_prepared.specs.Lists.{lists_of}
 use Rattle.ul_prepared.specs.declared.shared.Fitted.{Fitted}
 use Rattle.ul_prepared.specs.declared.shared.Shared.{Shared}
 
@@ -24,7 +23,11 @@ IsPlaced count f = f.list < count
 -- what the nodes of a name share: where each release is fit, and where its requirements stand among the lists
 pub record IsShared (h : PassView) (truths : List DiagramMark) (s : Shared) : Type 0 where
   pub fitted : All (IsFitted h truths) s.releases.items
-  pub listed : All (HasList (lists_of s.lists.items)) s.releases.items
+  pub listed : All (HasList s.lists.items) s.releases.items
+
+-- the place of a release's list
+abbrev pub list_in : Fitted → ℕ
+list_in f = f.list
 
 -- a release, and the place of its list
 abbrev pub fitted_in : Fitted → ReleaseFields × ℕ

@@ -1,7 +1,6 @@
 //! Needs of requirements by places of nodes.
 ghost use Rattle.std.specs.Prelude.{◌≡◌, All, Decides, IfOk};
 ghost use Rattle.std.specs.List.{AllZip};
-ghost use Rattle.ul_base.specs.Owned.{HasOneMore};
 ghost use Rattle.ul_prepared.specs.Aims.{HasNode, needs_on};
 ghost use Rattle.ul_prepared.specs.Permitted.{IsRising, IsSetOf};
 ghost use Rattle.ul_prepared.specs.Prepared.{AreAims, AreRowAims, IsAim};
@@ -12,7 +11,7 @@ use crate::prepared::{NameFacts, Planned};
 use std::alloc::{AllocError, Global};
 use std::collections::HashMap;
 use ul_base::Node;
-use ul_base::owned::{beside, made_from, with_made};
+use ul_base::owned::{made_from, with_made};
 use ul_problem::{Need, NeedRow};
 use ul_ranges::SharedList;
 use ul_region::Asked;
@@ -118,27 +117,12 @@ fn aims_at<'a>(
     ensures sets { All (IsSetOf names.now) sets.new.list.items }
     ensures aims { IfOk result (λ row. AreAims names.now nodes.now row (needs_on specifiers.now targets.now)) }
 {
-    let mut row = NeedRow::none();
+    let mut row = Vec::with_capacity(alloc, targets.len())?;
     for target in targets {
         let one = aim(alloc, sets, index, names, nodes, specifiers, target);
-        row = with_need(alloc, row, one)?;
+        row = with_made(row, one)?;
     }
-    Ok(row)
-}
-
-// A row with one need more, if that was made; else it is let go.
-fn with_need(
-    alloc: Global,
-    row: NeedRow,
-    made: Result<Need, AllocError>,
-) -> Result<NeedRow, AllocError>
-    ensures { IfOk result (λ all. HasOneMore row made all) }
-{
-    let (held, need) = beside(row, made)?;
-    let mut row = held;
-    let put = row.push(alloc, need);
-    let both = beside(row, put)?;
-    Ok(both.0)
+    NeedRow::of(alloc, row)
 }
 
 // The needs of each requirement that is asked about, in order.

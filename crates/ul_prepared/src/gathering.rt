@@ -277,6 +277,7 @@ fn bare_node<'a>(
         name,
         rows: Vec::new(alloc),
         aims: Vec::new(alloc),
+        lists: Vec::new(alloc),
     }
 }
 
@@ -306,6 +307,25 @@ pub(crate) fn bare_nodes<'a>(
         }
     }
     Ok(bare)
+}
+
+/// Of each of so many names how many extras of it are nodes.
+///
+/// # Errors
+///
+/// Only for want of memory.
+pub(crate) fn extra_counts(
+    alloc: Global,
+    names: usize,
+    nodes: &[Planned<'_>],
+) -> Result<Vec<usize>, AllocError> {
+    let mut counts = vec![in alloc; 0usize; names]?;
+    for planned in nodes {
+        if planned.node.extra.is_some() && planned.name < counts.len() {
+            counts[planned.name] = counts[planned.name].saturating_add(1);
+        }
+    }
+    Ok(counts)
 }
 
 /// The place of each node.

@@ -5,7 +5,7 @@ ghost use Rattle.ul_algebra.specs.Answers.{IsDiagram};
 ghost use Rattle.ul_region.specs.Rows.{AreAsked};
 ghost use Rattle.ul_region.specs.Truths.{IsGrown};
 ghost use Rattle.ul_prepared.specs.Gathered.{AreSameNodes, HasBaseFor, HasOwnRows, HasRows, IsNamed, node_in};
-ghost use Rattle.ul_prepared.specs.Lists.{AreListed, lists_of, releases_in};
+ghost use Rattle.ul_prepared.specs.Lists.{AreListed, releases_in};
 ghost use Rattle.ul_prepared.specs.Permitted.{IsRising, IsSetOf};
 ghost use Rattle.ul_prepared.specs.Prepared.{AreNodesAt};
 ghost use Rattle.ul_prepared.specs.Shared.{IsShared, releases_shared};
@@ -15,7 +15,7 @@ use crate::gathering::index_of;
 use crate::permitted::Sets;
 use crate::prepared::{NameFacts, Planned};
 use crate::releases::Releases;
-use crate::rows::rows_of;
+use crate::rows::{OwnRows, rows_of};
 use crate::shared::{Fitted, Shared, shared_names};
 use std::alloc::{AllocError, Global};
 use std::collections::HashMap;
@@ -24,8 +24,7 @@ use ul_algebra::Algebra;
 use ul_base::Node;
 use ul_base::owned::{beside, made_from, with_made};
 use ul_ranges::SharedList;
-use ul_region::{Asked, Truths, asked_at};
-use ul_requirement::Requirement;
+use ul_region::{Asked, ByExtra, Truths, asked_at};
 
 // Of each list of requirements those that may be true at a node.
 fn asked_lists<'a, R: Wait>(
@@ -34,16 +33,15 @@ fn asked_lists<'a, R: Wait>(
     algebra: &mut Algebra<'_>,
     truths: &mut Truths,
     node: &Node,
-    lists: &[&'a [Requirement]],
+    lists: &[ByExtra<'a>],
 ) -> Result<Vec<SharedList<Asked<'a>>>, AllocError>
     requires { All (IsDiagram algebra.old) truths.old.marks.items }
     ensures grown { IsGrown algebra.old truths.old.marks.items algebra.new truths.new.marks.items }
-    ensures asked { IfOk result (λ v. AllZip (AreAsked algebra.new node.now truths.new.marks.items)
-        (lists_of lists.now) v.items) }
+    ensures asked { IfOk result (λ v.
+        AllZip (AreAsked algebra.new node.now truths.new.marks.items) lists.now v.items) }
 {
     let mut list = Vec::with_capacity(alloc, lists.len())?;
     for requirements in lists {
-        let requirements: &'a [Requirement] = requirements;
         let asked = asked_at(rt, alloc, algebra, truths, node, requirements);
         list = with_made(list, asked)?;
     }
@@ -100,21 +98,22 @@ fn planned_at<'a, R: Wait>(
         (releases_shared own.now)) }
 {
     let base = base_of(alloc, index, names, nodes, planned)?;
-    let lists: &[&'a [Requirement]] = own.lists.as_slice();
+    let lists: &[ByExtra<'a>] = own.lists.as_slice();
     let asked = asked_lists(rt, alloc, algebra, truths, &planned.node, lists)?;
     let aims = list_aims(alloc, sets, index, names, nodes, asked.as_slice());
     let (asked, aims) = beside(asked, aims)?;
     let releases: &[Fitted<'a>] = own.releases.as_slice();
     let rows = rows_of(alloc, asked.as_slice(), aims.as_slice(), releases);
     let rows = made_from(rows, (asked, aims))?;
-    let (both, node) = beside(rows, planned.node.copy(alloc))?;
-    let (rows, aims) = both;
+    let (rows, node) = beside(rows, planned.node.copy(alloc))?;
+    let OwnRows { rows, aims, lists } = rows;
     Ok(Planned {
         node,
         base,
         name: planned.name,
         rows,
         aims,
+        lists,
     })
 }
 
@@ -240,7 +239,7 @@ pub(crate) fn placed_nodes<'a, R: Wait>(
         (map releases_in releases.entry.items)) both.0.items) }
     ensures roots { IfOk result (λ both. AreNodesAt both.0.items both.1.items starts.now) }
 {
-    let shared = shared_names(rt, alloc, algebra, truths, releases)?;
+    let shared = shared_names(rt, alloc, algebra, truths, releases, bare)?;
     let placed = nodes_over(
         rt,
         alloc,

@@ -38,6 +38,9 @@ pub struct Planned<'a> {
     pub rows: Vec<Row<'a>>,
     /// Of each version and each requirement in its row the needs, by places of nodes.
     pub aims: Vec<SharedList<NeedRow>>,
+    /// Of each version the place of its requirements among the lists that the releases of its name have. Versions with one place
+    /// share their rows and needs.
+    pub lists: Vec<usize>,
 }
 
 /// What all regions share.

@@ -1,7 +1,7 @@
 //! The rows of one node, and their needs, from what the node asks of each list of requirements.
-ghost use Rattle.std.specs.Prelude.{All, IfOk, length};
+ghost use Rattle.std.specs.Prelude.{◌≡◌, All, IfOk, length, map};
 ghost use Rattle.std.specs.List.{AllZip};
-ghost use Rattle.ul_prepared.specs.Shared.{IsOfList, IsPlaced, IsRowOf};
+ghost use Rattle.ul_prepared.specs.Shared.{IsOfList, IsPlaced, IsRowOf, list_in};
 
 use crate::shared::Fitted;
 use std::alloc::{AllocError, Global};
@@ -66,7 +66,26 @@ fn aims_with(
     Ok(list)
 }
 
-/// The rows of releases, in order, and their needs: of each what stands at the place of its list.
+// The places of the lists of releases, in order.
+fn list_places(alloc: Global, releases: &[Fitted<'_>]) -> Result<Vec<usize>, AllocError>
+    ensures { IfOk result (λ v. v.items ≡ map list_in releases.now) }
+{
+    let mut places = Vec::with_capacity(alloc, releases.len())?;
+    for release in releases {
+        places.push(release.list)?;
+    }
+    Ok(places)
+}
+
+/// What a node has of each version.
+#[derive(Drop)]
+pub(crate) struct OwnRows<'a> {
+    pub(crate) rows: Vec<Row<'a>>,
+    pub(crate) aims: Vec<SharedList<NeedRow>>,
+    pub(crate) lists: Vec<usize>,
+}
+
+/// The rows of releases, in order, their needs, and the places of their lists: of each what stands at the place of its list.
 ///
 /// # Errors
 ///
@@ -76,12 +95,16 @@ pub(crate) fn rows_of<'a>(
     asked: &[SharedList<Asked<'a>>],
     aims: &[SharedList<NeedRow>],
     releases: &[Fitted<'a>],
-) -> Result<(Vec<Row<'a>>, Vec<SharedList<NeedRow>>), AllocError>
+) -> Result<OwnRows<'a>, AllocError>
     requires asked { All (IsPlaced (length asked.now)) releases.now }
     requires aims { All (IsPlaced (length aims.now)) releases.now }
-    ensures rows { IfOk result (λ both. AllZip (IsRowOf asked.now) releases.now both.0.items) }
-    ensures aims { IfOk result (λ both. AllZip (IsOfList aims.now) releases.now both.1.items) }
+    ensures rows { IfOk result (λ own. AllZip (IsRowOf asked.now) releases.now own.rows.items) }
+    ensures aims { IfOk result (λ own. AllZip (IsOfList aims.now) releases.now own.aims.items) }
+    ensures lists { IfOk result (λ own. own.lists.items ≡ map list_in releases.now) }
 {
     let rows = rows_with(alloc, asked, releases)?;
-    beside(rows, aims_with(alloc, aims, releases))
+    let (rows, aims) = beside(rows, aims_with(alloc, aims, releases))?;
+    let (both, lists) = beside((rows, aims), list_places(alloc, releases))?;
+    let (rows, aims) = both;
+    Ok(OwnRows { rows, aims, lists })
 }

@@ -3,15 +3,17 @@ ghost use Rattle.std.specs.Prelude.{◌≡◌, All, IfOk, MatchOption, map};
 ghost use Rattle.ul_algebra.specs.Answers.{IsDiagram};
 ghost use Rattle.ul_index.specs.Catalogs.{is_release_fit};
 ghost use Rattle.ul_region.specs.Truths.{IsGrown, IsTruthAt};
-ghost use Rattle.ul_prepared.specs.Lists.{AreListed, listed_in, releases_in};
+ghost use Rattle.ul_prepared.specs.Lists.{AreListed, listed_in, lists_of, releases_in};
 ghost use Rattle.ul_prepared.specs.Shared.{IsFitted, IsShared, fitted_in, releases_shared};
 
+use crate::gathering::extra_counts;
+use crate::prepared::Planned;
 use crate::releases::{Listed, Releases};
 use std::alloc::{AllocError, Global};
 use std::sync::Wait;
 use ul_algebra::Algebra;
 use ul_base::owned::{beside, made_from, with_made};
-use ul_region::{Truths, fit_at};
+use ul_region::{ByExtra, Truths, fit_at};
 use ul_requirement::{Release, Requirement, same_specifiers};
 
 /// A release, as the nodes of its name share it.
@@ -29,7 +31,7 @@ pub(crate) struct Fitted<'a> {
 #[derive(Drop)]
 pub(crate) struct Shared<'a> {
     pub(crate) releases: Vec<Fitted<'a>>,
-    pub(crate) lists: Vec<&'a [Requirement]>,
+    pub(crate) lists: Vec<ByExtra<'a>>,
 }
 
 // The place of where a release is fit: that of the one before, where the two ask for the same interpreters.
@@ -100,13 +102,30 @@ fn fitted_releases<'a, R: Wait>(
     Ok(list)
 }
 
-// What the nodes of a name share.
+// Lists of requirements that are asked for at so many extras, in order.
+fn lists_by_extra<'a>(
+    alloc: Global,
+    lists: &[&'a [Requirement]],
+    extras: usize,
+) -> Result<Vec<ByExtra<'a>>, AllocError>
+    ensures { IfOk result (λ v. v.items ≡ lists_of lists.now) }
+{
+    let mut found = Vec::with_capacity(alloc, lists.len())?;
+    for requirements in lists {
+        let requirements: &'a [Requirement] = requirements;
+        found = with_made(found, ByExtra::of(alloc, requirements, extras))?;
+    }
+    Ok(found)
+}
+
+// What the nodes of a name share, among which are so many extras.
 fn shared_of<'a, R: Wait>(
     rt: &R,
     alloc: Global,
     algebra: &mut Algebra<'_>,
     truths: &mut Truths,
     own: Releases<'a>,
+    extras: usize,
 ) -> Result<Shared<'a>, AllocError>
     requires truths { All (IsDiagram algebra.old) truths.old.marks.items }
     requires listed { AreListed own }
@@ -117,7 +136,40 @@ fn shared_of<'a, R: Wait>(
     let Releases { releases, lists } = own;
     let fitted = fitted_releases(rt, alloc, algebra, truths, releases.as_slice());
     let (lists, releases) = beside(lists, made_from(fitted, releases))?;
+    let listed = lists_by_extra(alloc, lists.as_slice(), extras);
+    let (releases, lists) = beside(releases, made_from(listed, lists))?;
     Ok(Shared { releases, lists })
+}
+
+fn count_at(counts: &[usize], name: usize) -> usize {
+    match counts.get(name) {
+        Some(count) => *count,
+        None => 0,
+    }
+}
+
+// What the nodes of each name share, in the order of the names; `extras` says of each how many extras of it are nodes.
+fn shared_with<'a, R: Wait>(
+    rt: &R,
+    alloc: Global,
+    algebra: &mut Algebra<'_>,
+    truths: &mut Truths,
+    names: Vec<Releases<'a>>,
+    extras: &[usize],
+) -> Result<Vec<Shared<'a>>, AllocError>
+    requires truths { All (IsDiagram algebra.old) truths.old.marks.items }
+    requires listed { All AreListed names.items }
+    ensures grown { IsGrown algebra.old truths.old.marks.items algebra.new truths.new.marks.items }
+    ensures shared { IfOk result (λ v. All (IsShared algebra.new truths.new.marks.items) v.items) }
+    ensures releases { IfOk result (λ v. map releases_shared v.items ≡ map releases_in names.entry.items) }
+{
+    let mut shared = Vec::with_capacity(alloc, names.len())?;
+    for own in names {
+        let count = count_at(extras, shared.len());
+        let one = shared_of(rt, alloc, algebra, truths, own, count);
+        shared = with_made(shared, one)?;
+    }
+    Ok(shared)
 }
 
 /// What the nodes of each name share, in the order of the names.
@@ -131,6 +183,7 @@ pub(crate) fn shared_names<'a, R: Wait>(
     algebra: &mut Algebra<'_>,
     truths: &mut Truths,
     names: Vec<Releases<'a>>,
+    nodes: &[Planned<'_>],
 ) -> Result<Vec<Shared<'a>>, AllocError>
     requires truths { All (IsDiagram algebra.old) truths.old.marks.items }
     requires listed { All AreListed names.items }
@@ -138,10 +191,8 @@ pub(crate) fn shared_names<'a, R: Wait>(
     ensures shared { IfOk result (λ v. All (IsShared algebra.new truths.new.marks.items) v.items) }
     ensures releases { IfOk result (λ v. map releases_shared v.items ≡ map releases_in names.entry.items) }
 {
-    let mut shared = Vec::with_capacity(alloc, names.len())?;
-    for own in names {
-        let one = shared_of(rt, alloc, algebra, truths, own);
-        shared = with_made(shared, one)?;
-    }
-    Ok(shared)
+    let extras = extra_counts(alloc, names.len(), nodes);
+    let (names, extras) = beside(names, extras)?;
+    let shared = shared_with(rt, alloc, algebra, truths, names, extras.as_slice());
+    made_from(shared, extras)
 }

@@ -16,4 +16,6 @@ pub mod RowFacts
 pub mod AskedLists
 pub mod AskedFacts
 pub mod UnionFacts
+pub mod ExtraFacts
+pub mod KeptPlaces
 pub mod ForCallers

@@ -1,10 +1,10 @@
 -- Diagrams of markers, part by part.
-use Rattle.std.proofs.Common.{◌≡◌, ℕ, suc, ◌+◌, ◌<◌, ◌&&◌, ◌||◌, List, [], ◌∷◌, ◌++◌, Global, Vec, length, get_or, Bool, true, false, refl, sym, ap, ap₂, subst, ◌∙◌, arith, rules}
+use Rattle.std.proofs.Common.{◌≡◌, ℕ, suc, ◌+◌, ◌<◌, ◌&&◌, ◌||◌, List, [], ◌∷◌, ◌++◌, Global, String, Vec, length, get_or, Bool, true, false, refl, sym, ap, ap₂, subst, ◌∙◌, arith, rules, string_bytes}
 use Rattle.ul_comparison.specs.Formulas.{Formula, extra, python, python_list, text, opaque, all, any, Formulas, none, more, AreFormulas, IsFormula}
 use Rattle.ul_comparison.specs.Truth.{marker_holds}
 use Rattle.ul_comparison.specs.Worlds.{WorldFields}
 use Rattle.ul_marker.specs.Views.{marker_view, markers_view}
-use Rattle.ul_marker.specs.declared.marker.Marker.{Marker, All, Any, the_lemmas}
+use Rattle.ul_marker.specs.declared.marker.Marker.{Marker, All, Any, Extra, the_lemmas}
 use Rattle.ul_nodes.specs.Apply.{both, either}
 use Rattle.ul_algebra.specs.Truths.{HoldsJoined}
 use Rattle.ul_region.specs.Markers.{joining_of, parts_hold}
@@ -25,6 +25,9 @@ abbrev mutual
   pub weights : Formulas → ℕ
   weights none = 0
   weights (more f fs) = suc (weight f + weights fs)
+
+pub view_extra : (literal : String Global) (equal : Bool) → marker_view (Extra literal equal) ≡ extra (string_bytes literal) equal
+view_extra literal equal = search (rules, the_lemmas)
 
 pub view_all : (parts : Vec Marker Global) → marker_view (All parts) ≡ all (markers_view parts.items)
 view_all parts = search (rules, the_lemmas)

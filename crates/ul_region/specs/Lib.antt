@@ -7,5 +7,6 @@ pub mod Markers
 pub mod Unions
 pub mod Numbers
 pub mod Rows
+pub mod Extras
 pub mod Asked
 pub mod Groups

@@ -6,9 +6,9 @@ ghost use Rattle.ul_index.specs.Catalogs.{is_release_fit};
 ghost use Rattle.ul_region.specs.Truths.{IsGrown, IsTruthAt};
 ghost use Rattle.ul_region.specs.Rows.{AreAsked, AreTruthsOf, IsAsked};
 ghost use Rattle.ul_region.specs.Rows.{next_in, number_in, requirement_of, truth_in};
-ghost use Rattle.ul_region.specs.Rows as spec;
 ghost use Rattle.ul_region.specs.Numbers.{AreNextOthers, fields_in, numbers_of};
 
+use crate::by_extra::ByExtra;
 use crate::numbers::{name_numbers, next_others};
 use crate::rows::{Asked, Truths};
 use crate::truths::{fit_truth, truth_at};
@@ -19,23 +19,6 @@ use ul_base::Node;
 use ul_base::owned::with_made;
 use ul_ranges::SharedList;
 use ul_requirement::{Release, Requirement};
-
-// Those of the requirements that may be true at a node, in order.
-fn kept_at<'a>(
-    alloc: Global,
-    node: &Node,
-    requirements: &'a [Requirement],
-) -> Result<Vec<&'a Requirement>, AllocError>
-    ensures { IfOk result (λ v. fields_in v.items ≡ spec.asked_at node.now requirements.now) }
-{
-    let mut kept = Vec::new(alloc);
-    for requirement in requirements {
-        if requirement.may_apply(node) {
-            kept.push(requirement)?;
-        }
-    }
-    Ok(kept)
-}
 
 // The place of a requirement's truth at a node.
 fn truth_place<R: Wait>(
@@ -137,7 +120,7 @@ fn ask_all<'a, R: Wait>(
     Ok(asked)
 }
 
-/// The requirements of a list that may be true at a node, in order, with the places of their truths.
+/// Those of requirements that may be true at a node, in order, with the places of their truths.
 ///
 /// # Errors
 ///
@@ -148,14 +131,14 @@ pub fn asked_at<'a, R: Wait>(
     algebra: &mut Algebra<'_>,
     truths: &mut Truths,
     node: &Node,
-    requirements: &'a [Requirement],
+    requirements: &ByExtra<'a>,
 ) -> Result<SharedList<Asked<'a>>, AllocError>
     requires { All (IsDiagram algebra.old) truths.old.marks.items }
     ensures grown { IsGrown algebra.old truths.old.marks.items algebra.new truths.new.marks.items }
     ensures asked { IfOk result
         (AreAsked algebra.new node.now truths.new.marks.items requirements.now) }
 {
-    let kept = kept_at(alloc, node, requirements)?;
+    let kept = requirements.at(alloc, node)?;
     let asked = ask_all(rt, alloc, algebra, truths, node, kept.as_slice())?;
     let list = SharedList::of(alloc, asked)?;
     Ok(list)

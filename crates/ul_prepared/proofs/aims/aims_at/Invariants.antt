@@ -8,5 +8,5 @@ use Rattle.ul_prepared.proofs.aims.aims_at.Given as goal
 abbrev pub invariant-loop-target : goal.invariant-loop-target
 invariant-loop-target l = record {
   sets : All (IsSetOf l.names) l.sets.list.items;
-  aims : AreAims l.names l.nodes l.row (needs_on l.specifiers (take l.target-index l.targets));
+  aims : AreAims l.names l.nodes l.row.items (needs_on l.specifiers (take l.target-index l.targets));
 }

@@ -1,9 +1,9 @@
 use Rattle.std.proofs.Common.{◌≡◌, List, Global, Vec, ap, map, sym, subst, ◌∙◌}
 use Rattle.std.specs.Prelude.{All}
-use Rattle.std.specs.Borrow.{Bor}
 use Rattle.ul_requirement.specs.Fields.{RequirementFields}
 use Rattle.ul_prepared.specs.Lists.{listed_in, lists_of}
-use Rattle.ul_prepared.specs.Shared.{HasList, IsFitted, fitted_in}
+use Rattle.ul_prepared.specs.Shared.{HasList, IsFitted, fitted_in, release_fitted}
+use Rattle.ul_prepared.specs.declared.shared.Fitted.{Fitted}
 use Rattle.ul_prepared.proofs.Loops.{twice_handed}
 use Rattle.ul_prepared.proofs.SharedFacts.{lists_kept, releases_kept}
 use Rattle.ul_prepared.proofs.shared.shared_of.Goals as goal
@@ -17,12 +17,21 @@ same g c =
 
 pub returns-clause-shared : goal.returns-clause-shared
 returns-clause-shared g c =
-    let releases = c.in_ok-lists.releases in
-    let fitted = IsFitted c.fitted_releases-fitted.new.algebra c.fitted_releases-fitted.new.truths.marks.items in record {
-      fitted = twice_handed c.fitted_releases-fitted.result c.made_from.result releases (λ v. All fitted v.items) c.in_ok-lists.ensures.1 c.made_from.ensures c.fitted_releases-fitted.ensures.fitted;
-      listed = subst (λ (z : Vec (Bor (List RequirementFields)) Global). All (HasList (lists_of z.items)) releases.items) (sym c.in_ok-lists.ensures.0)
-          (lists_kept (lists_of c.args.own.lists.items) c.args.own.releases.items releases.items (same g (goal.at.returns-clause-shared g c).In_ok-lists) c.requires.listed);
+    let before = c.in_ok-lists.releases in
+    let releases = c.in_ok-releases.releases in
+    let kept : releases ≡ before = c.in_ok-releases.ensures.0 in
+    let fitted = IsFitted c.fitted_releases-fitted.new.algebra c.fitted_releases-fitted.new.truths.marks.items in
+    let lists : c.in_ok-releases.lists.items ≡ lists_of c.args.own.lists.items =
+    twice_handed c.lists_by_extra-listed.result c.made_from-2.result c.in_ok-releases.lists (λ v. v.items ≡ lists_of c.as_slice-2.result.now) c.in_ok-releases.ensures.1 c.made_from-2.ensures c.lists_by_extra-listed.ensures
+    ∙ (ap lists_of c.as_slice-2.ensures.value ∙ ap (λ z. lists_of z.items) c.in_ok-lists.ensures.0) in record {
+      fitted = subst (λ (v : Vec Fitted Global). All fitted v.items) (sym kept)
+          (twice_handed c.fitted_releases-fitted.result c.made_from.result before (λ v. All fitted v.items) c.in_ok-lists.ensures.1 c.made_from.ensures c.fitted_releases-fitted.ensures.fitted);
+      listed = subst (λ (z : List (List RequirementFields)). All (HasList z) releases.items) (sym lists)
+          (subst (λ (v : Vec Fitted Global). All (HasList (lists_of c.args.own.lists.items)) v.items) (sym kept)
+          (lists_kept (lists_of c.args.own.lists.items) c.args.own.releases.items before.items (same g (goal.at.returns-clause-shared g c).In_ok-lists) c.requires.listed));
     }
 
 pub returns-clause-releases : goal.returns-clause-releases
-returns-clause-releases g c = releases_kept c.args.own.releases.items c.in_ok-lists.releases.items (same g (goal.at.returns-clause-releases g c).In_ok-lists)
+returns-clause-releases g c =
+    ap (λ (v : Vec Fitted Global). map release_fitted v.items) c.in_ok-releases.ensures.0
+    ∙ releases_kept c.args.own.releases.items c.in_ok-lists.releases.items (same g (goal.at.returns-clause-releases g c).In_ok-lists)

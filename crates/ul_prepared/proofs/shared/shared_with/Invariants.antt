@@ -3,7 +3,7 @@ use Rattle.std.specs.Prelude.{All}
 use Rattle.ul_region.specs.Truths.{IsGrown}
 use Rattle.ul_prepared.specs.Lists.{AreListed, releases_in}
 use Rattle.ul_prepared.specs.Shared.{IsShared, releases_shared}
-use Rattle.ul_prepared.proofs.shared.shared_names.Given as goal
+use Rattle.ul_prepared.proofs.shared.shared_with.Given as goal
 
 abbrev pub invariant-loop-own : goal.invariant-loop-own
 invariant-loop-own g l = record {
