@@ -1,9 +1,10 @@
 mod HandedOn
 mod Unions
-mod ForkSteps
 mod MadeEdges
 mod Gathers
 mod Makes
+mod OverFacts
+mod ForkSteps
 mod Places
 mod Walks
 mod RowFacts
@@ -15,4 +16,5 @@ mod EdgeFacts
 mod SourceFacts
 mod ReleaseFacts
 mod BlockFacts
+mod WholeParts
 mod PackageFacts

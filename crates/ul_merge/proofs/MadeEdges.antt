@@ -1,11 +1,11 @@
 -- Edges that are made of regions.
-use Rattle.std.proofs.Common.{◌≡◌, ◌≢◌, ℕ, List, [], Bool, true, false, refl, sym, ap, subst, ◌∙◌}
+use Rattle.std.proofs.Common.{◌≡◌, ℕ, List, [], Bool, true, false, Option, Some, None, refl, sym, ap, subst, ◌∙◌}
 use Rattle.ul_base.specs.declared.node.Node.{Node}
 use Rattle.ul_version.specs.Fields.{Fields}
 use Rattle.ul_comparison.specs.Worlds.{WorldFields, IsWorld}
 use Rattle.ul_nodes.specs.Apply.{both}
 use Rattle.ul_nodes.specs.Plain.{Plain, truth}
-use Rattle.ul_tree.specs.Regions.{HasTruth, IsRegionTree}
+use Rattle.ul_tree.specs.Regions.{IsRegionTree}
 use Rattle.ul_tree.specs.Simplify.{Simplifies}
 use Rattle.ul_tree.specs.Values.{tree_holds}
 use Rattle.ul_tree.proofs.ForCallers.{has_and, holds_somewhere, no_extra, region_tree}
@@ -14,9 +14,11 @@ use Rattle.ul_algebra.specs.Spelled.{tree_of}
 use Rattle.ul_algebra.specs.Truths.{HoldsJoined}
 use Rattle.ul_lock.specs.declared.parts.Edge.{Edge}
 use Rattle.ul_region.specs.Truths.{PassView, DiagramMark, IsRegion, IsTruth, region_at, truth_within}
-use Rattle.ul_sound.specs.Merged.{IsSimplified}
 use Rattle.ul_merge.specs.Unions.{MeetSomewhere}
-use Rattle.ul_merge.specs.Edges.{LiesWithin, IsMadeEdge}
+use Rattle.std.specs.Option.{option_map}
+use Rattle.ul_lock_write.specs.Markers.{edge_marker, fork_marker}
+use Rattle.ul_merge.specs.Edges.{LiesWithin, IsEdgeBy, IsMadeEdge}
+use Rattle.ul_merge.specs.Over.{OrOver, edge_by, markers_in}
 
 -- where in a region a truth holds
 pub part_truth : (g h : PassView) (d a b : DiagramMark) → IsRegion g a → IsRegion g b → IsDiagram h d → HoldsJoined both a b d → IsTruth h d (truth_within (region_at a) (region_at b))
@@ -60,3 +62,9 @@ failed false e h p = not_true (h.1 p)
   where
     not_true : false ≡ true → ⊥
     not_true q = cc
+
+-- the edge of what a marker was made as
+pub edge_over : (h : PassView) (d : DiagramMark) (s : Plain) (n : Node) (v : Fields) (r : Option Plain) → IsRegion h d → (tree_of d ≡ truth false → ⊥) → OrOver fork_marker (Simplifies (tree_of d) s) r
+    → OrOver (markers_in edge_marker) (IsEdgeBy n v (region_at d) s) (option_map (λ e. Some e) (edge_by n v r))
+edge_over h d s n v (Some m) t not (k, printed) = (made_edge h d s m n v {edge = record { target = n; version = v; marker = m }} t not k refl refl refl, printed)
+edge_over h d s n v None t not (m, k, over) = (Some (record { target = n; version = v; marker = m }), made_edge h d s m n v {edge = record { target = n; version = v; marker = m }} t not k refl refl refl, over)

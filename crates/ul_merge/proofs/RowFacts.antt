@@ -1,6 +1,6 @@
 -- What stands in rows.
-use Rattle.std.proofs.Common.{◌≡◌, ℕ, zero, suc, ◌+◌, ◌<◌, List, [], ◌∷◌, ◌++◌, length, get_or, take, Bool, true, false, cond, Option, Some, None, Contains, refl, sym, ap, ◌∙◌, subst, ⊎_elim, arith}
-use Rattle.std.proofs.lemmas.List.Elements.{All-contains, All-contains_itself, All-filter, Contains-append_left, Contains-append_right, Contains-append_cases, filter_more}
+use Rattle.std.proofs.Common.{◌≡◌, ℕ, zero, suc, ◌+◌, List, [], ◌∷◌, Bool, true, false, cond, Option, Some, None, Contains, refl, sym, ap, ◌∙◌, subst, ⊎_elim, arith}
+use Rattle.std.proofs.lemmas.List.Elements.{All-contains, All-contains_itself, All-filter, Contains-append_left, Contains-append_right, Contains-append_cases}
 use Rattle.std.specs.Prelude.{filter}
 use Rattle.std.specs.List.{slice_get}
 use Rattle.ul_base.specs.declared.node.Node.{Node}
@@ -127,11 +127,6 @@ kept_of {A = A} p (y ∷ ys) x m e = ⊎_elim
     behind : (b : Bool) (zs : List A) → Contains zs x → Contains (cond b (y ∷ zs) zs) x
     behind true zs n = contains_later y zs x n
     behind false zs n = n
-
--- a requirement more
-pub asked_more : (n : Node) (qs : List RequirementFields) (i : ℕ) (q : RequirementFields) (before now : List RequirementFields) → i < length qs → q ≡ get_or qs i q
-    → now ≡ before ++ cond (may_apply q n) (q ∷ []) [] → before ≡ asked_at n (take i qs) → now ≡ asked_at n (take (i + 1) qs)
-asked_more n qs i q before now lt at is have = is ∙ (λ j. have j ++ cond (may_apply (at j) n) (at j ∷ []) []) ∙ sym (filter_more (λ (p : RequirementFields). may_apply p n) qs i q lt)
 
 -- what is asked at a node is required
 pub asked_in : (n : Node) (qs : List RequirementFields) (q : RequirementFields) → Contains (asked_at n qs) q → Contains qs q

@@ -1,8 +1,5 @@
 -- Regions that are simplified.
-use Rattle.std.proofs.Common.{◌≡◌, sym, subst}
 use Rattle.ul_tree.specs.Simplify.{Simplifies}
-use Rattle.ul_tree.specs.Views.{tree_view}
-use Rattle.ul_tree.specs.declared.tree.Tree.{Tree}
 use Rattle.ul_algebra.specs.Answers.{IsDiagram}
 use Rattle.ul_algebra.specs.Spelled.{tree_of}
 use Rattle.ul_lock.specs.Region.{IsRegion as IsLineRegion}
@@ -11,7 +8,5 @@ use Rattle.ul_sound.proofs.ForCallers.{simplified_region}
 use Rattle.ul_merge.specs.Unions.{MeetSomewhere}
 
 -- a simplified diagram's tree is a region's
-pub simpler_region : (h : PassView) (f s m : DiagramMark) (t : Tree) → IsRegion h f → IsDiagram h s → Simplifies (tree_of f) (tree_of s) (tree_of m) → MeetSomewhere f s
-    → tree_view t ≡ tree_of m → IsLineRegion (tree_view t)
-simpler_region h f s m t r d k meet e =
-    subst IsLineRegion (sym e) (simplified_region (tree_of f) (tree_of s) (tree_of m) r.truth d.reduced k meet.0 meet.1 meet.2)
+pub simpler_region : (h : PassView) (f s m : DiagramMark) → IsRegion h f → IsDiagram h s → Simplifies (tree_of f) (tree_of s) (tree_of m) → MeetSomewhere f s → IsLineRegion (tree_of m)
+simpler_region h f s m r d k meet = simplified_region (tree_of f) (tree_of s) (tree_of m) r.truth d.reduced k meet.0 meet.1 meet.2

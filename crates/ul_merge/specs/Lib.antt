@@ -10,3 +10,4 @@ pub mod Members
 pub mod Unions
 pub mod Edges
 pub mod Blocks
+pub mod Over

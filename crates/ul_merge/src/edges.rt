@@ -3,12 +3,15 @@ ghost use Rattle.std.specs.Prelude.{◌≡◌, ◌++◌, ◌∷◌, [], IfOk, On
 ghost use Rattle.ul_interner.specs.Known.{Knows};
 ghost use Rattle.ul_algebra.specs.Answers.{IsDiagram};
 ghost use Rattle.ul_algebra.specs.Spelled.{tree_of};
+ghost use Rattle.ul_lock_write.specs.Markers.{edge_marker};
 ghost use Rattle.ul_region.specs.Truths.{DiagramMark, IsRegion, IsTruth, region_at};
 ghost use Rattle.ul_merge.specs.Edges.{AreTruths, IsEdgeBy, IsPartIn, LiesWithin, MakesEdge, both_hold, picked};
-ghost use Rattle.ul_merge.specs.Made.{AreMade, at_most_one};
+ghost use Rattle.ul_merge.specs.Made.{AreMade};
+ghost use Rattle.ul_merge.specs.Over.{ItemsOrOver, OrOver, edge_by, markers_in};
 
 use crate::gathering::Group;
 use crate::keys::PickKey;
+use crate::over::{as_item, with_item};
 use crate::targets::Use;
 use crate::truths::{simplified, union_of};
 use std::alloc::{AllocError, Global};
@@ -58,7 +61,26 @@ fn edge_with(
     })
 }
 
-// The edge to a target that is true in a part of the supported region; none exactly where it is true nowhere.
+// The edge with a marker, if that was made.
+fn whole_edge(
+    alloc: Global,
+    target: &Node,
+    version: &Version,
+    marker: Option<Region>,
+) -> Result<Option<Edge>, AllocError>
+    ensures { IfOk result (λ e. e ≡ edge_by target.now version.now marker) }
+{
+    match marker {
+        None => Ok(None),
+        Some(marker) => {
+            let edge = edge_with(alloc, target, version, marker)?;
+            Ok(Some(edge))
+        }
+    }
+}
+
+// The edge to a target that is true in a part of the supported region, if it is true somewhere; none at all where its
+// marker isn't printed.
 fn edge_to<R: Wait>(
     rt: &R,
     alloc: Global,
@@ -67,19 +89,20 @@ fn edge_to<R: Wait>(
     version: &Version,
     truth: &Diagram,
     supported: &Diagram,
-) -> Result<Option<Edge>, AllocError>
+) -> Result<Option<Option<Edge>>, AllocError>
     requires truth { IsRegion algebra.old truth.now }
     requires within { LiesWithin truth.now supported.now }
     requires supported { IsDiagram algebra.old supported.now }
     ensures knows { Knows algebra.old algebra.new }
-    ensures edge { IfOk result (IsEdgeBy target.now version.now (region_at truth.now) (tree_of supported.now)) }
+    ensures edge { IfOk result (OrOver (markers_in edge_marker)
+        (IsEdgeBy target.now version.now (region_at truth.now) (tree_of supported.now))) }
 {
     if algebra.is_false(truth) {
-        return Ok(None);
+        return Ok(Some(None));
     }
     let marker = simplified(rt, alloc, algebra, truth, supported)?;
-    let edge = edge_with(alloc, target, version, marker)?;
-    Ok(Some(edge))
+    let edge = whole_edge(alloc, target, version, marker)?;
+    Ok(as_item(edge))
 }
 
 // Adds the diagram at a place, if there is one.
@@ -143,13 +166,14 @@ fn edge_of<R: Wait>(
     regions: &[Diagram],
     truths: &[Diagram],
     group: &Group<PickKey<'_>, Use>,
-) -> Result<Option<Edge>, AllocError>
+) -> Result<Option<Option<Edge>>, AllocError>
     requires supported { IsDiagram algebra.old supported.now }
     requires regions { All (IsRegion algebra.old) regions.now }
     requires within { All (λ m. LiesWithin m supported.now) regions.now }
     requires truths { All (IsRegion algebra.old) truths.now }
     ensures knows { Knows algebra.old algebra.new }
-    ensures edge { IfOk result (MakesEdge regions.now truths.now (tree_of supported.now) group.now) }
+    ensures edge { IfOk result (OrOver (markers_in edge_marker)
+        (MakesEdge regions.now truths.now (tree_of supported.now) group.now)) }
 {
     let uses: &Vec<Use> = &group.values;
     let mine = regions_at(alloc, regions, uses.as_slice())?;
@@ -168,17 +192,7 @@ fn edge_of<R: Wait>(
     made_from(edge, truth)
 }
 
-// Adds an edge, if there is one.
-fn put_edge(edges: &mut Vec<Edge>, edge: Option<Edge>) -> Result<(), AllocError>
-    ensures { OnOk result (edges.new.items ≡ edges.old.items ++ at_most_one edge) }
-{
-    if let Some(edge) = edge {
-        edges.push(edge)?;
-    }
-    Ok(())
-}
-
-/// The edges to targets that leaves chose, in order.
+/// The edges to targets that leaves chose, in order; none where not all of their markers are printed.
 pub(crate) fn made_edges<R: Wait>(
     rt: &R,
     alloc: Global,
@@ -187,19 +201,20 @@ pub(crate) fn made_edges<R: Wait>(
     regions: &[Diagram],
     truths: &[Diagram],
     groups: &[Group<PickKey<'_>, Use>],
-) -> Result<Vec<Edge>, AllocError>
+) -> Result<Option<Vec<Edge>>, AllocError>
     requires supported { IsDiagram algebra.old supported.now }
     requires regions { All (IsRegion algebra.old) regions.now }
     requires within { All (λ m. LiesWithin m supported.now) regions.now }
     requires truths { All (IsRegion algebra.old) truths.now }
     ensures knows { Knows algebra.old algebra.new }
-    ensures edges { IfOk result (λ v. AreMade (MakesEdge regions.now truths.now (tree_of supported.now))
-        groups.now v.items) }
+    ensures edges { IfOk result (ItemsOrOver edge_marker
+        (AreMade (MakesEdge regions.now truths.now (tree_of supported.now)) groups.now)) }
 {
-    let mut edges = Vec::new(alloc);
+    let mut edges = Some(Vec::new(alloc));
     for group in groups {
-        let edge = edge_of(rt, alloc, algebra, supported, regions, truths, group)?;
-        put_edge(&mut edges, edge)?;
+        let edge = edge_of(rt, alloc, algebra, supported, regions, truths, group);
+        let (kept, edge) = beside(edges, edge)?;
+        edges = with_item(kept, edge)?;
     }
     Ok(edges)
 }

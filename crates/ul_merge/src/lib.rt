@@ -3,6 +3,9 @@
 //! The leaves' picks are gathered by packages, and within a package by extras. The edges of a node are those of the
 //! targets of its release's requirements where leaves chose both ends: the targets are gathered with their versions, and
 //! each edge is true in the union of these leaves' regions where the union of the requirements' truths is.
+//!
+//! A lock is made only where all of its markers are printed. A diagram shares its parts, so it may be small and its
+//! tree larger than any memory: whether it is printed is told of the diagram, and no tree is made of one that isn't.
 #![tactic(auto)]
 
 mod blocks;
@@ -14,6 +17,7 @@ mod keys;
 mod members;
 mod merging;
 mod numbers;
+mod over;
 mod releases;
 mod sources;
 mod targets;

@@ -1,19 +1,23 @@
 //! The lock that leaves merge into.
-ghost use Rattle.std.specs.Prelude.{◌≡◌, IfOk, All, map};
+ghost use Rattle.std.specs.Prelude.{◌≡◌, IfOk, All, flat_map, map};
 ghost use Rattle.ul_interner.specs.Known.{Knows};
 ghost use Rattle.ul_algebra.specs.Answers.{IsDiagram};
 ghost use Rattle.ul_algebra.specs.Spelled.{tree_of};
 ghost use Rattle.ul_project.specs.Fields.{IsProject};
-ghost use Rattle.ul_sound.specs.Merged.{AreBlocks, IsMergedLock};
+ghost use Rattle.ul_lock_write.specs.Markers.{package_markers};
+ghost use Rattle.ul_sound.specs.Merged.{AreBlocks};
 ghost use Rattle.ul_merge.specs.Merging.{AreLeaves};
+ghost use Rattle.ul_merge.specs.Over.{IsMergedOrOver, OrOver, items_in, lock_by};
 ghost use Rattle.ul_merge.specs.Views.{ForkLeaf, leaf_of};
 
 use crate::blocks::made_blocks;
 use crate::choices::choices_of;
 use crate::forks::fork_regions;
 use crate::members::members_of;
+use crate::over::both;
 use crate::releases::all_differ;
 use crate::sources::Sources;
+use crate::truths::marker_of;
 use std::alloc::{AllocError, Global};
 use std::sync::Wait;
 use ul_algebra::{Algebra, Diagram};
@@ -21,7 +25,7 @@ use ul_base::owned::{beside, made_from, with_made};
 use ul_base::{Name, Node};
 use ul_generations::Leaf;
 use ul_index::Catalog;
-use ul_lock::{Lock, Packages, Region};
+use ul_lock::{Lock, Locked, Packages, Region, Regions};
 use ul_project::Project;
 use ul_tree::Tree;
 use ul_version::Version;
@@ -67,7 +71,14 @@ fn root_of(alloc: Global, project: &Project) -> Result<Name, AllocError>
     Ok(root)
 }
 
-// The packages of the lock.
+// The packages of a row, if it was made.
+fn packages_in(row: Option<Vec<Locked>>) -> Option<Packages>
+    ensures { result ≡ items_in row }
+{
+    row.map(Packages::of)
+}
+
+// The packages of the lock; none where not all of their markers are printed.
 fn packages_of<R: Wait>(
     rt: &R,
     alloc: Global,
@@ -76,12 +87,13 @@ fn packages_of<R: Wait>(
     project: &Project,
     supported: &Diagram,
     leaves: &[Leaf<Diagram, Vec<(Node, Version)>>],
-) -> Result<Packages, AllocError>
+) -> Result<Option<Packages>, AllocError>
     requires supported { IsDiagram algebra.old supported.now }
     requires region { tree_of supported.now ≡ project.now.region }
     requires leaves { AreLeaves algebra.old catalog.now project.now leaves.now }
     ensures knows { Knows algebra.old algebra.new }
-    ensures packages { IfOk result (AreBlocks catalog.now project.now (map leaf_of leaves.now)) }
+    ensures packages { IfOk result (OrOver (flat_map package_markers)
+        (AreBlocks catalog.now project.now (map leaf_of leaves.now))) }
 {
     let regions = regions_of(alloc, leaves)?;
     let choices = choices_of(alloc, leaves)?;
@@ -97,11 +109,55 @@ fn packages_of<R: Wait>(
     };
     let blocks = made_blocks(rt, alloc, algebra, &sources, groups.as_slice());
     let blocks = made_from(blocks, ((regions, choices), groups))?;
-    Ok(Packages::of(blocks))
+    Ok(packages_in(blocks))
 }
 
-/// The lock that leaves merge into. The leaves are those of the fork answer: each has its region and the decisions of its
-/// selection.
+// The lock of its parts.
+fn lock_with(
+    alloc: Global,
+    project: &Project,
+    supported: Region,
+    forks: Regions,
+    packages: Packages,
+) -> Result<Lock, AllocError>
+    ensures root { IfOk result (λ l. l.root ≡ project.now.package.name) }
+    ensures supported { IfOk result (λ l. l.supported ≡ supported) }
+    ensures forks { IfOk result (λ l. l.forks ≡ forks) }
+    ensures packages { IfOk result (λ l. l.packages ≡ packages) }
+{
+    let (parts, root) = beside((supported, (forks, packages)), root_of(alloc, project))?;
+    let (supported, (forks, packages)) = parts;
+    Ok(Lock {
+        root,
+        supported,
+        forks,
+        packages,
+    })
+}
+
+// The lock of its parts, if these were made.
+fn whole_lock(
+    alloc: Global,
+    project: &Project,
+    parts: Option<(Region, (Regions, Packages))>,
+) -> Result<Option<Lock>, AllocError>
+    ensures { IfOk result (λ l. l ≡ lock_by project.now.package.name parts) }
+{
+    match parts {
+        None => Ok(None),
+        Some((supported, rows)) => {
+            let (forks, packages) = rows;
+            let lock = lock_with(alloc, project, supported, forks, packages)?;
+            Ok(Some(lock))
+        }
+    }
+}
+
+/// The lock that leaves merge into; none where not all of its markers are printed. The leaves are those of the fork
+/// answer: each has its region and the decisions of its selection.
+///
+/// No tree is made of a marker that isn't printed: a diagram takes as little memory as its shared parts, and its tree
+/// may have more paths than fit anywhere.
 ///
 /// # Errors
 ///
@@ -113,24 +169,18 @@ pub fn merge<R: Wait>(
     catalog: &Catalog,
     project: &Project,
     leaves: &[Leaf<Diagram, Vec<(Node, Version)>>],
-) -> Result<Lock, AllocError>
+) -> Result<Option<Lock>, AllocError>
     requires { AreLeaves algebra.old catalog.now project.now leaves.now }
     ensures knows { Knows algebra.old algebra.new }
-    ensures lock { IfOk result (IsMergedLock catalog.now project.now (map leaf_of leaves.now)) }
+    ensures lock { IfOk result (IsMergedOrOver catalog.now project.now (map leaf_of leaves.now)) }
 {
     let supported = supported_of(rt, alloc, algebra, project)?;
     let forks = fork_regions(rt, alloc, algebra, leaves, &supported)?;
     let packages = packages_of(rt, alloc, algebra, catalog, project, &supported, leaves);
-    let rows = beside(forks, packages)?;
-    let tree = made_from(algebra.tree(alloc, &supported), supported);
-    let (listed, tree) = beside(rows, tree)?;
-    let (parts, root) = beside((listed, tree), root_of(alloc, project))?;
-    let (listed, tree) = parts;
-    let (forks, packages) = listed;
-    Ok(Lock {
-        root,
-        supported: Region::of(tree),
-        forks,
-        packages,
-    })
+    let (kept, packages) = beside(forks, packages)?;
+    let rows = both(kept, packages);
+    let region = made_from(marker_of(alloc, algebra, &supported), supported);
+    let (listed, region) = beside(rows, region)?;
+    let lock = whole_lock(alloc, project, both(region, listed))?;
+    Ok(lock)
 }

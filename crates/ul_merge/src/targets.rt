@@ -1,9 +1,8 @@
 //! The targets of a release's requirements, and which leaves chose them.
-ghost use Rattle.std.specs.Prelude.{◌≡◌, ◌++◌, ◌∷◌, [], IfOk, OnOk, cond, map, option_map};
-ghost use Rattle.ul_requirement.specs.Truth.{may_apply, targets, with_extra};
+ghost use Rattle.std.specs.Prelude.{◌≡◌, ◌++◌, IfOk, OnOk, map, option_map};
+ghost use Rattle.ul_requirement.specs.Truth.{targets, with_extra};
 ghost use Rattle.ul_merge.specs.Members.{AreUses};
 ghost use Rattle.ul_merge.specs.Rows.{aim_of, aim_rows, aim_uses, aims_at, all_uses, chosen_use, use_row};
-ghost use Rattle.ul_region.specs.Rows.{asked_at};
 
 use crate::choices::{Choices, version_at};
 use crate::gathering::{Entry, Group, groups_of};
@@ -26,36 +25,6 @@ pub(crate) struct Aim {
 pub(crate) struct Use {
     pub(crate) leaf: usize,
     pub(crate) requirement: usize,
-}
-
-// Adds a requirement, if it may be true at the node.
-fn put_asked<'a>(
-    asked: &mut Vec<&'a Requirement>,
-    node: &Node,
-    one: &'a Requirement,
-) -> Result<(), AllocError>
-    ensures { OnOk result (map (λ q. q.now) asked.new.items
-        ≡ map (λ q. q.now) asked.old.items ++ cond (may_apply one.now node.now) (one.now ∷ []) []) }
-{
-    if one.may_apply(node) {
-        asked.push(one)?;
-    }
-    Ok(())
-}
-
-/// The requirements that may be true at a node, in order. The others are true there in no world.
-pub(crate) fn asked_of<'a>(
-    alloc: Global,
-    node: &Node,
-    requirements: &'a [Requirement],
-) -> Result<Vec<&'a Requirement>, AllocError>
-    ensures { IfOk result (λ v. map (λ q. q.now) v.items ≡ asked_at node.now requirements.now) }
-{
-    let mut asked = Vec::new(alloc);
-    for one in requirements {
-        put_asked(&mut asked, node, one)?;
-    }
-    Ok(asked)
 }
 
 // Adds a name's extras as targets.

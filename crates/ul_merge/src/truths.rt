@@ -1,11 +1,14 @@
 //! Truths of edges: unions of diagrams, and what they become under the supported region.
-ghost use Rattle.std.specs.Prelude.{IfOk, All, ◌<◌, ◌≤◌};
+ghost use Rattle.std.specs.Prelude.{◌≡◌, IfOk, All, ◌<◌, ◌≤◌};
 ghost use Rattle.ul_interner.specs.Known.{Knows};
 ghost use Rattle.ul_tree.specs.Simplify.{Simplifies};
 ghost use Rattle.ul_algebra.specs.Answers.{IsDiagram};
 ghost use Rattle.ul_algebra.specs.Spelled.{tree_of};
+ghost use Rattle.ul_lock.specs.Region.{IsRegion as IsLineRegion};
+ghost use Rattle.ul_lock_write.specs.Markers.{fork_marker};
 ghost use Rattle.ul_region.specs.Truths.{IsRegion, IsTruth};
 ghost use Rattle.ul_region.specs.Unions.{some_holds};
+ghost use Rattle.ul_merge.specs.Over.{OrOver};
 ghost use Rattle.ul_merge.specs.Unions.{MeetSomewhere};
 
 use crate::targets::Use;
@@ -15,23 +18,40 @@ use ul_algebra::{Algebra, Diagram};
 use ul_lock::Region;
 use ul_region::unions::{either, nowhere};
 
-// What a truth becomes under the supported region.
+// The marker of a diagram that asks for no extra; none where that isn't printed.
+pub(crate) fn marker_of(
+    alloc: Global,
+    algebra: &Algebra<'_>,
+    diagram: &Diagram,
+) -> Result<Option<Region>, AllocError>
+    requires diagram { IsDiagram algebra.now diagram.now }
+    requires region { IsLineRegion (tree_of diagram.now) }
+    ensures marker { IfOk result (OrOver fork_marker (λ m. m ≡ tree_of diagram.now)) }
+{
+    if algebra.is_printable(diagram) {
+        let tree = algebra.tree(alloc, diagram)?;
+        return Ok(Some(Region::of(tree)));
+    }
+    Ok(None)
+}
+
+// What a truth becomes under the supported region; none where that isn't printed.
 pub(crate) fn simplified<R: Wait>(
     rt: &R,
     alloc: Global,
     algebra: &mut Algebra<'_>,
     truth: &Diagram,
     supported: &Diagram,
-) -> Result<Region, AllocError>
+) -> Result<Option<Region>, AllocError>
     requires truth { IsRegion algebra.old truth.now }
     requires supported { IsDiagram algebra.old supported.now }
     requires meet { MeetSomewhere truth.now supported.now }
     ensures knows { Knows algebra.old algebra.new }
-    ensures rule { IfOk result (λ r. Simplifies (tree_of truth.now) (tree_of supported.now) r) }
+    ensures rule { IfOk result (OrOver fork_marker (Simplifies (tree_of truth.now) (tree_of supported.now))) }
 {
     let simpler = algebra.simplify(rt, alloc, truth, supported)?;
-    let tree = algebra.tree(alloc, &simpler)?;
-    Ok(Region::of(tree))
+    let marker = marker_of(alloc, algebra, &simpler)?;
+    Ok(marker)
 }
 
 // How many uses lie before those whose leaves' places agree with the last one's, and not with the first one's, in the

@@ -1,9 +1,13 @@
-use Rattle.std.proofs.Common.{ap, sym, subst, ◌∙◌}
+use Rattle.std.proofs.Common.{ap, sym, subst}
 use Rattle.ul_base.proofs.ForCallers.{made_holds}
 use Rattle.ul_interner.proofs.ForCallers.{knows_then}
 use Rattle.ul_requirement.specs.Truth.{base}
 use Rattle.ul_sound.specs.Merged.{AreEdgesOf, files_in}
-use Rattle.ul_merge.specs.Blocks.{AreMadeExtras, catalog_in, leaves_in, supported_in}
+use Rattle.std.specs.Prelude.{flat_map}
+use Rattle.ul_lock_write.specs.Markers.{edge_marker}
+use Rattle.ul_merge.specs.Over.{OrOver}
+use Rattle.ul_merge.proofs.WholeParts.{block_over}
+use Rattle.ul_merge.specs.Blocks.{catalog_in, leaves_in, supported_in}
 use Rattle.ul_merge.specs.Keys.{pair_of}
 use Rattle.ul_merge.proofs.BlockFacts.{required_are, sources_still}
 use Rattle.ul_merge.proofs.blocks.block_of.Goals as goal
@@ -31,12 +35,7 @@ returns-clause-block g c =
     let catalog = catalog_in c.args.sources.now in
     let leaves = leaves_in c.args.sources.now in
     let supported = supported_in c.args.sources.now in
-    let key = c.args.group.now.key in
+    let i = pair_of c.args.group.now.key in
+    let edges = subst (OrOver (flat_map edge_marker) (AreEdgesOf catalog leaves supported (base i.0, i.1))) (sym c.in_ok-out.ensures.0) c.in_ok-edges.ensures.edges in
     let extras = made_holds c.extras_of-extras.result c.in_ok-out.extras _ c.in_ok-out.ensures.1 c.extras_of-extras.ensures.extras in
-    record {
-      named = c.in_ok-block.ensures.name;
-      at = c.in_ok-block.ensures.version;
-      files = c.in_ok-block.ensures.files ∙ ap files_in c.release_at-release.ensures;
-      edges = subst (λ z. AreEdgesOf catalog leaves supported (base key.name.now, key.version.now) z) (sym (c.in_ok-block.ensures.edges ∙ c.in_ok-out.ensures.0)) c.in_ok-edges.ensures.edges;
-      extras = subst (λ z. AreMadeExtras catalog leaves supported (pair_of key) z) (sym c.in_ok-block.ensures.extras) extras;
-    }
+    block_over catalog leaves supported i _ c.in_ok-out.out c.in_ok-out.extras c.both.result c.in_ok-block.block (ap files_in c.release_at-release.ensures) edges extras c.both.ensures c.in_ok-block.ensures

@@ -4,7 +4,12 @@ use Rattle.ul_base.proofs.ForCallers.{made_holds}
 use Rattle.ul_index.specs.Catalogs.{requirements}
 use Rattle.ul_requirement.specs.Truth.{with_extra}
 use Rattle.ul_sound.specs.Merged.{AreEdgesOf}
-use Rattle.ul_merge.specs.Blocks.{AreUsers, catalog_in, leaves_in, supported_in}
+use Rattle.std.specs.Prelude.{flat_map}
+use Rattle.ul_lock_write.specs.Markers.{edge_marker, extra_markers}
+use Rattle.ul_merge.specs.Blocks.{AreUsers, IsMadeExtra, catalog_in, leaves_in, supported_in}
+use Rattle.ul_merge.specs.Keys.{pair_of}
+use Rattle.ul_merge.specs.Over.{OrOver}
+use Rattle.ul_merge.proofs.WholeParts.{extra_over}
 use Rattle.ul_merge.proofs.blocks.extra_of.Goals as goal
 
 same_node : (n m x y : List ℕ) → n ≡ m → x ≡ y → with_extra n x ≡ with_extra m y
@@ -22,12 +27,11 @@ returns-clause-extra g c =
     let s = c.args.sources.now in
     let version = c.args.pair.now.version.now in
     let same = same_node c.in_ok-name.name c.args.pair.now.name.now c.in_ok-extra.extra c.args.group.now.key.name.now c.in_ok-name.ensures c.in_ok-extra.ensures in
+    let y = c.args.group.now.key.name.now in
     let edges = made_holds c.edges_of-edges.result c.in_ok-edges.edges _ c.in_ok-edges.ensures c.edges_of-edges.ensures.edges in
-    record {
-      named = made_holds c.copy-3.result c.in_ok-out.name _ c.in_ok-out.ensures.1 c.copy-3.ensures;
-      edges = subst (λ z. AreEdgesOf (catalog_in s) (leaves_in s) (supported_in s) (with_extra c.args.pair.now.name.now c.args.group.now.key.name.now, version) z) (sym c.in_ok-out.ensures.0)
-          (subst (λ (n : Node). AreEdgesOf (catalog_in s) (leaves_in s) (supported_in s) (n, version) c.in_ok-edges.edges) same edges);
-    }
+    subst (OrOver extra_markers (IsMadeExtra (catalog_in s) (leaves_in s) (supported_in s) (pair_of c.args.pair.now) y)) (sym c.in_ok-extra-2.ensures)
+    (extra_over (catalog_in s) (leaves_in s) (supported_in s) (pair_of c.args.pair.now) y c.in_ok-edges.edges
+    (subst (λ (n : Node). OrOver (flat_map edge_marker) (AreEdgesOf (catalog_in s) (leaves_in s) (supported_in s) (n, version)) c.in_ok-edges.edges) same edges))
 
 pub edges_of-edges-requires-clause-sources : goal.edges_of-edges-requires-clause-sources
 edges_of-edges-requires-clause-sources g c = c.requires.sources

@@ -8,7 +8,10 @@ use Rattle.ul_region.specs.Truths.{DiagramMark, IsRegion, IsTruth}
 use Rattle.ul_region.proofs.ForCallers.{is_region, still}
 use Rattle.ul_merge.specs.Edges.{MakesEdge, both_hold, leaves_in, picked, requirements_in}
 use Rattle.ul_merge.proofs.EdgeFacts.{all_picked, both_within, edge_agrees, made_truth, places_of}
+use Rattle.ul_lock_write.specs.Markers.{edge_marker}
+use Rattle.ul_merge.specs.Over.{OrOver, markers_in}
 use Rattle.ul_merge.proofs.HandedOn.{if_handed}
+use Rattle.ul_merge.proofs.OverFacts.{or_over}
 use Rattle.ul_merge.proofs.edges.edge_of.Goals as goal
 use Rattle.ul_merge.proofs.edges.edge_of.Goals.{In_ok-kept, In_ok-truth}
 
@@ -50,4 +53,6 @@ returns-clause-edge g c =
     let at = goal.at.returns-clause-edge g c in
     let same = made_truth _ _ _ _ _ _ (c.as_slice-3.ensures.value ∙ regions_are g at.In_ok-kept) (c.as_slice-4.ensures.value ∙ truths_are g at.In_ok-kept) (truth_is g at.In_ok-truth) in
     let Makes = MakesEdge c.args.regions.now c.args.truths.now (tree_of c.args.supported.now) c.args.group.now in
-    if_handed c.edge_to-edge.result c.made_from-2.result Makes c.made_from-2.ensures (IfOk-weaker c.edge_to-edge.result _ Makes (λ o e. edge_agrees _ _ _ _ _ o same e) c.edge_to-edge.ensures.edge)
+    let Whole = OrOver (markers_in edge_marker) Makes in
+    if_handed c.edge_to-edge.result c.made_from-2.result Whole c.made_from-2.ensures
+    (IfOk-weaker c.edge_to-edge.result _ Whole (λ r k. or_over (markers_in edge_marker) _ Makes (λ o e. edge_agrees _ _ _ _ _ o same e) r k) c.edge_to-edge.ensures.edge)
