@@ -3,14 +3,15 @@ use Rattle.std.proofs.Common.{◌≡◌, ◌≢◌, ℕ, List, Bool, true, false
 use Rattle.ul_nodes.specs.Plain.{Plain, truth, node}
 use Rattle.ul_marker_text.specs.MarkerText.{marker_text}
 use Rattle.ul_marker_text.specs.MarkerOfText.{marker_of_text, IsMarker}
-use Rattle.ul_marker_text.proofs.ForCallers.{text_again, read_is_marker, truth_is_none, marker_10, marker_92, marker_reduced, marker_no_extra, tree_is_marker}
+use Rattle.ul_marker_text.proofs.ForCallers.{text_again, read_is_marker, truth_is_none, marker_10, marker_92, marker_readable, marker_reduced, marker_no_extra, tree_is_marker}
 use Rattle.ul_lines.specs.Pieces.{has}
 use Rattle.ul_lock.specs.Region.{is_true, IsRegion}
+use Rattle.ul_lock_lines.specs.Text.{IsReadRegion}
 
 -- what is known of a tree that is read of a text
 pub record Reads (b : List ℕ) (t : Plain) : Type 0 where
   pub text : marker_text t ≡ b
-  pub region : IsRegion t
+  pub region : IsReadRegion t
   pub within : is_true t ≡ false
 
 -- a marker's tree is a region's
@@ -27,27 +28,27 @@ no_truth t h k true e = let q : true ≡ false = sym (ap is_true e) ∙ k in abs
 no_truth t h k false e = h e
 
 -- a region's tree is a marker's, where it isn't the one of all worlds
-marker_of_region : (t : Plain) → IsRegion t → is_true t ≡ false → IsMarker t
-marker_of_region t h k = tree_is_marker t h.reduced h.no_extra (no_truth t h.not_false k)
+marker_of_region : (t : Plain) → IsReadRegion t → is_true t ≡ false → IsMarker t
+marker_of_region t h k = tree_is_marker t h.region.reduced h.region.no_extra (no_truth t h.region.not_false k) h.readable
 
 -- what is read of a text is spelled so, and is a region
 pub region_is : (b : List ℕ) (t : Plain) → marker_of_text b ≡ Some t → Reads b t
 region_is b t e =
     let m = read_is_marker b t e in
-    record { text = text_again b t e; region = region_of_marker t m; within = marker_within t m }
+    record { text = text_again b t e; region = record { region = region_of_marker t m; readable = marker_readable t m }; within = marker_within t m }
 
 -- a tree that is read of a text is a region's
 pub read_is_region : (b : List ℕ) (t : Plain) → marker_of_text b ≡ Some t → IsRegion t
 read_is_region b t e = region_of_marker t (read_is_marker b t e)
 
 -- a region's text is read as the region
-pub region_again : (t : Plain) → IsRegion t → is_true t ≡ false → marker_of_text (marker_text t) ≡ Some t
+pub region_again : (t : Plain) → IsReadRegion t → is_true t ≡ false → marker_of_text (marker_text t) ≡ Some t
 region_again t h k = marker_of_region t h k
 
 -- a region's text has no LF
-pub region_10 : (t : Plain) → IsRegion t → is_true t ≡ false → has 10 (marker_text t) ≡ false
+pub region_10 : (t : Plain) → IsReadRegion t → is_true t ≡ false → has 10 (marker_text t) ≡ false
 region_10 t h k = marker_10 t (marker_of_region t h k)
 
 -- a region's text has no backslash
-pub region_92 : (t : Plain) → IsRegion t → is_true t ≡ false → has 92 (marker_text t) ≡ false
+pub region_92 : (t : Plain) → IsReadRegion t → is_true t ≡ false → has 92 (marker_text t) ≡ false
 region_92 t h k = marker_92 t (marker_of_region t h k)

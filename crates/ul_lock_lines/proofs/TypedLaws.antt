@@ -14,8 +14,8 @@ use Rattle.ul_version.specs.Texts.{version_text, is_text_byte}
 use Rattle.ul_version.proofs.ForCallers.{plain as text_is_plain, versions as read_is_version, version-read}
 use Rattle.ul_nodes.specs.Plain.{truth, node, Plain}
 use Rattle.ul_marker_text.specs.MarkerText.{marker_text}
-use Rattle.ul_marker_text.specs.MarkerOfText.{marker_of_text}
-use Rattle.ul_marker_text.proofs.ForCallers.{star_is_none}
+use Rattle.ul_marker_text.specs.MarkerOfText.{is_readable, marker_of_text}
+use Rattle.ul_marker_text.proofs.ForCallers.{star_is_none, truth_readable}
 use Rattle.ul_lock.proofs.ForCallers.{all_region}
 use Rattle.ul_lock_lines.proofs.Markers.{region_is, region_again, region_10, region_92}
 use Rattle.ul_version.specs.Fields.{Fields}
@@ -31,9 +31,9 @@ use Rattle.ul_lock_lines.specs.declared.lines.RawFile.{RawFile}
 use Rattle.ul_lock_lines.specs.declared.lines.RawEdge.{RawEdge}
 use Rattle.ul_lock_lines.specs.declared.lines.RawLine.{RawLine}
 use Rattle.ul_lock_lines.specs.declared.lines.RawLine.TheVariants.{First as raw_first, Root as raw_root, Supported as raw_supported, Item as raw_item, Close as raw_close, Gap as raw_gap, Entry as raw_entry, Name as raw_name, Version as raw_version, File as raw_file, Edge as raw_edge, Table as raw_table, Opens as raw_opens, Bare as raw_bare}
-use Rattle.ul_lock.specs.Region.{all_worlds, is_true, IsRegion}
+use Rattle.ul_lock.specs.Region.{all_worlds, is_true}
 use Rattle.ul_lock_lines.specs.Raw.{part, end_text, spell_raw}
-use Rattle.ul_lock_lines.specs.Text.{escaped, marker_line, fork_line, marker_part, raw_edge_of, raw_file_of, raw_of, spell, Fit}
+use Rattle.ul_lock_lines.specs.Text.{escaped, marker_line, fork_line, marker_part, raw_edge_of, raw_file_of, raw_of, spell, IsReadRegion, Fit}
 use Rattle.ul_lock.specs.WellFormed.{IsEdge}
 use Rattle.ul_lock_lines.specs.LineReading.{ascii_at, kept_name, name_at, kept_version, version_at, unescaped, marker_at, fork_at, some_text, name_option, marker_option, edge_made, edge_with_extra, edge_with_version, edge_with_name, edge_at, file_made, file_with_name, file_at, typed, candidate, line_of}
 use Rattle.ul_lock_lines.proofs.LineLaws.{Cuttable, IsKeyText, candidate_is, candidate_again}
@@ -108,14 +108,18 @@ unescape_again (x ∷ t) h = by_slash (eqb x 92) (eqb x 34) refl refl (λ k. une
     by_slash false true p q more k = let e : x ≡ 34 = eqb-true x 34 q in ap (λ z. 34 ∷ z) (more k) ∙ ap (λ z. z ∷ t) (sym e)
     by_slash false false p q more k = rw p (ap (λ z. x ∷ z) (more k))
 
-marker_is : (t : List ℕ) (m : Plain) → marker_at t ≡ Some m → (marker_line m ≡ t) × (IsRegion m × (is_true m ≡ false))
+-- all worlds are read
+pub all_readable : IsReadRegion all_worlds
+all_readable = record { region = all_region; readable = truth_readable true }
+
+marker_is : (t : List ℕ) (m : Plain) → marker_at t ≡ Some m → (marker_line m ≡ t) × (IsReadRegion m × (is_true m ≡ false))
 unfolding marker_at
 marker_is t m e =
     let a = pick_true (bytes_eq (escaped (unescaped t)) t) (marker_of_text (unescaped t)) m e in
     let k = region_is (unescaped t) m a.1 in
     (ap escaped k.text ∙ same_text (escaped (unescaped t)) t a.0, (k.region, k.within))
 
-marker_again : (m : Plain) → IsRegion m → is_true m ≡ false → marker_at (marker_line m) ≡ Some m
+marker_again : (m : Plain) → IsReadRegion m → is_true m ≡ false → marker_at (marker_line m) ≡ Some m
 unfolding marker_at
 marker_again m h k = rw (unescape_again (marker_text m) (region_92 m h k), bytes_eq_self (escaped (marker_text m))) (region_again m h k)
 
@@ -124,40 +128,40 @@ unfolding marker_at
 star_is = star_is_none
 
 -- a marker's line isn't `*`
-no_star : (m : Plain) → IsRegion m → is_true m ≡ false → bytes_eq (marker_line m) (42 ∷ []) ≡ false
+no_star : (m : Plain) → IsReadRegion m → is_true m ≡ false → bytes_eq (marker_line m) (42 ∷ []) ≡ false
 no_star m h k = by_star (bytes_eq (marker_line m) (42 ∷ [])) refl
   where
     by_star : (b : Bool) → bytes_eq (marker_line m) (42 ∷ []) ≡ b → bytes_eq (marker_line m) (42 ∷ []) ≡ false
     by_star false q = q
     by_star true q = let e : Some m ≡ None = sym (marker_again m h k) ∙ (ap marker_at (same_text (marker_line m) (42 ∷ []) q) ∙ star_is) in absurd cc
 
-fork_by : (t : List ℕ) (m : Plain) (b : Bool) → bytes_eq t (42 ∷ []) ≡ b → cond b (Some all_worlds) (marker_at t) ≡ Some m → (fork_line m ≡ t) × IsRegion m
-fork_by t m true q e = subst (λ z. (fork_line z ≡ t) × IsRegion z) (some_is all_worlds m e) (sym (same_text t (42 ∷ []) q), all_region)
+fork_by : (t : List ℕ) (m : Plain) (b : Bool) → bytes_eq t (42 ∷ []) ≡ b → cond b (Some all_worlds) (marker_at t) ≡ Some m → (fork_line m ≡ t) × IsReadRegion m
+fork_by t m true q e = subst (λ z. (fork_line z ≡ t) × IsReadRegion z) (some_is all_worlds m e) (sym (same_text t (42 ∷ []) q), all_readable)
 fork_by t m false q e =
     let k = marker_is t m e in
     (ap (λ z. cond z (42 ∷ []) (marker_line m)) k.1.1 ∙ k.0, k.1.0)
 
-fork_is : (t : List ℕ) (m : Plain) → fork_at t ≡ Some m → (fork_line m ≡ t) × IsRegion m
+fork_is : (t : List ℕ) (m : Plain) → fork_at t ≡ Some m → (fork_line m ≡ t) × IsReadRegion m
 unfolding fork_at
 fork_is t m e = fork_by t m (bytes_eq t (42 ∷ [])) refl e
 
-fork_again : (m : Plain) → IsRegion m → fork_at (fork_line m) ≡ Some m
+fork_again : (m : Plain) → IsReadRegion m → fork_at (fork_line m) ≡ Some m
 unfolding fork_at
 fork_again (truth true) h = refl
-fork_again (truth false) h = absurd (h.not_false refl)
+fork_again (truth false) h = absurd (h.region.not_false refl)
 fork_again (node l d bs) h = rw (no_star (node l d bs) h refl) (marker_again (node l d bs) h refl)
 
 -- ---- edges and files
 
-part_is : (t : Option (List ℕ)) (m : Plain) → marker_option t ≡ Some m → (marker_part m ≡ t) × IsRegion m
-part_is None m e = subst (λ z. (marker_part z ≡ None) × IsRegion z) (some_is all_worlds m e) (refl, all_region)
+part_is : (t : Option (List ℕ)) (m : Plain) → marker_option t ≡ Some m → (marker_part m ≡ t) × IsReadRegion m
+part_is None m e = subst (λ z. (marker_part z ≡ None) × IsReadRegion z) (some_is all_worlds m e) (refl, all_readable)
 part_is (Some t) m e =
     let k = marker_is t m e in
     (ap (λ z. cond z None (Some (marker_line m))) k.1.1 ∙ ap some_text k.0, k.1.0)
 
-part_again : (m : Plain) → IsRegion m → marker_option (marker_part m) ≡ Some m
+part_again : (m : Plain) → IsReadRegion m → marker_option (marker_part m) ≡ Some m
 part_again (truth true) h = refl
-part_again (truth false) h = absurd (h.not_false refl)
+part_again (truth false) h = absurd (h.region.not_false refl)
 part_again (node l d bs) h = marker_again (node l d bs) h refl
 
 extra_is : (t x : Option (List ℕ)) → name_option t ≡ Some x → (x ≡ t) × IfSome x IsNormalName
@@ -186,14 +190,14 @@ edge_is e l h =
     let kx = extra_is e.extra x.0 x.1 in
     let km = part_is e.marker m.0 m.1 in
     subst (λ z. (raw_of z ≡ raw_edge e) × Fit z) m.2
-    ((λ i. raw_edge_with (kn.0 i) (kv.0 i) (kx.0 i) (km.0 i)), record { name = kn.1; version = kv.1; extra = kx.1; marker = km.1 })
+    ((λ i. raw_edge_with (kn.0 i) (kv.0 i) (kx.0 i) (km.0 i)), (record { name = kn.1; version = kv.1; extra = kx.1; marker = km.1.region }, km.1.readable))
 
-edge_again : (e : Edge) → IsEdge e → edge_at (raw_edge_of e) ≡ Some (edge e)
-edge_again e h =
+edge_again : (e : Edge) → IsEdge e → is_readable e.marker ≡ true → edge_at (raw_edge_of e) ≡ Some (edge e)
+edge_again e h m =
     ap (option_and_then (edge_with_name (raw_edge_of e))) (name_again e.target.name h.name)
     ∙ (ap (option_and_then (edge_with_version (raw_edge_of e) e.target.name)) (version_again e.version h.version)
     ∙ (ap (option_and_then (edge_with_extra e.target.name e.version (marker_part e.marker))) (extra_again e.target.extra h.extra)
-    ∙ ap (option_map (edge_made e.target.name e.version e.target.extra)) (part_again e.marker h.marker)))
+    ∙ ap (option_map (edge_made e.target.name e.version e.target.extra)) (part_again e.marker (record { region = h.marker; readable = m }))))
 
 file_is : (f : RawFile) (l : Line) → file_at f ≡ Some l → (raw_of l ≡ raw_file f) × Fit l
 file_is f l e =
@@ -251,7 +255,7 @@ typed_again entry h = refl
 typed_again (name n) h = ap (option_map name) (name_again n h)
 typed_again (version v) h = ap (option_map version) (version_again v h)
 typed_again (file f) h = file_again f h
-typed_again (edge e) h = edge_again e h
+typed_again (edge e) h = edge_again e h.0 h.1
 typed_again table h = refl
 typed_again (opens n) h = ap (option_map opens) (name_again n h)
 typed_again (bare n) h = ap (option_map bare) (name_again n h)
@@ -277,7 +281,7 @@ extra_has c (Some t) k h = name_has c t k h
 
 cuttable : (l : Line) → Fit l → Cuttable (raw_of l)
 cuttable (file f) h = file_has 34 f.file refl h.file
-cuttable (edge e) h = (name_has 34 e.target.name refl h.name, version_has 34 e.version refl h.version, extra_has 34 e.target.extra refl h.extra)
+cuttable (edge e) h = (name_has 34 e.target.name refl h.0.name, version_has 34 e.version refl h.0.version, extra_has 34 e.target.extra refl h.0.extra)
 cuttable (opens n) h = key_text n (name_is_plain n h)
 cuttable (bare n) h = key_text n (name_is_plain n h)
 cuttable (first v) h = tt
@@ -319,17 +323,17 @@ escaped_10 (x ∷ t) h = by_quote (eqb x 34) (eqb x 10) refl (escaped_10 t) h
     by_quote true false q more k = more k
     by_quote false false q more k = rw q (more k)
 
-line_10 : (m : Plain) → IsRegion m → is_true m ≡ false → has 10 (marker_line m) ≡ false
+line_10 : (m : Plain) → IsReadRegion m → is_true m ≡ false → has 10 (marker_line m) ≡ false
 line_10 m h k = escaped_10 (marker_text m) (region_10 m h k)
 
-fork_10 : (m : Plain) → IsRegion m → has 10 (fork_line m) ≡ false
+fork_10 : (m : Plain) → IsReadRegion m → has 10 (fork_line m) ≡ false
 fork_10 (truth true) h = refl
-fork_10 (truth false) h = absurd (h.not_false refl)
+fork_10 (truth false) h = absurd (h.region.not_false refl)
 fork_10 (node l d bs) h = line_10 (node l d bs) h refl
 
-part_10 : (m : Plain) → IsRegion m → IfSome (marker_part m) (λ t. has 10 t ≡ false)
+part_10 : (m : Plain) → IsReadRegion m → IfSome (marker_part m) (λ t. has 10 t ≡ false)
 part_10 (truth true) h = tt
-part_10 (truth false) h = absurd (h.not_false refl)
+part_10 (truth false) h = absurd (h.region.not_false refl)
 part_10 (node l d bs) h = line_10 (node l d bs) h refl
 
 extra_10 : (x : Option (List ℕ)) → IfSome x IsNormalName → IfSome x (λ t. has 10 t ≡ false)
@@ -352,7 +356,7 @@ line_ends entry h = refl
 line_ends (name t) h = skip_line t (34 ∷ 10 ∷ []) (name_has 10 t refl h)
 line_ends (version v) h = skip_line (version_text v) (34 ∷ 10 ∷ []) (version_has 10 v refl h)
 line_ends (file f) h = skip_line f.file _ (file_has 10 f.file refl h.file) ∙ skip_line f.sha256 _ (hash_10 f.sha256 h.sha256)
-line_ends (edge e) h = skip_line e.target.name _ (name_has 10 e.target.name refl h.name) ∙ (skip_line (version_text e.version) _ (version_has 10 e.version refl h.version) ∙ (part_ends (codes ", extra = ") e.target.extra _ refl (extra_10 e.target.extra h.extra) ∙ part_ends (codes ", marker = ") (marker_part e.marker) end_text refl (part_10 e.marker h.marker)))
+line_ends (edge e) h = skip_line e.target.name _ (name_has 10 e.target.name refl h.0.name) ∙ (skip_line (version_text e.version) _ (version_has 10 e.version refl h.0.version) ∙ (part_ends (codes ", extra = ") e.target.extra _ refl (extra_10 e.target.extra h.0.extra) ∙ part_ends (codes ", marker = ") (marker_part e.marker) end_text refl (part_10 e.marker (record { region = h.0.marker; readable = h.1 }))))
 line_ends table h = refl
 line_ends (opens t) h = skip_line t (32 ∷ 61 ∷ 32 ∷ 91 ∷ 10 ∷ []) (name_has 10 t refl h)
 line_ends (bare t) h = skip_line t (32 ∷ 61 ∷ 32 ∷ 91 ∷ 93 ∷ 10 ∷ []) (name_has 10 t refl h)

@@ -1,8 +1,9 @@
 -- The text of each line, and which values a line may have.
-use Rattle.std.specs.Prelude.{◌≡◌, ℕ, List, [], ◌∷◌, false, cond, ◌==◌, Option, Some, None, if◌then◌else◌}
+use Rattle.std.specs.Prelude.{◌≡◌, ℕ, List, [], ◌∷◌, true, false, cond, ◌==◌, Option, Some, None, if◌then◌else◌}
 use Rattle.ul_base.specs.Names.{IsNormalName}
 use Rattle.ul_version.specs.Fields.{IsVersion}
 use Rattle.ul_version.specs.Texts.{version_text}
+use Rattle.ul_marker_text.specs.MarkerOfText.{is_readable}
 use Rattle.ul_marker_text.specs.MarkerText.{marker_text}
 use Rattle.ul_nodes.specs.Plain.{Plain}
 use Rattle.ul_requirement.specs.Fields.{FileFields, IsFile}
@@ -71,15 +72,20 @@ spell l = spell_raw (raw_of l)
 
 -- ---- which values a line may have
 
+-- a region whose text is read: no path of its tree has too many nodes
+pub record IsReadRegion (m : Plain) : Type 0 where
+  pub region : IsRegion m
+  pub readable : is_readable m ≡ true
+
 -- what a line may say
 abbrev pub Fit : Line → Type 0
 Fit (root n) = IsNormalName n
-Fit (supported m) = IsRegion m × (is_true m ≡ false)
-Fit (item m) = IsRegion m
+Fit (supported m) = IsReadRegion m × (is_true m ≡ false)
+Fit (item m) = IsReadRegion m
 Fit (name n) = IsNormalName n
 Fit (version v) = IsVersion v
 Fit (file f) = IsFile f
-Fit (edge e) = IsEdge e
+Fit (edge e) = IsEdge e × (is_readable e.marker ≡ true)
 Fit (opens n) = IsNormalName n
 Fit (bare n) = IsNormalName n
 Fit l = Unit {0}

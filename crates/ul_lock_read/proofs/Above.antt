@@ -1,10 +1,10 @@
 -- A name and a version that may follow those of blocks.
-use Rattle.std.proofs.Common.{◌≡◌, ℕ, List, [], ◌∷◌, Bool, true, refl, ap}
+use Rattle.std.proofs.Common.{◌≡◌, ℕ, List, [], ◌∷◌, true, refl, ap}
 use Rattle.std.specs.Ordering.{is_le}
-use Rattle.ul_base.specs.Names.{IsNormalName, name_above as above}
-use Rattle.ul_base.proofs.ForCallers.{above_is_name, name_below}
-use Rattle.ul_version.specs.Fields.{Fields, IsVersion, plain, version_above as version_above_of}
-use Rattle.ul_version.proofs.ForCallers.{above_is_version, version_below, zero_is_version}
+use Rattle.ul_base.specs.Names.{name_above as above}
+use Rattle.ul_base.proofs.ForCallers.{name_below}
+use Rattle.ul_version.specs.Fields.{Fields, plain, version_above as version_above_of}
+use Rattle.ul_version.proofs.ForCallers.{version_below}
 use Rattle.ul_lock.specs.declared.parts.Locked.{Locked}
 use Rattle.ul_lock.specs.Orders.{block_less}
 use Rattle.ul_lock_read.specs.Automaton.{tops, name_tops, plain_block}

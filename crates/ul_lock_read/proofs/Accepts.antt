@@ -1,6 +1,6 @@
 -- The lines of each sheet run to an end with that sheet.
-use Rattle.std.proofs.Common.{◌≡◌, ℕ, List, [], ◌∷◌, ◌++◌, map, Bool, true, false, cond, refl, sym, ap, subst, ◌∙◌, append_assoc, Option, Some, None}
-use Rattle.std.specs.Prelude.{option_and_then, flat_map}
+use Rattle.std.proofs.Common.{◌≡◌, ℕ, List, [], ◌∷◌, ◌++◌, map, Bool, true, false, cond, refl, sym, ap, subst, ◌∙◌, append_assoc, Some}
+use Rattle.std.specs.Prelude.{flat_map}
 use Rattle.std.proofs.lemmas.List.{append-nil}
 use Rattle.std.proofs.lemmas.List.Concat.{flat_map_single}
 use Rattle.ul_nodes.specs.Plain.{truth, node, Plain}
@@ -16,14 +16,14 @@ use Rattle.ul_lock_write.specs.declared.sheets.Sheet.{Sheet}
 use Rattle.ul_lock_lines.specs.declared.lines.Line.{Line}
 use Rattle.ul_lock_lines.specs.declared.lines.Line.TheVariants.{First as first, Root as root, Supported as supported, Item as item, Close as close, Gap as gap, Entry as entry, Name as name, Version as version, File as file, Edge as edge, Table as table, Opens as opens, Bare as bare}
 use Rattle.ul_lock_read.specs.declared.states.State.{State}
-use Rattle.ul_lock_read.specs.declared.states.State.TheVariants.{Start as start, Begun as begun, Rooted as rooted, Bounded as bounded, Forking as forking, Headed as headed, Gapped as gapped, Opened as opened, Named as named, Versed as versed, Filing as filing, Fresh as fresh, Needing as needing, Whole as whole, Paused as paused, Tabled as tabled, Listing as listing}
+use Rattle.ul_lock_read.specs.declared.states.State.TheVariants.{Start as start, Rooted as rooted, Bounded as bounded, Forking as forking, Headed as headed, Opened as opened, Named as named, Versed as versed, Filing as filing, Fresh as fresh, Needing as needing, Whole as whole, Paused as paused, Tabled as tabled, Listing as listing}
 use Rattle.ul_lock.specs.Region.{all_worlds, is_true}
 use Rattle.ul_lock.specs.Orders.{edge_less, extra_less, file_less, block_less}
-use Rattle.ul_lock_write.specs.Sheet.{forks_key, files_key, edges_key, supported_lines, fork_lines, file_lines, edge_lines, listed, extra_lines, table_lines, block_top, block_front, block_lines, head_lines, body_lines, sheet_lines}
-use Rattle.ul_lock_read.specs.Automaton.{lock_reader, may, second, step, run, final, head_of, plain_block, sheet_of, tops, name_tops, filled, several}
+use Rattle.ul_lock_write.specs.Sheet.{forks_key, files_key, edges_key, fork_lines, file_lines, edge_lines, listed, extra_lines, table_lines, block_lines, head_lines, sheet_lines}
+use Rattle.ul_lock_read.specs.Automaton.{lock_reader, second, step, run, final, head_of, plain_block, sheet_of, tops}
 use Rattle.ul_lines.specs.Reader.{Each, Accepts as Reads}
 use Rattle.ul_lines.proofs.ForCallers.{run_then as run_then_by, run_one as run_one_by}
-use Rattle.ul_lock.specs.Increasing.{Before, NoneOrSeveral, Rising}
+use Rattle.ul_lock.specs.Increasing.{NoneOrSeveral, Rising}
 use Rattle.ul_lock_read.specs.Shaped.{MayHave, IsExtra, IsBlock, IsSheet}
 use Rattle.ul_lock_read.proofs.Rising.{Rising-mid, are_several, name_tops_from, tops_plain}
 use Rattle.ul_lock_read.proofs.Kept.{extra_top}

@@ -1,12 +1,9 @@
 -- What the program answers to a text, and the laws of texts.
-use Rattle.std.proofs.Common.{◌≡◌, ℕ, List, [], ◌∷◌, Bool, true, false, refl, sym, ap, subst, ◌∙◌, Result, Ok, Err, Option, Some, None}
-use Rattle.std.specs.Prelude.{IfOk}
-use Rattle.std.specs.List.{list_all}
+use Rattle.std.proofs.Common.{◌≡◌, ℕ, List, true, false, sym, ap, subst, ◌∙◌, Result, Ok, Err}
 use Rattle.ul_lines.specs.Lines.{lines_of}
 use Rattle.ul_lines.specs.Faults.{IsFault}
-use Rattle.ul_lines.specs.Reader.{Each, read_text}
+use Rattle.ul_lines.specs.Reader.{read_text}
 use Rattle.ul_lines.proofs.ForCallers.{one_fault as one_by, right_has_none}
-use Rattle.ul_lock.specs.declared.parts.Locked.{Locked}
 use Rattle.ul_lock.specs.declared.parts.Lock.{Lock}
 use Rattle.ul_lock_lines.specs.declared.lines.Edition.TheVariants.{First as one}
 use Rattle.ul_lock_write.specs.declared.sheets.Sheet.{Sheet}
@@ -14,16 +11,16 @@ use Rattle.ul_lock_read.specs.declared.locks.LockFault.{LockFault}
 use Rattle.ul_lock_read.specs.declared.locks.LockFault.TheVariants.{Line as LineAt, Root, Target, NoMemory}
 use Rattle.ul_lock_read.specs.Answers.{IsWell, LacksTarget, Judged}
 use Rattle.ul_lock_read.specs.Automaton.{lock_reader}
-use Rattle.ul_lock_read.specs.Headline.{IsLock, ReadsLock}
-use Rattle.ul_lock_read.specs.Laws.{OneTextOneLock, TextIsLocks, IsFirstTextOf, StandsForOne, FirstVersion, OneFault}
-use Rattle.ul_lock.specs.Targets.{has_one_root, all_lead_on, package_leads_on, first_without_target}
-use Rattle.ul_lock_write.specs.Texts.{sheet_in, lock_of, sheet_text, lock_text}
-use Rattle.ul_lock_read.specs.ShapedTexts.{IsText, AreShaped}
-use Rattle.ul_lock.specs.WellFormed.{IsWellFormed}
+use Rattle.ul_lock_read.specs.Headline.{ReadsLock}
+use Rattle.ul_lock_read.specs.Laws.{OneTextOneLock, TextIsLocks, FirstVersion, OneFault}
+use Rattle.ul_lock.specs.Targets.{has_one_root, all_lead_on}
+use Rattle.ul_lock_write.specs.Texts.{sheet_in, lock_of}
+use Rattle.ul_lock_read.specs.ShapedTexts.{AreShaped}
 use Rattle.ul_lock_read.specs.TextOf.{IsTextOf}
-use Rattle.ul_lock_read.proofs.Forms.{shaped_text, well_formed, text_of, second_text}
-use Rattle.ul_lock_read.proofs.WithoutTargets.{none_without_target, some_without_target}
-use Rattle.ul_lock_read.proofs.WholeTexts.{text_taken, text_again, text_fault, one_text}
+use Rattle.ul_lock_read.proofs.Forms.{readable, well_formed, text_of, second_text}
+use Rattle.ul_lock_write.proofs.ForCallers.{lock_readable}
+use Rattle.ul_lock_read.proofs.WithoutTargets.{some_without_target}
+use Rattle.ul_lock_read.proofs.WholeTexts.{text_taken, text_again, text_fault}
 
 abbrev ok : Sheet → Result Sheet ℕ
 ok x = Ok x
@@ -87,7 +84,7 @@ by_lock : (text : List ℕ) (x : Sheet) → read_text lock_reader text ≡ ok x 
 by_lock text x e w =
     let k = text_taken text x e in
     record {
-      found = record { edition = x.head.edition; allowed = k.0.shaped.allowed; well_formed = well_formed x k.0 w; same = k.1 };
+      found = record { edition = x.head.edition; allowed = k.0.shaped.allowed; well_formed = well_formed x k.0 w; readable = readable x k.0; same = k.1 };
       only = λ l t. ap lock_of (same_sheet text x l t e);
       line = λ n q. absurd cc;
       root = λ q. absurd cc;
@@ -107,12 +104,12 @@ pub one_lock : OneTextOneLock
 one_lock text l m t u = ap lock_of (ok_is (sheet_in t.edition l) (sheet_in u.edition m) (sym (read_of text l t) ∙ read_of text m u))
 
 pub text_is_locks : TextIsLocks
-text_is_locks = second_text
+text_is_locks l h n = second_text l h (lock_readable l n)
 
 pub first_version : FirstVersion
 first_version text l h =
-    let t : IsTextOf text l = record { edition = one; allowed = h.1; well_formed = h.0; same = h.2 } in
-    record { is_text = t; second = second_text l h.0; alone = λ m u. one_lock text m l u t }
+    let t : IsTextOf text l = record { edition = one; allowed = h.2; well_formed = h.0; readable = h.1; same = h.3 } in
+    record { is_text = t; second = second_text l h.0 h.1; alone = λ m u. one_lock text m l u t }
 
 pub faults_once : OneFault
 faults_once = record {

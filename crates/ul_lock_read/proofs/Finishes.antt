@@ -1,5 +1,5 @@
 -- Every state can be led to an end.
-use Rattle.std.proofs.Common.{◌≡◌, ℕ, List, [], ◌∷◌, ◌++◌, map, Bool, true, false, cond, refl, sym, ap, subst, ◌∙◌, append_assoc, arith, Option, Some, None}
+use Rattle.std.proofs.Common.{◌≡◌, ℕ, List, [], ◌∷◌, ◌++◌, Bool, true, false, cond, refl, sym, ap, subst, ◌∙◌, append_assoc, Option, Some, None}
 use Rattle.std.specs.Prelude.{option_and_then, flat_map}
 use Rattle.std.proofs.lemmas.List.{append-nil}
 use Rattle.ul_base.specs.Names.{IsNormalName, name_of, is_name, normal_form}
@@ -11,27 +11,26 @@ use Rattle.ul_lock.specs.declared.parts.Edge.{Edge}
 use Rattle.ul_lock.specs.declared.parts.Extra.{Extra}
 use Rattle.ul_lock.specs.declared.parts.Locked.{Locked}
 use Rattle.ul_lock_lines.specs.declared.lines.Edition.{Edition}
-use Rattle.ul_lock_lines.specs.declared.lines.Edition.TheVariants.{First as one, Second as two}
+use Rattle.ul_lock_lines.specs.declared.lines.Edition.TheVariants.{Second as two}
 use Rattle.ul_lock_write.specs.declared.sheets.Head.{Head}
 use Rattle.ul_lock_write.specs.declared.sheets.Sheet.{Sheet}
 use Rattle.ul_lock_lines.specs.declared.lines.Line.{Line}
-use Rattle.ul_lock_lines.specs.declared.lines.Line.TheVariants.{First as first, Root as root, Supported as supported, Item as item, Close as close, Gap as gap, Entry as entry, Name as name, Version as version, File as file, Edge as edge, Table as table, Opens as opens, Bare as bare}
+use Rattle.ul_lock_lines.specs.declared.lines.Line.TheVariants.{First as first, Root as root, Item as item, Close as close, Gap as gap, Entry as entry, Name as name, Version as version, File as file, Edge as edge, Bare as bare}
 use Rattle.ul_lock_read.specs.declared.states.State.{State}
 use Rattle.ul_lock_read.specs.declared.states.State.TheVariants.{Start as start, Begun as begun, Rooted as rooted, Bounded as bounded, Forking as forking, Headed as headed, Gapped as gapped, Opened as opened, Named as named, Versed as versed, Filing as filing, Fresh as fresh, Needing as needing, Whole as whole, Paused as paused, Tabled as tabled, Listing as listing}
-use Rattle.ul_lock.specs.Region.{all_worlds, is_true}
-use Rattle.ul_lock.specs.Orders.{edge_less, extra_less, file_less, block_less}
-use Rattle.ul_lock_write.specs.Sheet.{sheet_lines, body_lines, head_lines, block_top, block_front, block_lines}
+use Rattle.ul_lock.specs.Region.{all_worlds}
+use Rattle.ul_lock.specs.Orders.{block_less}
+use Rattle.ul_lock_write.specs.Sheet.{sheet_lines, body_lines, head_lines, block_front, block_lines}
 use Rattle.ul_lock_lines.specs.Text.{Fit}
 use Rattle.ul_lock_read.specs.Automaton.{lock_reader, may, step, run, final, head_of, plain_block, sheet_of, tops, name_tops, filled, several}
 use Rattle.ul_lines.specs.Reader.{Each, Begins}
 use Rattle.ul_lines.proofs.ForCallers.{Each-left, Each-right, Each-join, Each-snoc, run_append}
-use Rattle.ul_lock.proofs.ForCallers.{all_region}
-use Rattle.ul_lock.specs.Increasing.{NoneOrSeveral, Rising}
+use Rattle.ul_lock_lines.proofs.ForCallers.{all_readable}
 use Rattle.ul_lock_read.specs.Shaped.{IsSheet}
 use Rattle.ul_base.proofs.ForCallers.{above_is_name}
 use Rattle.ul_version.proofs.ForCallers.{above_is_version, zero_is_version}
 use Rattle.ul_lock_read.proofs.Above.{name_above, version_above, name_tops_above, tops_above}
-use Rattle.ul_lock_read.proofs.Kept.{spelt, Good, Kept, kept, Between, Reads, Between-snoc, body-plain, body-top, body-table}
+use Rattle.ul_lock_read.proofs.Kept.{spelt, Good, Kept, kept, Between, Between-snoc, body-plain, body-top, body-table}
 
 -- lines lead from one state to another
 pub record Leads (s : State) (ls : List Line) (t : State) : Type 0 where
@@ -122,8 +121,8 @@ two_more (m ∷ n ∷ ms) x y = refl
 from_forking : (v : Edition) (r : List ℕ) (s : Plain) (ms : List Plain) → Finishes (forking v r s ms)
 from_forking v r s ms =
     let two_of = (ms ++ all_worlds ∷ []) ++ all_worlds ∷ [] in
-    goes _ (item all_worlds) (forking v r s (ms ++ all_worlds ∷ [])) all_region refl
-    (goes _ (item all_worlds) (forking v r s two_of) all_region refl
+    goes _ (item all_worlds) (forking v r s (ms ++ all_worlds ∷ [])) all_readable refl
+    (goes _ (item all_worlds) (forking v r s two_of) all_readable refl
     (goes _ close (headed (head_of v r s two_of)) tt (may_is (several two_of) (headed (head_of v r s two_of)) (two_more ms all_worlds all_worlds)) (from_headed (head_of v r s two_of))))
 
 from_versed : (h : Head) (bs : List Locked) (n : List ℕ) (v : Fields) → Finishes (versed h bs n v)
@@ -165,7 +164,7 @@ abbrev some_edge : Edge
 some_edge = record { target = record { name = 48 ∷ []; extra = None }; version = plain (0 ∷ []); marker = all_worlds }
 
 edge_fits : Fit (edge some_edge)
-edge_fits = record { name = zero_name; version = zero_is_version; extra = tt; marker = all_region }
+edge_fits = (record { name = zero_name; version = zero_is_version; extra = tt; marker = all_readable.region }, all_readable.readable)
 
 -- 64 zeros
 abbrev zeros : List ℕ

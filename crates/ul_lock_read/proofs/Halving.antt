@@ -1,6 +1,6 @@
 -- Looking up a package by halves.
-use Rattle.std.proofs.Common.{◌≡◌, ℕ, zero, suc, ◌+◌, ◌<◌, ◌≤◌, List, [], ◌∷◌, Bool, true, false, cond, Some, None, length, slice_get, arith, refl, sym, ap, subst, ◌∙◌, inl, inr}
-use Rattle.std.specs.Prelude.{bytes_eq, ◌&&◌, ◌||◌, ◌↔◌, IsTrue}
+use Rattle.std.proofs.Common.{◌≡◌, ℕ, zero, suc, ◌+◌, ◌<◌, ◌≤◌, List, [], ◌∷◌, Bool, true, false, Some, None, length, slice_get, arith, refl, sym, ap, subst, ◌∙◌, inl, inr}
+use Rattle.std.specs.Prelude.{bytes_eq, ◌||◌, ◌↔◌, IsTrue}
 use Rattle.std.specs.List.{list_any}
 use Rattle.std.specs.declared.cmp.Ordering.{Ordering}
 use Rattle.std.specs.declared.cmp.Ordering.TheVariants.{Less, Equal, Greater}
@@ -17,7 +17,7 @@ use Rattle.ul_lines.proofs.ForCallers.{same_text, bytes_eq_self}
 use Rattle.ul_lock.specs.declared.parts.Edge.{Edge}
 use Rattle.ul_lock.specs.declared.parts.Locked.{Locked}
 use Rattle.ul_lock_read.specs.Automaton.{plain_block}
-use Rattle.ul_lock_read.specs.Finding.{HasVersion, AreSorted, StandsAt, IsFound}
+use Rattle.ul_lock_read.specs.Finding.{HasVersion, AreSorted, IsFound}
 use Rattle.ul_lock.specs.Orders.{package_cmp, block_less}
 use Rattle.ul_lock.specs.Increasing.{Rising}
 use Rattle.ul_lock.specs.Targets.{is_named, is_target, has_target}

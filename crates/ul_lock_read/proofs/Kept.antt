@@ -1,9 +1,8 @@
 -- What a state says: the lines that were read, and what holds of them.
 use Rattle.std.proofs.Common.{◌≡◌, ℕ, List, [], ◌∷◌, ◌++◌, map, Bool, true, false, cond, refl, sym, ap, subst, ◌∙◌, append_assoc, Option, Some, None}
-use Rattle.std.specs.Prelude.{bytes_eq, flat_map, option_and_then}
+use Rattle.std.specs.Prelude.{bytes_eq, flat_map}
 use Rattle.std.proofs.lemmas.List.{append-nil, map-append}
 use Rattle.std.proofs.lemmas.List.Concat.{flat_map-append}
-use Rattle.std.specs.Prelude.{Decides}
 use Rattle.std.proofs.lemmas.Slice.Eq.{bytes_eq-Decides}
 use Rattle.ul_nodes.specs.Plain.{Plain}
 use Rattle.ul_version.specs.Fields.{Fields}
@@ -14,19 +13,18 @@ use Rattle.ul_lock.specs.declared.parts.Locked.{Locked}
 use Rattle.ul_lock_lines.specs.declared.lines.Edition.{Edition}
 use Rattle.ul_lock_lines.specs.declared.lines.Edition.TheVariants.{First as one, Second as two}
 use Rattle.ul_lock_write.specs.declared.sheets.Head.{Head}
-use Rattle.ul_lock_write.specs.declared.sheets.Sheet.{Sheet}
 use Rattle.ul_lock_lines.specs.declared.lines.Line.{Line}
 use Rattle.ul_lock_lines.specs.declared.lines.Line.TheVariants.{First as first, Root as root, Supported as supported, Item as item, Close as close, Gap as gap, Entry as entry, Name as name, Version as version, File as file, Edge as edge, Table as table, Opens as opens, Bare as bare}
 use Rattle.ul_lock_read.specs.declared.states.State.{State}
 use Rattle.ul_lock_read.specs.declared.states.State.TheVariants.{Start as start, Begun as begun, Rooted as rooted, Bounded as bounded, Forking as forking, Headed as headed, Gapped as gapped, Opened as opened, Named as named, Versed as versed, Filing as filing, Fresh as fresh, Needing as needing, Whole as whole, Paused as paused, Tabled as tabled, Listing as listing}
 use Rattle.ul_lock.specs.Region.{all_worlds, is_true}
 use Rattle.ul_lock.specs.Orders.{edge_less, extra_less, file_less, block_less}
-use Rattle.ul_lock_write.specs.Sheet.{forks_key, files_key, edges_key, supported_lines, fork_lines, file_lines, edge_lines, listed, extra_lines, table_lines, block_top, block_front, block_lines, head_lines, body_lines, sheet_lines}
-use Rattle.ul_lock_read.specs.Automaton.{may, second, block_list, step, run, final, head_of, plain_block, sheet_of, tops, name_tops, filled, several}
+use Rattle.ul_lock_write.specs.Sheet.{forks_key, files_key, edges_key, supported_lines, fork_lines, file_lines, edge_lines, listed, extra_lines, table_lines, block_top, block_front, block_lines, head_lines, body_lines}
+use Rattle.ul_lock_read.specs.Automaton.{may, second, step, head_of, plain_block, tops, name_tops, filled, several}
 use Rattle.ul_lines.specs.Reader.{Each}
 use Rattle.ul_lines.proofs.ForCallers.{Each-snoc}
-use Rattle.ul_lock.specs.Increasing.{Before, Rising, NoneOrSeveral}
-use Rattle.ul_lock_read.specs.Shaped.{MayHave, IsExtra, IsBlock, IsSheet}
+use Rattle.ul_lock.specs.Increasing.{Rising, NoneOrSeveral}
+use Rattle.ul_lock_read.specs.Shaped.{MayHave, IsExtra, IsBlock}
 use Rattle.ul_lock_read.proofs.Rising.{Rising-snoc, several_are, tops_plain}
 
 -- the lines that lead to a state

@@ -1,3 +1,4 @@
+pub mod ForCallers
 mod Steps
 mod Rising
 mod Kept

@@ -1,5 +1,5 @@
 -- Strictly increasing lists, one more at the end.
-use Rattle.std.proofs.Common.{◌≡◌, ℕ, suc, ◌-◌, length, List, [], ◌∷◌, ◌++◌, Bool, true, false, cond, refl, sym, ap, ◌∙◌, arith, Option, Some, None}
+use Rattle.std.proofs.Common.{◌≡◌, ℕ, suc, ◌-◌, length, List, [], ◌∷◌, ◌++◌, Bool, true, refl, sym, ap, ◌∙◌, arith, Some, None}
 use Rattle.std.specs.Prelude.{slice_get}
 use Rattle.std.specs.Ordering.{is_lt, is_le, ordering_then}
 use Rattle.std.specs.declared.cmp.Ordering.{Ordering}
@@ -9,9 +9,8 @@ use Rattle.ul_version.specs.Order.{version_cmp}
 use Rattle.ul_version.specs.Fields.{Fields}
 use Rattle.ul_lock.specs.declared.parts.Locked.{Locked}
 use Rattle.ul_lock.specs.Orders.{block_less}
-use Rattle.ul_lock_read.specs.Automaton.{tops, name_tops, plain_block, filled, several}
-use Rattle.ul_lines.specs.Reader.{Each}
-use Rattle.ul_lock.specs.Increasing.{Before, Rising, NoneOrSeveral}
+use Rattle.ul_lock_read.specs.Automaton.{tops, name_tops, plain_block, several}
+use Rattle.ul_lock.specs.Increasing.{Rising, NoneOrSeveral}
 
 -- ---- one more at the end
 

@@ -1,5 +1,5 @@
 -- Reading whole texts: the reader of locks is one, and what follows of it.
-use Rattle.std.proofs.Common.{◌≡◌, ℕ, List, Option, Some, None, Result, Ok, Err}
+use Rattle.std.proofs.Common.{◌≡◌, ℕ, List, Ok, Err}
 use Rattle.ul_lines.specs.Lines.{lines_of}
 use Rattle.ul_lines.specs.Faults.{IsFault}
 use Rattle.ul_lines.specs.Reader.{IsReader, read_text}

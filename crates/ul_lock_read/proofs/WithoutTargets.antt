@@ -1,5 +1,5 @@
 -- The first package that leads nowhere, and packages that all lead on.
-use Rattle.std.proofs.Common.{◌≡◌, ℕ, zero, suc, ◌+◌, List, [], ◌∷◌, Bool, true, false, cond, refl, sym, ap, ◌∙◌, arith, Option, Some, None}
+use Rattle.std.proofs.Common.{◌≡◌, ℕ, ◌+◌, List, [], ◌∷◌, Bool, true, false, cond, refl, sym, ap, ◌∙◌, Some, None}
 use Rattle.std.specs.Prelude.{not}
 use Rattle.std.specs.List.{list_all, position_from}
 use Rattle.std.specs.Cmp.{first_so, second_so}

@@ -1,5 +1,5 @@
 -- What the program answers, told by the definitions; want of memory is free.
-use Rattle.std.specs.Prelude.{◌≡◌, ℕ, Bool, true, false, Option, Some, None, Result, Ok, Err}
+use Rattle.std.specs.Prelude.{◌≡◌, ℕ, true, false, Some, Result, Ok, Err}
 use Rattle.ul_lock.specs.declared.parts.Lock.{Lock}
 use Rattle.ul_lock_write.specs.declared.sheets.Sheet.{Sheet}
 use Rattle.ul_lock_read.specs.declared.texts.ShapeFault.{ShapeFault}

@@ -1,5 +1,5 @@
 -- Which line may follow which: a state is what has been read.
-use Rattle.std.specs.Prelude.{ℕ, List, [], ◌∷◌, ◌++◌, Bool, true, false, cond, Option, Some, None, option_and_then, bytes_eq}
+use Rattle.std.specs.Prelude.{ℕ, List, [], ◌∷◌, ◌++◌, Bool, true, false, cond, Option, Some, None, bytes_eq}
 use Rattle.std.specs.Ordering.{is_le}
 use Rattle.ul_base.specs.Names.{name_cmp}
 use Rattle.ul_nodes.specs.Plain.{Plain}

@@ -1,6 +1,5 @@
 -- The main theorem: what reading a lock answers, exactly.
-use Rattle.std.specs.Prelude.{◌≡◌, ℕ, ◌<◌, ◌≤◌, List, length, Bool, true, false, Option, Some, None, Result, Ok, Err, IfOk, Vec}
-use Rattle.std.specs.declared.alloc.Global.{Global}
+use Rattle.std.specs.Prelude.{◌≡◌, ℕ, List, false, Result, Ok, Err, IfOk}
 use Rattle.ul_lines.specs.Lines.{lines_of}
 use Rattle.ul_lines.specs.Faults.{IsFault}
 use Rattle.ul_lock.specs.declared.parts.Lock.{Lock}
@@ -9,7 +8,7 @@ use Rattle.ul_lock_read.specs.declared.locks.LockFault.{LockFault}
 use Rattle.ul_lock_read.specs.declared.locks.LockFault.TheVariants.{Line as LineAt, Root, Target, NoMemory as NoMemoryToRead}
 use Rattle.ul_lock_read.specs.Answers.{LacksTarget}
 use Rattle.ul_lock.specs.Targets.{has_one_root}
-use Rattle.ul_lock_write.specs.Texts.{sheet_text, lock_text}
+use Rattle.ul_lock_write.specs.Texts.{sheet_text}
 use Rattle.ul_lock_read.specs.ShapedTexts.{IsText, AreShaped}
 use Rattle.ul_lock_read.specs.TextOf.{IsTextOf}
 

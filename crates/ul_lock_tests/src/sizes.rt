@@ -53,6 +53,20 @@ pub(crate) fn systems(alloc: Global, count: u64) -> String {
     text
 }
 
+/// A lock's text with a supported region of so many comparisons that must all hold: a path with a node for each.
+pub(crate) fn deep(alloc: Global, count: u64) -> String {
+    let mut text = String::new(alloc);
+    put(&mut text, HEAD);
+    put(&mut text, "supported-markers = \"'10000' in os_name");
+    for place in 1..count {
+        let number = place.wrapping_add(10_000);
+        let _ = write!(text, " and '{number}' in os_name");
+    }
+    put(&mut text, "\"\n");
+    put(&mut text, ROOT);
+    text
+}
+
 // Puts so many letters.
 fn put_letters(alloc: Global, text: &mut String, count: usize) {
     if let Ok(letters) = "a".repeat(alloc, 4096) {

@@ -1,13 +1,13 @@
 //! Whole texts, texts that are cut off, and large ones.
 
-use crate::sizes::{chain, long, systems};
+use crate::sizes::{chain, deep, long, systems};
 use crate::texts::{text_named, told, written};
 use std::alloc::Global;
 use ul_test_rows::cells;
 
 // What is told of a text: what is written of each lock, `whole`; of one of version 1, which has no files, beside that
-// of version 2, `first`; of a chain of packages; of so many paths to true; and of so many bytes. And what is read of the
-// first lines of two leaves and of pins, cut off behind so many bytes.
+// of version 2, `first`; of a chain of packages; of so many paths to true; of so many nodes on a path; and of so many
+// bytes. And what is read of the first lines of two leaves and of pins, cut off behind so many bytes.
 const ROWS: &str = "whole empty same\n\
     whole pins same\n\
     whole leaves same\n\
@@ -28,6 +28,8 @@ const ROWS: &str = "whole empty same\n\
     packages 20000 same\n\
     paths 4096 same\n\
     paths 4097 paths 4097\n\
+    nodes 512 same\n\
+    nodes 513 line 3\n\
     bytes 67108864 same\n\
     bytes 67108865 long\n\
     0 leaves line 1\n\
@@ -63,6 +65,7 @@ fn case_told(alloc: Global, kind: &str, cell: &str) -> String {
         "first" => first_told(alloc, text_named(cell)),
         "packages" => made_told(alloc, chain(alloc, number(cell))),
         "paths" => made_told(alloc, systems(alloc, number(cell))),
+        "nodes" => made_told(alloc, deep(alloc, number(cell))),
         "bytes" => made_told(alloc, long(alloc, number(cell) as usize)),
         count => cut_told(alloc, text_named(cell).as_bytes(), number(count)),
     }

@@ -1,2 +1,4 @@
+pub mod ForCallers
 mod OverPaths
+mod Readable
 mod Written

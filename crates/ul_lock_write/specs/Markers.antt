@@ -1,7 +1,7 @@
--- The markers of a lock, and the first with too many paths.
-use Rattle.std.specs.Prelude.{ℕ, ◌^◌, List, [], ◌∷◌, ◌++◌, flat_map, min, Option, Some, None, nat_lt, if◌then◌else◌}
+-- The markers of a lock, and the first that isn't printed: with too many paths, or too many nodes on one.
+use Rattle.std.specs.Prelude.{ℕ, ◌^◌, List, [], ◌∷◌, ◌++◌, flat_map, min, Option, Some, None, if◌then◌else◌}
 use Rattle.ul_nodes.specs.Plain.{Plain}
-use Rattle.ul_tree.specs.Paths.{paths_of}
+use Rattle.ul_tree.specs.Paths.{paths_of, is_printable}
 use Rattle.ul_lock.specs.declared.parts.Edge.{Edge}
 use Rattle.ul_lock.specs.declared.parts.Extra.{Extra}
 use Rattle.ul_lock.specs.declared.parts.Locked.{Locked}
@@ -27,16 +27,16 @@ fork_marker m = m ∷ []
 abbrev pub markers_of : Lock → List Plain
 markers_of l = l.supported ∷ (flat_map fork_marker l.forks ++ flat_map package_markers l.packages)
 
--- the number of a tree's paths to true, at most 2^127, if there are more than 4,096
+-- the number of a tree's paths to true, at most 2^127, if the tree isn't printed
 unfoldable pub over : Plain → Option ℕ
-over t = if nat_lt 4096 (min (paths_of t) (2 ^ 127)) then Some (min (paths_of t) (2 ^ 127)) else None
+over t = if is_printable t then None else Some (min (paths_of t) (2 ^ 127))
 
 -- the first, or else the second
 abbrev pub or_else : Option ℕ → Option ℕ → Option ℕ
 or_else None more = more
 or_else (Some p) more = Some p
 
--- the number of paths of the first tree that has too many
+-- the number of paths of the first tree that isn't printed
 unfoldable pub first_over : List Plain → Option ℕ
 first_over [] = None
 first_over (t ∷ ts) = or_else (over t) (first_over ts)

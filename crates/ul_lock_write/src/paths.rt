@@ -1,24 +1,23 @@
-//! The first marker of a lock with too many paths. No function takes memory.
+//! The first marker of a lock that isn't printed. No function takes memory.
 
 ghost use Rattle.std.specs.Prelude.{◌≡◌, flat_map, ◌++◌};
 ghost use Rattle.ul_lock_write.specs.Markers.{edge_marker, extra_markers, first_over, fork_marker, markers_of, over, package_markers};
 
 use ul_lock::{Edge, Extra, Lock, Locked, Region};
+use ul_marker_text::is_printable;
 use ul_tree::paths;
 
-// The most paths to true of a marker that is printed.
-const MARKER_PATHS: u128 = 4096;
-
-/// How many paths to true a marker has, if these are too many for it to be printed: more than 4,096.
+/// How many paths to true a marker has, if it isn't printed: more than 4,096, or one of its paths has more than 512
+/// nodes.
 #[tactic(auto, unfolding(crate::specs::Markers::over))]
 pub fn too_many(region: &Region) -> Option<u128>
     ensures { result ≡ over region.now }
 {
-    let count = paths(region.as_tree());
-    if MARKER_PATHS < count {
-        Some(count)
-    } else {
+    let tree = region.as_tree();
+    if is_printable(tree) {
         None
+    } else {
+        Some(paths(tree))
     }
 }
 
@@ -88,7 +87,7 @@ fn of_rest(lock: &Lock) -> Option<u128>
     }
 }
 
-/// How many paths the first marker has that has too many, in the order of the lock's text.
+/// How many paths the first marker has that isn't printed, in the order of the lock's text.
 #[tactic(auto, unfolding(crate::specs::Markers::first_over))]
 pub fn first_too_many(lock: &Lock) -> Option<u128>
     ensures { result ≡ first_over (markers_of lock.now) }

@@ -24,7 +24,8 @@ const TEXT_BYTES: usize = 67_108_864;
 /// Why a lock isn't written.
 #[derive(Debug, Drop)]
 pub enum WriteFault {
-    /// The first marker that has more than 4,096 paths to true has so many; 2^127 stands for more.
+    /// The first marker that isn't printed, since it has more than 4,096 paths to true or one with more than 512 nodes,
+    /// has so many to true; 2^127 stands for more.
     TooManyPaths { paths: u128 },
     /// The text is longer than 67,108,864 bytes.
     TooLong,
@@ -318,7 +319,7 @@ fn whole_text(alloc: Global, lock: &Lock) -> Result<Vec<u8>, WriteFault>
 
 /// The text of a lock, in version 2 of the format.
 ///
-/// Markers with too many paths are found before anything is written.
+/// Markers that aren't printed are found before anything is written.
 pub fn write(alloc: Global, lock: &Lock) -> Result<Vec<u8>, WriteFault>
     ensures { WritesLock lock.now result }
 {

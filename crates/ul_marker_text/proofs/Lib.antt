@@ -19,3 +19,4 @@ pub mod PlainTexts
 pub mod MarkersRead
 pub mod ForCallers
 pub mod Mapped
+pub mod Levels

@@ -32,7 +32,7 @@ use Rattle.ul_tree.specs.Sample.{asks_extra}
 use Rattle.ul_tree.specs.Values.{value_of, tree_holds}
 use Rattle.ul_tree.proofs.ForCallers.{Each, operations, one_truth_one_tree, extra_reduced, text_reduced, opaque_reduced, bytes_self, paths_truth, number_back, level_back}
 use Rattle.ul_marker_text.specs.Headline.{IsNoTruth, MarkerTexts}
-use Rattle.ul_marker_text.specs.MarkerOfText.{bound_tree, clause_tree, extra_tree, formula_tree, tree_of_all, tree_of_any, is_region, tree_with_text, marker_of_text, IsMarker}
+use Rattle.ul_marker_text.specs.MarkerOfText.{bound_tree, clause_tree, extra_tree, formula_tree, tree_of_all, tree_of_any, is_region, is_readable, tree_with_text, marker_of_text, IsMarker}
 use Rattle.ul_marker_text.specs.MarkerText.{marker_text, printed_form, printed_path, printed_paths, key_comparison}
 use Rattle.ul_marker_text.proofs.Placed.{GoodComparison, variable_place}
 use Rattle.ul_marker_text.proofs.StepsBack.{GoodRow}
@@ -214,15 +214,17 @@ node_tree l d bs h =
     one_truth_one_tree (formula_tree f) t (formula_reduced f is) h
     (λ w x iw ia ie. paths_tree (paths_to_true t) w x is (node_paths l d bs h).rows ∙ sym (paths_truth t h w x))
 
--- a reduced tree that isn't the same truth everywhere, and asks for no extra, is read back
-pub tree_is_marker : (t : Plain) → IsReduced t → asks_extra t ≡ false → IsNoTruth t → IsMarker t
+-- a reduced tree that isn't the same truth everywhere, asks for no extra, and has few enough nodes on each path, is
+-- read back
+pub tree_is_marker : (t : Plain) → IsReduced t → asks_extra t ≡ false → IsNoTruth t → is_readable t ≡ true → IsMarker t
 unfolding marker_of_text
-tree_is_marker (truth b) h e n = absurd (n b refl)
-tree_is_marker (node l d bs) h e n =
+tree_is_marker (truth b) h e n r = absurd (n b refl)
+tree_is_marker (node l d bs) h e n r =
     let t = node l d bs in
     ap (λ o. o >>= λ f. tree_with_text (marker_text t) (formula_tree f)) (node_reads l d bs h)
     ∙ ap (tree_with_text (marker_text t)) (node_tree l d bs h)
-    ∙ ap (λ b. if not b then (if bytes_eq (marker_text t) (marker_text t) then Some t else None) else None) e
+    ∙ ap (λ b. if not b && is_readable t then (if bytes_eq (marker_text t) (marker_text t) then Some t else None) else None) e
+    ∙ ap (λ b. if b then (if bytes_eq (marker_text t) (marker_text t) then Some t else None) else None) r
     ∙ ap (λ b. if b then Some t else None) (bytes_self (marker_text t))
 
 -- two reduced trees with one text are one
@@ -262,20 +264,34 @@ star_is_true t h f e = one_text t (truth true) h tt f (λ q. cc) (e ∙ sym star
 
 -- ---- what is read of a text
 
-with_text : (b : List ℕ) (s t : Plain) → tree_with_text b s ≡ Some t → (s ≡ t) × (is_region t ≡ true) × (marker_text t ≡ b)
-with_text b s t e = go (is_region s) (bytes_eq (marker_text s) b) refl refl e
-  where
-    go : (x y : Bool) → is_region s ≡ x → bytes_eq (marker_text s) b ≡ y → (if x then (if y then Some s else None) else None) ≡ Some t → (s ≡ t) × (is_region t ≡ true) × (marker_text t ≡ b)
-    go true true p q e =
-        let same : s ≡ t = cc in
-        (same, subst (λ (z : Plain). is_region z ≡ true) same p, subst (λ (z : Plain). marker_text z ≡ b) same ((bytes_eq-Decides (marker_text s) b).0 q))
-    go true false p q e = absurd cc
-    go false y p q e = absurd cc
+-- a tree with a text: a region that may be read
+record HasText (b : List ℕ) (s t : Plain) : Type 0 where
+  same : s ≡ t
+  region : is_region t ≡ true
+  readable : is_readable t ≡ true
+  spelled : marker_text t ≡ b
 
--- a tree that is read of a text: reduced, a region, with this text
+with_text : (b : List ℕ) (s t : Plain) → tree_with_text b s ≡ Some t → HasText b s t
+with_text b s t e = go (is_region s) (is_readable s) (bytes_eq (marker_text s) b) refl refl refl e
+  where
+    go : (x y z : Bool) → is_region s ≡ x → is_readable s ≡ y → bytes_eq (marker_text s) b ≡ z → (if x && y then (if z then Some s else None) else None) ≡ Some t → HasText b s t
+    go true true true p d q e =
+        let same : s ≡ t = cc in
+        record {
+          same = same;
+          region = subst (λ (z : Plain). is_region z ≡ true) same p;
+          readable = subst (λ (z : Plain). is_readable z ≡ true) same d;
+          spelled = subst (λ (z : Plain). marker_text z ≡ b) same ((bytes_eq-Decides (marker_text s) b).0 q);
+        }
+    go true true false p d q e = absurd cc
+    go true false z p d q e = absurd cc
+    go false y z p d q e = absurd cc
+
+-- a tree that is read of a text: reduced, a region that may be read, with this text
 pub record IsReadOf (b : List ℕ) (t : Plain) : Type 0 where
   pub reduced : IsReduced t
   pub region : is_region t ≡ true
+  pub readable : is_readable t ≡ true
   pub spelled : marker_text t ≡ b
 
 pub read_is : (b : List ℕ) (t : Plain) → marker_of_text b ≡ Some t → IsReadOf b t
@@ -286,7 +302,7 @@ read_is b t e = go (marker_of b) refl e
     go None p e = absurd cc
     go (Some f) p e =
         let w = with_text b (formula_tree f) t e in
-        record { reduced = subst (λ (z : Plain). IsReduced z) w.0 (formula_reduced f (marker-formula b f p)); region = w.1; spelled = w.2 }
+        record { reduced = subst (λ (z : Plain). IsReduced z) w.same (formula_reduced f (marker-formula b f p)); region = w.region; readable = w.readable; spelled = w.spelled }
 
 pub text_again : (b : List ℕ) (t : Plain) → marker_of_text b ≡ Some t → marker_text t ≡ b
 text_again b t e = (read_is b t e).spelled
@@ -299,6 +315,9 @@ marker_reduced t h = (read_is (marker_text t) t h).reduced
 
 pub marker_region : (t : Plain) → IsMarker t → is_region t ≡ true
 marker_region t h = (read_is (marker_text t) t h).region
+
+pub marker_readable : (t : Plain) → IsMarker t → is_readable t ≡ true
+marker_readable t h = (read_is (marker_text t) t h).readable
 
 pub truth_is_none : (v : Bool) → IsMarker (truth v) → ⊥
 truth_is_none v h = let p : false ≡ true = marker_region (truth v) h in cc
@@ -322,9 +341,9 @@ pub star_is_none : marker_of_text (42 ∷ []) ≡ None
 unfolding marker_of_text
 star_is_none = ap (λ o. o >>= λ f. tree_with_text (42 ∷ []) (formula_tree f)) star_none
 
--- a reduced region with this text is what is read
-pub region_read : (b : List ℕ) (t : Plain) → IsReduced t → is_region t ≡ true → marker_text t ≡ b → marker_of_text b ≡ Some t
-region_read b t h e s = ap marker_of_text (sym s) ∙ tree_is_marker t h (region_no_extra t e) (region_no_truth t e)
+-- a reduced region that may be read and has this text is what is read
+pub region_read : (b : List ℕ) (t : Plain) → IsReduced t → is_region t ≡ true → is_readable t ≡ true → marker_text t ≡ b → marker_of_text b ≡ Some t
+region_read b t h e d s = ap marker_of_text (sym s) ∙ tree_is_marker t h (region_no_extra t e) (region_no_truth t e) d
 
 pub marker_texts : MarkerTexts
-marker_texts = record { one = one_text; marker = text_reads; back = λ t h n e. tree_is_marker t h e n }
+marker_texts = record { one = one_text; marker = text_reads; back = λ t h n e r. tree_is_marker t h e n r }

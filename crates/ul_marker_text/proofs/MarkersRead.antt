@@ -9,7 +9,7 @@ use Rattle.std.specs.Str.{IsUtf8}
 use Rattle.ul_comparison.specs.Atoms.{is_literal_byte}
 use Rattle.ul_nodes.specs.Plain.{Plain, truth}
 use Rattle.ul_nodes.specs.Reduced.{IsReduced}
-use Rattle.ul_marker_text.specs.MarkerOfText.{is_region, marker_of_text}
+use Rattle.ul_marker_text.specs.MarkerOfText.{is_readable, is_region, marker_of_text}
 use Rattle.ul_marker_text.specs.MarkerText.{marker_text}
 use Rattle.ul_marker_text.proofs.MarkerTrees.{read_is, region_read, region_no_truth, one_text}
 use Rattle.ul_marker_text.proofs.PlainTexts.{marker_plain}
@@ -21,9 +21,9 @@ none_by (Some t) h = absurd (h t refl)
 region_not_false : (t : Plain) → is_region t ≡ true → t ≢ truth false
 region_not_false t e q = region_no_truth t e false q
 
--- a text that isn't one of a reduced tree is no marker
-pub no_marker : (b : List ℕ) → ((t : Plain) → IsReduced t → t ≢ truth false → marker_text t ≡ b → ⊥) → None ≡ marker_of_text b
-no_marker b h = none_by (marker_of_text b) (λ t e. let r = read_is b t e in h t r.reduced (region_not_false t r.region) r.spelled)
+-- a text that isn't one of a reduced tree that may be read is no marker
+pub no_marker : (b : List ℕ) → ((t : Plain) → IsReduced t → t ≢ truth false → is_readable t ≡ true → marker_text t ≡ b → ⊥) → None ≡ marker_of_text b
+no_marker b h = none_by (marker_of_text b) (λ t e. let r = read_is b t e in h t r.reduced (region_not_false t r.region) r.readable r.spelled)
 
 -- a tree that is no region gives none
 pub no_region : (b : List ℕ) (t : Plain) → IsReduced t → t ≢ truth false → marker_text t ≡ b → is_region t ≡ false → None ≡ marker_of_text b
@@ -48,7 +48,7 @@ plain_utf8 xs h = IsUtf8-from_ascii xs (IsAscii-from_all xs (λ k d lt. ascii_at
 
 -- bytes that are no text are no marker
 pub no_utf8 : (b : List ℕ) → (IsUtf8 b → ⊥) → None ≡ marker_of_text b
-no_utf8 b h = no_marker b (λ t r f s. h (subst (λ (z : List ℕ). IsUtf8 z) s (plain_utf8 (marker_text t) (marker_plain t r f))))
+no_utf8 b h = no_marker b (λ t r f d s. h (subst (λ (z : List ℕ). IsUtf8 z) s (plain_utf8 (marker_text t) (marker_plain t r f))))
 
-pub region_is : (b : List ℕ) (t : Plain) → IsReduced t → true ≡ is_region t → marker_text t ≡ b → Some t ≡ marker_of_text b
-region_is b t h e s = sym (region_read b t h (sym e) s)
+pub region_is : (b : List ℕ) (t : Plain) → IsReduced t → true ≡ is_region t → is_readable t ≡ true → marker_text t ≡ b → Some t ≡ marker_of_text b
+region_is b t h e d s = sym (region_read b t h (sym e) d s)

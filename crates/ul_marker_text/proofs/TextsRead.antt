@@ -1,6 +1,6 @@
 -- What is read of a tree's text is the tree.
-use Rattle.std.proofs.Common.{◌≡◌, ◌≢◌, ℕ, List, [], map, true, false, refl, ap, sym, ◌∙◌, Option, Some, None, Err}
-use Rattle.std.specs.Prelude.{Vec, codes}
+use Rattle.std.proofs.Common.{◌≡◌, ◌≢◌, ℕ, List, [], map, true, false, refl, ap, sym, ◌∙◌, subst, Option, Some, None, Result, Ok, Err}
+use Rattle.std.specs.Prelude.{Vec, IfOk, codes}
 use Rattle.std.specs.declared.alloc.Global.{Global}
 use Rattle.std.specs.Str.{bytes_eq}
 use Rattle.std.proofs.lemmas.Slice.Eq.{bytes_eq-Decides}
@@ -19,12 +19,14 @@ use Rattle.ul_nodes.specs.Plain.{Plain, truth, node}
 use Rattle.ul_nodes.specs.Reduced.{IsReduced}
 use Rattle.ul_tree.proofs.ForCallers.{tree_back, bytes_self}
 use Rattle.ul_marker_text.specs.Headline.{IsNoTruth}
+use Rattle.ul_marker_text.specs.MarkerOfText.{is_readable}
 use Rattle.ul_marker_text.specs.MarkerText.{marker_text, printed_path, printed_paths}
 use Rattle.ul_marker_text.specs.Rows.{conjuncts, disjuncts, IsNoRows}
 use Rattle.ul_marker_text.specs.RowViews.{rows_view}
-use Rattle.ul_marker_text.specs.StepViews.{rows_tree}
-use Rattle.ul_marker_text.specs.TextFacts.{IsNodeText}
+use Rattle.ul_marker_text.specs.StepViews.{rows_steps, rows_tree}
+use Rattle.ul_marker_text.specs.TextFacts.{AreWithin, IsNodeText}
 use Rattle.ul_marker_text.proofs.Goods.{tree_good}
+use Rattle.ul_marker_text.proofs.Levels.{readable_within, within_readable}
 use Rattle.ul_marker_text.proofs.RowsBack.{rows_back, rows_are}
 use Rattle.ul_marker_text.proofs.SaidTruths.{node_reads}
 use Rattle.ul_marker_text.proofs.TreeTexts.{node_paths, printed_all, paths_some}
@@ -47,15 +49,35 @@ no_rows spelled (node l d bs) f h e none =
     let n = node_paths l d bs h.reduced in
     none (printed_paths t) (paths_some (paths_to_true t) n.some) (printed_all (paths_to_true t) n.rows) (sym (formula_is spelled t f h e))
 
--- the tree of the rows is the tree
-pub rows_tree_is : (spelled : List ℕ) (t : Plain) (f : Formula) (rows : List (Vec Comparison Global)) → IsNodeText spelled t → marker_of spelled ≡ Some f → rows_view rows ≡ map conjuncts (disjuncts f) → rows_tree rows ≡ t
-rows_tree_is spelled (truth b) f rows h e r = absurd (h.no_truth b refl)
-rows_tree_is spelled (node l d bs) f rows h e r =
+-- the rows of a marker are these comparisons
+abbrev pub AreRows : List (Vec Comparison Global) → Formula → Type 0
+AreRows rows f = rows_view rows ≡ map conjuncts (disjuncts f)
+
+-- the steps of the rows are the tree's paths
+rows_paths : (spelled : List ℕ) (t : Plain) (f : Formula) (rows : List (Vec Comparison Global)) → IsNodeText spelled t → marker_of spelled ≡ Some f → AreRows rows f → rows_steps rows ≡ paths_to_true t
+rows_paths spelled (truth b) f rows h e r = absurd (h.no_truth b refl)
+rows_paths spelled (node l d bs) f rows h e r =
     let t = node l d bs in
     let n = node_paths l d bs h.reduced in
     let view : rows_view rows ≡ map (map comparison_formula) (map printed_path (paths_to_true t)) =
     r ∙ ap (λ z. map conjuncts (disjuncts z)) (formula_is spelled t f h e) ∙ rows_back (printed_paths t) (paths_some (paths_to_true t) n.some) in
-    ap (λ z. tree_of (fan_of z)) (rows_are rows (paths_to_true t) (tree_good t [] h.reduced) n.rows view) ∙ tree_back t [] h.reduced
+    rows_are rows (paths_to_true t) (tree_good t [] h.reduced) n.rows view
+
+-- the tree of the rows is the tree
+pub rows_tree_is : (spelled : List ℕ) (t : Plain) (f : Formula) (rows : List (Vec Comparison Global)) → IsNodeText spelled t → marker_of spelled ≡ Some f → AreRows rows f → rows_tree rows ≡ t
+rows_tree_is spelled t f rows h e r = ap (λ z. tree_of (fan_of z)) (rows_paths spelled t f rows h e r) ∙ tree_back t [] h.reduced
+
+-- the tree is one that is read where each row has few steps, and there alone
+pub rows_readable : (spelled : List ℕ) (t : Plain) (f : Formula) (rows : List (Vec Comparison Global)) → IsNodeText spelled t → marker_of spelled ≡ Some f → AreRows rows f → AreWithin 512 (rows_steps rows) → is_readable t ≡ true
+rows_readable spelled t f rows h e r w = within_readable t [] h.reduced (subst (λ z. AreWithin 512 z) (rows_paths spelled t f rows h e r) w)
+
+pub readable_rows : (spelled : List ℕ) (t : Plain) (f : Formula) (rows : List (Vec Comparison Global)) → IsNodeText spelled t → marker_of spelled ≡ Some f → AreRows rows f → is_readable t ≡ true → AreWithin 512 (rows_steps rows)
+readable_rows spelled t f rows h e r is = subst (λ z. AreWithin 512 z) (sym (rows_paths spelled t f rows h e r)) (readable_within t is)
+
+-- what is found by two facts of it
+pub found_by : {X F : Type 0} (result : Result X F) (A B C : X → Type 0) → ((x : X) → A x → B x → C x) → IfOk result A → IfOk result B → IfOk result C
+found_by (Ok x) A B C f a b = f x a b
+found_by (Err e) A B C f a b = tt
 
 pub reads_none : {X Y : Type 0} (view : X → Y) (fault : MarkerFault) (reading : Option Y) → Reads view (Err fault) reading → fault ≡ NoReading → reading ≡ None
 reads_none view NoReading reading h e = h

@@ -101,7 +101,7 @@ rows_text p ps h =
 -- ---- paths of a reduced tree
 
 -- each path has a step
-abbrev Walked : List (List Step) → Type 0
+abbrev pub Walked : List (List Step) → Type 0
 Walked ps = Each Filled ps
 
 walked_append : (ps qs : List (List Step)) → Walked ps → Walked qs → Walked (ps ++ qs)
@@ -121,7 +121,7 @@ walked_at : (bs : Branches) (l : List ℕ) → Walked (paths_at l bs)
 walked_at done l = tt
 walked_at (branch k c rest) l = walked_append (longer_paths (point l k) (paths_to_true c)) (paths_at l rest) (walked_led (point l k) (paths_to_true c)) (walked_at rest l)
 
-walked_node : (l : List ℕ) (d : Plain) (bs : Branches) → Walked (paths_to_true (node l d bs))
+pub walked_node : (l : List ℕ) (d : Plain) (bs : Branches) → Walked (paths_to_true (node l d bs))
 walked_node l d bs = go (carries l)
   where
     go : (m : Bool) → Walked (if m then paths_from 0 (paths_to_true d) bs else paths_at l bs ++ longer_paths (others l (keys bs)) (paths_to_true d))
@@ -139,7 +139,7 @@ pub record HasPaths (t : Plain) : Type 0 where
   pub some : Filled (paths_to_true t)
   pub rows : Each (λ p. GoodRow (path_comparisons p)) (paths_to_true t)
 
-some_path : (ps : List (List Step)) (l : List ℕ) (d : Plain) (bs : Branches) → tree_of (fan_of ps) ≡ node l d bs → Filled ps
+pub some_path : (ps : List (List Step)) (l : List ℕ) (d : Plain) (bs : Branches) → tree_of (fan_of ps) ≡ node l d bs → Filled ps
 some_path [] l d bs e = absurd cc
 some_path (p ∷ ps) l d bs e = tt
 

@@ -1,6 +1,6 @@
 -- When there is no text of a tree.
-use Rattle.std.specs.Prelude.{◌≡◌, ◌<◌, ◌^◌, min}
-use Rattle.ul_tree.specs.Paths.{paths_of}
+use Rattle.std.specs.Prelude.{◌≡◌, ◌^◌, false, min}
+use Rattle.ul_tree.specs.Paths.{paths_of, is_printable}
 use Rattle.ul_nodes.specs.Plain.{Plain}
 use Rattle.ul_marker_text.specs.declared.fault.TextFault.{TextFault}
 use Rattle.ul_marker_text.specs.declared.fault.TextFault.TheVariants.{TooLong, NoMemory}
@@ -10,7 +10,8 @@ abbrev pub is_no_memory : TextFault → Type 0
 is_no_memory (TooLong paths) = ⊥
 is_no_memory NoMemory = Unit {0}
 
--- more than 4,096 paths lead to true, and how many; want of memory says nothing of the tree
+-- more than 4,096 paths lead to true, or one has more than 512 nodes, and how many lead to true; want of memory says
+-- nothing of the tree
 abbrev pub IsTextFault : Plain → TextFault → Type 0
-IsTextFault t (TooLong paths) = (4096 < paths_of t) × (paths ≡ min (paths_of t) (2 ^ 127))
+IsTextFault t (TooLong paths) = (is_printable t ≡ false) × (paths ≡ min (paths_of t) (2 ^ 127))
 IsTextFault t NoMemory = Unit {0}

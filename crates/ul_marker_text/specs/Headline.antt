@@ -9,7 +9,7 @@ use Rattle.ul_nodes.specs.Reduced.{IsReduced}
 use Rattle.ul_tree.specs.Sample.{asks_extra}
 use Rattle.ul_tree.specs.Values.{tree_holds}
 use Rattle.ul_marker_text.specs.MarkerText.{marker_text}
-use Rattle.ul_marker_text.specs.MarkerOfText.{IsMarker}
+use Rattle.ul_marker_text.specs.MarkerOfText.{is_readable, IsMarker}
 
 -- a tree that isn't the same truth everywhere
 abbrev pub IsNoTruth : Plain → Type 0
@@ -22,8 +22,9 @@ pub record ReadsAs (text : List ℕ) (t : Plain) : Type 0 where
   pub truth : (w : WorldFields) (x : List ℕ) → IsWorld w → marker_holds formula w x ≡ tree_holds t w x
 
 -- two reduced trees with one text are one tree, `*` is the text of the tree that is true everywhere alone, and the
--- text of each other tree is read as a marker with the tree's truth; a tree that asks for no extra is read back
+-- text of each other tree is read as a marker with the tree's truth; a tree that asks for no extra, and has few enough
+-- nodes on each path, is read back
 pub record MarkerTexts : Type 0 where
   pub one : (s t : Plain) → IsReduced s → IsReduced t → s ≢ truth Bool.false → t ≢ truth Bool.false → marker_text s ≡ marker_text t → s ≡ t
   pub marker : (t : Plain) → IsReduced t → IsNoTruth t → ReadsAs (marker_text t) t
-  pub back : (t : Plain) → IsReduced t → IsNoTruth t → asks_extra t ≡ Bool.false → IsMarker t
+  pub back : (t : Plain) → IsReduced t → IsNoTruth t → asks_extra t ≡ Bool.false → is_readable t ≡ Bool.true → IsMarker t

@@ -1,6 +1,7 @@
 -- The tree whose text this is, where it is one that a marker or a fork of a lock may have: neither true nor false
--- everywhere, and asking for no extra. The text is read as a marker, and its tree is the one if it has this text.
-use Rattle.std.specs.Prelude.{◌≡◌, ◌==◌, ◌||◌, ◌^◌, ℕ, List, [], ◌∷◌, Bool, true, false, not, nat_lt, Option, Some, None, slice_index, if◌then◌else◌}
+-- everywhere, asking for no extra, and with few enough nodes on each path. The text is read as a marker, and its tree
+-- is the one if it has this text.
+use Rattle.std.specs.Prelude.{◌≡◌, ◌==◌, ◌||◌, ◌&&◌, ◌^◌, ℕ, List, [], ◌∷◌, Bool, true, false, not, nat_le, nat_lt, Option, Some, None, slice_index, if◌then◌else◌}
 use Rattle.std.specs.Str.{bytes_eq}
 use Rattle.ul_base.specs.Names.{is_name}
 use Rattle.ul_version.specs.Reading.{◌>>=◌}
@@ -11,6 +12,7 @@ use Rattle.ul_marker.specs.Reading.{marker_of}
 use Rattle.ul_comparison.specs.Truth.{is_empty}
 use Rattle.ul_tree.specs.Laws.{and_of, or_of}
 use Rattle.ul_tree.specs.Leaves.{point_tree}
+use Rattle.ul_tree.specs.Paths.{levels_of}
 use Rattle.ul_nodes.specs.Levels.{extra_level, python_level, text_level, atom_level}
 use Rattle.ul_tree.specs.Pieces.{packed_number}
 use Rattle.ul_nodes.specs.Plain.{Plain, truth, node}
@@ -58,9 +60,13 @@ abbrev pub is_region : Plain → Bool
 is_region (truth b) = false
 is_region (node l d bs) = not (asks_extra (node l d bs))
 
+-- whether the text of a tree is read: none of its paths has more than 512 nodes
+unfoldable pub is_readable : Plain → Bool
+is_readable t = nat_le (levels_of t) 512
+
 -- a tree, if it is such a tree and has this text
 abbrev pub tree_with_text : List ℕ → Plain → Option Plain
-tree_with_text spelled t = if is_region t then (if bytes_eq (marker_text t) spelled then Some t else None) else None
+tree_with_text spelled t = if is_region t && is_readable t then (if bytes_eq (marker_text t) spelled then Some t else None) else None
 
 -- the tree of a text
 unfoldable pub marker_of_text : List ℕ → Option Plain

@@ -1,10 +1,11 @@
 //! The tree of paths, level by level: paths with one step lead to one part.
-ghost use Rattle.std.specs.Prelude.{◌≡◌, ◌≤◌, suc, IfOk, length};
+ghost use Rattle.std.specs.Prelude.{◌≡◌, ◌≤◌, ◌+◌, IfOk, length};
 ghost use Rattle.ul_tree.specs.Fans.{parts_of, tree_of};
 ghost use Rattle.ul_nodes.specs.Keys.{level_view};
 ghost use Rattle.ul_tree.specs.Views.{tree_view};
 ghost use Rattle.ul_marker_text.specs.Nodes.{front_count, parts_view, starts, KeepFirst, KeepParts, Keeps};
-ghost use Rattle.ul_marker_text.specs.StepViews.{above_view, fan_from, path_from, paths_from, step_view};
+ghost use Rattle.ul_marker_text.specs.StepViews.{above_view, fan_from, path_from, paths_from, paths_view, step_view};
+ghost use Rattle.ul_marker_text.specs.TextFacts.{AreWithin};
 
 use crate::nodes::node_of;
 use crate::steps::{Step, same_step, step_level};
@@ -12,16 +13,6 @@ use std::alloc::{AllocError, Global};
 use std::collections::VecDeque;
 use ul_nodes::level::Level;
 use ul_tree::Tree;
-
-// The room that is left a level further down; want of memory where there is none.
-fn deeper(room: usize) -> Result<usize, AllocError>
-    ensures { IfOk result (λ rest. suc rest ≡ room) }
-{
-    match room.checked_sub(1) {
-        Some(rest) => Ok(rest),
-        None => Err(AllocError),
-    }
-}
 
 // Whether a path has a step at a place.
 fn starts_with(path: &Vec<Step<'_, '_>>, at: usize, step: &Step<'_, '_>) -> bool
@@ -55,6 +46,7 @@ fn parts<'r, 'm>(
     level: Level<'m>,
     room: usize,
 ) -> Result<VecDeque<(Step<'r, 'm>, Tree)>, AllocError>
+    requires { AreWithin (at + 1 + room) (paths_view paths.now) }
     ensures { IfOk result (λ q. KeepParts (level_view level.entry) (parts_of (fan_from at paths.now))
         (parts_view q.items)) }
 {
@@ -75,9 +67,8 @@ fn parts<'r, 'm>(
     Ok(made)
 }
 
-/// The tree of paths from one of their steps on, if it is reduced below a level; else some reduced tree.
-///
-/// Want of memory where a path has more steps than `room`.
+/// The tree of paths from one of their steps on, if it is reduced below a level; else some reduced tree. No path has
+/// more than `room` steps from there on.
 #[cycle(build)]
 pub fn build<'m>(
     alloc: Global,
@@ -86,6 +77,7 @@ pub fn build<'m>(
     above: Option<Level<'m>>,
     room: usize,
 ) -> Result<Tree, AllocError>
+    requires { AreWithin (at + room) (paths_view paths.now) }
     ensures { IfOk result (λ t. Keeps (above_view above.entry) (tree_of (fan_from at paths.now)) (tree_view t)) }
 {
     let [first, ..] = paths else {
@@ -94,9 +86,8 @@ pub fn build<'m>(
     if first.len() <= at {
         return Ok(Tree::Truth(true));
     }
-    let room = deeper(room)?;
     let step = first[at];
     let level = step_level(&step);
-    let parts = parts(alloc, paths, at, level, room)?;
+    let parts = parts(alloc, paths, at, level, room - 1)?;
     node_of(alloc, above, level, parts)
 }

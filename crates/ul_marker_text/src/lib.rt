@@ -11,6 +11,6 @@ mod rows;
 mod steps;
 mod texts;
 
-pub use depth::DEEPEST_TEXT;
+pub use depth::{DEEPEST_TEXT, is_printable};
 pub use fault::TextFault;
 pub use texts::{read, read_marker, text};

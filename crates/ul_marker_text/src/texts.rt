@@ -1,25 +1,25 @@
 //! The text of a tree, both ways.
-ghost use Rattle.std.specs.Prelude.{◌≡◌, ◌≢◌, ◌≤◌, ℕ, List, [], IfOk, IfErr, Err, Some, false, string_bytes, option_map};
+ghost use Rattle.std.specs.Prelude.{◌≡◌, ◌≢◌, ℕ, List, [], IfOk, IfErr, Err, Some, true, false, string_bytes, option_map};
 ghost use Rattle.std.specs.Str.{bytes_eq};
 ghost use Rattle.ul_marker.specs.Reading.{marker_of};
 ghost use Rattle.ul_marker.specs.Views.{marker_view};
 ghost use Rattle.ul_marker.specs.declared.fault.MarkerFault.TheVariants.{NoReading};
-ghost use Rattle.ul_tree.specs.Paths.{paths_of};
+ghost use Rattle.ul_tree.specs.Paths.{is_printable as is_printable_plain};
 ghost use Rattle.ul_nodes.specs.Plain.{Plain, truth};
 ghost use Rattle.ul_nodes.specs.Reduced.{IsReduced};
 ghost use Rattle.ul_tree.specs.TreeFacts.{IsTree};
 ghost use Rattle.ul_tree.specs.Views.{tree_view};
 ghost use Rattle.ul_marker_text.specs.Faults.{IsTextFault};
 ghost use Rattle.ul_marker_text.specs.MarkerOfText as spec;
-ghost use Rattle.ul_marker_text.specs.MarkerOfText.{marker_of_text};
+ghost use Rattle.ul_marker_text.specs.MarkerOfText.{is_readable, marker_of_text};
 ghost use Rattle.ul_marker_text.specs.MarkerText.{marker_text};
 ghost use Rattle.ul_marker_text.specs.Nodes.{Keeps};
 ghost use Rattle.ul_marker_text.specs.StepViews.{paths_view, rows_tree, rows_steps};
-ghost use Rattle.ul_marker_text.specs.TextFacts.{IsNodeText};
+ghost use Rattle.ul_marker_text.specs.TextFacts.{AreWithin, IsFound, IsNodeText};
 
 use crate::TextFault;
 use crate::building::build;
-use crate::depth::{DEEPEST_TEXT, is_within};
+use crate::depth::{DEEPEST_TEXT, is_printable};
 use crate::printing::print;
 use crate::rows::rows;
 use crate::steps::{Step, steps};
@@ -29,9 +29,6 @@ use ul_marker::printed::Comparison;
 use ul_marker::{Marker, MarkerFault};
 use ul_tree::part::{asks_extra, is_false, known, truth_value};
 use ul_tree::{Tree, paths};
-
-// How many paths a text may have.
-const MOST_PATHS: u128 = 4096;
 
 // The text of a tree, however long.
 fn whole_text(alloc: Global, tree: &Tree) -> Result<String, AllocError>
@@ -51,73 +48,75 @@ fn whole_text(alloc: Global, tree: &Tree) -> Result<String, AllocError>
 ///
 /// # Errors
 ///
-/// `TooLong` exactly where more than 4,096 paths lead to true; they are counted first. A tree with more than 512
-/// levels on a path is answered by want of memory.
+/// `TooLong` exactly where more than 4,096 paths lead to true, or one has more than 512 nodes.
 pub fn text(alloc: Global, tree: &Tree) -> Result<String, TextFault>
     requires reduced { IsReduced (tree_view tree.now) }
     requires not_false { tree_view tree.now ≢ truth false }
     ensures text { IfOk result (λ s. string_bytes s ≡ marker_text (tree_view tree.now)) }
-    ensures fits { IfOk result (λ s. paths_of (tree_view tree.now) ≤ 4096) }
+    ensures fits { IfOk result (λ s. is_printable_plain (tree_view tree.now) ≡ true) }
     ensures refused { IfErr result (λ e. IsTextFault (tree_view tree.now) e) }
 {
-    if !is_within(tree, DEEPEST_TEXT) {
-        return Err(TextFault::NoMemory);
-    }
-    let paths = paths(tree);
-    if paths > MOST_PATHS {
-        return Err(TextFault::TooLong { paths });
+    if !is_printable(tree) {
+        return Err(TextFault::TooLong { paths: paths(tree) });
     }
     let text = whole_text(alloc, tree)?;
     Ok(text)
 }
 
-// The steps of paths; want of memory where one has too many.
+// The steps of paths, if none has too many.
 fn paths_of_rows<'r, 'm>(
     alloc: Global,
     rows: &'r [Vec<Comparison<'m>>],
-) -> Result<Vec<Vec<Step<'r, 'm>>>, AllocError>
-    ensures { IfOk result (λ v. paths_view v.items ≡ rows_steps rows.now) }
+) -> Result<Vec<Vec<Step<'r, 'm>>>, MarkerFault>
+    ensures paths { IfOk result (λ v. paths_view v.items ≡ rows_steps rows.now) }
+    ensures within { IfOk result (λ v. AreWithin 512 (paths_view v.items)) }
+    ensures refused { result ≡ Err NoReading → AreWithin 512 (rows_steps rows.now) → ⊥ }
 {
     let mut found = Vec::new(alloc);
     for row in rows {
         let path = steps(alloc, row)?;
         if path.len() > DEEPEST_TEXT {
-            return Err(AllocError);
+            return Err(MarkerFault::NoReading);
         }
         found.push(path)?;
     }
     Ok(found)
 }
 
-// The tree of rows of comparisons, if it is reduced; else some reduced tree.
-fn tree_of_rows(alloc: Global, rows: &[Vec<Comparison<'_>>]) -> Result<Tree, AllocError>
-    ensures { IfOk result (λ t. Keeps [] (rows_tree rows.now) (tree_view t)) }
+// The tree of rows of comparisons, if it is reduced, else some reduced tree; refused where a row has too many steps.
+fn tree_of_rows(alloc: Global, rows: &[Vec<Comparison<'_>>]) -> Result<Tree, MarkerFault>
+    ensures tree { IfOk result (λ t. Keeps [] (rows_tree rows.now) (tree_view t)) }
+    ensures within { IfOk result (λ t. AreWithin 512 (rows_steps rows.now)) }
+    ensures refused { result ≡ Err NoReading → AreWithin 512 (rows_steps rows.now) → ⊥ }
 {
-    let paths = paths_of_rows(alloc, rows)?;
-    build(alloc, &paths, 0, None, DEEPEST_TEXT)
+    let paths = match paths_of_rows(alloc, rows) {
+        Ok(paths) => paths,
+        Err(fault) => return Err(fault),
+    };
+    let tree = build(alloc, &paths, 0, None, DEEPEST_TEXT)?;
+    Ok(tree)
 }
 
 // The tree of a marker's paths: where a tree's text spells the marker, that tree.
 fn tree_of_marker(alloc: Global, marker: &Marker) -> Result<Tree, MarkerFault>
     ensures reduced { IfOk result IsTree }
     ensures tree { IfOk result (λ r. (text : List ℕ) (t : Plain) → IsNodeText text t
-        → marker_of text ≡ Some (marker_view marker.now) → tree_view r ≡ t) }
+        → marker_of text ≡ Some (marker_view marker.now) → IsFound (tree_view r) t) }
     ensures refused { result ≡ Err NoReading → (text : List ℕ) (t : Plain) → IsNodeText text t
-        → marker_of text ≡ Some (marker_view marker.now) → ⊥ }
+        → marker_of text ≡ Some (marker_view marker.now) → is_readable t ≡ true → ⊥ }
 {
     let rows = match rows(alloc, marker) {
         Ok(rows) => rows,
         Err(fault) => return Err(fault),
     };
-    let tree = tree_of_rows(alloc, &rows)?;
-    Ok(tree)
+    tree_of_rows(alloc, &rows)
 }
 
-// A tree that has this text, if it is one of a tree.
+// A tree that has this text, if it is one of a tree that may be read.
 fn regrouped(alloc: Global, text: &str) -> Result<Tree, MarkerFault>
     ensures reduced { IfOk result IsTree }
-    ensures tree { IfOk result (λ r. (t : Plain) → IsNodeText text.now t → tree_view r ≡ t) }
-    ensures refused { result ≡ Err NoReading → (t : Plain) → IsNodeText text.now t → ⊥ }
+    ensures tree { IfOk result (λ r. (t : Plain) → IsNodeText text.now t → IsFound (tree_view r) t) }
+    ensures refused { result ≡ Err NoReading → (t : Plain) → IsNodeText text.now t → is_readable t ≡ true → ⊥ }
 {
     match Marker::read(alloc, text) {
         Ok(marker) => {
@@ -142,14 +141,15 @@ fn has_text(alloc: Global, tree: &Tree, text: &str) -> Result<bool, AllocError>
 ///
 /// # Errors
 ///
-/// `NoReading` exactly where it is the text of no tree. There is no limit of paths. A text with more than 512
-/// levels on a path is answered by want of memory.
+/// `NoReading` exactly where it is the text of no tree that has at most 512 nodes on each path. There is no limit of
+/// paths.
 pub fn read(alloc: Global, text: &str) -> Result<Tree, MarkerFault>
     ensures reduced { IfOk result (λ t. IsReduced (tree_view t)) }
     ensures not_false { IfOk result (λ t. tree_view t ≢ truth false) }
     ensures text { IfOk result (λ t. marker_text (tree_view t) ≡ text.now) }
+    ensures readable { IfOk result (λ t. is_readable (tree_view t) ≡ true) }
     ensures refused { result ≡ Err NoReading → (t : Plain) → IsReduced t → t ≢ truth false
-        → marker_text t ≡ text.now → ⊥ }
+        → is_readable t ≡ true → marker_text t ≡ text.now → ⊥ }
 {
     if text == "*" {
         return Ok(Tree::Truth(true));
@@ -178,8 +178,8 @@ fn is_region(tree: &Tree) -> bool
     truth_value(tree).is_none() && !asks_extra(tree)
 }
 
-/// The tree whose text this is, where it is neither true nor false everywhere, and asks for no extra: that of a
-/// marker or of a fork in a lock. The text may be any bytes.
+/// The tree whose text this is, where it is neither true nor false everywhere, asks for no extra, and has at most 512
+/// nodes on each path: that of a marker or of a fork in a lock. The text may be any bytes.
 ///
 /// # Errors
 ///

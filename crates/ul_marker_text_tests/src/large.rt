@@ -11,7 +11,7 @@ use ul_test_rows::cells;
 // long FIRST|COUNT|TEXT: what there is in place of a text of too many paths.
 // many BEFORE|SEPARATOR|COUNT|OUTCOME: what is made of so many comparisons.
 // deep COUNT|OUTCOME: what is made of a path of so many levels.
-// printed COUNT, unprinted COUNT: whether the tree of a marker with such a path has a text, or no memory.
+// printed COUNT, unprinted COUNT: whether the tree of a marker with such a path has a text, or too many nodes on it.
 
 // Letters, in pairs.
 const PAIRS: &str = "a|b c|d e|f g|h i|j k|l m|n o|p q|r s|t u|v w|x y|z";
@@ -89,8 +89,8 @@ fn is_deep(alloc: Global, kind: &str, row: &str) -> Result<bool, AllocError> {
     let spelled = deep(alloc, number(count))?;
     Ok(match kind {
         "deep" => is_told(alloc, spelled.as_str(), outcome),
-        "unprinted" => has_text(alloc, spelled.as_str(), "no memory"),
-        _ => !has_text(alloc, spelled.as_str(), "no memory"),
+        "unprinted" => has_text(alloc, spelled.as_str(), "1 paths"),
+        _ => has_text(alloc, spelled.as_str(), spelled.as_str()),
     })
 }
 
@@ -134,21 +134,21 @@ fn many_paths_are_read(rt: HostRuntime) {
     assert!(rt; are_rows(rt.alloc(), rows));
 }
 
-// A path of 512 levels is printed and read; a deeper one is answered by want of memory, however deep.
+// A path of 512 nodes is printed and read; a deeper one is the text of no tree, however deep.
 #[test]
 fn deep_paths_end_in_an_answer(rt: HostRuntime) {
-    let rows = "deep 500|again\ndeep 512|again\ndeep 513|memory\ndeep 600|memory\n\
-        deep 2000|memory\ndeep 100000|memory";
+    let rows = "deep 500|again\ndeep 512|again\ndeep 513|refused\ndeep 600|refused\n\
+        deep 2000|refused\ndeep 100000|refused";
     assert!(rt; are_rows(rt.alloc(), rows));
 }
 
-// So is a tree with deeper paths, when it is printed.
+// A tree with a path of 512 nodes is printed; one with a deeper path is too long, though one path leads to true.
 #[test]
 fn deep_trees_end_in_an_answer(rt: HostRuntime) {
     assert!(rt; are_rows(rt.alloc(), "printed 512\nunprinted 513\nunprinted 600"));
 }
 
-// So is a tree of two thousand levels.
+// So is a tree with a path of two thousand nodes.
 #[test]
 fn deepest_trees_end_in_an_answer(rt: HostRuntime) {
     assert!(rt; are_rows(rt.alloc(), "unprinted 2000"));

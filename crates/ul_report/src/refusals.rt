@@ -1,11 +1,11 @@
 //! The lines of a refused fork.
 
-ghost use Rattle.std.specs.Prelude.{◌≡◌, ◌≢◌, ◌++◌, ◌∷◌, [], ◌≤◌, IfErr, IfOk, OnOk, false, flat_map, string_bytes};
+ghost use Rattle.std.specs.Prelude.{◌≡◌, ◌≢◌, ◌++◌, ◌∷◌, [], IfErr, IfOk, OnOk, true, false, flat_map, string_bytes};
 ghost use Rattle.std.specs.Fmt.{decimal};
 ghost use Rattle.ul_marker_text.specs.Faults.{IsTextFault};
 ghost use Rattle.ul_report.specs.Texts as spec;
 ghost use Rattle.ul_report.specs.Texts.{lines_text, path_text, python_part, refusal_text, text_part, text_variables, truth_part, world_text};
-ghost use Rattle.ul_tree.specs.Paths.{paths_of};
+ghost use Rattle.ul_tree.specs.Paths.{is_printable};
 ghost use Rattle.ul_nodes.specs.Plain.{truth};
 ghost use Rattle.ul_nodes.specs.Reduced.{IsReduced};
 ghost use Rattle.ul_tree.specs.Sample.{asks_extra, sample_of};
@@ -155,14 +155,14 @@ fn lines(alloc: Global, path: &[bool], marker: &str, world: &World) -> Result<St
 ///
 /// # Errors
 ///
-/// `TooLong` exactly where more than 4,096 paths of the region lead to true; they are counted before anything is
-/// written.
+/// `TooLong` exactly where more than 4,096 paths of the region lead to true, or one has more than 512 nodes; that is
+/// found before anything is written.
 pub fn refusal(alloc: Global, path: &[bool], region: &Tree) -> Result<Vec<u8>, TextFault>
     requires reduced { IsReduced (tree_view region.now) }
     requires not_false { tree_view region.now ≢ truth false }
     requires no_extra { asks_extra (tree_view region.now) ≡ false }
     ensures text { IfOk result (λ v. v.items ≡ refusal_text path.now (tree_view region.now)) }
-    ensures fits { IfOk result (λ v. paths_of (tree_view region.now) ≤ 4096) }
+    ensures fits { IfOk result (λ v. is_printable (tree_view region.now) ≡ true) }
     ensures refused { IfErr result (λ e. IsTextFault (tree_view region.now) e) }
 {
     let marker = match ul_marker_text::text(alloc, region) {

@@ -1,11 +1,12 @@
 -- What `read` answers, and its laws.
-use Rattle.std.proofs.Common.{◌≡◌, ℕ, ◌<◌, ◌^◌, List, [], Bool, length, refl, subst, Result, Ok, Err}
+use Rattle.std.proofs.Common.{◌≡◌, ℕ, ◌<◌, ◌^◌, List, [], Bool, true, length, refl, subst, Result, Ok, Err}
 use Rattle.std.specs.Prelude.{IfOk}
 use Rattle.ul_lines.specs.Faults.{IsFault}
 use Rattle.ul_lines.specs.Lines.{lines_of}
 use Rattle.ul_lines.specs.Reader.{Each, read_text}
 use Rattle.ul_lines.proofs.ForCallers.{one_fault, right_has_none}
 use Rattle.ul_lock.specs.Region.{IsRegion}
+use Rattle.ul_marker_text.specs.MarkerOfText.{is_readable}
 use Rattle.ul_problem.specs.Plain.{Plain}
 use Rattle.ul_problem.specs.Problems.{IsWellFormed}
 use Rattle.ul_problem.specs.Steps.{AreRightAfter}
@@ -50,10 +51,10 @@ reads_proof law bytes result g = record {
 }
 
 -- what is printed is read
-pub printed_read : (p : Plain) (path : List Bool) (region : Trees.Plain) (steps : List Step) (answer : Result Proof ProofFault) → IsWellFormed p → Each HasTexts p.nodes → IsRegion region → length steps < 2 ^ 64 → AreRightAfter p [] steps
+pub printed_read : (p : Plain) (path : List Bool) (region : Trees.Plain) (steps : List Step) (answer : Result Proof ProofFault) → IsWellFormed p → Each HasTexts p.nodes → IsRegion region → is_readable region ≡ true → length steps < 2 ^ 64 → AreRightAfter p [] steps
     → ReadsProof (proof_text (printed p path region steps)) answer → IsAnswer answer (printed p path region steps)
-printed_read p path region steps answer whole x g l r h =
-    h.only (printed p path region steps) (record { is_proof = printed_proof p path region steps whole x g l r; same = refl })
+printed_read p path region steps answer whole x g d l r h =
+    h.only (printed p path region steps) (record { is_proof = printed_proof p path region steps whole x g d l r; same = refl })
 
 -- a text has at most one fault, and none where it is a derivation file
 pub faults : OneFault

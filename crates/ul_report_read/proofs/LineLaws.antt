@@ -12,9 +12,9 @@ use Rattle.ul_lines.specs.Pieces.{has, strip, until}
 use Rattle.ul_lines.proofs.ForCallers.{some_is, bind_some, map_some, same_text, skip_line, strip_is, strip_again, until_is, until_again}
 use Rattle.ul_lock.specs.Region.{IsRegion, all_worlds}
 use Rattle.ul_lock.proofs.ForCallers.{all_region}
-use Rattle.ul_marker_text.specs.MarkerOfText.{IsMarker, marker_of_text}
+use Rattle.ul_marker_text.specs.MarkerOfText.{IsMarker, is_readable, marker_of_text}
 use Rattle.ul_marker_text.specs.MarkerText.{marker_text}
-use Rattle.ul_marker_text.proofs.ForCallers.{text_again, read_is_marker, truth_is_none, star_is_none, marker_10, marker_reduced, marker_no_extra, tree_is_marker}
+use Rattle.ul_marker_text.proofs.ForCallers.{text_again, read_is_marker, truth_is_none, star_is_none, marker_10, marker_reduced, marker_no_extra, marker_readable, tree_is_marker, truth_readable}
 use Rattle.ul_report.specs.Texts.{digit, path_text, step_line}
 use Rattle.ul_report_read.specs.LineReading.{body_at, body_of_parts, digit_at, digits_at, fork_at, fork_of, line_of, numbered_at, onto_digits, path_at, plain_at, region_at, region_line_at, region_of, some_digits_at, step_of, world_at}
 use Rattle.ul_report_read.specs.ProofLines.{Fit, spell}
@@ -88,21 +88,25 @@ star_text : marker_text (truth true) ≡ codes "*"
 unfolding marker_text
 star_text = refl
 
+-- a region whose text is read
+abbrev IsRead : Plain → Type 0
+IsRead r = IsRegion r × (is_readable r ≡ true)
+
 of_marker : (r : Plain) → IsMarker r → IsRegion r
 of_marker r m = record { reduced = marker_reduced r m; not_false = λ e. truth_is_none false (subst (λ z. IsMarker z) e m); no_extra = marker_no_extra r m }
 
-marker_of_region : (l : List ℕ) (d : Plain) (bs : Branches) → IsRegion (node l d bs) → IsMarker (node l d bs)
-marker_of_region l d bs h = tree_is_marker (node l d bs) h.reduced h.no_extra (λ v e. no_truth v e)
+marker_of_region : (l : List ℕ) (d : Plain) (bs : Branches) → IsRead (node l d bs) → IsMarker (node l d bs)
+marker_of_region l d bs h = tree_is_marker (node l d bs) h.0.reduced h.0.no_extra (λ v e. no_truth v e) h.1
   where
     no_truth : (v : Bool) → node l d bs ≡ truth v → ⊥
     no_truth v e = cc
 
-region_by : (t : List ℕ) (r : Plain) (q : Bool) → bytes_eq t (codes "*") ≡ q → cond q (Some all_worlds) (marker_of_text t) ≡ Some r → (marker_text r ≡ t) × IsRegion r
+region_by : (t : List ℕ) (r : Plain) (q : Bool) → bytes_eq t (codes "*") ≡ q → cond q (Some all_worlds) (marker_of_text t) ≡ Some r → (marker_text r ≡ t) × IsRead r
 region_by t r true q e =
-    subst (λ z. (marker_text z ≡ t) × IsRegion z) (some_is all_worlds r e) (star_text ∙ sym (same_text t (codes "*") q), all_region)
-region_by t r false q e = (text_again t r e, of_marker r (read_is_marker t r e))
+    subst (λ z. (marker_text z ≡ t) × IsRead z) (some_is all_worlds r e) (star_text ∙ sym (same_text t (codes "*") q), (all_region, truth_readable true))
+region_by t r false q e = let m = read_is_marker t r e in (text_again t r e, (of_marker r m, marker_readable r m))
 
-region_is : (t : List ℕ) (r : Plain) → region_at t ≡ Some r → (marker_text r ≡ t) × IsRegion r
+region_is : (t : List ℕ) (r : Plain) → region_at t ≡ Some r → (marker_text r ≡ t) × IsRead r
 unfolding region_at
 region_is t r e = region_by t r (bytes_eq t (codes "*")) refl e
 
@@ -113,15 +117,15 @@ node_again r m true q = absurd (no_tree r (sym star_is_none ∙ (ap marker_of_te
     no_tree r e = cc
 node_again r m false q = m
 
-region_again : (r : Plain) → IsRegion r → region_at (marker_text r) ≡ Some r
+region_again : (r : Plain) → IsRead r → region_at (marker_text r) ≡ Some r
 unfolding region_at
 region_again (truth true) h = ap (λ z. cond (bytes_eq z (codes "*")) (Some all_worlds) (marker_of_text z)) star_text
-region_again (truth false) h = absurd (h.not_false refl)
+region_again (truth false) h = absurd (h.0.not_false refl)
 region_again (node l d bs) h = node_again (node l d bs) (marker_of_region l d bs h) (bytes_eq (marker_text (node l d bs)) (codes "*")) refl
 
-region_10 : (r : Plain) → IsRegion r → has 10 (marker_text r) ≡ false
+region_10 : (r : Plain) → IsRead r → has 10 (marker_text r) ≡ false
 region_10 (truth true) h = ap (has 10) star_text
-region_10 (truth false) h = absurd (h.not_false refl)
+region_10 (truth false) h = absurd (h.0.not_false refl)
 region_10 (node l d bs) h = marker_10 (node l d bs) (marker_of_region l d bs h)
 
 -- ---- lines

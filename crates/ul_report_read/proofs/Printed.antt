@@ -6,6 +6,7 @@ use Rattle.std.proofs.lemmas.Option.{none-some, same_Some, slice_get_within}
 use Rattle.ul_base.specs.Nodes.{node_cmp, node_cmp-total}
 use Rattle.ul_lines.specs.Reader.{Each}
 use Rattle.ul_lock.specs.Region.{IsRegion}
+use Rattle.ul_marker_text.specs.MarkerOfText.{is_readable}
 use Rattle.ul_problem.specs.Plain.{Plain, node_at, size_in}
 use Rattle.ul_problem.specs.Problems.{Increases, IncreasesFrom, IsWellFormed, NodeBefore, VersionBefore}
 use Rattle.ul_problem.specs.Steps.{AreRightAfter, AreTermsOf, AreWritten, IsIncompat, IsRight, IsStepWithin, IsTermOf, step_of, term_to_say}
@@ -193,9 +194,10 @@ steps_from p earlier (s ∷ ss) whole x h w r l = (
 )
 
 -- what is printed is a derivation file
-pub printed_proof : (p : Plain) (path : List Bool) (region : Trees.Plain) (steps : List Step) → IsWellFormed p → Each HasTexts p.nodes → IsRegion region → length steps < 2 ^ 64 → AreRightAfter p [] steps → IsProof (printed p path region steps)
-printed_proof p path region steps whole x g l r = record {
+pub printed_proof : (p : Plain) (path : List Bool) (region : Trees.Plain) (steps : List Step) → IsWellFormed p → Each HasTexts p.nodes → IsRegion region → is_readable region ≡ true → length steps < 2 ^ 64 → AreRightAfter p [] steps → IsProof (printed p path region steps)
+printed_proof p path region steps whole x g d l r = record {
   region = g;
+  readable = d;
   steps = steps_from p [] steps whole x (right_named p steps whole r) (all_within p steps r) r (omega (arith, l));
   count = omega (arith, length-map steps (named_step p));
 }

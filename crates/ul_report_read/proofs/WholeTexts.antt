@@ -12,6 +12,7 @@ use Rattle.ul_lines.proofs.ForCallers.{bytes_eq_self, eqb_self, run_one, same_te
 use Rattle.ul_lock.specs.Region.{all_worlds}
 use Rattle.ul_lock.proofs.ForCallers.{all_region}
 use Rattle.ul_marker_text.specs.MarkerText.{marker_text}
+use Rattle.ul_marker_text.proofs.ForCallers.{truth_readable}
 use Rattle.ul_report.specs.Texts.{first_line, line_end, lines_from, lines_text, path_text, step_line, steps_text, world_text}
 use Rattle.ul_report.specs.declared.text_steps.TextStep.{TextStep}
 use Rattle.ul_report_read.specs.Automaton.{final, may, proof_of, proof_reader, run, step}
@@ -117,19 +118,23 @@ run_shaped ls s x e f = (tt, ended s x f ∙ leads ls start s e)
 begins_so : (ls front more : List Line) (x : Proof) → front ≡ ls → proof_lines x ≡ front ++ more → Each Fit (proof_lines x) → Begins Fit proof_lines Any ls
 begins_so ls front more x e q k = record { more = more; whole = x; shaped = tt; same = q ∙ ap (λ z. z ++ more) e; fit = k }
 
+-- all worlds are a region whose text is read
+all_read : Fit (region all_worlds)
+all_read = (all_region, truth_readable true)
+
 -- the world of a region
 abbrev world_of : Plain → Line
 world_of r = world (world_text (sample_of r))
 
 begins_by : SampleHolds → (ls : List Line) (s : State) → Each Fit ls → spelt s ≡ ls → Begins Fit proof_lines Any ls
-begins_by law ls start k e = begins_so ls [] (proof_lines (proof_of [] all_worlds [])) (proof_of [] all_worlds []) e refl (tt, (tt, (all_region, (sample_10 law all_worlds all_region, tt))))
+begins_by law ls start k e = begins_so ls [] (proof_lines (proof_of [] all_worlds [])) (proof_of [] all_worlds []) e refl (tt, (tt, (all_read, (sample_10 law all_worlds all_read.0, tt))))
 begins_by law ls titled k e =
-    begins_so ls (title ∷ []) (fork [] ∷ region all_worlds ∷ world_of all_worlds ∷ []) (proof_of [] all_worlds []) e refl (tt, (tt, (all_region, (sample_10 law all_worlds all_region, tt))))
+    begins_so ls (title ∷ []) (fork [] ∷ region all_worlds ∷ world_of all_worlds ∷ []) (proof_of [] all_worlds []) e refl (tt, (tt, (all_read, (sample_10 law all_worlds all_read.0, tt))))
 begins_by law ls (forked p) k e =
-    begins_so ls (title ∷ fork p ∷ []) (region all_worlds ∷ world_of all_worlds ∷ []) (proof_of p all_worlds []) e refl (tt, (tt, (all_region, (sample_10 law all_worlds all_region, tt))))
+    begins_so ls (title ∷ fork p ∷ []) (region all_worlds ∷ world_of all_worlds ∷ []) (proof_of p all_worlds []) e refl (tt, (tt, (all_read, (sample_10 law all_worlds all_read.0, tt))))
 begins_by law ls (bounded p r) k e =
     let f : Each Fit (title ∷ fork p ∷ region r ∷ []) = subst (Each Fit) (sym e) k in
-    begins_so ls (title ∷ fork p ∷ region r ∷ []) (world_of r ∷ []) (proof_of p r []) e refl (tt, (tt, (f.1.1.0, (sample_10 law r f.1.1.0, tt))))
+    begins_so ls (title ∷ fork p ∷ region r ∷ []) (world_of r ∷ []) (proof_of p r []) e refl (tt, (tt, (f.1.1.0, (sample_10 law r f.1.1.0.0, tt))))
 begins_by law ls (stepping p r ss) k e =
     begins_so ls (proof_lines (proof_of p r ss)) [] (proof_of p r ss) e (sym (append-nil (proof_lines (proof_of p r ss)))) (subst (Each Fit) (sym e) k)
 
@@ -186,13 +191,13 @@ fit_count n [] l h = omega arith
 fit_count n (s ∷ ss) l h = let k = fit_count (n + 1) ss (omega (arith, h.0.0)) h.1 in omega (arith, k)
 
 has_text : SampleHolds → (x : Proof) → IsProof x → HasText Fit proof_lines Any x
-has_text law x h = record { shaped = tt; fit = (tt, (tt, (h.region, (sample_10 law x.region h.region, steps_fit 1 x.steps h.steps (omega (arith, h.count)))))) }
+has_text law x h = record { shaped = tt; fit = (tt, (tt, ((h.region, h.readable), (sample_10 law x.region h.region, steps_fit 1 x.steps h.steps (omega (arith, h.count)))))) }
 
 one_fits : 1 ≤ 2 ^ 64
 one_fits = omega arith
 
 is_proof : (x : Proof) → HasText Fit proof_lines Any x → IsProof x
-is_proof x h = let f = h.fit.1.1.1.1 in record { region = h.fit.1.1.0; steps = fit_steps 1 x.steps f; count = let k = fit_count 1 x.steps one_fits f in omega (arith, k) }
+is_proof x h = let f = h.fit.1.1.1.1 in record { region = h.fit.1.1.0.0; readable = h.fit.1.1.0.1; steps = fit_steps 1 x.steps f; count = let k = fit_count 1 x.steps one_fits f in omega (arith, k) }
 
 body_lines : (t b : List ℕ) → has 10 t ≡ false → lines_of ((t ++ 10 ∷ []) ++ b) ≡ (t ++ 10 ∷ []) ∷ lines_of b
 unfolding lines_of

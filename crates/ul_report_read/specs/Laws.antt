@@ -1,8 +1,9 @@
 -- Laws of derivation files.
-use Rattle.std.specs.Prelude.{◌≡◌, ℕ, ◌<◌, ◌^◌, List, [], Bool, length, Result}
+use Rattle.std.specs.Prelude.{◌≡◌, ℕ, ◌<◌, ◌^◌, List, [], Bool, true, length, Result}
 use Rattle.ul_lines.specs.Faults.{IsFault}
 use Rattle.ul_lines.specs.Reader.{Each}
 use Rattle.ul_lock.specs.Region.{IsRegion}
+use Rattle.ul_marker_text.specs.MarkerOfText.{is_readable}
 use Rattle.ul_problem.specs.Plain.{Plain}
 use Rattle.ul_problem.specs.Problems.{IsWellFormed}
 use Rattle.ul_problem.specs.Steps.{AreRightAfter}
@@ -29,12 +30,13 @@ pub record HasTexts (f : NodeFacts) : Type 0 where
 abbrev pub printed : Plain → List Bool → Trees.Plain → List Step → Proof
 printed p path region steps = record { path = path; region = region; steps = named_steps p steps }
 
--- what is printed of a region and of right steps is a derivation file, and `read` gives what was printed
+-- what is printed of a region with few enough nodes on each path and of right steps is a derivation file, and `read`
+-- gives what was printed
 pub record PrintedIsRead : Type 0 where
   pub is_proof : (p : Plain) (path : List Bool) (region : Trees.Plain) (steps : List Step) → IsWellFormed p → Each HasTexts p.nodes
-      → IsRegion region → length steps < 2 ^ 64 → AreRightAfter p [] steps → IsProof (printed p path region steps)
+      → IsRegion region → is_readable region ≡ true → length steps < 2 ^ 64 → AreRightAfter p [] steps → IsProof (printed p path region steps)
   pub read : (p : Plain) (path : List Bool) (region : Trees.Plain) (steps : List Step) (answer : Result Proof ProofFault)
-      → IsWellFormed p → Each HasTexts p.nodes → IsRegion region → length steps < 2 ^ 64 → AreRightAfter p [] steps
+      → IsWellFormed p → Each HasTexts p.nodes → IsRegion region → is_readable region ≡ true → length steps < 2 ^ 64 → AreRightAfter p [] steps
       → ReadsProof (proof_text (printed p path region steps)) answer → IsAnswer answer (printed p path region steps)
 
 -- the line of a fault is determined, and a derivation file has none

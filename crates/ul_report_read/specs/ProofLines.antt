@@ -1,7 +1,8 @@
 -- The lines of a derivation file, and the text of each.
-use Rattle.std.specs.Prelude.{◌≡◌, ℕ, ◌+◌, ◌<◌, ◌^◌, List, [], ◌∷◌, ◌++◌, codes, false}
+use Rattle.std.specs.Prelude.{◌≡◌, ℕ, ◌+◌, ◌<◌, ◌^◌, List, [], ◌∷◌, ◌++◌, codes, true, false}
 use Rattle.ul_lines.specs.Pieces.{has}
 use Rattle.ul_lock.specs.Region.{IsRegion}
+use Rattle.ul_marker_text.specs.MarkerOfText.{is_readable}
 use Rattle.ul_marker_text.specs.MarkerText.{marker_text}
 use Rattle.ul_report.specs.Texts.{first_line, line_end, path_text, step_line, world_text}
 use Rattle.ul_report.specs.declared.text_steps.TextStep.{TextStep}
@@ -23,7 +24,7 @@ spell (numbered n s) = step_line n s
 abbrev pub Fit : Line → Type 0
 Fit title = Unit {0}
 Fit (fork p) = Unit {0}
-Fit (region r) = IsRegion r
+Fit (region r) = IsRegion r × (is_readable r ≡ true)
 Fit (world t) = has 10 t ≡ false
 Fit (numbered n s) = (n < 2 ^ 64) × IsStep s
 

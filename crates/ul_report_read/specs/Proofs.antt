@@ -1,5 +1,5 @@
 -- What a derivation file is: the lines of a refused fork and of the steps of a derivation, as they are printed.
-use Rattle.std.specs.Prelude.{◌≡◌, ◌≢◌, ℕ, ◌<◌, ◌^◌, List, [], ◌++◌, IfSome, length}
+use Rattle.std.specs.Prelude.{◌≡◌, ◌≢◌, ℕ, ◌<◌, ◌^◌, List, [], ◌++◌, IfSome, length, true}
 use Rattle.std.specs.declared.cmp.Ordering.TheVariants.{Less}
 use Rattle.ul_base.specs.Names.{IsNormalName}
 use Rattle.ul_base.specs.Nodes.{node_cmp}
@@ -7,6 +7,7 @@ use Rattle.ul_base.specs.declared.node.Node.{Node}
 use Rattle.ul_lines.specs.Lines.{lines_of}
 use Rattle.ul_lines.specs.Reader.{Each}
 use Rattle.ul_lock.specs.Region.{IsRegion}
+use Rattle.ul_marker_text.specs.MarkerOfText.{is_readable}
 use Rattle.ul_problem.specs.Problems.{Increases, VersionBefore}
 use Rattle.ul_report.specs.Texts.{refusal_text, steps_text}
 use Rattle.ul_report.specs.declared.text_steps.TextTerm.{TextTerm}
@@ -52,9 +53,11 @@ IsStep (Python node versions) = IsNamed node × IsSet versions
 IsStep (Base node versions) = IsNamed node × IsSet versions
 IsStep (Cut left right node terms) = (left < 2 ^ 64) × (right < 2 ^ 64) × IsNamed node × AreTerms terms
 
--- a refused fork and its steps: the region isn't false and asks for no extra, and steps are numbered by numbers of 64 bits
+-- a refused fork and its steps: the region isn't false, asks for no extra and has few enough nodes on each path, and
+-- steps are numbered by numbers of 64 bits
 pub record IsProof (x : Proof) : Type 0 where
   pub region : IsRegion x.region
+  pub readable : is_readable x.region ≡ true
   pub steps : Each IsStep x.steps
   pub count : length x.steps < 2 ^ 64
 

@@ -23,6 +23,7 @@ const WIDE: &str = "demo 1 1 0.,1 300 0 1;q 1 300,2 0 0 0;z 1 0";
 // step: the faulty step, or 0 where the derivation is accepted.
 // printed: the same, and the text is printed so.
 // long: the same of a text of 60 steps of 300 versions each.
+// deep: the first wrong line of three lines whose region has so many nodes on a path.
 const ROWS: &str = "line 0 @\n\
     line 0 @1 need demo {0.1} q {1}|2 need q {1} z {}|3 cut 1 2 on q: demo {0.1}|\n\
     line 0 @1 python p {}|2 base p[x-1] {1!2a3.post4.dev5+local.6,2!0}|\n\
@@ -83,7 +84,9 @@ const ROWS: &str = "line 0 @\n\
     step 3 @1 need demo {0.1} q {1}|2 need q {1} z {}|3 cut 1 2 on q: demo {0.1}, r {1}|\n\
     step 4 @1 need demo {0.1} q {1}|2 need q {1} z {}|3 need q {1} z {}|\n\
     printed 0 @1 need demo {0.1} q {1}|2 need q {1} z {}|3 cut 1 2 on q: demo {0.1}|\n\
-    long 61";
+    long 61\n\
+    deep 4 512\n\
+    deep 3 513";
 
 // What the printed row is printed of: the two needs, and their cut.
 const STEPS: &str = "need 0 1 0 1>1 2 0 1;need 1 2 0 1>2 0 0 0;cut 1 2 1,in 0 1 0 1";
@@ -103,6 +106,16 @@ fn long_text(alloc: Global) -> Result<String, AllocError> {
     for number in 1..61 {
         write!(out, "{number} need q {{{set}}} z {{}}\n")?;
     }
+    Ok(out)
+}
+
+fn deep_text(alloc: Global, count: u64) -> Result<String, AllocError> {
+    let marker = refused::deep(alloc, count)?;
+    let mut out = String::new(alloc);
+    write!(
+        out,
+        "no selection serves this fork\nfork: 0\nregion: {marker}\n"
+    )?;
     Ok(out)
 }
 
@@ -151,7 +164,7 @@ fn is_printed(alloc: Global, bytes: &[u8]) -> bool {
 
 fn fault(alloc: Global, kind: &str, bytes: &[u8]) -> Option<u64> {
     match kind {
-        "line" => wrong_line(alloc, bytes),
+        "line" | "deep" => wrong_line(alloc, bytes),
         "long" if bytes.len() == 66863 => faulty_step_of(alloc, WIDE, bytes),
         "printed" if is_printed(alloc, bytes) => faulty_step_of(alloc, NODES, bytes),
         "step" => faulty_step_of(alloc, NODES, bytes),
@@ -162,10 +175,10 @@ fn fault(alloc: Global, kind: &str, bytes: &[u8]) -> Option<u64> {
 fn is_row(alloc: Global, line: &str) -> Result<bool, AllocError> {
     let (kind, rest) = front(line);
     let (want, row) = front(rest);
-    let text = if kind == "long" {
-        long_text(alloc)?
-    } else {
-        text_of(alloc, row)?
+    let text = match kind {
+        "long" => long_text(alloc)?,
+        "deep" => deep_text(alloc, number(row))?,
+        _ => text_of(alloc, row)?,
     };
     Ok(fault(alloc, kind, text.as_bytes()) == Some(number(want)))
 }

@@ -12,8 +12,8 @@ use ul_tree::part::{asks_extra, is_false};
 use ul_tree::{Tree, of_marker};
 
 // Refused forks, and how large the lines of some are. A fork is its path, `-` for none, and the marker of its region;
-// behind it stand its lines. A size is that of `pairs`: how many there are, how many bytes the lines have at least, and
-// how many paths are too many, or 0.
+// behind it stand its lines. A size is that of `pairs`, and a depth that of `deep`: how many there are, how many bytes
+// the lines have at least, and how many paths there are where they aren't printed, or 0.
 const ROWS: &str = "fork 0 sys_platform == 'win32'\n\
     no selection serves this fork\nfork: 0\nregion: sys_platform == 'win32'\n\
     world: python_full_version == '0.0.0' and os_name == '' and sys_platform == 'win32' \
@@ -42,7 +42,9 @@ const ROWS: &str = "fork 0 sys_platform == 'win32'\n\
     and implementation_name == '' and platform_release < '5'\n\
     #size 2 401 0\
     #size 12 1000001 0\
-    #size 13 0 8191";
+    #size 13 0 8191\
+    #depth 512 1000 0\
+    #depth 513 0 1";
 
 // The tree of a marker.
 fn tree_of(alloc: Global, marker: &str) -> Result<Tree, MarkerFault>
@@ -95,19 +97,32 @@ fn pairs(alloc: Global, count: u64) -> Result<String, AllocError> {
     Ok(made)
 }
 
-// How many bytes the lines of so many pairs have, or how many paths are too many.
-fn size_of(alloc: Global, count: u64) -> Option<(usize, u128)> {
-    let marker = pairs(alloc, count).ok()?;
+/// So many comparisons that must all hold: a path with a node for each.
+pub(crate) fn deep(alloc: Global, count: u64) -> Result<String, AllocError> {
+    let mut made = String::from_str(alloc, "'10000' in os_name")?;
+    for place in 1..count {
+        let number = place.wrapping_add(10_000);
+        write!(made, " and '{number}' in os_name")?;
+    }
+    Ok(made)
+}
+
+// How many bytes the lines of so many pairs or comparisons have, or how many paths there are where they aren't printed.
+fn size_of(alloc: Global, kind: &str, count: u64) -> Option<(usize, u128)> {
+    let marker = match kind {
+        "depth" => deep(alloc, count).ok()?,
+        _ => pairs(alloc, count).ok()?,
+    };
     match lines_of(alloc, "-", marker.as_str())? {
         Ok(lines) => Some((lines.len(), 0)),
         Err(paths) => Some((0, paths)),
     }
 }
 
-fn is_size(alloc: Global, row: &str) -> bool {
+fn is_size(alloc: Global, kind: &str, row: &str) -> bool {
     let (count, rest) = front(row);
     let (least, many) = front(rest);
-    match size_of(alloc, number(count)) {
+    match size_of(alloc, kind, number(count)) {
         Some((size, paths)) => size as u64 >= number(least) && paths == number(many) as u128,
         None => false,
     }
@@ -118,7 +133,7 @@ fn is_row(alloc: Global, line: &str) -> bool {
     if kind == "fork" {
         is_fork(alloc, row)
     } else {
-        is_size(alloc, row)
+        is_size(alloc, kind, row)
     }
 }
 

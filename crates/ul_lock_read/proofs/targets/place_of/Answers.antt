@@ -1,8 +1,6 @@
-use Rattle.std.proofs.Common.{arith, refl, sym, ap, ◌∙◌, ◌+◌, ◌-◌, ◌/◌, []}
+use Rattle.std.proofs.Common.{arith, refl, sym, ◌+◌, ◌-◌, ◌/◌, []}
 use Rattle.std.proofs.lemmas.Option.{slice_get_read}
-use Rattle.ul_lock.specs.declared.parts.Locked.{Locked}
 use Rattle.ul_lock_read.specs.Automaton.{plain_block}
-use Rattle.ul_lock.specs.Orders.{package_cmp}
 use Rattle.ul_lock_read.proofs.Halving.{halves_begin, halves_up, halves_down, halves_end}
 use Rattle.ul_lock_read.proofs.targets.place_of.Goals as goal
 

@@ -1,4 +1,3 @@
-use Rattle.std.proofs.Common.{◌≡◌, Bool, true, sym, ap}
 use Rattle.ul_lock_read.proofs.Halving.{same_texts}
 use Rattle.ul_lock_read.proofs.targets.same_version.Goals as goal
 

@@ -12,6 +12,7 @@ use Rattle.ul_marker_text.specs.StepViews.{above_view, fan_from, paths_from, ste
 use Rattle.ul_marker_text.specs.declared.steps.Step.{Step}
 use Rattle.ul_marker_text.proofs.BuildFacts.{built, first_built, group_kept, ended_kept, none_kept, rest_slice}
 use Rattle.ul_marker_text.proofs.Grouped.{group_fan, group_some}
+use Rattle.ul_marker_text.proofs.Levels.{within_drop, within_take}
 use Rattle.ul_marker_text.proofs.NodeFacts.{parts_fit}
 use Rattle.ul_marker_text.proofs.building.+build.Goals as goal
 
@@ -86,3 +87,9 @@ parts-returns-then-len-at t c = ended_kept c.args.paths.now c.loop-from.from c.a
 
 pub parts-returns : goal.parts-returns
 parts-returns t c = none_kept c.args.paths.now c.loop-from.from c.args.at (level_view c.args.level) _ (parts_view c.loop-from.made.items) c.loop-from-test.false c.loop-from.invariant.kept
+
+pub parts-build-requires : goal.parts-build-requires
+parts-build-requires t c =
+    let d = c.decreases in
+    let n = c.args.at + 1 + c.args.room in
+    (omega (arith, d), within_take n (drop c.loop-from.from c.args.paths.now) _ (within_drop n c.args.paths.now c.loop-from.from c.requires))

@@ -13,7 +13,7 @@ returns-in_default c = no_utf8 c.args.bytes.now c.in_default.ensures.cases.0
 pub returns-then-is_region : goal.returns-then-is_region
 returns-then-is_region c =
     let r = c.in-Ok-read.ensures in
-    region_is c.in-Ok.text.now (tree_view c.in-Ok-read.tree) r.reduced (sym c.if-is_region.true ∙ c.is_region.ensures) r.text ∙ ap marker_of_text c.in-Ok.ensures.cases.0
+    region_is c.in-Ok.text.now (tree_view c.in-Ok-read.tree) r.reduced (sym c.if-is_region.true ∙ c.is_region.ensures) r.readable r.text ∙ ap marker_of_text c.in-Ok.ensures.cases.0
 
 pub returns-else-is_region : goal.returns-else-is_region
 returns-else-is_region c =
