@@ -13,6 +13,10 @@ pub data Answer : Type 0 where
   locked : Lock → (forks : ℕ) → Answer
   -- how many packages a lock has, and of how many forks it is merged
   counted : Lock → (forks : ℕ) → Answer
+  -- a lock isn't written, since one of its markers isn't printable
+  unwritten : Answer
+  -- a fork that no selection serves isn't told, since its region isn't printable
+  untold : Answer
   -- the fork at a path, which is a region, that no selection serves, with the lines of its core
   no_selection : (path : List Bool) → (region : Plain) → (core : List ℕ) → Answer
   -- such a fork, with the lines of a derivation

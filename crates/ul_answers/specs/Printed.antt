@@ -3,7 +3,7 @@ use Rattle.std.specs.Prelude.{ℕ, List, ◌++◌, codes, length, nat_eq, nat_le
 use Rattle.std.specs.Fmt.{decimal}
 use Rattle.ul_version.specs.Fields.{Fields}
 use Rattle.ul_version.specs.Texts.{version_text}
-use Rattle.ul_tree.specs.Paths.{paths_of}
+use Rattle.ul_tree.specs.Paths.{is_printable}
 use Rattle.ul_nodes.specs.Plain.{Plain}
 use Rattle.ul_lock.specs.declared.parts.Lock.{Lock}
 use Rattle.ul_lock_write.specs.Markers.{markers_of, first_over}
@@ -13,7 +13,7 @@ use Rattle.ul_reach.specs.Lines.{row_markers, rows_text}
 use Rattle.ul_reach.specs.declared.rows.Reached.{Reached}
 use Rattle.ul_inputs.specs.Refused.{Refused, malformed, limit}
 use Rattle.ul_inputs.specs.Inputs.{text_bytes}
-use Rattle.ul_answers.specs.Answer.{Answer, usage, locked, counted, no_selection, derived, none_refused, environment, exported, outside, no_extra, accepted, rejected, verified, rejected_root, rejected_supported, rejected_package}
+use Rattle.ul_answers.specs.Answer.{Answer, usage, locked, counted, unwritten, untold, no_selection, derived, none_refused, environment, exported, outside, no_extra, accepted, rejected, verified, rejected_root, rejected_supported, rejected_package}
 
 -- a status and a text
 abbrev pub Output : Type 0
@@ -24,7 +24,7 @@ abbrev pub refused_output : Refused → Output
 refused_output (malformed file place) = (3, codes "malformed: " ++ file ++ codes ": " ++ place ++ codes "\n")
 refused_output (limit name number) = (4, codes "limit: " ++ name ++ codes " " ++ decimal number ++ codes "\n")
 
--- a marker has too many paths to be printed
+-- a marker has too many paths to be printed, or too many nodes on one
 abbrev pub too_many_paths : Output
 too_many_paths = refused_output (limit (codes "marker-paths") 4096)
 
@@ -33,7 +33,7 @@ abbrev pub text_output : List ℕ → Output
 text_output text =
     if nat_le (length text) text_bytes then (0, text) else refused_output (limit (codes "text-bytes") text_bytes)
 
--- a lock's text, where no marker has too many paths and it isn't too long
+-- a lock's text, where each marker is printed and it isn't too long
 abbrev pub lock_output : Option ℕ → List ℕ → Output
 lock_output (Some paths) text = too_many_paths
 lock_output None text = text_output text
@@ -54,9 +54,9 @@ in_place o text = if nat_eq o.0 0 then (0, text) else o
 abbrev pub counts_text : ℕ → ℕ → List ℕ
 counts_text packages forks = codes "packages " ++ decimal packages ++ codes " forks " ++ decimal forks ++ codes "\n"
 
--- a refusal's text, where its region hasn't too many paths
+-- a refusal's text, where its region is printed
 abbrev pub refusal_output : Plain → List ℕ → Output
-refusal_output region text = if nat_le (paths_of region) 4096 then (1, text) else too_many_paths
+refusal_output region text = if is_printable region then (1, text) else too_many_paths
 
 -- the line of words that aren't one of the commands
 abbrev pub usage_text : List ℕ
@@ -71,6 +71,8 @@ abbrev pub output_of : Answer → Output
 output_of usage = (2, usage_text)
 output_of (locked l forks) = written l
 output_of (counted l forks) = in_place (written l) (counts_text (length l.packages) forks)
+output_of unwritten = too_many_paths
+output_of untold = too_many_paths
 output_of (no_selection path region core) = refusal_output region (refusal_text path region ++ core)
 output_of (derived path region steps) = refusal_output region (refusal_text path region ++ steps)
 output_of none_refused = (0, codes "no fork is refused\n")

@@ -3,7 +3,7 @@ use Rattle.std.specs.Prelude.{string_bytes}
 use Rattle.ul_answers.specs.Answer as answer
 use Rattle.ul_answers.specs.Printed.{Output as Printed}
 use Rattle.ul_answers.specs.declared.answer.Answer.{Answer}
-use Rattle.ul_answers.specs.declared.answer.Answer.TheVariants.{Usage, Locked, Counted, NoSelection, Derived, NoneRefused, Environment, Exported, Outside, NoExtra, Accepted, Rejected, Verified, RejectedRoot, RejectedSupported, RejectedPackage}
+use Rattle.ul_answers.specs.declared.answer.Answer.TheVariants.{Usage, Locked, Counted, Unwritten, Untold, NoSelection, Derived, NoneRefused, Environment, Exported, Outside, NoExtra, Accepted, Rejected, Verified, RejectedRoot, RejectedSupported, RejectedPackage}
 use Rattle.ul_answers.specs.declared.outputs.Output.{Output}
 
 -- an answer
@@ -11,6 +11,8 @@ abbrev pub view : Answer → answer.Answer
 view Usage = answer.usage
 view (Locked l forks) = answer.locked l forks
 view (Counted l forks) = answer.counted l forks
+view Unwritten = answer.unwritten
+view Untold = answer.untold
 view (NoSelection path region core) = answer.no_selection path.items region core.items
 view (Derived path region steps) = answer.derived path.items region steps.items
 view NoneRefused = answer.none_refused

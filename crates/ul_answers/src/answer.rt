@@ -19,6 +19,10 @@ pub enum Answer {
         lock: Lock,
         forks: u64,
     },
+    /// A lock isn't written, since one of its markers isn't printable.
+    Unwritten,
+    /// A fork that no selection serves isn't told, since its region isn't printable.
+    Untold,
     /// The fork at this path, with this region, that no selection serves, with the lines of its core.
     NoSelection {
         path: Vec<bool>,

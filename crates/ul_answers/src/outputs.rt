@@ -33,7 +33,7 @@ fn fixed(alloc: Global, status: u8, text: &str) -> Result<Output, AllocError>
     Ok(Output { status, text })
 }
 
-// A marker has too many paths to be printed.
+// A marker has too many paths to be printed, or too many nodes on one.
 fn too_many_paths(alloc: Global) -> Result<Output, AllocError>
     ensures { IfOk result (λ o. output_view o ≡ spec.too_many_paths) }
 {
@@ -176,6 +176,7 @@ pub fn answer_output(alloc: Global, answer: Answer) -> Result<Output, AllocError
             leave(lock);
             output
         }
+        Answer::Unwritten | Answer::Untold => too_many_paths(alloc),
         Answer::NoSelection { path, region, core } => {
             fork_output(alloc, path.as_slice(), &region, core.as_slice())
         }

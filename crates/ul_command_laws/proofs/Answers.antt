@@ -6,6 +6,7 @@ use Rattle.ul_base.specs.Files.{FileMap}
 use Rattle.ul_lines.specs.Lines.{lines_of}
 use Rattle.ul_comparison.specs.Machines.{MachineFields}
 use Rattle.ul_nodes.specs.Plain.{Plain as Tree}
+use Rattle.ul_tree.specs.Paths.{is_printable}
 use Rattle.ul_tree.specs.Regions.{region_of}
 use Rattle.ul_problem.specs.Plain.{Plain as Problem}
 use Rattle.ul_blame.specs.Texts.{IsCoreText, core_text}
@@ -13,6 +14,7 @@ use Rattle.ul_project.specs.Laws.{OneProject}
 use Rattle.ul_load.specs.Laws.{TurnsAgree}
 use Rattle.ul_lock_read.specs.Laws.{OneFault as OneLockFault, OneTextOneLock}
 use Rattle.ul_lock.specs.declared.parts.Lock.{Lock}
+use Rattle.ul_lock_write.specs.Markers.{first_over, markers_of}
 use Rattle.ul_region.specs.Problem.{IsProblemOf}
 use Rattle.ul_generations.specs.Generations.{leaves_are, refused_at, too_many}
 use Rattle.ul_forks.specs.Headline.{ForkLaws, TreeAnswer, TreeRefusal}
@@ -32,7 +34,7 @@ use Rattle.ul_inputs.specs.Machines.{machine_at}
 use Rattle.ul_inputs.specs.Projects.{project_at}
 use Rattle.ul_inputs.specs.Resolutions.{ResolutionFields, resolution_in, resolution_with}
 use Rattle.ul_answers.specs.Answer as answers
-use Rattle.ul_answers.specs.Answer.{Answer, locked, rejected}
+use Rattle.ul_answers.specs.Answer.{Answer, rejected}
 use Rattle.ul_lock_commands.specs.Environments.{GivesFor, GivesWhere, IsEnvAnswer}
 use Rattle.ul_lock_commands.specs.Exports.{GivesRows, IsExportAnswer}
 use Rattle.ul_lock_commands.specs.Words.{first_other, names_of}
@@ -40,9 +42,9 @@ use Rattle.ul_commands.specs.Asked.{usage, lock, why, gen, env, export, check, v
 use Rattle.ul_commands.specs.Checking.{IsAccepted, IsCheckAnswer, IsProofOf, IsRejected, proof_at, proof_said}
 use Rattle.ul_commands.specs.Commands.{command}
 use Rattle.ul_commands.specs.Generating.{IsCounted, counted_for, generated_files, index_folder, project_path}
-use Rattle.ul_commands.specs.Locking.{AreCoreLines, IsLockAnswer, LocksFor, leaf_fields, lock_of}
+use Rattle.ul_commands.specs.Locking.{AreCoreLines, IsLockAnswer, LocksFor, RefusedWhere, answer_of, answer_where, leaf_fields, lock_of}
 use Rattle.ul_commands.specs.Questions.{question_of}
-use Rattle.ul_commands.specs.Reasons.{GivesReason, IsWhyAnswer}
+use Rattle.ul_commands.specs.Reasons.{DerivedWhere, GivesReason, IsWhyAnswer}
 use Rattle.ul_commands.specs.Verifying.{IsVerifyAnswer}
 use Rattle.ul_command_laws.specs.Answers.{AnswersAreOne, SameAnswer, WhyFollowsLock, reason_of, without_steps}
 use Rattle.ul_command_laws.specs.Lower.{LowerLaws}
@@ -85,8 +87,8 @@ one_resolution laws project folder old m = one_resolution_in laws.projects laws.
 
 -- ---- the answers of each command
 
-abbrev locked_of : ℕ → Lock → Result Answer Refused
-locked_of n l = Ok (locked l n)
+abbrev merged_as : ℕ → Lock → Result Answer Refused
+merged_as n l = Ok (answer_of l n)
 
 abbrev refused_as : TreeRefusal → List ℕ → Result Answer Refused
 refused_as fork lines = Ok (answers.no_selection fork.path fork.region lines)
@@ -98,12 +100,17 @@ one_core laws r region xs ys g h =
     let t : IsCoreText h.problem xs = subst (λ (q : Problem). IsCoreText q xs) p g.text in
     t.are ∙ (ap (core_text h.problem) (laws.cores h.problem t.core h.text.core t.is_core h.text.is_core) ∙ sym h.text.are)
 
+-- a refused fork has one core, or isn't told
+fork_for : LowerLaws → (r : ResolutionFields) (told : Bool) (fork : TreeRefusal) (a b : Result Answer Refused) → RefusedWhere told r fork a → RefusedWhere told r fork b → a ≡ b
+fork_for laws r true fork a b g h = g.is ∙ (ap (refused_as fork) (one_core laws r fork.region g.lines h.lines g.core h.core) ∙ sym h.is)
+fork_for laws r false fork a b g h = g ∙ sym h
+
 -- a fork answer has one lock, or one core
 lock_for : LowerLaws → (r : ResolutionFields) (f : TreeAnswer) (a b : Result Answer Refused) → LocksFor r f a → LocksFor r f b → a ≡ b
 lock_for laws r (leaves_are ls) a b g h =
     let same = laws.merges.once r.catalog r.project (map leaf_fields ls) g.lock h.lock g.merged h.merged in
-    g.is ∙ (ap (locked_of (length ls)) same ∙ sym h.is)
-lock_for laws r (refused_at fork) a b g h = g.is ∙ (ap (refused_as fork) (one_core laws r fork.region g.lines h.lines g.core h.core) ∙ sym h.is)
+    g.is ∙ (ap (merged_as (length ls)) same ∙ sym h.is)
+lock_for laws r (refused_at fork) a b g h = fork_for laws r (is_printable fork.region) fork a b g h
 lock_for laws r (too_many n) a b g h = g ∙ sym h
 
 -- a resolution has one answer of `lock`
@@ -118,10 +125,14 @@ one_lock_of laws project folder old m =
     one_on (resolution_in project folder old m) (λ r. answer (IsLockAnswer r) m) (one_resolution laws project folder old m)
     (λ r. lock_once laws r)
 
+fork_reason : (r : ResolutionFields) (told : Bool) (fork : TreeRefusal) (a b : Result Answer Refused) → DerivedWhere told r fork a → DerivedWhere told r fork b → SameAnswer a b
+fork_reason r true fork a b g h = ap without_steps g.is ∙ sym (ap without_steps h.is)
+fork_reason r false fork a b g h = ap without_steps (g ∙ sym h)
+
 -- a fork answer has one reason, steps aside
 reason_for : (r : ResolutionFields) (f : TreeAnswer) (a b : Result Answer Refused) → GivesReason r f a → GivesReason r f b → SameAnswer a b
 reason_for r (leaves_are ls) a b g h = ap without_steps (g ∙ sym h)
-reason_for r (refused_at fork) a b g h = ap without_steps g.is ∙ sym (ap without_steps h.is)
+reason_for r (refused_at fork) a b g h = fork_reason r (is_printable fork.region) fork a b g h
 reason_for r (too_many n) a b g h = ap without_steps (g ∙ sym h)
 
 -- a resolution has one answer of `why`, steps aside
@@ -192,10 +203,22 @@ counts_once locks one a b g h = g.is ∙ (ap counted_for (one g.found h.found g.
 
 -- ---- `why` and `lock`
 
+-- both tell a refused fork, or neither does
+fork_with : (r : ResolutionFields) (told : Bool) (fork : TreeRefusal) (a b : Result Answer Refused) → RefusedWhere told r fork a → DerivedWhere told r fork b
+    → without_steps b ≡ reason_of a
+fork_with r true fork a b g h = ap without_steps h.is ∙ sym (ap reason_of g.is)
+fork_with r false fork a b g h = ap without_steps h ∙ sym (ap reason_of g)
+
+-- whether or not a lock is written, no fork is refused
+none_refused_for : (o : Option ℕ) (l : Lock) (n : ℕ) → reason_of (Ok (answer_where o l n)) ≡ Ok answers.none_refused
+none_refused_for None l n = refl
+none_refused_for (Some paths) l n = refl
+
 -- a fork answer has the reason that its lock tells
 reason_with : (r : ResolutionFields) (f : TreeAnswer) (a b : Result Answer Refused) → LocksFor r f a → GivesReason r f b → without_steps b ≡ reason_of a
-reason_with r (leaves_are ls) a b g h = ap without_steps h ∙ sym (ap reason_of g.is)
-reason_with r (refused_at fork) a b g h = ap without_steps h.is ∙ sym (ap reason_of g.is)
+reason_with r (leaves_are ls) a b g h =
+    ap without_steps h ∙ sym (ap reason_of g.is ∙ none_refused_for (first_over (markers_of g.lock)) g.lock (length ls))
+reason_with r (refused_at fork) a b g h = fork_with r (is_printable fork.region) fork a b g h
 reason_with r (too_many n) a b g h = ap without_steps h ∙ sym (ap reason_of g)
 
 why_with : ForkLaws → (r : ResolutionFields) (a b : Result Answer Refused) → IsLockAnswer r a → IsWhyAnswer r b → without_steps b ≡ reason_of a

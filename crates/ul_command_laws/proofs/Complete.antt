@@ -1,10 +1,11 @@
 -- Inputs that are read are answered, and by which status.
-use Rattle.std.proofs.Common.{◌≡◌, ◌∙◌, ◌≤◌, ℕ, List, [], ◌++◌, Bool, true, false, length, Option, Some, None, Result, refl, sym, ap, arith}
+use Rattle.std.proofs.Common.{◌≡◌, ◌∙◌, ◌≤◌, ℕ, List, [], ◌++◌, Bool, true, false, length, Option, Some, None, Result, Ok, refl, sym, ap, arith}
 use Rattle.std.specs.Prelude.{nat_le}
-use Rattle.ul_tree.specs.Paths.{paths_of}
+use Rattle.ul_tree.specs.Paths.{is_printable}
 use Rattle.ul_nodes.specs.Plain.{Plain}
 use Rattle.ul_generations.specs.Generations.{leaves_are, refused_at, too_many}
-use Rattle.ul_forks.specs.Headline.{TreeAnswer, TreeLeaf}
+use Rattle.ul_forks.specs.Headline.{TreeAnswer, TreeLeaf, TreeRefusal}
+use Rattle.ul_lock.specs.declared.parts.Lock.{Lock}
 use Rattle.ul_lock_write.specs.Markers.{first_over, markers_of}
 use Rattle.ul_lock_write.specs.Texts.{lock_text}
 use Rattle.ul_report.specs.Texts.{refusal_text}
@@ -14,12 +15,12 @@ use Rattle.ul_inputs.specs.Machines.{machine_at}
 use Rattle.ul_inputs.specs.Projects.{project_at}
 use Rattle.ul_inputs.specs.Refused.{Refused}
 use Rattle.ul_inputs.specs.Resolutions.{ResolutionFields, resolution_in, resolution_with}
-use Rattle.ul_answers.specs.Answer.{Answer}
-use Rattle.ul_answers.specs.Printed.{lock_output, printed, refusal_output, text_output, written}
+use Rattle.ul_answers.specs.Answer.{Answer, locked}
+use Rattle.ul_answers.specs.Printed.{lock_output, output_of, printed, refusal_output, text_output, written}
 use Rattle.ul_lock_commands.specs.Environments.{IsEnvAnswer, env_on}
 use Rattle.ul_lock_commands.specs.Exports.{IsExportAnswer}
 use Rattle.ul_commands.specs.Checking.{IsCheckAnswer, check_on, check_with, proof_at}
-use Rattle.ul_commands.specs.Locking.{IsLockAnswer, IsLocked, LocksFor}
+use Rattle.ul_commands.specs.Locking.{IsLockAnswer, IsLocked, LocksFor, RefusedWhere, answer_of, answer_where}
 use Rattle.ul_commands.specs.Questions.{IsForked}
 use Rattle.ul_commands.specs.Reasons.{IsWhyAnswer}
 use Rattle.ul_commands.specs.Verifying.{IsVerifyAnswer, verify_on, verify_with}
@@ -76,31 +77,47 @@ at_most n h = grind arith
 not_above : (n : ℕ) → n ≤ text_bytes → nat_le n text_bytes ≡ true
 not_above n h = grind arith
 
-refused_status : (b : Bool) (region : Plain) (text : List ℕ) → b ≡ nat_le (paths_of region) 4096 → (refusal_output region text).0 ≡ 0 → ⊥
+refused_status : (b : Bool) (region : Plain) (text : List ℕ) → b ≡ is_printable region → (refusal_output region text).0 ≡ 0 → ⊥
 refused_status true region text same e = cc
 refused_status false region text same e = cc
+
+-- where a lock's answer has status 0, all of its markers are printable
+none_over : (o : Option ℕ) (l : Lock) (n : ℕ) → (output_of (answer_where o l n)).0 ≡ 0 → o ≡ None
+none_over None l n e = refl
+none_over (Some paths) l n e = absurd (let four : 4 ≡ 0 = e in cc)
+
+-- and then it is the lock
+is_lock : (l : Lock) (n : ℕ) → first_over (markers_of l) ≡ None → answer_of l n ≡ locked l n
+is_lock l n none = ap (λ o. answer_where o l n) none
 
 -- a lock that is answered
 served : (r : ResolutionFields) (a : Result Answer Refused) (leaves : List TreeLeaf) → IsForked r (leaves_are leaves) → IsLocked r leaves a
     → (printed a).0 ≡ 0 → IsWithinLimits r a
 served r a leaves forks h e =
     let l = h.lock in
-    let zero : (written l).0 ≡ 0 = ap (λ b. (printed b).0) (sym h.is) ∙ e in
+    let n = length leaves in
+    let none = none_over (first_over (markers_of l)) l n (ap (λ b. (printed b).0) (sym h.is) ∙ e) in
+    let is : a ≡ Ok (locked l n) = h.is ∙ ap (λ x. Ok x) (is_lock l n none) in
+    let zero : (written l).0 ≡ 0 = ap (λ b. (printed b).0) (sym is) ∙ e in
     let found = fits (first_over (markers_of l)) (lock_text l) zero in
-    record { leaves = leaves; are_forks = forks; locked = h; paths = found.none; bytes = at_most (length (lock_text l)) found.few }
+    record { leaves = leaves; are_forks = forks; locked = h; is = is; paths = none; bytes = at_most (length (lock_text l)) found.few }
+
+-- neither a refused fork nor an untold one has status 0
+fork_status : (told : Bool) (r : ResolutionFields) (fork : TreeRefusal) (a : Result Answer Refused) → RefusedWhere told r fork a → (printed a).0 ≡ 0 → ⊥
+fork_status true r fork a h e =
+    refused_status (is_printable fork.region) fork.region (refusal_text fork.path fork.region ++ h.lines) refl (ap (λ b. (printed b).0) (sym h.is) ∙ e)
+fork_status false r fork a h e = let four : 4 ≡ 0 = ap (λ b. (printed b).0) (sym h) ∙ e in cc
 
 zero_where : (r : ResolutionFields) (a : Result Answer Refused) (f : TreeAnswer) → IsForked r f → LocksFor r f a → (printed a).0 ≡ 0
     → IsWithinLimits r a
 zero_where r a (leaves_are leaves) forks h e = served r a leaves forks h e
-zero_where r a (refused_at fork) forks h e =
-    absurd (refused_status (nat_le (paths_of fork.region) 4096) fork.region (refusal_text fork.path fork.region ++ h.lines) refl
-    (ap (λ b. (printed b).0) (sym h.is) ∙ e))
+zero_where r a (refused_at fork) forks h e = absurd (fork_status (is_printable fork.region) r fork a h e)
 zero_where r a (too_many count) forks h e = absurd (let four : 4 ≡ 0 = ap (λ b. (printed b).0) (sym h) ∙ e in cc)
 
 within_is_zero : (r : ResolutionFields) (a : Result Answer Refused) → IsWithinLimits r a → (printed a).0 ≡ 0
 within_is_zero r a h =
     let l = h.locked.lock in
-    ap (λ b. (printed b).0) h.locked.is
+    ap (λ b. (printed b).0) h.is
     ∙ zero_for (first_over (markers_of l)) (lock_text l) h.paths (not_above (length (lock_text l)) h.bytes)
 
 pub locks_within_limits : LocksWithinLimits

@@ -1,5 +1,4 @@
 mod Ones
-mod SheetLines
 mod SheetTexts
 mod LockTexts
 mod Inputs

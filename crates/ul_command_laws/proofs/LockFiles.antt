@@ -1,5 +1,5 @@
 -- What `env` prints of a file that has a lock's text.
-use Rattle.std.proofs.Common.{◌≡◌, ◌∙◌, ℕ, List, Bool, true, false, length, Option, Some, Result, Ok, Err, ap, subst, inl, inr}
+use Rattle.std.proofs.Common.{◌≡◌, ◌∙◌, ℕ, List, Bool, true, false, length, Option, Some, None, Result, Ok, Err, ap, subst, inl, inr}
 use Rattle.std.specs.Prelude.{nat_le, codes, if◌then◌else◌}
 use Rattle.ul_base.specs.Files.{FileMap, content}
 use Rattle.ul_comparison.specs.Machines.{MachineFields}
@@ -8,6 +8,7 @@ use Rattle.ul_load.specs.Laws.{TurnsAgree}
 use Rattle.ul_lock_read.specs.Laws.{OneFault, OneTextOneLock, TextIsLocks}
 use Rattle.ul_lock_read.specs.TextOf.{IsTextOf}
 use Rattle.ul_lock.specs.declared.parts.Lock.{Lock}
+use Rattle.ul_lock_write.specs.Markers.{first_over, markers_of}
 use Rattle.ul_lock_write.specs.Texts.{lock_text}
 use Rattle.ul_lock.specs.WellFormed.{IsWellFormed}
 use Rattle.ul_inputs.specs.Inputs.{answer, bounded, large_file, present, said_on, text_bytes}
@@ -20,6 +21,7 @@ use Rattle.ul_answers.specs.Answer.{environment, locked}
 use Rattle.ul_lock_commands.specs.Environments.{IsEnvAnswer}
 use Rattle.ul_commands.specs.Asked.{env, lock}
 use Rattle.ul_commands.specs.Commands.{command}
+use Rattle.ul_commands.specs.Laws.{LocksArePrintable}
 use Rattle.ul_commands.specs.Locking.{IsLockAnswer}
 use Rattle.ul_command_laws.specs.Environments.{EnvironmentsOfFiles, EnvironmentsOfLocks}
 use Rattle.ul_command_laws.specs.WellFormed.{GivenAreWellFormed}
@@ -35,6 +37,7 @@ pub record FileLaws : Type 0 where
   pub turns : TurnsAgree
   pub locks : OneTextOneLock
   pub texts : TextIsLocks
+  pub printable : LocksArePrintable
   pub lock_faults : OneFault
 
 -- ---- the text of a file
@@ -55,12 +58,13 @@ file_read m path text read at (inr h) =
     text_same read text (h.answers ∙ ap (present path) found)
 
 -- the lock of a file that has its text
-lock_read : OneTextOneLock → TextIsLocks → (m : FileMap) (path : List ℕ) (l k : Lock) → IsWellFormed l → content m path ≡ Some (lock_text l)
+lock_read : OneTextOneLock → TextIsLocks → (m : FileMap) (path : List ℕ) (l k : Lock) → IsWellFormed l → first_over (markers_of l) ≡ None
+    → content m path ≡ Some (lock_text l)
     → (lock_at path m).gives (Ok k) → k ≡ l
-lock_read locks texts m path l k well at (inl h) = absurd h
-lock_read locks texts m path l k well at (inr h) =
+lock_read locks texts m path l k well none at (inl h) = absurd h
+lock_read locks texts m path l k well none at (inr h) =
     let read = file_read m path (lock_text l) h.value at h.gave in
-    locks (lock_text l) k l (subst (λ t. IsTextOf t k) read h.answers) (texts l well)
+    locks (lock_text l) k l (subst (λ t. IsTextOf t k) read h.answers) (texts l well none)
 
 -- ---- what was answered
 
@@ -91,17 +95,18 @@ for_machine machine words now k m text gave (inr h) =
 
 -- the answer of `env` to the lock and the machine of files
 environment_of : FileLaws → (path machine : List ℕ) (words : List (List ℕ)) (now : FileMap) (l : Lock) (m : MachineFields) (text : List ℕ)
-    → IsWellFormed l → content now path ≡ Some (lock_text l) → (machine_at machine now).gives (Ok m)
+    → IsWellFormed l → first_over (markers_of l) ≡ None → content now path ≡ Some (lock_text l) → (machine_at machine now).gives (Ok m)
     → (command (env path machine words) now).gives (Ok (environment text)) → IsEnvAnswer l m words (Ok (environment text))
-environment_of laws path machine words now l m text well at gave (inl h) = absurd h
-environment_of laws path machine words now l m text well at gave (inr h) =
-    let same = lock_read laws.locks laws.texts now path l h.value well at h.gave in
+environment_of laws path machine words now l m text well none at gave (inl h) = absurd h
+environment_of laws path machine words now l m text well none at gave (inr h) =
+    let same = lock_read laws.locks laws.texts now path l h.value well none at h.gave in
     subst (λ k. IsEnvAnswer k m words (Ok (environment text))) same (for_machine machine words now h.value m text gave h.answers)
 
 pub environments_of_files : FileLaws → EnvironmentsOfFiles
 environments_of_files laws project folder old workers path machine words before now r l forks m text comparisons
     resolved locks at gave all world extras prints =
     let well = laws.formed project folder old workers before l forks locks in
+    let answered = locked_of laws project folder old workers before r resolved l forks locks in
     laws.lists r l forks m words text comparisons (laws.resolution project folder old before r resolved) (laws.had project folder old before r resolved)
-    (locked_of laws project folder old workers before r resolved l forks locks) all world extras
-    (environment_of laws path machine words now l m text well at gave prints)
+    answered all world extras
+    (environment_of laws path machine words now l m text well (laws.printable r l forks answered) at gave prints)

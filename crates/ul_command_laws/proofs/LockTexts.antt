@@ -15,7 +15,8 @@ use Rattle.ul_lock_read.specs.ShapedTexts.{AreShaped, IsText}
 use Rattle.ul_lock_read.specs.TextOf.{IsTextOf}
 use Rattle.ul_inputs.specs.Refused.{Refused, malformed}
 use Rattle.ul_inputs.specs.Locks.{HasLockFault, IsLockOf, LockFault, fault_text, line, root, target}
-use Rattle.ul_command_laws.proofs.SheetTexts.{one_sheet_text, shaped_lines, sheet_of}
+use Rattle.ul_lock_read.proofs.ForCallers.{one_text, text_of}
+use Rattle.ul_command_laws.proofs.SheetTexts.{shaped_lines}
 
 -- where each passes, none is the first that doesn't
 none_of : {A : Type 0} (p : A → Bool) (n k : ℕ) (xs : List A) → list_all p xs ≡ true → position_from (λ x. not (p x)) n xs ≡ Some k → ⊥
@@ -36,10 +37,10 @@ record HasSheet (text : List ℕ) (x : Sheet) : Type 0 where
   same : sheet_text x ≡ text
 
 one_with : (text : List ℕ) (x y : Sheet) → HasSheet text x → HasSheet text y → x ≡ y
-one_with text x y h k = one_sheet_text x y h.is_text k.is_text (h.same ∙ sym k.same)
+one_with text x y h k = one_text x y h.is_text k.is_text (h.same ∙ sym k.same)
 
 of_lock : (text : List ℕ) (l : Lock) (t : IsTextOf text l) → HasSheet text (sheet_in t.edition l)
-of_lock text l t = record { is_text = sheet_of text l t; same = t.same }
+of_lock text l t = record { is_text = text_of text l t; same = t.same }
 
 of_root : (text : List ℕ) (h : LacksRoot text) → HasSheet text h.0
 of_root text h = record { is_text = h.1; same = h.2 }

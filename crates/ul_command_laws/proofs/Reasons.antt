@@ -9,9 +9,11 @@ use Rattle.ul_version.specs.Fields.{IsVersion}
 use Rattle.ul_comparison.specs.Worlds.{WorldFields}
 use Rattle.ul_requirement.specs.Truth.{base, with_extra}
 use Rattle.ul_nodes.specs.Plain.{Plain, truth}
+use Rattle.ul_tree.specs.Paths.{is_printable}
 use Rattle.ul_tree.specs.Regions.{IsRegionTree, NoExtra, region_of}
 use Rattle.ul_tree.specs.Values.{tree_holds}
 use Rattle.ul_index.specs.Regions.{HasWorld}
+use Rattle.ul_marker_text.proofs.ForCallers.{printable_readable}
 use Rattle.ul_lines.specs.Reader.{Each}
 use Rattle.ul_lock.specs.Region.{IsRegion}
 use Rattle.ul_problem.specs.Plain.{Plain as Problem, node_at}
@@ -45,7 +47,7 @@ use Rattle.ul_commands.specs.Checking.{IsCheckAnswer}
 use Rattle.ul_commands.specs.Commands.{command}
 use Rattle.ul_commands.specs.Laws.{ForksAreUnserved}
 use Rattle.ul_commands.specs.Questions.{question_of}
-use Rattle.ul_commands.specs.Reasons.{AreStepsOf, GivesReason}
+use Rattle.ul_commands.specs.Reasons.{AreStepsOf, DerivedWhere, GivesReason}
 use Rattle.ul_command_laws.specs.Reasons.{AcceptedAreUnserved, FilesAreAccepted, HasAcceptedProof, ReasonsAreAccepted, reason_text}
 
 -- the laws of lower crates on which this rests
@@ -148,8 +150,8 @@ few_steps front p steps h =
 -- the derivation of a refused fork is a file that is accepted
 of_fork : ReasonLaws → (r : ResolutionFields) (counts : List ℕ) (fork : TreeRefusal) (lines : List ℕ) → IsResolution r → HasTexts r
     → IsAnswer (question_of r) r.project.region counts (refused_at fork) → AreStepsOf r fork.region lines
-    → length (reason_text fork.path fork.region lines) ≤ text_bytes → HasAcceptedProof r (reason_text fork.path fork.region lines)
-of_fork laws r counts fork lines is texts answer steps few =
+    → is_printable fork.region ≡ true → length (reason_text fork.path fork.region lines) ≤ text_bytes → HasAcceptedProof r (reason_text fork.path fork.region lines)
+of_fork laws r counts fork lines is texts answer steps printable few =
     let p = steps.problem in
     let well = steps.of_region.well_formed in
     let short = few_steps (refusal_text fork.path fork.region) p steps.steps
@@ -158,7 +160,7 @@ of_fork laws r counts fork lines is texts answer steps few =
       proof = printed p fork.path fork.region steps.steps;
       is_text = record {
         is_proof = laws.read.is_proof p fork.path fork.region steps.steps well (nodes_have r texts fork.region p steps.of_region)
-            (fork_region laws r counts fork is answer) short steps.accepted.0;
+            (fork_region laws r counts fork is answer) (printable_readable fork.region printable) short steps.accepted.0;
         same = ap (λ z. refusal_text fork.path fork.region ++ z) (sym steps.are);
       };
       answer = inl (record {
@@ -186,15 +188,24 @@ same_text p q t u xs ys e =
     let lines = same_lines p q t u xs ys e in
     λ i. reason_text (path i) (region i) (lines i)
 
+-- a fork that is told has a region that is printable
+by_region : ReasonLaws → (r : ResolutionFields) (path : List Bool) (region : Plain) (steps : List ℕ) → IsResolution r → HasTexts r
+    → (fork : TreeRefusal) (counts : List ℕ) → IsAnswer (question_of r) r.project.region counts (refused_at fork)
+    → (told : Bool) → is_printable fork.region ≡ told → DerivedWhere told r fork (Ok (derived path region steps))
+    → length (reason_text path region steps) ≤ text_bytes → HasAcceptedProof r (reason_text path region steps)
+by_region laws r path region steps is texts fork counts answer true printable h few =
+    let same = same_text path fork.path region fork.region steps h.lines h.is in
+    subst (HasAcceptedProof r) (sym same)
+    (of_fork laws r counts fork h.lines is texts answer h.steps printable (subst (λ z. length z ≤ text_bytes) same few))
+by_region laws r path region steps is texts fork counts answer false printable h few = absurd (cc)
+
 by_forks : ReasonLaws → (r : ResolutionFields) (path : List Bool) (region : Plain) (steps : List ℕ) → IsResolution r → HasTexts r
     → (f : TreeAnswer) (counts : List ℕ) → IsAnswer (question_of r) r.project.region counts f → GivesReason r f (Ok (derived path region steps))
     → length (reason_text path region steps) ≤ text_bytes → HasAcceptedProof r (reason_text path region steps)
 by_forks laws r path region steps is texts (leaves_are ls) counts answer h few = absurd (cc)
 by_forks laws r path region steps is texts (too_many n) counts answer h few = absurd (cc)
 by_forks laws r path region steps is texts (refused_at fork) counts answer h few =
-    let same = same_text path fork.path region fork.region steps h.lines h.is in
-    subst (HasAcceptedProof r) (sym same)
-    (of_fork laws r counts fork h.lines is texts answer h.steps (subst (λ z. length z ≤ text_bytes) same few))
+    by_region laws r path region steps is texts fork counts answer (is_printable fork.region) refl h few
 
 pub reasons_are_accepted : ReasonLaws → ReasonsAreAccepted
 reasons_are_accepted laws r path region steps is texts h few =

@@ -21,7 +21,7 @@ use Rattle.ul_given.specs.Given.{BeginsWithProject, GivenBegins, GivenHasTexts, 
 use Rattle.ul_answers.specs.Answer.{environment, locked, verified}
 use Rattle.ul_commands.specs.Asked.{verify}
 use Rattle.ul_commands.specs.Commands.{command}
-use Rattle.ul_commands.specs.Laws.{LocksAreOfLeaves}
+use Rattle.ul_commands.specs.Laws.{LocksAreOfLeaves, LocksArePrintable}
 use Rattle.ul_commands.specs.Locking.{IsLockAnswer}
 use Rattle.ul_commands.specs.Verifying.{IsVerifyAnswer}
 use Rattle.ul_command_laws.specs.Complete.{InputsAreAnswered}
@@ -78,6 +78,7 @@ pub record PrintedLaws : Type 0 where
   pub leaves : LocksAreOfLeaves
   pub verified : VerifiedPromises
   pub texts : TextIsLocks
+  pub printable : LocksArePrintable
   pub had : GivenHasTexts
   pub formed : LocksAreWellFormed
 
@@ -149,4 +150,4 @@ locks_are_verified laws project folder path old workers m l forks (inr h) at few
     let here : IsVerified read.catalog read.fields l =
     subst (λ c. IsVerified c read.fields l) read.is_catalog (subst (λ p. IsVerified h.value.catalog p l) read.is_project is) in
     accepted project folder path (lock_text l) m read.fields (resolution_of read.fields [] read.catalog) l read.said
-    (file_text m path (lock_text l) at few) (laws.texts l well) read.made (inl (record { verified = here; is = refl }))
+    (file_text m path (lock_text l) at few) (laws.texts l well (laws.printable h.value l forks h.answers)) read.made (inl (record { verified = here; is = refl }))

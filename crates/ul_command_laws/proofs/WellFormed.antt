@@ -1,5 +1,5 @@
 -- The leaves of a fork answer can be merged, and their lock is well formed.
-use Rattle.std.proofs.Common.{◌≡◌, ◌⊎◌, ◌≤◌, ℕ, List, [], ◌∷◌, ◌++◌, Bool, true, false, length, map, Some, Result, Ok, refl, ap, sym, ◌∙◌, subst, arith, inl, inr}
+use Rattle.std.proofs.Common.{◌≡◌, ◌⊎◌, ◌≤◌, ℕ, List, [], ◌∷◌, ◌++◌, Bool, true, false, length, map, Some, Ok, refl, ap, sym, ◌∙◌, subst, arith, inl, inr}
 use Rattle.std.specs.Prelude.{Contains, not, is_some, cond}
 use Rattle.std.specs.List.{AllByRecursion}
 use Rattle.std.specs.Ordering.{is_eq}
@@ -14,6 +14,7 @@ use Rattle.ul_version.specs.Fields.{Fields}
 use Rattle.ul_comparison.specs.Worlds.{WorldFields}
 use Rattle.ul_requirement.specs.Fields.{RequirementFields}
 use Rattle.ul_requirement.specs.Truth.{targets}
+use Rattle.ul_tree.specs.Paths.{is_printable}
 use Rattle.ul_tree.specs.Regions.{IsRegionTree, NoExtra, region_of}
 use Rattle.ul_tree.specs.Sample.{HoldsSomewhere}
 use Rattle.ul_index.specs.Catalogs.{requirements}
@@ -27,16 +28,16 @@ use Rattle.ul_forks.specs.Headline.{ForkLaws, IsAnswer, IsLeaf, TreeAnswer, Tree
 use Rattle.ul_forks.specs.Outcome.{IsOutcome, starts_of}
 use Rattle.ul_lock.specs.declared.parts.Lock.{Lock}
 use Rattle.ul_lock.specs.WellFormed.{IsWellFormed}
+use Rattle.ul_lock_write.specs.Markers.{first_over, markers_of}
 use Rattle.ul_report_read.specs.Proofs.{IsNamed}
 use Rattle.ul_sound.specs.Headline.{IsLeafOf, IsPick, MergePromises}
 use Rattle.ul_sound.specs.Leaves.{LeafFields}
-use Rattle.ul_inputs.specs.Refused.{Refused}
 use Rattle.ul_inputs.specs.Resolutions.{IsResolution, ResolutionFields}
 use Rattle.ul_answers.specs.Answer as answer
 use Rattle.ul_commands.specs.Locking.{LocksFor, leaf_fields}
 use Rattle.ul_commands.specs.Questions.{IsForked, question_of}
 use Rattle.ul_given.specs.Given.{GivenHasTexts, GivenIsResolution, HasTexts}
-use Rattle.ul_commands.proofs.ForCallers.{IsInside, all_inside, begins, leaves_have_worlds, supported_has_world}
+use Rattle.ul_commands.proofs.ForCallers.{IsInside, all_inside, begins, leaves_have_worlds, supported_has_world, fork_not_locked, written_lock}
 use Rattle.ul_command_laws.specs.WellFormed.{ForksMerge, GivenAreWellFormed, LocksAreWellFormed}
 use Rattle.ul_command_laws.proofs.Reasons.{not_false, split_goes, start_named}
 
@@ -169,15 +170,12 @@ forks_merge laws somewhere no_extra r ls is texts forked =
 
 -- ---- locks
 
-locked_same : (k l : Lock) (m n : ℕ) → (let a : Result answer.Answer Refused = Ok (answer.locked k m) in a) ≡ Ok (answer.locked l n) → k ≡ l
-locked_same k l m n e = cc
-
 by_forks : ForksMerge → MergePromises → (r : ResolutionFields) (l : Lock) (n : ℕ) → IsResolution r → HasTexts r → (forked : TreeAnswer)
     → IsForked r forked → LocksFor r forked (Ok (answer.locked l n)) → IsWellFormed l
 by_forks merge merges r l n is texts (leaves_are ls) forked h =
-    subst IsWellFormed (sym (locked_same l h.lock n (length ls) h.is))
+    subst IsWellFormed (sym (written_lock (first_over (markers_of h.lock)) l h.lock n (length ls) h.is))
     (merges.well_formed r.catalog r.project (map leaf_fields ls) h.lock (merge r ls is texts forked) h.merged)
-by_forks merge merges r l n is texts (refused_at fork) forked h = let bad = h.is in absurd (cc)
+by_forks merge merges r l n is texts (refused_at fork) forked h = absurd (fork_not_locked (is_printable fork.region) r fork l n h)
 by_forks merge merges r l n is texts (too_many m) forked h = absurd (cc)
 
 pub locks_are_well_formed : ForksMerge → MergePromises → LocksAreWellFormed

@@ -2,7 +2,7 @@
 use Rattle.std.specs.Prelude.{◌≡◌, ℕ, List, [], Option, Result, Ok}
 use Rattle.ul_base.specs.Files.{FileMap}
 use Rattle.ul_inputs.specs.Refused.{Refused}
-use Rattle.ul_answers.specs.Answer.{Answer, derived, locked, no_selection, none_refused}
+use Rattle.ul_answers.specs.Answer.{Answer, derived, locked, no_selection, none_refused, unwritten}
 use Rattle.ul_commands.specs.Asked.{Asked, lock, why}
 use Rattle.ul_commands.specs.Commands.{command}
 
@@ -21,10 +21,11 @@ abbrev pub AnswersAreOne : Type 0
 AnswersAreOne = (asked : Asked) (m : FileMap) (a b : Result Answer Refused)
     → (command asked m).gives a → (command asked m).gives b → SameAnswer a b
 
--- what `why` answers where `lock` answers this, without the lines of steps: that no fork is refused, or the refused
--- fork; a refusal is a refusal
+-- what `why` answers where `lock` answers this, without the lines of steps: that no fork is refused, whether or not the lock
+-- is written, or the refused fork, if that is told; a refusal is a refusal
 abbrev pub reason_of : Result Answer Refused → Result Answer Refused
 reason_of (Ok (locked l forks)) = Ok none_refused
+reason_of (Ok unwritten) = Ok none_refused
 reason_of (Ok (no_selection path region core)) = Ok (derived path region [])
 reason_of r = r
 

@@ -15,6 +15,7 @@ use Rattle.ul_inputs.specs.Machines.{machine_at}
 use Rattle.ul_inputs.specs.Projects.{project_at}
 use Rattle.ul_inputs.specs.Refused.{Refused}
 use Rattle.ul_inputs.specs.Resolutions.{ResolutionFields, resolution_in, resolution_with}
+use Rattle.ul_answers.specs.Answer as answers
 use Rattle.ul_answers.specs.Answer.{Answer}
 use Rattle.ul_answers.specs.Printed.{printed}
 use Rattle.ul_lock_commands.specs.Environments.{IsEnvAnswer}
@@ -54,11 +55,12 @@ pub record InputsAreAnswered : Type 0 where
       → (resolution_with folder p [] m).gives (Ok r)
       → (command (verify project folder path) m).gives a → IsVerifyAnswer r l a
 
--- no fork is refused, and the lock's markers and its text are within their limits
+-- no fork is refused, the lock is answered, and its markers and its text are within their limits
 pub record IsWithinLimits (r : ResolutionFields) (a : Result Answer Refused) : Type 0 where
   pub leaves : List TreeLeaf
   pub are_forks : IsForked r (leaves_are leaves)
   pub locked : IsLocked r leaves a
+  pub is : a ≡ Ok (answers.locked locked.lock (length leaves))
   pub paths : first_over (markers_of locked.lock) ≡ None
   pub bytes : length (lock_text locked.lock) ≤ text_bytes
 

@@ -153,6 +153,7 @@ pub fn environments_of_files()
     ensures { EnvironmentsOfFiles }
 {
     environments_of_locks();
+    ul_commands::laws::locks_are_sound();
     given_are_well_formed();
     ul_given::laws::given_is_resolution();
     ul_given::laws::given_has_texts();

@@ -35,6 +35,8 @@ still_answering : (x : answer.Answer) → IsAnswering x → IfOk (counted_for (O
 still_answering answer.usage h = h
 still_answering (answer.locked lock forks) h = tt
 still_answering (answer.counted lock forks) h = tt
+still_answering answer.unwritten h = tt
+still_answering answer.untold h = tt
 still_answering (answer.no_selection path region core) h = tt
 still_answering (answer.derived path region steps) h = tt
 still_answering answer.none_refused h = tt

@@ -2,6 +2,9 @@ mod ProofFaults
 mod Mergeable
 mod Answering
 mod Served
+mod Written
+mod Replies
+mod OfQuestions
 mod Counting
 mod Accepted
 mod ForkAnswers

@@ -1,10 +1,11 @@
 -- The leaves of the fork answer can be merged, and a refused fork has a world.
-use Rattle.std.proofs.Common.{◌≡◌, ◌≢◌, ◌+◌, ◌≤◌, ℕ, suc, List, [], ◌∷◌, Bool, Vec, Global, length, map, true, false, Result, Ok, refl, ap, sym, ◌∙◌, subst, arith}
+use Rattle.std.proofs.Common.{◌≡◌, ◌≢◌, ◌+◌, ◌≤◌, ℕ, suc, List, [], ◌∷◌, Bool, Vec, Global, length, map, true, false, Option, Some, None, Result, Ok, refl, ap, sym, ◌∙◌, subst, arith}
 use Rattle.std.specs.Prelude.{All}
 use Rattle.std.specs.List.{AllByRecursion}
 use Rattle.std.proofs.lemmas.List.Elements.{All-cons, All-nil}
 use Rattle.ul_comparison.specs.Worlds.{WorldFields, IsWorld}
 use Rattle.ul_nodes.specs.Plain.{Plain, truth}
+use Rattle.ul_tree.specs.Paths.{is_printable}
 use Rattle.ul_tree.specs.Regions.{NoExtra, region_of}
 use Rattle.ul_tree.specs.Sample.{HoldsSomewhere}
 use Rattle.ul_tree.specs.Values.{tree_holds}
@@ -21,11 +22,12 @@ use Rattle.ul_forks.specs.Headline.{ForkLaws, IsAnswer, IsLeaf as IsForkLeaf, Tr
 use Rattle.ul_forks.specs.Outcome.{IsOutcome, Question}
 use Rattle.ul_sound.specs.Leaves.{Begins}
 use Rattle.ul_merge.specs.Merging.{AreLeaves, IsLeaf}
+use Rattle.ul_merge.specs.Over.{IsMergedOrOver}
 use Rattle.ul_merge.specs.Views.{ForkLeaf, leaf_of}
 use Rattle.ul_sound.specs.Merged.{IsMergedLock}
 use Rattle.ul_lock.specs.declared.parts.Lock.{Lock}
-use Rattle.ul_answers.specs.Answer.{locked, no_selection}
-use Rattle.ul_commands.specs.Locking.{AreCoreLines, IsLockAnswer, leaf_fields}
+use Rattle.ul_answers.specs.Answer.{Answer, locked, no_selection, unwritten}
+use Rattle.ul_commands.specs.Locking.{AreCoreLines, IsLockAnswer, RefusedWhere, answer_of, answer_where, leaf_fields}
 use Rattle.ul_inputs.specs.Resolutions.{IsResolution, ResolutionFields}
 use Rattle.ul_commands.specs.Forking.{AreForksOf}
 use Rattle.ul_commands.specs.Questions.{question_of}
@@ -142,24 +144,38 @@ same_number : (ls : List ForkLeaf) → length (map tree_leaf ls) ≡ length ls
 same_number [] = refl
 same_number (l ∷ ls) = ap suc (same_number ls)
 
--- the lock that leaves merge into is answered
-pub locked_answer : (r : ResolutionFields) (h : PassView) (leaves : Vec ForkLeaf Global) (l : Lock) (number : ℕ) → AreForksOf r h (Leaves leaves)
-    → IsMergedLock r.catalog r.project (map leaf_of leaves.items) l → number ≡ length leaves.items → IsLockAnswer r (Ok (locked l number))
-locked_answer r h leaves l number forks merged is = record {
+-- the answer of the lock that leaves merge into
+lock_is : (r : ResolutionFields) (h : PassView) (leaves : Vec ForkLeaf Global) (l : Lock) (a : Answer) → AreForksOf r h (Leaves leaves)
+    → IsMergedLock r.catalog r.project (map leaf_of leaves.items) l → a ≡ answer_of l (length leaves.items) → IsLockAnswer r (Ok a)
+lock_is r h leaves l a forks merged is = record {
   forked = leaves_are (map tree_leaf leaves.items);
   are_forks = forks.is_answer;
   locks = record {
     lock = l;
     merged = subst (λ xs. IsMergedLock r.catalog r.project xs l) (sym (same_leaves leaves.items)) merged;
-    is = ap (λ n. Ok (locked l n)) (is ∙ sym (same_number leaves.items));
+    is = ap (λ x. Ok x) (is ∙ ap (answer_of l) (sym (same_number leaves.items)));
   };
 }
 
--- a refused fork is answered
+-- where all of its markers are printable the lock is answered
+pub locked_answer : (r : ResolutionFields) (h : PassView) (leaves : Vec ForkLeaf Global) (l : Lock) (number : ℕ) → AreForksOf r h (Leaves leaves)
+    → IsMergedOrOver r.catalog r.project (map leaf_of leaves.items) (Some l) → number ≡ length leaves.items → IsLockAnswer r (Ok (locked l number))
+locked_answer r h leaves l number forks merged is =
+    lock_is r h leaves l (locked l number) forks merged.0 (ap (locked l) is ∙ sym (ap (λ o. answer_where o l (length leaves.items)) merged.1))
+
+-- and where not all are, that it isn't written
+pub unwritten_answer : (r : ResolutionFields) (h : PassView) (leaves : Vec ForkLeaf Global) → AreForksOf r h (Leaves leaves)
+    → IsMergedOrOver r.catalog r.project (map leaf_of leaves.items) None → IsLockAnswer r (Ok unwritten)
+unwritten_answer r h leaves forks (l, merged, (paths, over)) =
+    lock_is r h leaves l unwritten forks merged (sym (ap (λ o. answer_where o l (length leaves.items)) over))
+
+-- a refused fork is answered, where its region is printable
 pub refused_answer : (r : ResolutionFields) (h : PassView) (path : List Bool) (region : DiagramMark) (steps : List Step)
-    (lines : List ℕ) → AreForksOf r h (Refused path region steps) → AreCoreLines r (tree_of region) lines → IsLockAnswer r (Ok (no_selection path (tree_of region) lines))
-refused_answer r h path region steps lines forks core = record {
+    (lines : List ℕ) → AreForksOf r h (Refused path region steps) → is_printable (tree_of region) ≡ true → AreCoreLines r (tree_of region) lines
+    → IsLockAnswer r (Ok (no_selection path (tree_of region) lines))
+refused_answer r h path region steps lines forks printable core = record {
   forked = refused_at (record { path = path; region = tree_of region; refusal = tt });
   are_forks = forks.is_answer;
-  locks = record { lines = lines; core = core; is = refl };
+  locks = subst (λ b. RefusedWhere b r (record { path = path; region = tree_of region; refusal = tt }) (Ok (no_selection path (tree_of region) lines)))
+      (sym printable) (record { lines = lines; core = core; is = refl });
 }

@@ -5,10 +5,14 @@ use Rattle.std.specs.List.{AllByRecursion}
 use Rattle.std.proofs.lemmas.Bool.{cases_Bool}
 use Rattle.ul_comparison.specs.Worlds.{WorldFields, IsWorld}
 use Rattle.ul_lock.specs.declared.parts.Lock.{Lock}
+use Rattle.ul_lock_write.specs.Markers.{first_over, markers_of}
 use Rattle.ul_nodes.specs.Plain.{Plain}
+use Rattle.ul_tree.specs.Paths.{is_printable}
 use Rattle.ul_tree.specs.Regions.{NoExtra, region_of}
 use Rattle.ul_tree.specs.Sample.{HoldsSomewhere}
-use Rattle.ul_index.specs.Serves.{ServesWhole}
+use Rattle.ul_requirement.specs.declared.wish.Strategy.TheVariants.{Deep}
+use Rattle.ul_index.specs.Serves.{Selection, ServesWhole}
+use Rattle.ul_deep.specs.Worlds.{ServesAt}
 use Rattle.ul_generations.specs.Laws.{holders, one_if}
 use Rattle.ul_generations.specs.Generations.{leaves_are, refused_at, too_many}
 use Rattle.ul_forks.specs.Headline.{ForkLaws, IsAnswer, IsLeaf, TreeAnswer, TreeLeaf, TreeRefusal}
@@ -20,8 +24,9 @@ use Rattle.ul_inputs.specs.Resolutions.{IsResolution, ResolutionFields}
 use Rattle.ul_answers.specs.Answer as answer
 use Rattle.ul_commands.specs.Locking.{IsLockAnswer, LocksFor, leaf_fields}
 use Rattle.ul_commands.specs.Laws.{DeepRefusesNone, ForksAreUnserved, IsOfLeaves, IsUnserved, LocksAreOfLeaves, LocksAreSound, RefusedAreUnserved}
-use Rattle.ul_commands.specs.Questions.{question_of}
+use Rattle.ul_commands.specs.Questions.{IsForked, question_of}
 use Rattle.ul_commands.proofs.Mergeable.{begins, refused_has_world, supported_has_world}
+use Rattle.ul_commands.proofs.Written.{fork_not_locked, lock_not_refused, lock_not_untold, told_region, written_lock}
 
 -- an element of a list is the first or one of the others
 contains_cases : {X : Type 0} (x z : X) (xs : List X) → Contains (x ∷ xs) z → (x ≡ z) ⊎ Contains xs z
@@ -106,15 +111,12 @@ served laws r counts ls is answer =
       whole = all_whole r ls (all.leaves counts ls answer);
     }
 
-locked_same : (k l : Lock) (m n : ℕ) → (let a : Result answer.Answer Refused = Ok (answer.locked k m) in a) ≡ Ok (answer.locked l n) → k ≡ l
-locked_same k l m n e = cc
-
 of_leaves : ForkLaws → (r : ResolutionFields) (l : Lock) (n : ℕ) → IsResolution r → (forked : TreeAnswer) (counts : List ℕ)
     → IsAnswer (question_of r) r.project.region counts forked → LocksFor r forked (Ok (answer.locked l n)) → IsOfLeaves r l
 of_leaves laws r l n is (leaves_are ls) counts answer h =
-    subst (IsOfLeaves r) (sym (locked_same l h.lock n (length ls) h.is))
+    subst (IsOfLeaves r) (sym (written_lock (first_over (markers_of h.lock)) l h.lock n (length ls) h.is))
     (record { leaves = map leaf_fields ls; served = served laws r counts ls is answer; merged = h.merged })
-of_leaves laws r l n is (refused_at fork) counts answer h = let bad = h.is in absurd (cc)
+of_leaves laws r l n is (refused_at fork) counts answer h = absurd (fork_not_locked (is_printable fork.region) r fork l n h)
 of_leaves laws r l n is (too_many m) counts answer h = absurd (cc)
 
 pub locks_are_of_leaves : ForkLaws → LocksAreOfLeaves
@@ -124,9 +126,6 @@ pub locks_are_sound : ForkLaws → MergePromises → LocksAreSound
 locks_are_sound laws merges r l n is h =
     let of = locks_are_of_leaves laws r l n is h in
     merges.sound r.catalog r.project of.leaves l of.served of.merged
-
-fork_same : (p q : List Bool) (t u : Plain) (xs ys : List ℕ) → (let a : Result answer.Answer Refused = Ok (answer.no_selection p t xs) in a) ≡ Ok (answer.no_selection q u ys) → t ≡ u
-fork_same p q t u xs ys e = cc
 
 unserved : ForkLaws → HoldsSomewhere → NoExtra → (r : ResolutionFields) → IsResolution r → (fork : TreeRefusal) (counts : List ℕ)
     → IsAnswer (question_of r) r.project.region counts (refused_at fork) → IsUnserved r fork.region
@@ -138,9 +137,10 @@ unserved laws somewhere no_extra r is fork counts answer = record {
 
 refused_by : ForkLaws → HoldsSomewhere → NoExtra → (r : ResolutionFields) (path : List Bool) (region : Plain) (core : List ℕ) → IsResolution r → (forked : TreeAnswer) (counts : List ℕ)
     → IsAnswer (question_of r) r.project.region counts forked → LocksFor r forked (Ok (answer.no_selection path region core)) → IsUnserved r region
-refused_by laws somewhere no_extra r path region core is (leaves_are ls) counts answer h = let bad = h.is in absurd (cc)
+refused_by laws somewhere no_extra r path region core is (leaves_are ls) counts answer h =
+    absurd (lock_not_refused (first_over (markers_of h.lock)) h.lock (length ls) path region core h.is)
 refused_by laws somewhere no_extra r path region core is (refused_at fork) counts answer h =
-    subst (IsUnserved r) (sym (fork_same path fork.path region fork.region core h.lines h.is)) (unserved laws somewhere no_extra r is fork counts answer)
+    subst (IsUnserved r) (sym (told_region (is_printable fork.region) r fork path region core h)) (unserved laws somewhere no_extra r is fork counts answer)
 refused_by laws somewhere no_extra r path region core is (too_many n) counts answer h = absurd (cc)
 
 pub refused_are_unserved : ForkLaws → HoldsSomewhere → NoExtra → RefusedAreUnserved
@@ -150,19 +150,34 @@ refused_are_unserved laws somewhere no_extra r path region core is h =
 pub forks_are_unserved : ForkLaws → HoldsSomewhere → NoExtra → ForksAreUnserved
 forks_are_unserved laws somewhere no_extra r fork is h = unserved laws somewhere no_extra r is fork h.counts h.answer
 
--- each world of a refused fork is one that the project supports
-inside_supported : ForkLaws → (r : ResolutionFields) (path : List Bool) (region : Plain) (core : List ℕ) → (forked : TreeAnswer) (counts : List ℕ)
-    → IsAnswer (question_of r) r.project.region counts forked → LocksFor r forked (Ok (answer.no_selection path region core))
-    → (w : WorldFields) → IsWorld w → region_of region w ≡ true → region_of r.project.region w ≡ true
-inside_supported laws r path region core (leaves_are ls) counts answer h w is at = let bad = h.is in absurd (cc)
-inside_supported laws r path region core (refused_at fork) counts answer h w is at =
-    ((laws.forks (question_of r) r.project.region).refusal counts fork answer).inside w is
-    (subst (λ (t : Plain). region_of t w ≡ true) (fork_same path fork.path region fork.region core h.lines h.is) at)
-inside_supported laws r path region core (too_many n) counts answer h w is at = absurd (cc)
+-- where each world that the project supports has a selection, no fork is refused under `deep`
+none_refused : ForkLaws → HoldsSomewhere → NoExtra → (r : ResolutionFields) → IsResolution r → r.wish.strategy ≡ Deep
+    → ((w : WorldFields) → IsWorld w → region_of r.project.region w ≡ true → (s : Selection) × ServesAt r.catalog (starts_of (question_of r)) w s)
+    → (fork : TreeRefusal) → IsForked r (refused_at fork) → ⊥
+none_refused laws somewhere no_extra r is deep each fork forked =
+    let found = unserved laws somewhere no_extra r is fork forked.counts forked.answer in
+    let w = found.world in
+    let inside = ((laws.forks (question_of r) r.project.region).refusal forked.counts fork forked.answer).inside w.0 w.1 w.2 in
+    let s = each w.0 w.1 inside in
+    found.at_worlds deep w.0 w.1 w.2 s.0 s.1
+
+-- a fork that is told, or isn't, is a refused one
+told_refused : (r : ResolutionFields) (path : List Bool) (region : Plain) (core : List ℕ) (f : TreeAnswer)
+    → LocksFor r f (Ok (answer.no_selection path region core)) → (fork : TreeRefusal) × (f ≡ refused_at fork)
+told_refused r path region core (leaves_are ls) h =
+    absurd (lock_not_refused (first_over (markers_of h.lock)) h.lock (length ls) path region core h.is)
+told_refused r path region core (refused_at fork) h = (fork, refl)
+told_refused r path region core (too_many n) h = absurd (cc)
+
+untold_refused : (r : ResolutionFields) (f : TreeAnswer) → LocksFor r f (Ok answer.untold) → (fork : TreeRefusal) × (f ≡ refused_at fork)
+untold_refused r (leaves_are ls) h = absurd (lock_not_untold (first_over (markers_of h.lock)) h.lock (length ls) h.is)
+untold_refused r (refused_at fork) h = (fork, refl)
+untold_refused r (too_many n) h = absurd (cc)
 
 pub deep_refuses_none : ForkLaws → HoldsSomewhere → NoExtra → DeepRefusesNone
-deep_refuses_none laws somewhere no_extra r path region core is deep each h =
-    let found = refused_are_unserved laws somewhere no_extra r path region core is h in
-    let w = found.world in
-    let s = each w.0 w.1 (inside_supported laws r path region core h.forked h.are_forks.counts h.are_forks.answer h.locks w.0 w.1 w.2) in
-    found.at_worlds deep w.0 w.1 w.2 s.0 s.1
+deep_refuses_none laws somewhere no_extra r is deep each = (
+  λ path region core h. let found = told_refused r path region core h.forked h.locks in
+      none_refused laws somewhere no_extra r is deep each found.0 (subst (IsForked r) found.1 h.are_forks),
+  λ h. let found = untold_refused r h.forked h.locks in
+      none_refused laws somewhere no_extra r is deep each found.0 (subst (IsForked r) found.1 h.are_forks),
+)

@@ -7,6 +7,10 @@ use Rattle.ul_generations.specs.Generations.{too_many}
 use Rattle.ul_forks.specs.Forked.{ForkedMarks, HasAccepted, HasRegions}
 use Rattle.ul_forks.specs.Headline.{IsAnswer}
 use Rattle.ul_forks.specs.Judged.{answer_of_trees}
+use Rattle.ul_forks.specs.Outcome.{starts_of}
+use Rattle.ul_forks.specs.declared.question.Question.{Question}
+use Rattle.ul_prepared.specs.Prepared.{IsPrepared}
+use Rattle.ul_prepared.specs.declared.prepared.Prepared.{Prepared}
 use Rattle.ul_region.specs.Truths.{PassView}
 use Rattle.ul_inputs.specs.Refused.{Refused}
 use Rattle.ul_inputs.specs.Refusals.{IsRefusalFor}
@@ -14,6 +18,20 @@ use Rattle.ul_inputs.specs.Resolutions.{ResolutionFields}
 use Rattle.ul_inputs.specs.declared.refusal.Refusal.{Refusal}
 use Rattle.ul_inputs.specs.declared.refusal.Refusal.TheVariants.{NoMemory}
 use Rattle.ul_commands.specs.Questions.{IsForked, question_of, too_many_forks}
+
+-- the question of a resolution, with the nodes that each selection starts from
+pub record IsQuestionOf (r : ResolutionFields) (q : Question) : Type 0 where
+  pub catalog : q.catalog.now ≡ r.catalog
+  pub extras : q.extras.now ≡ r.project.extras
+  pub starts : q.starts.now ≡ starts_of (question_of r)
+  pub wish : q.wish.now ≡ r.wish
+
+-- what all regions of a resolution share
+pub record IsSharedOf (r : ResolutionFields) (h : PassView) (p : Prepared) : Type 0 where
+  pub prepared : IsPrepared h p
+  pub catalog : p.catalog.now ≡ r.catalog
+  pub starts : p.starts.now ≡ starts_of (question_of r)
+  pub wish : p.wish.now ≡ r.wish
 
 -- marks as the fork answer of a resolution, known to a pass; where a region is refused, its derivation is accepted
 pub record AreForksOf (r : ResolutionFields) (h : PassView) (forked : ForkedMarks) : Type 0 where

@@ -1,8 +1,9 @@
 -- What holds of the answers of the commands.
-use Rattle.std.specs.Prelude.{◌≡◌, ℕ, List, Bool, true, Ok}
+use Rattle.std.specs.Prelude.{◌≡◌, ℕ, List, Bool, true, None, Ok}
 use Rattle.ul_comparison.specs.Worlds.{WorldFields, IsWorld}
 use Rattle.ul_requirement.specs.declared.wish.Strategy.TheVariants.{Deep}
 use Rattle.ul_lock.specs.declared.parts.Lock.{Lock}
+use Rattle.ul_lock_write.specs.Markers.{first_over, markers_of}
 use Rattle.ul_nodes.specs.Plain.{Plain}
 use Rattle.ul_tree.specs.Regions.{region_of}
 use Rattle.ul_index.specs.Regions.{HasWorld}
@@ -16,7 +17,7 @@ use Rattle.ul_sound.specs.Leaves.{LeafFields}
 use Rattle.ul_sound.specs.Merged.{IsMergedLock}
 use Rattle.ul_sound.specs.Sound.{IsSound}
 use Rattle.ul_inputs.specs.Resolutions.{IsResolution, ResolutionFields}
-use Rattle.ul_answers.specs.Answer.{locked, no_selection}
+use Rattle.ul_answers.specs.Answer.{locked, no_selection, untold}
 use Rattle.ul_commands.specs.Locking.{IsLockAnswer}
 use Rattle.ul_commands.specs.Questions.{IsForked, question_of}
 
@@ -36,6 +37,11 @@ LocksAreOfLeaves = (r : ResolutionFields) (l : Lock) (forks : ℕ) → IsResolut
 abbrev pub LocksAreSound : Type 0
 LocksAreSound = (r : ResolutionFields) (l : Lock) (forks : ℕ) → IsResolution r → IsLockAnswer r (Ok (locked l forks))
     → IsSound r.catalog r.project l
+
+-- each marker of a lock that is answered is printable
+abbrev pub LocksArePrintable : Type 0
+LocksArePrintable = (r : ResolutionFields) (l : Lock) (forks : ℕ) → IsLockAnswer r (Ok (locked l forks))
+    → first_over (markers_of l) ≡ None
 
 -- no selection serves a single world of the region
 abbrev pub HasNoneAtWorlds : ResolutionFields → Plain → Type 0
@@ -58,10 +64,11 @@ abbrev pub ForksAreUnserved : Type 0
 ForksAreUnserved = (r : ResolutionFields) (fork : TreeRefusal) → IsResolution r → IsForked r (refused_at fork)
     → IsUnserved r fork.region
 
--- where each world that the project supports has a selection that serves it, no fork is answered under `deep`
+-- where each world that the project supports has a selection that serves it, no fork is answered under `deep`, told or not
 abbrev pub DeepRefusesNone : Type 0
-DeepRefusesNone = (r : ResolutionFields) (path : List Bool) (region : Plain) (core : List ℕ) → IsResolution r
+DeepRefusesNone = (r : ResolutionFields) → IsResolution r
     → r.wish.strategy ≡ Deep
     → ((w : WorldFields) → IsWorld w → region_of r.project.region w ≡ true
     → (s : Selection) × ServesAt r.catalog (starts_of (question_of r)) w s)
-    → IsLockAnswer r (Ok (no_selection path region core)) → ⊥
+    → ((path : List Bool) (region : Plain) (core : List ℕ) → IsLockAnswer r (Ok (no_selection path region core)) → ⊥)
+    × (IsLockAnswer r (Ok untold) → ⊥)

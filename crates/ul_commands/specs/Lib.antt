@@ -6,6 +6,7 @@ pub mod Reasons
 pub mod Checking
 pub mod Verifying
 pub mod Commands
+pub mod Wanted
 pub mod Views
 pub mod Forking
 pub mod Laws

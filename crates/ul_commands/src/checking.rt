@@ -2,6 +2,8 @@
 ghost use Rattle.std.specs.Prelude.{◌≡◌, IfOk, Ok, Some};
 ghost use Rattle.std.specs.Fmt.{decimal};
 ghost use Rattle.ul_base.specs.Files.{Told};
+ghost use Rattle.ul_algebra.specs.Spelled.{tree_of};
+ghost use Rattle.ul_region.specs.Truths.{IsRegion};
 ghost use Rattle.ul_answers.specs.Views.{view as answer_view};
 ghost use Rattle.ul_inputs.specs.Inputs.{only};
 ghost use Rattle.ul_inputs.specs.Refusals.{Answers, Cause, IsRefusalFor};
@@ -9,15 +11,16 @@ ghost use Rattle.ul_inputs.specs.Resolutions.{IsResolution, view};
 ghost use Rattle.ul_commands.specs.Checking as spec;
 ghost use Rattle.ul_commands.specs.Questions.{IsProblemIn};
 
-use crate::reasons::problem_at;
+use crate::forking::starts_in;
 use std::alloc::{AllocError, Global};
 use std::sync::Wait;
-use ul_algebra::Algebra;
+use ul_algebra::{Algebra, Diagram};
 use ul_answers::{Answer, leave};
 use ul_base::Files;
 use ul_derivation::AcceptFault;
 use ul_inputs::{Refusal, Resolution, large_file, malformed};
 use ul_interner::Interner;
+use ul_placing::problem_of;
 use ul_problem::Problem;
 use ul_report_judge::judge;
 use ul_report_read::{Proof, ProofFault, read};
@@ -58,6 +61,30 @@ pub(crate) fn proof_file<F: Files>(
 {
     let bytes = large_file(alloc, files, path)?;
     proof_in(alloc, path, &bytes)
+}
+
+// The problem of a region of a resolution.
+fn problem_at<R: Wait>(
+    rt: &R,
+    alloc: Global,
+    algebra: &mut Algebra<'_>,
+    resolution: &Resolution,
+    region: &Diagram,
+) -> Result<Problem, AllocError>
+    requires resolution { IsResolution (view resolution.now) }
+    requires region { IsRegion algebra.old region.now }
+    ensures { IfOk result (IsProblemIn (view resolution.now) (tree_of region.now)) }
+{
+    let starts = starts_in(alloc, resolution)?;
+    problem_of(
+        rt,
+        alloc,
+        &resolution.catalog,
+        starts.as_slice(),
+        &resolution.wish,
+        algebra,
+        region,
+    )
 }
 
 // The judgement of a derivation on the problem of its region.

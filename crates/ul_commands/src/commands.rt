@@ -12,13 +12,14 @@ ghost use Rattle.ul_commands.specs.Commands as spec;
 ghost use Rattle.ul_commands.specs.Generating.{gen_said};
 ghost use Rattle.ul_commands.specs.Verifying as verifying;
 ghost use Rattle.ul_commands.specs.Views.{GivesAnswer, HasWorkers, IsByWords, IsSure, view};
+ghost use Rattle.ul_commands.specs.Wanted.{asked_for};
 
 use crate::asked::Asked;
 use crate::checking::{check, proof_file};
 use crate::generating::{INDEX, PROJECT, counted, files};
-use crate::locking::lock;
-use crate::reasons::why;
+use crate::resolving::answer;
 use crate::verifying::verify;
+use crate::wanted::Wanted;
 use std::alloc::Global;
 use std::sync::Wait;
 use std::thread::Threads;
@@ -30,50 +31,27 @@ use ul_lock_commands::{env, export};
 use ul_project::Project;
 use ul_report_read::Proof;
 
-// The lock of a project.
-fn lock_files<R: Threads + Wait + Sync, F: Files, G: Gate + Sync>(
+// What is wanted of a project's resolution.
+fn resolved_files<R: Threads + Wait + Sync, F: Files, G: Gate + Sync>(
     rt: &R,
     alloc: Global,
     files: &mut F,
     gate: &G,
+    wanted: Wanted,
     project: &str,
     folder: &str,
     workers: u64,
     old: Option<&str>,
 ) -> Result<Answer, Refusal>
     requires { (1 ≤ workers) × (workers ≤ 64) }
-    ensures told { Told (F.map files.old) (λ m. Answers answer_view result
-        (spec.command (asked.lock project.now folder.now workers (option_map (λ p. p.now) old.entry)) m)) }
+    ensures told { Told (F.map files.old) (λ m. Answers answer_view result (spec.command
+        (asked_for wanted project.now folder.now workers (option_map (λ p. p.now) old.entry)) m)) }
     ensures same { F.map files.new ≡ F.map files.old }
     ensures cause { Cause (F.faults files.old) (F.faults files.new) (F.last_failed files.new) result }
     ensures answering { GivesAnswer result }
 {
     let resolution = resolution_in(alloc, files, project, folder, old)?;
-    let answer = lock(rt, alloc, workers, &resolution, gate);
-    leave(resolution);
-    answer
-}
-
-// Why a project has no lock.
-fn why_files<R: Threads + Wait + Sync, F: Files, G: Gate + Sync>(
-    rt: &R,
-    alloc: Global,
-    files: &mut F,
-    gate: &G,
-    project: &str,
-    folder: &str,
-    workers: u64,
-    old: Option<&str>,
-) -> Result<Answer, Refusal>
-    requires { (1 ≤ workers) × (workers ≤ 64) }
-    ensures told { Told (F.map files.old) (λ m. Answers answer_view result
-        (spec.command (asked.why project.now folder.now workers (option_map (λ p. p.now) old.entry)) m)) }
-    ensures same { F.map files.new ≡ F.map files.old }
-    ensures cause { Cause (F.faults files.old) (F.faults files.new) (F.last_failed files.new) result }
-    ensures answering { GivesAnswer result }
-{
-    let resolution = resolution_in(alloc, files, project, folder, old)?;
-    let answer = why(rt, alloc, workers, &resolution, gate);
+    let answer = answer(rt, alloc, wanted, workers, gate, &resolution);
     leave(resolution);
     answer
 }
@@ -95,7 +73,17 @@ fn gen_files<R: Threads + Wait + Sync, G: Gate + Sync>(
 {
     let list = files(alloc, seed, size)?;
     let mut files = SureFiles::of(alloc, list);
-    let answer = lock_files(rt, alloc, &mut files, gate, PROJECT, INDEX, workers, None);
+    let answer = resolved_files(
+        rt,
+        alloc,
+        &mut files,
+        gate,
+        Wanted::Lock,
+        PROJECT,
+        INDEX,
+        workers,
+        None,
+    );
     leave(files);
     match answer {
         Ok(answer) => Ok(counted(answer)),
@@ -330,13 +318,23 @@ pub fn command<R: Threads + Wait + Sync, F: Files, G: Gate + Sync>(
             folder,
             workers,
             old,
-        } => lock_files(rt, alloc, files, gate, project, folder, *workers, *old),
+        } => {
+            let wanted = Wanted::Lock;
+            resolved_files(
+                rt, alloc, files, gate, wanted, project, folder, *workers, *old,
+            )
+        }
         Asked::Why {
             project,
             folder,
             workers,
             old,
-        } => why_files(rt, alloc, files, gate, project, folder, *workers, *old),
+        } => {
+            let wanted = Wanted::Reason;
+            resolved_files(
+                rt, alloc, files, gate, wanted, project, folder, *workers, *old,
+            )
+        }
         Asked::Gen {
             seed,
             size,

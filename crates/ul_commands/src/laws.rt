@@ -1,10 +1,12 @@
 //! Laws of what the commands answer. None of these functions does anything but name the laws that they rest on.
-ghost use Rattle.ul_commands.specs.Laws.{DeepRefusesNone, ForksAreUnserved, LocksAreOfLeaves, LocksAreSound, RefusedAreUnserved};
+ghost use Rattle.ul_commands.specs.Laws.{DeepRefusesNone, ForksAreUnserved, LocksAreOfLeaves, LocksArePrintable, LocksAreSound, RefusedAreUnserved};
 
-/// A lock that is answered is right in every world that the project supports: it is what leaves merge into that serve it.
+/// A lock that is answered is right in every world that the project supports: it is what leaves merge into that serve it. Each
+/// of its markers is printable.
 pub fn locks_are_sound()
     ensures sound { LocksAreSound }
     ensures leaves { LocksAreOfLeaves }
+    ensures printable { LocksArePrintable }
 {
     ul_forks::laws::fork_laws();
     ul_sound::laws::merge_laws();

@@ -10,8 +10,9 @@ mod forking;
 mod generating;
 pub mod laws;
 mod locking;
-mod reasons;
+mod resolving;
 mod verifying;
+mod wanted;
 
 pub use asked::Asked;
 pub use commands::command;

@@ -4,6 +4,7 @@ pub mod Answers
 pub mod Judged
 pub mod Parts
 pub mod Picking
+pub mod Asking
 pub mod Judging
 pub mod Forking
 pub mod Sharing

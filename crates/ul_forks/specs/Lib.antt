@@ -2,6 +2,7 @@ pub mod Outcome
 pub mod Headline
 pub mod Judged
 pub mod Forked
+pub mod Questions
 pub mod Children
 pub mod Picks
 pub mod Judge

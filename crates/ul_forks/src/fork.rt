@@ -1,32 +1,30 @@
 //! The fork answer of a project's supported region.
-ghost use Rattle.std.specs.Prelude.{◌≡◌, ◌<◌, ◌≤◌, IfOk, IfErr, length};
+ghost use Rattle.std.specs.Prelude.{◌≡◌, ◌≤◌, IfOk, IfErr};
 ghost use Rattle.ul_interner.specs.Known.{Knows};
 ghost use Rattle.ul_requirement.specs.Truth.{base, with_extra};
 ghost use Rattle.ul_tree.specs.Regions.{IsRegionTree};
 ghost use Rattle.ul_tree.specs.Views.{tree_view};
 ghost use Rattle.ul_algebra.specs.Spelled.{tree_of};
 ghost use Rattle.ul_generations.specs.Answers.{Fails};
-ghost use Rattle.ul_prepared.specs.Project.{IsProjectOf};
 ghost use Rattle.ul_region.specs.Laws.{roots};
 ghost use Rattle.ul_region.specs.Truths.{IsRegion};
-ghost use Rattle.ul_forks.specs.Outcome.{IsOutcome, starts_of};
-ghost use Rattle.ul_forks.specs.Forked.{HasRegions, IsForked, project_name, question_of};
+ghost use Rattle.ul_forks.specs.Outcome.{IsOutcome};
+ghost use Rattle.ul_forks.specs.Forked.{HasRegions, IsForked};
 ghost use Rattle.ul_forks.specs.Judge.{IsReady, question_with};
+ghost use Rattle.ul_forks.specs.Questions.{IsQuestion, IsReadyFor, view};
 
 use crate::laws::judged_laws;
+use crate::question::Question;
 use crate::region_judge::RegionJudge;
 use std::alloc::{AllocError, Global};
-use std::mem;
 use std::sync::Wait;
 use std::thread::Threads;
 use ul_algebra::{Algebra, Diagram, DiagramLabel, DiagramPass};
 use ul_base::{Gate, Name, Node};
 use ul_generations::{ForkFault, Forked, Leaf};
-use ul_index::Catalog;
 use ul_interner::Interner;
 use ul_prepared::Prepared;
 use ul_problem::Derivation;
-use ul_requirement::{Package, Wish};
 use ul_tree::Tree;
 use ul_version::Version;
 use ul_workers::Round;
@@ -39,6 +37,18 @@ pub type ForkLeaf = Leaf<Diagram, Decisions>;
 
 /// The leaves in path order, or the first refused region with a derivation.
 pub type ForkAnswer = Forked<Diagram, Decisions, Derivation>;
+
+/// The fork answer, and what it was found with.
+#[derive(Drop)]
+pub struct Forks<'i, 'q> {
+    pub answer: ForkAnswer,
+    /// The rounds of the workers, one for each generation.
+    pub rounds: Vec<Round>,
+    /// What all regions share.
+    pub prepared: Prepared<'q>,
+    /// An algebra on the interner, which knows all regions of the answer.
+    pub algebra: Algebra<'i>,
+}
 
 // The node of a name with an extra.
 fn extra_node(alloc: Global, name: &Name, extra: &Name) -> Result<Node, AllocError>
@@ -77,23 +87,6 @@ pub fn start_nodes(alloc: Global, name: &Name, extras: &[Name]) -> Result<Vec<No
     Ok(nodes)
 }
 
-// The name of a package.
-fn name_of(project: &Package) -> &Name
-    ensures { result.now ≡ project.now.name }
-{
-    &project.name
-}
-
-// The nodes of the project, which is the first package.
-fn project_nodes(alloc: Global, catalog: &Catalog, extras: &[Name]) -> Result<Vec<Node>, AllocError>
-    requires { 0 < length catalog.now }
-    ensures { IfOk result (λ v. v.items ≡ roots (project_name catalog.now) extras.now) }
-{
-    let packages: &[Package] = catalog.packages();
-    let nodes = start_nodes(alloc, name_of(&packages[0]), extras)?;
-    Ok(nodes)
-}
-
 // The fork answer of a region's diagram, by what all regions share.
 fn forks_by<'p, R: Threads + Wait + Sync, G: Gate + Sync>(
     rt: &R,
@@ -121,91 +114,88 @@ fn forks_by<'p, R: Threads + Wait + Sync, G: Gate + Sync>(
     ul_generations::fork_all(rt, alloc, workers, interner, pass, &judge, gate, region)
 }
 
-// The fork answer of a region's diagram, for the nodes of a project.
-fn forks_from<'i, 'p, R: Threads + Wait + Sync, G: Gate + Sync>(
+// The fork answer of a region's diagram.
+fn forks_from<'i, 'q, R: Threads + Wait + Sync, G: Gate + Sync>(
     rt: &R,
     alloc: Global,
     workers: u64,
     interner: &'i Interner<DiagramLabel>,
     mut algebra: Algebra<'i>,
-    catalog: &'p Catalog,
-    starts: &'p [Node],
-    extras: &'p [Name],
-    wish: &'p Wish,
     gate: &G,
+    question: &Question<'q>,
     region: Diagram,
-) -> Result<(ForkAnswer, Vec<Round>, Algebra<'i>), ForkFault>
+) -> Result<Forks<'i, 'q>, ForkFault>
     requires workers { (1 ≤ workers) × (workers ≤ 64) }
     requires own { algebra.table ≡ interner.now }
-    requires starts { starts.now ≡ starts_of (question_of catalog.now extras.now wish.now) }
-    requires project { IsProjectOf catalog.now starts.now }
+    requires question { IsQuestion question.now }
     requires region { IsRegion algebra region }
-    ensures answer { IfOk result (λ r. IsForked (question_of catalog.now extras.now wish.now) (tree_of region)
-        workers r.0 r.1.items) }
-    ensures fault { IfErr result (λ e. Fails (IsOutcome (question_of catalog.now extras.now wish.now))
-        (tree_of region) e) }
-    ensures knows { IfOk result (λ r. Knows algebra.entry r.2) }
-    ensures regions { IfOk result (λ r. HasRegions r.2 r.0) }
+    ensures answer { IfOk result (λ f. IsForked (view question.now) (tree_of region) workers f.answer f.rounds.items) }
+    ensures fault { IfErr result (λ e. Fails (IsOutcome (view question.now)) (tree_of region) e) }
+    ensures knows { IfOk result (λ f. Knows algebra.entry f.algebra) }
+    ensures regions { IfOk result (λ f. HasRegions f.algebra f.answer) }
+    ensures shared { IfOk result (λ f. IsReadyFor f.algebra question.now f.prepared) }
 {
-    let prepared = Prepared::of(rt, alloc, &mut algebra, catalog, starts, wish)?;
-    let mut pass = algebra.end();
-    let (forked, rounds) = forks_by(
-        rt, alloc, workers, interner, &mut pass, &prepared, extras, gate, region,
+    let prepared = Prepared::of(
+        rt,
+        alloc,
+        &mut algebra,
+        question.catalog,
+        question.starts,
+        question.wish,
     )?;
-    // what no region asks for any more
-    mem::forget(prepared);
+    let mut pass = algebra.end();
+    let (answer, rounds) = forks_by(
+        rt,
+        alloc,
+        workers,
+        interner,
+        &mut pass,
+        &prepared,
+        question.extras,
+        gate,
+        region,
+    )?;
     let algebra = Algebra::begin(alloc, interner, pass);
-    Ok((forked, rounds, algebra))
+    Ok(Forks {
+        answer,
+        rounds,
+        prepared,
+        algebra,
+    })
 }
 
-/// The fork answer of a region, for a catalog that begins with the project, the project's extras, and a wish.
+/// The fork answer of a region to a question.
 ///
 /// From 1 to 64 workers judge the regions, and the answer is the same for every number of them. There is one round for
 /// each generation, with as many results as it has regions. Each region's job enters the gate first, with its number in
-/// its generation. The algebra that is answered is on the given interner, and knows all regions of the answer. What all
-/// regions share is left to the end of the process, where the system takes it back at once.
+/// its generation.
 ///
 /// # Errors
 ///
 /// `TooManyForks` exactly where there are more than 2,048 leaves and open regions, with their number.
-pub fn fork_all<'i, 'c, R: Threads + Wait + Sync, G: Gate + Sync>(
+pub fn fork_all<'i, 'q, R: Threads + Wait + Sync, G: Gate + Sync>(
     rt: &R,
     alloc: Global,
     workers: u64,
     interner: &'i Interner<DiagramLabel>,
     pass: DiagramPass,
-    catalog: &'c Catalog,
-    extras: &'c [Name],
-    wish: &'c Wish,
-    region: &Tree,
     gate: &G,
-) -> Result<(ForkAnswer, Vec<Round>, Algebra<'i>), ForkFault>
+    question: &Question<'q>,
+    region: &Tree,
+) -> Result<Forks<'i, 'q>, ForkFault>
     requires workers { (1 ≤ workers) × (workers ≤ 64) }
     requires own { pass.table ≡ interner.now }
-    requires project { IsProjectOf catalog.now (starts_of (question_of catalog.now extras.now wish.now)) }
+    requires question { IsQuestion question.now }
     requires region { IsRegionTree (tree_view region.now) }
-    ensures answer { IfOk result (λ r. IsForked (question_of catalog.now extras.now wish.now) (tree_view region.now)
-        workers r.0 r.1.items) }
-    ensures fault { IfErr result (λ e. Fails (IsOutcome (question_of catalog.now extras.now wish.now))
-        (tree_view region.now) e) }
-    ensures knows { IfOk result (λ r. Knows pass r.2) }
-    ensures regions { IfOk result (λ r. HasRegions r.2 r.0) }
+    ensures answer { IfOk result (λ f. IsForked (view question.now) (tree_view region.now) workers f.answer
+        f.rounds.items) }
+    ensures fault { IfErr result (λ e. Fails (IsOutcome (view question.now)) (tree_view region.now) e) }
+    ensures knows { IfOk result (λ f. Knows pass f.algebra) }
+    ensures regions { IfOk result (λ f. HasRegions f.algebra f.answer) }
+    ensures shared { IfOk result (λ f. IsReadyFor f.algebra question.now f.prepared) }
 {
-    let starts = project_nodes(alloc, catalog, extras)?;
     let mut algebra = Algebra::begin(alloc, interner, pass);
     let whole = algebra.of_tree(rt, alloc, region)?;
-    let forked = forks_from(
-        rt,
-        alloc,
-        workers,
-        interner,
-        algebra,
-        catalog,
-        starts.as_slice(),
-        extras,
-        wish,
-        gate,
-        whole,
-    )?;
-    Ok(forked)
+    let forks = forks_from(rt, alloc, workers, interner, algebra, gate, question, whole)?;
+    Ok(forks)
 }

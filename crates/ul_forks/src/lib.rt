@@ -9,8 +9,10 @@ mod core_split;
 mod fork;
 pub mod laws;
 mod picks;
+mod question;
 mod region_judge;
 
 pub use children::children_of;
-pub use fork::{Decisions, ForkAnswer, ForkLeaf, fork_all, start_nodes};
+pub use fork::{Decisions, ForkAnswer, ForkLeaf, Forks, fork_all, start_nodes};
+pub use question::Question;
 pub use ul_generations::{ForkFault, Forked, Leaf, Path};

@@ -1,16 +1,16 @@
 //! Fork answers of small projects.
-ghost use Rattle.std.specs.Prelude.{◌≡◌, ◌∷◌, ◌≤◌, [], IfSome, IsTrue};
+ghost use Rattle.std.specs.Prelude.{◌≡◌, ◌∷◌, ◌≤◌, [], IfSome};
 ghost use Rattle.ul_requirement.specs.Truth.{base};
 ghost use Rattle.ul_prepared.specs.Project.{IsProjectOf};
-ghost use Rattle.ul_forks.specs.Forked.{project_name};
+ghost use Rattle.ul_forks.specs.Forked as forked;
 
 use std::alloc::{AllocError, Global};
 use std::sync::Wait;
 use std::thread::Threads;
 use ul_algebra::{Algebra, DiagramLabel, DiagramPass};
 use ul_base::owned::refused;
-use ul_base::{Gate, SureFiles};
-use ul_forks::{ForkAnswer, ForkFault, fork_all};
+use ul_base::{Gate, Name, SureFiles};
+use ul_forks::{ForkAnswer, ForkFault, Forks, Question, fork_all, start_nodes};
 use ul_index::Catalog;
 use ul_interner::Interner;
 use ul_load::load_project;
@@ -103,17 +103,18 @@ fn only_release(found: &Package) -> Option<&Release>
     }
 }
 
-// Whether a catalog begins with a package of one release, which isn't yanked.
+// The name of a catalog's first package, if that has one release, which isn't yanked.
 #[tactic(auto, using(crate::proofs::Beginning::begun))]
-fn is_begun(catalog: &Catalog) -> bool
-    ensures { IsTrue result → IsProjectOf catalog.now (base (project_name catalog.now) ∷ []) }
+fn project_name(catalog: &Catalog) -> Option<&Name>
+    ensures name { IfSome result (λ n. n.now ≡ forked.project_name catalog.now) }
+    ensures project { IfSome result (λ n. IsProjectOf catalog.now (base n.now ∷ [])) }
 {
     match catalog.packages() {
         [project, ..] => match only_release(project) {
-            Some(release) => !release.yanked,
-            None => false,
+            Some(release) if !release.yanked => Some(&project.name),
+            _ => None,
         },
-        [] => false,
+        [] => None,
     }
 }
 
@@ -132,22 +133,33 @@ pub fn forks<'i, R: Threads + Wait + Sync, G: Gate + Sync>(
 {
     let project: &Project = &input.project;
     let catalog: &Catalog = &input.catalog;
-    if !is_begun(catalog) {
+    let Some(name) = project_name(catalog) else {
         return Err(ForkFault::NoMemory);
-    }
+    };
+    let starts = start_nodes(alloc, name, &[])?;
     let wish = wish_of(alloc, project);
-    fork_all(
+    let question = Question {
+        catalog,
+        extras: &[],
+        starts: starts.as_slice(),
+        wish: &wish,
+    };
+    let Forks {
+        answer,
+        rounds,
+        algebra,
+        ..
+    } = fork_all(
         rt,
         alloc,
         workers,
         interner,
         pass,
-        catalog,
-        &[],
-        &wish,
-        &project.region,
         gate,
-    )
+        &question,
+        &project.region,
+    )?;
+    Ok((answer, rounds, algebra))
 }
 
 /// That answer alone, on an interner of its own.

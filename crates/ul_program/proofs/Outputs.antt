@@ -2,7 +2,7 @@
 use Rattle.std.proofs.Common.{◌≡◌, ◌≢◌, ◌≤◌, ◌++◌, ℕ, List, [], Bool, true, false, if◌then◌else◌, nat_eq, nat_le, length, codes, IfOk, IfSome, Option, Some, None, Result, Ok, Err, String, Global, string_bytes, refl, ap, sym, ◌∙◌, subst, arith}
 use Rattle.ul_base.specs.Files.{Told}
 use Rattle.ul_lock.specs.declared.parts.Lock.{Lock as LockData}
-use Rattle.ul_tree.specs.Paths.{paths_of}
+use Rattle.ul_tree.specs.Paths.{is_printable}
 use Rattle.ul_nodes.specs.Plain.{Plain}
 use Rattle.ul_lock_write.specs.Markers.{first_over, markers_of}
 use Rattle.ul_lock_write.specs.Texts.{lock_text}
@@ -79,13 +79,15 @@ written_plain : (l : LockData) → IsPlain (written l).0
 written_plain l = lock_plain (first_over (markers_of l)) (lock_text l)
 
 refusal_plain : (region : Plain) (text : List ℕ) → IsPlain (refusal_output region text).0
-refusal_plain region text = by_bool (nat_le (paths_of region) 4096) (1, text) too_many_paths one_plain four_plain
+refusal_plain region text = by_bool (is_printable region) (1, text) too_many_paths one_plain four_plain
 
 -- the status of an answer other than usage
 answer_plain : (a : answer.Answer) → IsAnswering a → IsPlain (output_of a).0
 answer_plain answer.usage h = absurd h
 answer_plain (answer.locked l n) h = written_plain l
 answer_plain (answer.counted l n) h = by_bool (nat_eq (written l).0 0) (0, counts_text (length l.packages) n) (written l) zero_plain (written_plain l)
+answer_plain answer.unwritten h = four_plain
+answer_plain answer.untold h = four_plain
 answer_plain (answer.no_selection path region core) h = refusal_plain region (refusal_text path region ++ core)
 answer_plain (answer.derived path region steps) h = refusal_plain region (refusal_text path region ++ steps)
 answer_plain answer.none_refused h = zero_plain

@@ -2,7 +2,7 @@
 use Rattle.std.proofs.Common.{◌≡◌, ℕ, List, Bool, true, false, cond, Option, Some, None, Result, Ok, Err, refl, sym, subst, inl, inr}
 use Rattle.std.specs.Prelude.{codes, length, nat_le}
 use Rattle.ul_base.specs.Files.{FileMap}
-use Rattle.ul_tree.specs.Paths.{paths_of}
+use Rattle.ul_tree.specs.Paths.{is_printable}
 use Rattle.ul_nodes.specs.Plain.{Plain}
 use Rattle.ul_inputs.specs.Inputs.{GoesOn, Said, said_on, text_bytes}
 use Rattle.ul_inputs.specs.Refused.{Refused, limit, malformed}
@@ -73,12 +73,12 @@ written_not_one None text e = by_length (nat_le (length text) text_bytes) e
 
 -- a refusal that is printed is its text
 pub refusal_is : (region : Plain) (text : List ℕ) → 1 ≡ (refusal_output region text).0 → (refusal_output region text).1 ≡ text
-refusal_is region text e = by_paths (nat_le (paths_of region) 4096) e
+refusal_is region text e = by_printable (is_printable region) e
   where
-    by_paths : (b : Bool) → 1 ≡ (cond b (1, text) (refused_output (limit (codes "marker-paths") 4096))).0
+    by_printable : (b : Bool) → 1 ≡ (cond b (1, text) (refused_output (limit (codes "marker-paths") 4096))).0
         → (cond b (1, text) (refused_output (limit (codes "marker-paths") 4096))).1 ≡ text
-    by_paths true e = refl
-    by_paths false e = absurd (cc e)
+    by_printable true e = refl
+    by_printable false e = absurd (cc e)
 
 -- ---- workers
 

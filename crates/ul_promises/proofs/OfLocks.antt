@@ -1,22 +1,23 @@
 -- What `lock` prints.
-use Rattle.std.proofs.Common.{◌≡◌, ◌++◌, ◌∙◌, ◌≤◌, ℕ, List, length, Option, Some, Result, Ok, ap, sym, subst}
+use Rattle.std.proofs.Common.{◌≡◌, ◌++◌, ◌∙◌, ◌≤◌, ℕ, List, Bool, true, false, length, Option, Some, None, Result, Ok, ap, sym, subst}
 use Rattle.ul_base.specs.Files.{FileMap}
+use Rattle.ul_tree.specs.Paths.{is_printable}
 use Rattle.ul_lock.specs.declared.parts.Lock.{Lock}
 use Rattle.ul_lock_write.specs.Markers.{first_over, markers_of}
 use Rattle.ul_lock_write.specs.Texts.{lock_text}
 use Rattle.ul_generations.specs.Generations.{leaves_are, refused_at, too_many}
-use Rattle.ul_forks.specs.Headline.{TreeAnswer}
+use Rattle.ul_forks.specs.Headline.{TreeAnswer, TreeRefusal}
 use Rattle.ul_report.specs.Texts.{refusal_text}
 use Rattle.ul_inputs.specs.Inputs.{answer, text_bytes}
 use Rattle.ul_inputs.specs.Refused.{Refused}
 use Rattle.ul_inputs.specs.Resolutions.{ResolutionFields, resolution_in}
 use Rattle.ul_given.specs.Given.{GivenHasTexts, GivenIsResolution}
 use Rattle.ul_answers.specs.Answer as answers
-use Rattle.ul_answers.specs.Printed.{printed}
+use Rattle.ul_answers.specs.Printed.{output_of, printed}
 use Rattle.ul_commands.specs.Asked.{lock, verify}
 use Rattle.ul_commands.specs.Commands.{command}
 use Rattle.ul_commands.specs.Laws.{LocksAreSound, RefusedAreUnserved}
-use Rattle.ul_commands.specs.Locking.{IsLockAnswer, LocksFor, lock_of}
+use Rattle.ul_commands.specs.Locking.{IsLockAnswer, LocksFor, RefusedWhere, answer_where, lock_of}
 use Rattle.ul_commands.specs.Questions.{too_many_forks}
 use Rattle.ul_command_laws.specs.Complete.{LocksWithinLimits}
 use Rattle.ul_command_laws.specs.Verified.{LocksAreVerified}
@@ -47,7 +48,7 @@ pub printed_lock : LocksWithinLimits → (project folder : List ℕ) (old : Opti
 printed_lock limits project folder old m a bytes gives status e =
     let on = on_zero (resolution_in project folder old m) (λ r. answer (IsLockAnswer r) m) a gives status in
     let within = (limits on.value a on.answers).0 (sym status) in
-    let is = within.locked.is in
+    let is = within.is in
     record {
       resolution = on.value;
       gave = on.gave;
@@ -83,13 +84,16 @@ printed_are_verified limits law words others m bytes project folder path workers
 
 -- ---- with status 1
 
-by_forks : GivenIsResolution → RefusedAreUnserved → (project folder : List ℕ) (old : Option (List ℕ)) (m : FileMap) (r : ResolutionFields)
+-- a merged lock is answered with another status
+lock_not_one : (o : Option ℕ) (l : Lock) (forks : ℕ) → 1 ≡ (output_of (answer_where o l forks)).0 → ⊥
+lock_not_one None l forks e = written_not_one (first_over (markers_of l)) (lock_text l) e
+lock_not_one (Some paths) l forks e = absurd (let four : 1 ≡ 4 = e in cc)
+
+by_region : GivenIsResolution → RefusedAreUnserved → (project folder : List ℕ) (old : Option (List ℕ)) (m : FileMap) (r : ResolutionFields)
     (a : Result answers.Answer Refused) (bytes : List ℕ)
-    → (resolution_in project folder old m).gives (Ok r) → IsLockAnswer r a → (forked : TreeAnswer) → LocksFor r forked a
+    → (resolution_in project folder old m).gives (Ok r) → IsLockAnswer r a → (fork : TreeRefusal) (told : Bool) → RefusedWhere told r fork a
     → 1 ≡ (printed a).0 → bytes ≡ (printed a).1 → TellsCore project folder old m bytes
-by_forks given unserved project folder old m r a bytes gave all (leaves_are ls) h status e =
-    absurd (written_not_one (first_over (markers_of h.lock)) (lock_text h.lock) (status ∙ ap (λ x. (printed x).0) h.is))
-by_forks given unserved project folder old m r a bytes gave all (refused_at fork) h status e =
+by_region given unserved project folder old m r a bytes gave all fork true h status e =
     let text = refusal_text fork.path fork.region ++ h.lines in
     record {
       resolution = r;
@@ -101,6 +105,17 @@ by_forks given unserved project folder old m r a bytes gave all (refused_at fork
       lines = h.core;
       unserved = unserved r fork.path fork.region h.lines (given project folder old m r gave) (subst (IsLockAnswer r) h.is all);
     }
+by_region given unserved project folder old m r a bytes gave all fork false h status e =
+    let bad : 1 ≡ 4 = status ∙ ap (λ (x : Result answers.Answer Refused). (printed x).0) h in absurd (cc)
+
+by_forks : GivenIsResolution → RefusedAreUnserved → (project folder : List ℕ) (old : Option (List ℕ)) (m : FileMap) (r : ResolutionFields)
+    (a : Result answers.Answer Refused) (bytes : List ℕ)
+    → (resolution_in project folder old m).gives (Ok r) → IsLockAnswer r a → (forked : TreeAnswer) → LocksFor r forked a
+    → 1 ≡ (printed a).0 → bytes ≡ (printed a).1 → TellsCore project folder old m bytes
+by_forks given unserved project folder old m r a bytes gave all (leaves_are ls) h status e =
+    absurd (lock_not_one (first_over (markers_of h.lock)) h.lock (length ls) (status ∙ ap (λ x. (printed x).0) h.is))
+by_forks given unserved project folder old m r a bytes gave all (refused_at fork) h status e =
+    by_region given unserved project folder old m r a bytes gave all fork (is_printable fork.region) h status e
 by_forks given unserved project folder old m r a bytes gave all (too_many n) h status e =
     absurd (no_one too_many_forks (status ∙ ap (λ x. (printed x).0) h))
 

@@ -1,9 +1,10 @@
 -- What `why` prints, and that `check` accepts it.
-use Rattle.std.proofs.Common.{◌≡◌, ◌∙◌, ◌≤◌, ℕ, length, List, Bool, Option, Some, None, Result, Ok, ap, subst}
+use Rattle.std.proofs.Common.{◌≡◌, ◌∙◌, ◌≤◌, ℕ, length, List, Bool, true, false, Option, Some, None, Result, Ok, ap, subst}
 use Rattle.ul_base.specs.Files.{FileMap}
 use Rattle.ul_nodes.specs.Plain.{Plain}
+use Rattle.ul_tree.specs.Paths.{is_printable}
 use Rattle.ul_generations.specs.Generations.{leaves_are, refused_at, too_many}
-use Rattle.ul_forks.specs.Headline.{TreeAnswer}
+use Rattle.ul_forks.specs.Headline.{TreeAnswer, TreeRefusal}
 use Rattle.ul_inputs.specs.Inputs.{answer, text_bytes}
 use Rattle.ul_inputs.specs.Refused.{Refused}
 use Rattle.ul_inputs.specs.Resolutions.{ResolutionFields, resolution_in}
@@ -12,7 +13,7 @@ use Rattle.ul_answers.specs.Printed.{printed}
 use Rattle.ul_commands.specs.Asked.{check, why}
 use Rattle.ul_commands.specs.Commands.{command}
 use Rattle.ul_commands.specs.Questions.{too_many_forks}
-use Rattle.ul_commands.specs.Reasons.{GivesReason, IsWhyAnswer}
+use Rattle.ul_commands.specs.Reasons.{DerivedWhere, GivesReason, IsWhyAnswer}
 use Rattle.ul_command_laws.specs.Reasons.{FilesAreAccepted, reason_text}
 use Rattle.ul_command_laws.specs.Refusals.{ReasonsOfFiles}
 use Rattle.ul_promises.specs.Promises.{PrintedAreAccepted, ReasonsAreRight}
@@ -28,12 +29,10 @@ record PrintsReason (project folder : List ℕ) (old : Option (List ℕ)) (m : F
   is : a ≡ Ok (answers.derived path region steps)
   text : bytes ≡ reason_text path region steps
 
-by_forks : (project folder : List ℕ) (old : Option (List ℕ)) (m : FileMap) (r : ResolutionFields) (a : Result answers.Answer Refused) (bytes : List ℕ)
-    → (resolution_in project folder old m).gives (Ok r) → (forked : TreeAnswer) → GivesReason r forked a
+by_region : (project folder : List ℕ) (old : Option (List ℕ)) (m : FileMap) (r : ResolutionFields) (a : Result answers.Answer Refused) (bytes : List ℕ)
+    → (resolution_in project folder old m).gives (Ok r) → (fork : TreeRefusal) (told : Bool) → DerivedWhere told r fork a
     → 1 ≡ (printed a).0 → bytes ≡ (printed a).1 → PrintsReason project folder old m a bytes
-by_forks project folder old m r a bytes gave (leaves_are ls) h status e =
-    let bad : 1 ≡ 0 = status ∙ ap (λ (x : Result answers.Answer Refused). (printed x).0) h in absurd (cc)
-by_forks project folder old m r a bytes gave (refused_at fork) h status e = record {
+by_region project folder old m r a bytes gave fork true h status e = record {
   resolution = r;
   gave = gave;
   path = fork.path;
@@ -43,6 +42,15 @@ by_forks project folder old m r a bytes gave (refused_at fork) h status e = reco
   text = e ∙ (ap (λ x. (printed x).1) h.is
       ∙ refusal_is fork.region (reason_text fork.path fork.region h.lines) (status ∙ ap (λ x. (printed x).0) h.is));
 }
+by_region project folder old m r a bytes gave fork false h status e =
+    let bad : 1 ≡ 4 = status ∙ ap (λ (x : Result answers.Answer Refused). (printed x).0) h in absurd (cc)
+
+by_forks : (project folder : List ℕ) (old : Option (List ℕ)) (m : FileMap) (r : ResolutionFields) (a : Result answers.Answer Refused) (bytes : List ℕ)
+    → (resolution_in project folder old m).gives (Ok r) → (forked : TreeAnswer) → GivesReason r forked a
+    → 1 ≡ (printed a).0 → bytes ≡ (printed a).1 → PrintsReason project folder old m a bytes
+by_forks project folder old m r a bytes gave (leaves_are ls) h status e =
+    let bad : 1 ≡ 0 = status ∙ ap (λ (x : Result answers.Answer Refused). (printed x).0) h in absurd (cc)
+by_forks project folder old m r a bytes gave (refused_at fork) h status e = by_region project folder old m r a bytes gave fork (is_printable fork.region) h status e
 by_forks project folder old m r a bytes gave (too_many n) h status e = absurd (no_one too_many_forks (status ∙ ap (λ x. (printed x).0) h))
 
 printed_reason : (project folder : List ℕ) (old : Option (List ℕ)) (workers : ℕ) (m : FileMap) (a : Result answers.Answer Refused) (bytes : List ℕ)

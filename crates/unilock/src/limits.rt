@@ -1,5 +1,5 @@
 // What is answered at the limits of forks, of a marker's paths and of comparisons, and one past each.
-use crate::tests::{printed, put};
+use crate::tests::{cells, printed, put};
 use std::alloc::Global;
 use std::fmt::Write;
 use std::sync::Wait;
@@ -54,6 +54,50 @@ fn joined(alloc: Global, before: &str, pairs: usize) -> String {
     }
     put(&mut requirement, "'a' in os_name and 'b' in os_name\"");
     case_of(alloc, requirement.as_str(), "a")
+}
+
+// Puts so many pairs of comparisons, joined by `or`.
+fn put_pairs(told: &mut String, pairs: usize) {
+    for pair in 0..pairs {
+        let or = if pair == 0 { "" } else { " or " };
+        let _ = write!(
+            told,
+            "{or}('k{pair}a' in os_name and 'k{pair}b' in os_name)"
+        );
+    }
+}
+
+// Words over a project that requires a package below 2, and from 2 on where one of so many pairs of comparisons is true.
+fn clashing(alloc: Global, words: &str, pairs: usize) -> String {
+    let mut text = String::new(alloc);
+    put(&mut text, words);
+    put(
+        &mut text,
+        "\n@p.toml\n[project]\nname = \"demo\"\nversion = \"0.1\"\ndependencies = [\"a<2; 'zz' in os_name\", \"a>=2; ",
+    );
+    put_pairs(&mut text, pairs);
+    put(
+        &mut text,
+        "\"]\n@ix/a.json\n{\"name\": \"a\", \"versions\": [{\"version\": \"1\"}, {\"version\": \"2\"}]}",
+    );
+    text
+}
+
+// Words over a project with these requirements, and a package whose release requires another one by a marker that joins so
+// many pairs of comparisons.
+fn chosen(alloc: Global, words: &str, requirements: &str, pairs: usize) -> String {
+    let mut text = String::new(alloc);
+    let _ = write!(
+        text,
+        "{words}\n@p.toml\n[project]\nname = \"demo\"\nversion = \"0.1\"\ndependencies = [{requirements}]"
+    );
+    put(
+        &mut text,
+        "\n@ix/b.json\n{\"name\": \"b\", \"versions\": [{\"version\": \"1\"}]}\n@ix/a.json\n{\"name\": \"a\", \"versions\": [{\"version\": \"1\", \"requires_dist\": [\"b; ",
+    );
+    put_pairs(&mut text, pairs);
+    put(&mut text, "\"]}]}");
+    text
 }
 
 // So many requirements, each with a comparison of its own.
@@ -116,6 +160,8 @@ fn case_in(alloc: Global, kind: &str, count: usize, more: &str) -> (String, &'st
     match kind {
         "forks" => (parted(alloc, more), "\n"),
         "paths" => (joined(alloc, more, count), " or "),
+        "chosen" => (chosen(alloc, more, "'a'", count), " or "),
+        "clashing" => (clashing(alloc, more, count), " or "),
         "reached" => (reached(alloc, more, count, 0), " or "),
         "chained" => (reached(alloc, more, count, 350), " or "),
         _ => (compared(alloc, count), " in os_name"),
@@ -136,14 +182,24 @@ fn told<R: Threads + Wait + Sync>(rt: &R, alloc: Global, given: &str, word: &str
 // A kind, a number, what stands before the pairs of a marker's comparisons, behind the packages that fork or behind the
 // words, and what is told: of forks the status, four lines around the forks, 44 of the packages and 17 of the project;
 // of a marker its paths; of an exported lock the paths of two markers, less one; and of comparisons one more than there
-// are. The second row has a requirement where all the platforms are. Of an exported lock an extra that its root doesn't
-// have is told before a marker's paths, and these before the length of the text.
+// are. The second row has a requirement where all the platforms are. With a marker of more paths than fit anywhere the lock
+// isn't written, though no fork is refused; and a refused fork whose region has so many isn't told. Of an exported lock an
+// extra that its root doesn't have is told before a marker's paths, and these before the length of the text.
 const LIMITS: &str = "forks|0||2115#\
     forks|0|'z', \"z; 'a' in platform_version and 'b' in platform_version and 'c' in platform_version and 'd' in platform_version and 'e' in platform_version and 'f' in platform_version and 'g' in platform_version and 'h' in platform_version and 'i' in platform_version and 'j' in platform_version and 'k' in platform_version and 'm' in platform_version\"|4\nlimit: forks 2048\n#\
     paths|12||4095#\
     paths|12|sys_platform == 'x' or |4096#\
     paths|13||4\nlimit: marker-paths 4096\n#\
     paths|12|sys_platform == 'x' or sys_platform == 'y' or |4\nlimit: marker-paths 4096\n#\
+    chosen|12|lock p.toml ix 1|4095#\
+    chosen|12|lock p.toml ix 8|4095#\
+    chosen|13|lock p.toml ix 1|4\nlimit: marker-paths 4096\n#\
+    chosen|24|lock p.toml ix 8|4\nlimit: marker-paths 4096\n#\
+    chosen|120|lock p.toml ix 1|4\nlimit: marker-paths 4096\n#\
+    chosen|120|lock p.toml ix 8|4\nlimit: marker-paths 4096\n#\
+    chosen|120|why p.toml ix 8|1#\
+    clashing|24|lock p.toml ix 1|4\nlimit: marker-paths 4096\n#\
+    clashing|24|why p.toml ix 8|4\nlimit: marker-paths 4096\n#\
     reached|64||4159#\
     reached|65||4\nlimit: marker-paths 4096\n#\
     reached|65| gpu|8\nextra: gpu\n#\
@@ -166,4 +222,24 @@ fn limits_and_one_past_each(rt: HostRuntime) {
     for row in LIMITS.split('#') {
         assert!(rt; is_limit(&rt, rt.alloc(), row), "{row}");
     }
+}
+
+// Whether `lock` refuses a project that nothing serves, and `check` accepts what `why` prints of it, where a release has a
+// marker with more paths than fit anywhere.
+fn is_refused<R: Threads + Wait + Sync>(rt: &R, alloc: Global, requirements: &str) -> bool {
+    let lock = chosen(alloc, "lock p.toml ix 8", requirements, 120);
+    let why = chosen(alloc, "why p.toml ix 8", requirements, 120);
+    let reason = printed(rt, alloc, why.as_str());
+    let (status, lines) = cells(reason.as_str(), "\n");
+    let mut check = chosen(alloc, "check p.toml ix d", requirements, 120);
+    put(&mut check, "\n@d\n");
+    put(&mut check, lines.strip_suffix('\n').unwrap_or(lines));
+    status == "1"
+        && printed(rt, alloc, lock.as_str()).starts_with("1\n")
+        && printed(rt, alloc, check.as_str()).as_str() == "0\naccepted\n"
+}
+
+#[test]
+fn refusals_come_before_limits(rt: HostRuntime) {
+    assert!(rt; is_refused(&rt, rt.alloc(), "'a', 'b<1'"));
 }

@@ -11,5 +11,6 @@ returns c = law (record {
   turns = c.turns_agree.ensures;
   locks = c.text_laws.ensures.different;
   texts = c.text_laws.ensures.locks_text;
+  printable = c.locks_are_sound.ensures.printable;
   lock_faults = c.lock_faults.ensures;
 })

@@ -9,6 +9,7 @@ returns c =
       leaves = c.locks_are_sound.ensures.leaves;
       verified = c.verified_laws.ensures;
       texts = c.text_laws.ensures.locks_text;
+      printable = c.locks_are_sound.ensures.printable;
       had = c.given_has_texts.ensures;
       formed = c.locks_are_well_formed.ensures;
     })

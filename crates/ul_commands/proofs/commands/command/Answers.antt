@@ -6,10 +6,10 @@ use Rattle.ul_commands.specs.Views.{IsByWords, view}
 use Rattle.ul_commands.proofs.commands.command.Goals as goal
 
 pub returns-in-Lock-clause-told : goal.returns-in-Lock-clause-told
-returns-in-Lock-clause-told g c m e = subst (λ q. Answers answer_view c.lock_files.result (command (view q) m)) (sym c.in-Lock.is) (c.lock_files.ensures.told m e)
+returns-in-Lock-clause-told g c m e = subst (λ q. Answers answer_view c.resolved_files.result (command (view q) m)) (sym c.in-Lock.is) (c.resolved_files.ensures.told m e)
 
 pub returns-in-Why-clause-told : goal.returns-in-Why-clause-told
-returns-in-Why-clause-told g c m e = subst (λ q. Answers answer_view c.why_files.result (command (view q) m)) (sym c.in-Why.is) (c.why_files.ensures.told m e)
+returns-in-Why-clause-told g c m e = subst (λ q. Answers answer_view c.resolved_files-in-Why.result (command (view q) m)) (sym c.in-Why.is) (c.resolved_files-in-Why.ensures.told m e)
 
 pub returns-in-Env-clause-told : goal.returns-in-Env-clause-told
 returns-in-Env-clause-told g c m e = subst (λ q. Answers answer_view c.env_files.result (command (view q) m)) (sym c.in-Env.is) (c.env_files.ensures.told m e)

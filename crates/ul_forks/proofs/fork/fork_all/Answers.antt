@@ -5,4 +5,4 @@ use Rattle.ul_region.specs.Truths.{PassView}
 use Rattle.ul_forks.proofs.fork.fork_all.Goals as goal
 
 pub returns-clause-knows : goal.returns-clause-knows
-returns-clause-knows g c = knows_then _ _ _ (subst (λ (h : PassView). Knows h c.of_tree.new.self) c.begin-algebra.ensures c.of_tree.ensures.knows) c.in_ok-forked.ensures.knows
+returns-clause-knows g c = knows_then _ _ _ (subst (λ (h : PassView). Knows h c.of_tree.new.self) c.begin-algebra.ensures c.of_tree.ensures.knows) c.in_ok-forks.ensures.knows

@@ -1,6 +1,0 @@
-use Rattle.ul_inputs.specs.Resolutions.{view}
-use Rattle.ul_commands.proofs.ForkAnswers.{lock_refused}
-use Rattle.ul_commands.proofs.locking.lock.Goals as goal
-
-pub returns-in-Err : goal.returns-in-Err
-returns-in-Err g c = lock_refused (view c.args.resolution.now) c.in-Err.refusal c.in-Err.ensures.refused
