@@ -1,7 +1,11 @@
-"""Edits that the gate tries and edits that are only to be read: their names, their number and that each can be applied."""
+"""Edits that the gate tries and edits that are only to be read: their names and number, that each can be applied, and
+how refusals are told that show little."""
 
 from __future__ import annotations
 
+import contextlib
+import io
+import sys
 import tempfile
 import unittest
 from pathlib import Path
@@ -40,6 +44,23 @@ class Edits(unittest.TestCase):
             (edits / "note.md").write_text("A note.\n")
             self.assertEqual(TRY_EDITS.name_all(Path(held)), 1)
             self.assertEqual(sorted(it.name for it in edits.iterdir()), ["note.md", "read.edit", "tried.edit"])
+
+    def test_refusals_that_show_little_are_told_apart(self) -> None:
+        lines = [
+            "rt: must-fail one/turned.edit: refused, as it must be: proofs/turn/Answers.antt:4:1: error\n",
+            "rt: must-fail one/taken.edit: refused, as it must be (only because a proof file names what the edit took "
+            "away, so this says little of the contract: change a value and keep the names): proofs/a/Answers.antt\n",
+            "rt: must-fail two/long.edit: refused, as it must be (only by a limit of the prover, which gave no "
+            "verdict, so this says less of the contract: choose a change that it refuses sooner): antt ran out\n",
+            "rt: must-fail two/same.edit: NOT REFUSED: the crate is still proved with this edit\n",
+        ]
+        told = TRY_EDITS.weak_refusals(lines)
+        self.assertEqual(told, {TRY_EDITS.BY_NAME: ["one/taken"], TRY_EDITS.BY_LIMIT: ["two/long"]})
+
+    def test_a_command_is_told_as_it_is_run(self) -> None:
+        with contextlib.redirect_stdout(io.StringIO()) as printed:
+            status, lines = TRY_EDITS.told([sys.executable, "-c", "print('a'); print('b'); exit(3)"], TOP)
+        self.assertEqual((status, lines, printed.getvalue()), (3, ["a\n", "b\n"], "a\nb\n"))
 
     def test_each_crate_has_edits_that_the_gate_tries(self) -> None:
         for edits in TOP.glob("crates/*/must-fail"):

@@ -8,6 +8,7 @@ on five machines; `export`; `verify`. The variable SCENARIOS, names with blanks 
 from __future__ import annotations
 
 import os
+import re
 import tempfile
 import unittest
 from pathlib import Path
@@ -22,6 +23,8 @@ FOLDER = TOP / "examples" / "scenarios"
 WORKERS = (1, 8)
 # What `refused.txt` has before the core.
 HEAD_LINES = 4
+# The number of a step of a derivation and, of a cut, the numbers of the two steps that it is made of.
+STEP = re.compile(r"^(\d+) (?:cut (\d+) (\d+) on )?", re.MULTILINE)
 # Texts of a lock that are changed, and what `verify` says then.
 SPOILED = [
     ("disjoint_markers", "supported-markers = \"python_full_version >= '3.9.0'\"\n", "", "supported"),
@@ -41,6 +44,13 @@ def picked() -> list:
 
 def head(text: str) -> str:
     return "".join(text.splitlines(keepends=True)[:HEAD_LINES])
+
+
+def unused_steps(text: str) -> list:
+    """The numbers of the steps of a derivation, but for the last, that no cut is made of."""
+    steps = [it.groups() for it in STEP.finditer(text)]
+    used = {number for _, *parts in steps for number in parts}
+    return [number for number, *_ in steps[:-1] if number not in used]
 
 
 def forks_cell(files: dict) -> str:
@@ -88,6 +98,13 @@ class Expectations(unittest.TestCase):
             with self.subTest(it.name):
                 row = f"| `{it.name}` | {forks_cell(it.files)} | "
                 self.assertEqual(len([line for line in lines if line.startswith(row)]), 1, row)
+
+
+class Steps(unittest.TestCase):
+    def test_steps_that_no_cut_is_made_of_are_found(self) -> None:
+        text = "fork: -\n1 need a {1} b {1}\n2 need a {1} c {}\n3 need b {1} d {}\n4 cut 1 3 on b: a {1}\n5 base c\n"
+        self.assertEqual(unused_steps(text), ["2", "4"])
+        self.assertEqual(unused_steps("1 need demo {0.1} z {}\n"), [])
 
 
 class Scenarios(unittest.TestCase):
@@ -152,6 +169,7 @@ class Scenarios(unittest.TestCase):
                 self.assertEqual(one, other)
                 if "refused.txt" in it.files:
                     self.assertEqual((one.status, head(one.text)), (1, head(it.files["refused.txt"])))
+                    self.assertEqual(unused_steps(one.text), [])
                     (self.top / it.name / "why.txt").write_text(one.text)
                     checks.append((it.name, "check pyproject.toml ix why.txt", (0, "accepted\n")))
                 elif "unilock.lock" in it.files:

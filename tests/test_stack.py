@@ -85,6 +85,15 @@ class Stack(Folder):
         # The line behind the region is its world, and this region has another.
         self.assertEqual(self.status("check none.toml ix d"), 3)
 
+    def test_a_marker_with_a_level_more_is_refused_at_its_line(self) -> None:
+        deeper = marker(LEVELS + 1)
+        self.write("l", LOCK.format(deeper))
+        self.write("d", f"no selection serves this fork\nfork: 0\nregion: {deeper}\n")
+        for words, told in [("env l m.json", "malformed: l: line 8\n"), ("check none.toml ix d", "malformed: d: line 3\n")]:
+            self.assertEqual(self.status(words), 3)
+            call = [str(PROGRAM), *words.split()]
+            self.assertEqual(subprocess.run(call, cwd=self.top, capture_output=True, text=True).stdout, told)
+
     def test_a_requirement_with_the_most_comparisons_by_two_workers(self) -> None:
         self.assertEqual(self.status("lock p.toml ix 2"), 0)
         self.assertEqual(self.status("gen 1 5 2"), 0)
