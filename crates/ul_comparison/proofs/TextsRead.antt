@@ -1,5 +1,5 @@
 -- The texts at keys, one after another.
-use Rattle.std.proofs.Common.{◌≡◌, ℕ, List, [], ◌∷◌, ◌++◌, Option, Some, None, Result, Ok, Err, refl, sym, subst, ◌∙◌, ap, append_assoc, append-nil}
+use Rattle.std.proofs.Common.{◌≡◌, ℕ, List, [], ◌∷◌, ◌++◌, Option, Some, None, Result, Ok, Err, refl, sym, subst, ◌∙◌, ap, append_assoc}
 use Rattle.std.specs.Option.{IfSome}
 use Rattle.std.specs.Result.{IsErrAnd}
 use Rattle.serde_json.specs.Data.{Data}
@@ -14,22 +14,9 @@ then_one : (found : List (List ℕ)) (text : List ℕ) (rest : Result (List (Lis
 then_one found text (Ok texts) = ap Ok (simp append_assoc)
 then_one found text (Err e) = refl
 
--- one more is found
-pub texts_then-one : (found : List (List ℕ)) (key : List ℕ) (keys : List (List ℕ)) (file : Data) (text : List ℕ) → text_in key file ≡ Ok text → texts_then found (texts_in (key ∷ keys) file) ≡ texts_then (found ++ text ∷ []) (texts_in keys file)
-texts_then-one found key keys file text e = rw e (then_one found text (texts_in keys file))
-
 -- one isn't there
 pub texts_then-none : (found : List (List ℕ)) (key : List ℕ) (keys : List (List ℕ)) (file : Data) (refusal : MachineRefusal) → text_in key file ≡ Err refusal → texts_then found (texts_in (key ∷ keys) file) ≡ Err refusal
 texts_then-none found key keys file refusal e = rw e refl
-
--- nothing is left
-pub texts_then-all : (found : List (List ℕ)) (file : Data) → texts_then found (texts_in [] file) ≡ Ok found
-texts_then-all found file = ap Ok (append-nil found)
-
--- nothing was found yet
-pub texts_then-start : (rest : Result (List (List ℕ)) MachineRefusal) → texts_then [] rest ≡ rest
-texts_then-start (Ok texts) = refl
-texts_then-start (Err e) = refl
 
 -- where one isn't there, the first that isn't is told
 pub texts_refused : (found : List (List ℕ)) (all : Result (List (List ℕ)) MachineRefusal) (key : List ℕ) (keys : List (List ℕ)) (file : Data) (e : Option MachineRefusal) → texts_then found (texts_in (key ∷ keys) file) ≡ all → IfSome e (λ f. text_in key file ≡ Err f) → IfSome e (λ f. all ≡ Err f)

@@ -1,16 +1,8 @@
 -- What a reader gave and a writer took, a call after a call.
-use Rattle.std.proofs.Common.{◌≡◌, ◌++◌, ◌-◌, ◌<◌, ◌≤◌, ◌∙◌, ℕ, List, Option, None, Some, length, take, Result, Ok, Err, ap, sym, append_assoc, append-nil, length-append, arith}
-use Rattle.std.specs.Prelude.{IfSome}
-use Rattle.std.proofs.lemmas.List.{length-take, take-append-le, take-take}
+use Rattle.std.proofs.Common.{◌≡◌, ◌++◌, ◌-◌, ◌≤◌, ◌∙◌, ℕ, List, Option, None, Some, length, take, Result, Ok, Err, ap, sym, arith}
+use Rattle.std.proofs.lemmas.List.{take-append-le, take-take}
 use Rattle.std.proofs.KnownBytes.{Keeps-trans}
-use Rattle.std.specs.Io.KnownBytes.{Appends, Consumes, IsAtEnd, Keeps, ReadConsumes, WriteAppends}
-
--- one read more: its bytes stand behind those that were given
-pub consumes_more : (first now after : Option (List ℕ)) (bytes more : List ℕ) → Consumes first now bytes → Consumes now after more → Consumes first after (bytes ++ more)
-consumes_more None _ _ _ _ _ _ = tt
-consumes_more (Some _) None _ _ _ h _ = absurd h
-consumes_more (Some _) (Some _) None _ _ _ k = absurd k
-consumes_more (Some _) (Some _) (Some after) bytes more h k = h ∙ ap (λ t. bytes ++ t) k ∙ sym (append_assoc bytes more after)
+use Rattle.std.specs.Io.KnownBytes.{Appends, Consumes, Keeps, ReadConsumes, WriteAppends}
 
 -- calls that gave nothing, and then one more
 consumes_kept : (first now after : Option (List ℕ)) (bytes : List ℕ) → Keeps first now → Consumes now after bytes → Consumes first after bytes
@@ -34,24 +26,6 @@ appends_kept (Some _) (Some _) (Some _) bytes h k = k ∙ ap (λ t. t ++ bytes) 
 pub write_kept : {E : Type 0} (first now after : Option (List ℕ)) (r : Result ℕ E) (piece : List ℕ) → Keeps first now → WriteAppends now after r piece → WriteAppends first after r piece
 write_kept first now after (Ok n) piece h k = appends_kept first now after (take n piece) h k
 write_kept first now after (Err _) piece h k = Keeps-trans first now after h k
-
--- a read that gave nothing at the end: what was given is all that there was
-pub all_given : (first now after : Option (List ℕ)) (bytes chunk : List ℕ) (count : ℕ) → Consumes first now bytes → Consumes now after (take count chunk) → count ≡ 0 → IsAtEnd after
-    → IfSome first (λ left. bytes ≡ left)
-all_given None _ _ _ _ _ _ _ _ _ = tt
-all_given (Some _) None _ _ _ _ h _ _ _ = absurd h
-all_given (Some _) (Some _) None _ _ _ _ k _ _ = absurd k
-all_given (Some _) (Some _) (Some after) bytes chunk count h k none e =
-    sym (h ∙ ap (λ t. bytes ++ t) (k ∙ ap (λ n. take n chunk ++ after) none ∙ e) ∙ append-nil bytes)
-
--- a read that gave more than fits below the limit: there was more than the limit
-pub more_given : (first now after : Option (List ℕ)) (bytes chunk : List ℕ) (count limit : ℕ) → Consumes first now bytes → Consumes now after (take count chunk)
-    → count ≤ length chunk → length bytes ≤ limit → limit - length bytes < count → IfSome first (λ left. limit < length left)
-more_given None _ _ _ _ _ _ _ _ _ _ _ = tt
-more_given (Some _) None _ _ _ _ _ h _ _ _ _ = absurd h
-more_given (Some _) (Some _) None _ _ _ _ _ k _ _ _ = absurd k
-more_given (Some left) (Some now) (Some after) bytes chunk count limit h k fits low more =
-    omega (arith, ap length h, length-append bytes now, ap length k, length-append (take count chunk) after, length-take count chunk, fits, low, more)
 
 -- what a read wrote at the front of a chunk, with the rest of the chunk behind it
 pub within : (given rest : List ℕ) (count len : ℕ) → count ≤ length given → length given ≤ len → take count (take len (given ++ rest)) ≡ take count given

@@ -23,9 +23,6 @@ get_or_any [] i x y l = absurd (omega arith)
 get_or_any (z ∷ zs) zero x y l = refl
 get_or_any (z ∷ zs) (suc i) x y l = get_or_any zs i x y (omega arith)
 
-newest_none : (of : List ℕ) (b : ℕ) → IsNewest of b 0 0
-newest_none of b = record { within = omega arith; here = λ p e. absurd (omega arith); none = λ p l u. absurd (omega arith) }
-
 -- one mark more, which is in the bucket
 newest_this : (of : List ℕ) (b k : ℕ) → slice_index of k ≡ b → IsNewest of b (suc k) (suc k)
 newest_this of b k is = record {
@@ -62,14 +59,6 @@ zero_at zero k = refl
 zero_at (suc n) zero = refl
 zero_at (suc n) (suc k) = zero_at n k
 
-pub built_none : (of : List ℕ) (count : ℕ) (older newest : List ℕ) → length newest ≡ count → length older ≡ length of → newest ≡ replicate (length newest) 0 → Built of count 0 older newest
-built_none of count older newest counted long zeros = record {
-  counted = counted;
-  long = long;
-  newest_of = λ b l. subst (IsNewest of b 0) (sym (ap (λ z. slice_index z b) zeros ∙ zero_at (length newest) b)) (newest_none of b);
-  older_of = λ p l. absurd (omega arith);
-}
-
 built_more : (of : List ℕ) (count k b x : ℕ) (older newest older' newest' : List ℕ) → Built of count k older newest → k < length of → slice_index of k ≡ b → b < count → x ≡ slice_index newest b
     → older' ≡ set older k x → newest' ≡ set newest b (suc k) → Built of count (suc k) older' newest'
 built_more of count k b x older newest older' newest' built l is low old eo en = record {
@@ -91,12 +80,6 @@ pub built_next : (of : List ℕ) (count k k' b x : ℕ) (older newest older' new
     → older' ≡ set older k x → newest' ≡ set newest b k' → Built of count k' older' newest'
 built_next of count k k' b x older newest older' newest' e built l is low old eo en =
     subst (λ z. Built of count z older' newest') (sym e) (built_more of count k b x older newest older' newest' built l is low old eo (en ∙ ap (set newest b) e))
-
-pub built_all : (of : List ℕ) (count k : ℕ) (older newest : List ℕ) → k ≡ length of → Built of count k older newest → IsIndex of count older newest
-built_all of count k older newest all built = record {
-  newest_of = λ b l. subst (λ z. IsNewest of b z (slice_index newest b)) all (built.newest_of b l);
-  older_of = λ p l. built.older_of p (omega arith);
-}
 
 map_at : {L : Type 0} (count : ℕ) (marks : List (Marked L)) (k : ℕ) (m : Marked L) → k < length marks → m ≡ get_or marks k m → slice_index (buckets count marks) k ≡ bucket_of count (stored_hash m)
 map_at count [] k m l is = absurd (omega arith)

@@ -2,7 +2,7 @@
 use Rattle.std.proofs.Common.{◌≡◌, ℕ, zero, suc, List, [], ◌∷◌, map, Some, sym, refl, ap, ◌∙◌, subst}
 use Rattle.std.specs.Prelude.{All}
 use Rattle.std.specs.List.{slice_get}
-use Rattle.std.proofs.lemmas.List.Elements.{All-nil, All-cons, All-head, All-tail}
+use Rattle.std.proofs.lemmas.List.Elements.{All-head, All-tail}
 use Rattle.ul_core.specs.declared.trees.Tree.{Tree}
 use Rattle.ul_core.specs.declared.trees.Tree.TheViews.{out-Tree, roll-Tree, out-roll-Tree, roll-out-Tree}
 use Rattle.ul_core.specs.declared.trees.Tree.TheFolds.{every_made-Tree, every_held-Tree, ind-Tree}
@@ -96,11 +96,6 @@ module _ {L : Type 0} where
   all_known logs [] all i m e = absurd (none_got i m e)
   all_known logs (x ∷ ms) all zero m e = subst (KnownIn logs) (some_is x m e) (All-head (λ m. KnownIn logs m) x ms all)
   all_known logs (x ∷ ms) all (suc i) m e = all_known logs ms (All-tail (λ m. KnownIn logs m) x ms all) i m e
-
-  -- and back
-  pub each_known : (logs : List (List (Marked L))) (ms : List (Marked L)) → AllKnownIn logs ms → All (λ m. KnownIn logs m) ms
-  each_known logs [] all = All-nil (λ m. KnownIn logs m)
-  each_known logs (x ∷ ms) all = All-cons (λ m. KnownIn logs m) x ms (all 0 x refl) (each_known logs ms (λ i m e. all (suc i) m e))
 
   -- the tree of a mark that is made of a label and parts
   pub made_tree : (l : L) (ps : List (Marked L)) (m : Marked L) → IsMade l ps m → plain m ≡ tree_with l (map plain ps)

@@ -77,11 +77,6 @@ module _ {A : Type 0} where
   at_past (x ∷ xs) zero le = absurd (omega arith)
   at_past (x ∷ xs) (suc k) le = at_past xs k (omega arith)
 
-  pub set_twice : (l : List (List A)) (i : ℕ) (a b : List A) → set (set l i a) i b ≡ set l i b
-  set_twice [] i a b = refl
-  set_twice (x ∷ xs) zero a b = refl
-  set_twice (x ∷ xs) (suc i) a b = ap (λ l. x ∷ l) (set_twice xs i a b)
-
   pub at_empty : (n k : ℕ) → at {A = A} (replicate n []) k ≡ []
   at_empty zero k = refl
   at_empty (suc n) zero = refl

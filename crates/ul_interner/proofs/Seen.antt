@@ -126,10 +126,6 @@ module _ {L : Type 0} where
         none : (k i : ℕ) (m : Marked L) → slice_get (at (replicate n []) k) i ≡ Some m → ⊥
         none k i m e = Rattle.ul_interner.proofs.Lists.none_got i m (subst (λ z. slice_get z i ≡ Some m) (at_empty n k) e)
 
-    -- what was seen begins what was seen later
-    pub seen_less : (xs ys : List (List (Marked L))) → AllBegin xs ys → AreSeen f n ys → AreSeen f n xs
-    seen_less xs ys k r = record { all = r.all; are = r.are; begins = Rattle.ul_interner.proofs.Lists.knows_trans xs ys r.all k r.begins }
-
     -- of two known marks the identities are equal where the trees are
     pub same_id : (seen : List (List (Marked L))) (a b : Marked L) → AreSeen f n seen → KnownIn seen a → KnownIn seen b → plain a ≡ plain b → id_of a ≡ id_of b
     same_id seen a b r ka kb e = one_id r.all a b r.are (stands_on seen r.all a r.begins (known_stands seen a ka)) (stands_on seen r.all b r.begins (known_stands seen b kb)) e

@@ -1,7 +1,7 @@
 // Passes: what threads know of the interner.
 ghost use Rattle.std.specs.Prelude.{◌≡◌, ◌↔◌, IsTrue};
 ghost use Rattle.ul_interner.specs.Marked.{plain};
-ghost use Rattle.ul_interner.specs.Known.{Known, IsOneMark};
+ghost use Rattle.ul_interner.specs.Known.{Known};
 
 use crate::marks::Mark;
 use crate::views::TableSeat;
@@ -25,16 +25,6 @@ impl<L: Label> Model for Pass<L> {
     ghost view = { λ p. record { table = p.seat.table_id; logs = p.seat.me.0.logs } };
 
     ghost invariant = { λ p. IsIdle L.hash_of p.seat.table_id.slots p.seat.me };
-}
-
-impl<L: Label> Pass<L> {
-    /// Of two marks that are known to the pass, those of one identity are one, and so are those of one tree. It does
-    /// nothing.
-    pub fn tells_marks(&self)
-        ensures { (a b : _) → Known self.now a → Known self.now b → IsOneMark a b }
-    {
-        let _seat = &self.seat;
-    }
 }
 
 /// Whether the identities of two marks that are known to the pass are equal, which is exactly where the trees are.

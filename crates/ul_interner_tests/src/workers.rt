@@ -1,5 +1,6 @@
 //! Work on each number below a count, by several workers.
 ghost use Rattle.std.specs.Prelude.{◌≡◌, ◌≤◌};
+ghost use Rattle.ul_workers.specs.WorkerCount.{IsWorkerCount};
 
 use crate::labels::Number;
 use std::alloc::{AllocError, Global};
@@ -68,7 +69,7 @@ fn is_done<R: Threads + Wait + Sync>(
     count: u64,
     failing: u64,
 ) -> bool
-    requires workers { (1 ≤ workers) × (workers ≤ 64) }
+    requires workers { IsWorkerCount workers }
     requires count { count ≤ 4096 }
     requires own { pass.old.table ≡ interner.now }
     ensures { pass.new.table ≡ pass.old.table }

@@ -5,8 +5,8 @@ use Rattle.std.proofs.lemmas.List.{drop_more, drop_all, take_all, take_more, app
 use Rattle.std.proofs.lemmas.Bool.{cases_lt}
 use Rattle.ul_version.specs.Reading.{◌>>=◌}
 use Rattle.ul_marker.specs.Comparisons.{comparison_of}
-use Rattle.ul_comparison.specs.Formulas.{Formula, formulas_of}
-use Rattle.ul_marker.specs.Reading.{atom_at, before_close, chain_at, chain_with, cuts, each, inner_tokens, is_close, is_open, join, chain_formula, onto_first, open_count, part_at, pieces_from}
+use Rattle.ul_comparison.specs.Formulas.{Formula}
+use Rattle.ul_marker.specs.Reading.{atom_at, before_close, chain_at, chain_with, cuts, each, inner_tokens, is_close, is_open, chain_formula, onto_first, open_count, part_at, pieces_from}
 use Rattle.ul_marker.specs.Readers.{added_formulas}
 use Rattle.ul_marker.specs.declared.reading.Chain.{Chain}
 use Rattle.ul_marker.specs.declared.reading.Chain.TheVariants.{Conjunction, Disjunction}
@@ -135,10 +135,6 @@ enclosed-both (t ∷ u ∷ ts) first last h is e at both =
 
 -- ---- a formula for each piece
 
-pub formulas-start : (fs : List Formula) (part : Option (List Formula)) → fs ≡ [] → part ≡ added_formulas fs part
-formulas-start fs None e = refl
-formulas-start fs (Some gs) e = rw e refl
-
 formulas-push : (fs : List Formula) (f : Formula) (part : Option (List Formula)) → added_formulas fs (part >>= λ gs. Some (f ∷ gs)) ≡ added_formulas (fs ++ f ∷ []) part
 formulas-push fs f None = refl
 formulas-push fs f (Some gs) = ap (λ (l : List Formula). Some l) (sym (append_assoc fs (f ∷ []) gs))
@@ -159,11 +155,6 @@ unfolding each
 each-none read fs pieces piece rest e is = rw (e, is) refl
 
 -- ---- joined formulas
-
-pub joined-more : (chain : Chain) (fs : List Formula) → (length fs ≡ 1 → ⊥) → chain_formula chain fs ≡ join chain (formulas_of fs)
-joined-more chain [] h = refl
-joined-more chain (f ∷ []) h = absurd (h (omega arith))
-joined-more chain (f ∷ g ∷ fs) h = refl
 
 -- how far a chain stands above its parts
 abbrev pub chain_weight : Chain → ℕ

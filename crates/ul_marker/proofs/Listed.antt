@@ -1,29 +1,14 @@
 -- Lemmas on lists of versions in literals.
-use Rattle.std.proofs.Common.{◌≡◌, ℕ, zero, suc, ◌+◌, ◌<◌, List, [], ◌∷◌, ◌++◌, length, drop, take, get_or, refl, sym, ap, ◌∙◌, arith, Bool, true, false, Option, Some, None}
+use Rattle.std.proofs.Common.{◌≡◌, ℕ, ◌+◌, ◌<◌, List, [], ◌∷◌, ◌++◌, length, drop, take, get_or, refl, sym, ap, ◌∙◌, arith, Bool, true, false, Option, Some, None}
 use Rattle.std.specs.Prelude.{All}
-use Rattle.std.specs.List.{list_all, slice_split}
+use Rattle.std.specs.List.{slice_split}
 use Rattle.std.proofs.lemmas.List.{drop_more, get_or-take, length-take, take-append-drop, append-nil, append_assoc}
 use Rattle.std.proofs.lemmas.List.Splits.{slice_split_none, slice_split_at}
-use Rattle.std.proofs.lemmas.Bool.{and_parts, and_from}
 use Rattle.std.proofs.lemmas.Grind.{get_or_default_zero}
 use Rattle.ul_version.specs.Fields.{Fields}
 use Rattle.ul_version.specs.Reading.{◌>>=◌, version_of}
 use Rattle.ul_marker.specs.Comparisons.{parts_versions, version_list, versions_of}
 use Rattle.ul_marker.specs.Readers.{added_versions}
-
--- ---- tests over parts of a list
-
-pub all-take : (p : ℕ → Bool) (n : ℕ) (xs : List ℕ) → list_all p xs ≡ true → list_all p (take n xs) ≡ true
-all-take p zero xs h = refl
-all-take p (suc n) [] h = refl
-all-take p (suc n) (x ∷ xs) h =
-    let q = and_parts (p x) (list_all p xs) h in
-    and_from (p x) (list_all p (take n xs)) q.0 (all-take p n xs q.1)
-
-pub all-drop : (p : ℕ → Bool) (n : ℕ) (xs : List ℕ) → list_all p xs ≡ true → list_all p (drop n xs) ≡ true
-all-drop p zero xs h = h
-all-drop p (suc n) [] h = refl
-all-drop p (suc n) (x ∷ xs) h = all-drop p n xs (and_parts (p x) (list_all p xs) h).1
 
 -- ---- the pieces of a list
 
@@ -43,10 +28,6 @@ split-more p xs n lt passes none =
     ∙ slice_split_at p (take n xs) (get_or xs n 0) (drop (n + 1) xs) front passes
 
 -- ---- versions
-
-pub added-start : (vs : List Fields) (part : Option (List Fields)) → vs ≡ [] → part ≡ added_versions vs part
-added-start vs None e = refl
-added-start vs (Some us) e = rw e refl
 
 added-push : (vs : List Fields) (v : Fields) (part : Option (List Fields)) → added_versions vs (part >>= λ us. Some (v ∷ us)) ≡ added_versions (vs ++ v ∷ []) part
 added-push vs v None = refl

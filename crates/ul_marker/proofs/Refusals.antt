@@ -14,11 +14,6 @@ pub Reads-err : {X Y X' Y' : Type 0} (view : X → Y) (view' : X' → Y') (fault
 Reads-err view view' NoReading part whole f h = f h
 Reads-err view view' NoMemory part whole f h = tt
 
--- a part that was found to have no reading has none
-pub Reads-none : {X Y : Type 0} (view : X → Y) (fault : MarkerFault) (part : Option Y) → Reads view (Err fault) part → fault ≡ NoReading → part ≡ None
-Reads-none view NoReading part h e = h
-Reads-none view NoMemory part h e = absurd (cc e)
-
 -- a refusal says that there is no reading
 pub Reads-refused : {X Y : Type 0} (view : X → Y) (fault : MarkerFault) (whole : Option Y) → (fault ≡ NoReading → whole ≡ None) → Reads view (Err fault) whole
 Reads-refused view NoReading whole h = h refl

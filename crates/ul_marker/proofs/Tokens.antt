@@ -237,10 +237,6 @@ tokens-empty (b ∷ rest) h = absurd (omega arith)
 
 -- ---- a list that grows
 
-pub onto-start : (ts : List Token) (part : Option (List Token)) → ts ≡ [] → part ≡ onto ts part
-onto-start ts None e = refl
-onto-start ts (Some us) e = rw e refl
-
 onto-push : (ts : List Token) (t : Token) (part : Option (List Token)) → onto ts (onto (t ∷ []) part) ≡ onto (ts ++ t ∷ []) part
 onto-push ts t None = refl
 onto-push ts t (Some us) = ap (λ (l : List Token). Some l) (sym (append_assoc ts (t ∷ []) us))

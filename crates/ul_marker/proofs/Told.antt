@@ -5,9 +5,9 @@ use Rattle.ul_specifier.specs.Clauses.{ClauseFields}
 use Rattle.ul_specifier.specs.declared.clause.Op.{Op}
 use Rattle.ul_specifier.specs.declared.clause.Op.TheVariants.{AtLeast}
 use Rattle.ul_comparison.specs.Formulas.{Formula, extra, python, text, opaque}
-use Rattle.ul_comparison.specs.Printed.{Comparison, atom_is, bound, bound_op, comparison_formula, extra_is, text_is}
+use Rattle.ul_comparison.specs.Printed.{Comparison, atom_is, bound, comparison_formula, extra_is, text_is}
 use Rattle.ul_marker.specs.PrintedPaths.{ComparisonsAreTold}
-use Rattle.ul_marker.specs.PrintedViews.{IsNoComparison, IsNoInterpreter, is_plain}
+use Rattle.ul_marker.specs.PrintedViews.{IsNoComparison, IsNoInterpreter}
 
 -- the comparison of a formula, where it is the formula of one
 abbrev lower_of : Op → Bool
@@ -46,28 +46,6 @@ not_interpreter full c none (extra_is literal equal) is e = cc
 not_interpreter full c none (text_is v literal equal) is e = cc
 not_interpreter full c none (atom_is a holds) is e = cc
 
--- another operator
-pub not_bound : (full : Bool) (c : ClauseFields) → ((lower : Bool) → bound_op lower ≡ c.op → ⊥) → IsNoComparison (python full c)
-not_bound full c none (bound lower major minor patch) is e = none lower (ap op_in e)
-  where
-    op_in : Formula → Op
-    op_in (python f d) = d.op
-    op_in other = c.op
-not_bound full c none (extra_is literal equal) is e = cc
-not_bound full c none (text_is v literal equal) is e = cc
-not_bound full c none (atom_is a holds) is e = cc
-
--- not all numbers
-pub not_full : (c : ClauseFields) → IsNoComparison (python false c)
-not_full c (bound lower major minor patch) is e = true≢false (ap full_in e)
-  where
-    full_in : Formula → Bool
-    full_in (python f d) = f
-    full_in other = true
-not_full c (extra_is literal equal) is e = cc
-not_full c (text_is v literal equal) is e = cc
-not_full c (atom_is a holds) is e = cc
-
 -- `.*`
 pub not_whole : (full : Bool) (c : ClauseFields) → c.prefix ≡ true → IsNoComparison (python full c)
 not_whole full c starred (bound lower major minor patch) is e = true≢false (sym (ap prefix_in e ∙ starred))
@@ -78,9 +56,3 @@ not_whole full c starred (bound lower major minor patch) is e = true≢false (sy
 not_whole full c starred (extra_is literal equal) is e = cc
 not_whole full c starred (text_is v literal equal) is e = cc
 not_whole full c starred (atom_is a holds) is e = cc
-
--- ---- interpreters
-
--- a version with another part than a release
-pub not_plain : (V : Fields) → is_plain V ≡ false → IsNoInterpreter V
-not_plain V e major minor patch a b c same = true≢false (ap is_plain (sym same) ∙ e)

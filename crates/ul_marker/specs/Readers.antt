@@ -43,10 +43,6 @@ abbrev pub optional_tokens : Option (Bor (List Token)) → Option (List Token)
 optional_tokens None = None
 optional_tokens (Some tokens) = Some tokens.now
 
--- a list of tokens
-abbrev pub tokens_view : {Z : Type 0} → Vec Token Z → List Token
-tokens_view v = v.items
-
 -- a list of versions
 abbrev pub versions_view : {Z : Type 0} → Vec Fields Z → List Fields
 versions_view v = v.items

@@ -3,11 +3,9 @@ use Rattle.std.proofs.Common.{◌≡◌, ℕ, zero, suc, List, [], ◌∷◌, Bo
 use Rattle.std.specs.Prelude.{bit_and, bit_or, map, zip, min, max, ◌↔◌, ◌&&◌, ◌||◌, All, ◌++◌}
 use Rattle.std.specs.Int.{bit_at, bit_not}
 use Rattle.std.specs.List.{range_with_len, list_all, list_any}
-use Rattle.std.proofs.lemmas.Bool.{cases_lt, cases_Bool, eqb-true, eq-eqb, cases_eq, ne_eqb, or_right, and_parts, lt-ltb, le-ltb, both_ways, false_from_ne_true}
+use Rattle.std.proofs.lemmas.Bool.{cases_lt, eqb-true, eq-eqb, cases_eq, ne_eqb, or_right, and_parts, lt-ltb, le-ltb}
 use Rattle.std.proofs.lemmas.Bool.Decides.{same_from_decides, Decides-like, Decides-eqb}
-use Rattle.std.proofs.lemmas.Slice.Eq.{slice_eq-Decides}
 use Rattle.std.proofs.lemmas.List.Folds.{list_any-append, list_any_none}
-use Rattle.std.specs.Cmp.Lexicographic.{pointwise}
 use Rattle.std.proofs.Math.Nat.{mod-lt}
 use Rattle.std.proofs.lemmas.List.{ext_get_or, get_or_past, get_or-replicate, length-replicate, get_or-set_same, get_or-set_other, get_or_default, length-set}
 use Rattle.std.proofs.lemmas.List.FromFn.{length-map-range_with_len, get_or-map-range_with_len}
@@ -16,10 +14,10 @@ use Rattle.std.proofs.lemmas.Nat.Bits.{bit_at_and, bit_at_or, bit_at_not, bit_at
 use Rattle.ul_ranges.specs.Operations.{word_by, flag_by}
 use Rattle.ul_ranges.specs.declared.words.Operation.{Operation}
 use Rattle.ul_ranges.specs.declared.words.Operation.TheVariants.{Meet, Join, Less}
-use Rattle.ul_ranges.specs.Flags.{has, both, either, less, is_blank, is_within, set_of}
-use Rattle.ul_ranges.specs.Blocks.{flag, flag_at, flags_of, block_count, IsExact, AreBlocksOf}
+use Rattle.ul_ranges.specs.Flags.{has, set_of}
+use Rattle.ul_ranges.specs.Blocks.{flag, flag_at, flags_of, block_count, IsExact}
 use Rattle.ul_ranges.specs.Marks.{HasMarked, front_word}
-use Rattle.ul_ranges.proofs.FlagLaws.{has-both, has-either, has-less, length-both, length-either, length-less, blank_some, blank_none, same_sets}
+use Rattle.ul_ranges.proofs.FlagLaws.{same_sets}
 
 -- ---- one bit
 min_flag : (a b : ℕ) → a < 2 → b < 2 → eqb (min a b) 1 ≡ cond (eqb a 1) (eqb b 1) false
@@ -196,21 +194,6 @@ module _ (m n : ℕ) (a b : List ℕ) (s t : List Bool) (p : Paired m n a b s t)
               (λ k. zipped_has k ∙ sym (each k)),
         )
 
-  pub meet_blocks : (r : List ℕ) → r ≡ map (λ p. bit_and p.0 p.1) (zip a b) → IsExact m r × (flags_of m r ≡ both s t)
-  meet_blocks r e =
-      zipped bit_and (λ x y. cond x y false) and_flagwise
-      both (length-both s t p.sizes) (λ k. has-both k s t) r e
-
-  pub join_blocks : (r : List ℕ) → r ≡ map (λ p. bit_or p.0 p.1) (zip a b) → IsExact m r × (flags_of m r ≡ either s t)
-  join_blocks r e =
-      zipped bit_or (λ x y. cond x true y) or_flagwise
-      either (length-either s t p.sizes) (λ k. has-either k s t) r e
-
-  pub less_blocks : (r : List ℕ) → r ≡ map (λ p. bit_and p.0 (bit_not w64 p.1)) (zip a b) → IsExact m r × (flags_of m r ≡ less s t)
-  less_blocks r e =
-      zipped (λ x y. bit_and x (bit_not w64 y)) (λ x y. cond y false x) less_flagwise
-      less (length-less s t) (λ k. has-less k s t) r e
-
 -- an operation word by word on the blocks of two sets of one size
 zip_pair : (size : ℕ) (xs ys : List ℕ) → IsExact size xs → IsExact size ys → Paired size size xs ys (flags_of size xs) (flags_of size ys)
 zip_pair size xs ys a b = record { left = a; right = b; left_is = refl; right_is = refl; sizes = length-flags_of size xs ∙ sym (length-flags_of size ys) }
@@ -241,47 +224,10 @@ pub clear_all : (size : ℕ) (a : List ℕ) → IsExact size a → ((k : ℕ) �
 clear_all size a exact c = zero_all a (λ j. same_word (get_or a j 0) 0 (exact.words j) (lit< tt)
     (λ i h. sym (flag_at-place a j i h) ∙ c (64 * j + i) ∙ sym (flag-zero i)))
 
-pub blank_blocks : (m : ℕ) (a : List ℕ) (s : List Bool) → IsExact m a → flags_of m a ≡ s
-    → list_all (λ x. eqb x 0) a ≡ is_blank s
-blank_blocks m a s exact is =
-    let each : (k : ℕ) → has k s ≡ flag_at a k = λ k. ap (has k) (sym is) ∙ has-flags_of m a exact k in
-    elim (cases_Bool (is_blank s)) [
-      | inl e ↦ zero_all a (λ j. same_word (get_or a j 0) 0 (exact.words j) (lit< tt)
-          (λ i h. sym (flag_at-place a j i h) ∙ sym (each (64 * j + i)) ∙ blank_none s e (64 * j + i) ∙ sym (flag-zero i))) ∙ sym e
-      | inr e ↦ false_from_ne_true _ (λ h. let r = blank_some s e in
-          both_ways (flag_at a r.0) (all_clear a h r.0) (sym (each r.0) ∙ r.1)) ∙ sym e
-    ]
-
--- ---- equality
-pub same_blocks : (m n : ℕ) (a b : List ℕ) → IsExact m a → IsExact n b
-    → flags_of m a ≡ flags_of n b → (m ≡ n) × (a ≡ b)
-same_blocks m n a b x y e =
-    let sizes : m ≡ n = sym (length-flags_of m a) ∙ ap length e ∙ length-flags_of n b in (
-      sizes,
-      ext_get_or 0 a b (x.count ∙ ap block_count sizes ∙ sym y.count) (λ j _. same_word (get_or a j 0) (get_or b j 0) (x.words j) (y.words j)
-          (λ i h. sym (flag_at-place a j i h) ∙ sym (has-flags_of m a x (64 * j + i)) ∙ ap (has (64 * j + i)) e ∙ has-flags_of n b y (64 * j + i) ∙ flag_at-place b j i h)),
-    )
-
--- ---- what the blocks are
-pub blocks_of_set : (m : ℕ) (a : List ℕ) (s : List Bool) → IsExact m a → flags_of m a ≡ s → AreBlocksOf s a
-blocks_of_set m a s exact is =
-    let each : (k i : ℕ) → i < 64 → has (64 * k + i) s ≡ flag (get_or a k 0) i =
-    λ k i h. ap (has (64 * k + i)) (sym is) ∙ has-flags_of m a exact (64 * k + i) ∙ flag_at-place a k i h in
-    record {
-      count = exact.count ∙ ap block_count (sym (length-flags_of m a) ∙ ap length is);
-      bits = λ k i h. let f = flag-true (get_or a k 0) i in (λ e. each k i h ∙ f.0 e, λ e. f.1 (sym (each k i h) ∙ e));
-    }
-
 -- ---- inclusion
 pub all_of_map : (op : ℕ × ℕ → ℕ) (ps : List (ℕ × ℕ)) → list_all (λ p. eqb (op p) 0) ps ≡ list_all (λ x. eqb x 0) (map op ps)
 all_of_map op [] = refl
 all_of_map op (p ∷ ps) = ap (λ b. eqb (op p) 0 && b) (all_of_map op ps)
-
-pub within_blocks : (m n : ℕ) (a b : List ℕ) (s t : List Bool) → Paired m n a b s t
-    → list_all (λ p. eqb (bit_and p.0 (bit_not w64 p.1)) 0) (zip a b) ≡ is_within s t
-within_blocks m n a b s t p =
-    let r = less_blocks m n a b s t p (map (λ p. bit_and p.0 (bit_not w64 p.1)) (zip a b)) refl in
-    all_of_map (λ p. bit_and p.0 (bit_not w64 p.1)) (zip a b) ∙ blank_blocks m _ (less s t) r.0 r.1
 
 -- ---- a set made of a list of its members
 pub or_false : (b : Bool) → (b || false) ≡ b
@@ -359,15 +305,6 @@ of_marked size bs ms all h = (
       flag_within size bs k l2 ∙ h.flags k ∙ sym (get_or-map-range_with_len (λ k. list_any (λ m. eqb m k) ms) 0 size k k false l2 (zero-add k))),
 )
 
--- the set with no member
-pub of_unmarked : (size : ℕ) (bs : List ℕ) → HasMarked size bs [] → IsExact size bs × (flags_of size bs ≡ replicate size false)
-of_unmarked size bs h = (
-  record { count = h.count; words = h.words; clear = λ k past. h.flags k },
-  ext_get_or false (flags_of size bs) (replicate size false) (length-flags_of size bs ∙ sym (length-replicate size false))
-      (λ k l. let l2 : k < size = let e = length-flags_of size bs in omega arith in
-      flag_within size bs k l2 ∙ h.flags k ∙ sym (get_or-replicate size k false false l2)),
-)
-
 -- ---- a member
 pub flag_read : (bs : List ℕ) (k w : ℕ) → w ≡ get_or bs (k / 64) 0 → eqb (bit_and (w / 2 ^ (k % 64)) 1) 1 ≡ flag_at bs k
 unfolding flag_at flag
@@ -380,18 +317,6 @@ flag_unread bs k past = sym (ap (λ v. flag v (k % 64)) (get_or_past bs (k / 64)
 pub bit_read : (w k : ℕ) → eqb (bit_and (w / 2 ^ k) 1) 1 ≡ flag w k
 unfolding flag
 bit_read w k = ap (λ v. eqb v 1) (shr_and_one w k)
-
--- ---- equal sets
-pub equal_blocks : (m n : ℕ) (a b : List ℕ) (s t : List Bool) → IsExact m a → IsExact n b → flags_of m a ≡ s → flags_of n b ≡ t → (r : Bool) → m ≡ n
-    → r ≡ pointwise eqb a b → (r ≡ true → s ≡ t) × (s ≡ t → r ≡ true)
-equal_blocks m n a b s t x y p q r e h =
-    let d = slice_eq-Decides Decides-eqb a b r h in (
-      λ f. let ab : a ≡ b = d.0 f in sym p ∙ rw (e, ab) q,
-      λ f. d.1 (same_blocks m n a b x y (p ∙ f ∙ sym q)).1,
-    )
-
-pub unequal_sizes : (m n : ℕ) (a b : List ℕ) (s t : List Bool) → flags_of m a ≡ s → flags_of n b ≡ t → s ≡ t → m ≡ n
-unequal_sizes m n a b s t p q f = sym (length-flags_of m a) ∙ ap length (p ∙ f ∙ sym q) ∙ length-flags_of n b
 
 -- ---- the bits below a count
 pub ones_below : (b i : ℕ) → i < b → flag (2 ^ b - 1) i ≡ true

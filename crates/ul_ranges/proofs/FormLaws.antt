@@ -9,7 +9,7 @@ use Rattle.std.proofs.lemmas.Nat.{and_le_l, or_lt}
 use Rattle.ul_ranges.specs.Flags.{has, both, either, less, is_apart, is_blank, is_within, set_of, front, IsNext}
 use Rattle.ul_ranges.specs.Blocks.{flag, flag_at, block_count, AreBlocksOf}
 use Rattle.ul_ranges.specs.Operations.{in_both, in_either, in_first}
-use Rattle.ul_ranges.specs.Forms.{bit_in, is_one, size_in, flag_in, flags_in, IsWord, IsBelow, IsFew, IsMany, IsForm, IsSealed, HasBlocks, IsMade, only_in, only_out, AreForms, AreSame, AreWithin, AreApart, HasMembers, HasFront}
+use Rattle.ul_ranges.specs.Forms.{bit_in, is_one, size_in, flag_in, flags_in, IsWord, IsBelow, IsMany, IsForm, IsSealed, HasBlocks, IsMade, AreForms, AreSame, AreWithin, AreApart, HasMembers, HasFront}
 use Rattle.ul_ranges.specs.declared.forms.Form.{Form}
 use Rattle.ul_ranges.specs.declared.forms.Form.TheVariants.{Word, Few, Many}
 use Rattle.ul_ranges.proofs.FlagLaws.{has-both, has-either, has-less, length-both, length-either, length-less, blank_none, none_blank, same_sets, cond_same, length-set_of, has-set_of, length-front, has-front}
@@ -134,24 +134,12 @@ next_kept f s h from None n = λ k l. sym (kept_flag f s h k) ∙ n k l
 next_kept f s h from (Some m) n = (n.0, sym (kept_flag f s h m) ∙ n.1, λ k a b. sym (kept_flag f s h k) ∙ n.2 k a b)
 
 -- ---- one member against any set
-cond_option : (b : Bool) (m k : ℕ) → is_one (cond b (Some m) None) k ≡ cond b (nat_eq m k) false
-cond_option true m k = refl
-cond_option false m k = refl
-
-cond_option_not : (b : Bool) (m k : ℕ) → is_one (cond b None (Some m)) k ≡ cond b false (nat_eq m k)
-cond_option_not true m k = refl
-cond_option_not false m k = refl
 
 kept_in : (b c x : Bool) → (c ≡ true → x ≡ b) → cond b c false ≡ cond c x false
 kept_in true true x h = sym (h refl)
 kept_in true false x h = refl
 kept_in false true x h = sym (h refl)
 kept_in false false x h = refl
-
-kept_out : (b c x : Bool) → (c ≡ true → x ≡ b) → cond b false c ≡ cond x false c
-kept_out true true x h = ap (λ (y : Bool). cond y false true) (sym (h refl))
-kept_out false true x h = ap (λ (y : Bool). cond y false true) (sym (h refl))
-kept_out b false x h = cond_same b ∙ sym (cond_same x)
 
 swapped : (x y : Bool) → cond x y false ≡ cond y x false
 swapped true true = refl
@@ -161,53 +149,6 @@ swapped false false = refl
 
 same_place : (g : Form) (m k : ℕ) → nat_eq m k ≡ true → flag_in g k ≡ flag_in g m
 same_place g m k e = ap (λ (i : ℕ). flag_in g i) (sym (eqb-true m k e))
-
-flag_only_in : (o : Option ℕ) (g : Form) (k : ℕ) → is_one (only_in o g) k ≡ cond (is_one o k) (flag_in g k) false
-flag_only_in None g k = refl
-flag_only_in (Some m) g k = cond_option (flag_in g m) m k ∙ kept_in (flag_in g m) (nat_eq m k) (flag_in g k) (same_place g m k)
-
-flag_only_out : (o : Option ℕ) (g : Form) (k : ℕ) → is_one (only_out o g) k ≡ cond (flag_in g k) false (is_one o k)
-flag_only_out None g k = sym (cond_same (flag_in g k))
-flag_only_out (Some m) g k = cond_option_not (flag_in g m) m k ∙ kept_out (flag_in g m) (nat_eq m k) (flag_in g k) (same_place g m k)
-
-below_in : (size : ℕ) (o : Option ℕ) (g : Form) → IsBelow size o → IsBelow size (only_in o g)
-below_in size None g h = tt
-below_in size (Some m) g h = which (flag_in g m)
-  where
-    which : (b : Bool) → IsBelow size (cond b (Some m) None)
-    which true = h
-    which false = tt
-
-below_out : (size : ℕ) (o : Option ℕ) (g : Form) → IsBelow size o → IsBelow size (only_out o g)
-below_out size None g h = tt
-below_out size (Some m) g h = which (flag_in g m)
-  where
-    which : (b : Bool) → IsBelow size (cond b None (Some m))
-    which true = tt
-    which false = h
-
-pub few_meets : (size : ℕ) (o : Option ℕ) (g : Form) → IsFew size o → IsMade in_both (Few size o) g (Few size (only_in o g))
-few_meets size o g h = record { is_form = record { large = h.large; below = below_in size o g h.below }; same_size = refl; each = λ k. flag_only_in o g k }
-
-pub meets_few : (size : ℕ) (f : Form) (o : Option ℕ) → IsFew size o → size_in f ≡ size → IsMade in_both f (Few size o) (Few size (only_in o f))
-meets_few size f o h e = record {
-  is_form = record { large = h.large; below = below_in size o f h.below };
-  same_size = sym e;
-  each = λ k. flag_only_in o f k ∙ swapped (is_one o k) (flag_in f k);
-}
-
-pub few_lessens : (size : ℕ) (o : Option ℕ) (g : Form) → IsFew size o → IsMade in_first (Few size o) g (Few size (only_out o g))
-few_lessens size o g h = record { is_form = record { large = h.large; below = below_out size o g h.below }; same_size = refl; each = λ k. flag_only_out o g k }
-
-pub none_joins : (size : ℕ) (g : Form) → IsForm g → size ≡ size_in g → IsMade in_either (Few size None) g g
-none_joins size g h e = record { is_form = h; same_size = sym e; each = λ k. refl }
-
-pub joins_none : (size : ℕ) (f : Form) → IsForm f → IsMade in_either f (Few size None) f
-joins_none size f h = record { is_form = h; same_size = refl; each = λ k. sym (or_none (flag_in f k)) }
-  where
-    or_none : (b : Bool) → cond b true false ≡ b
-    or_none true = refl
-    or_none false = refl
 
 -- ---- words
 pub bit_within : (w k : ℕ) → k < 64 → bit_in w k ≡ flag w k

@@ -1,5 +1,5 @@
 -- Laws of the tests on sets as they are kept, and of how they are kept.
-use Rattle.std.proofs.Common.{◌≡◌, ℕ, List, Bool, true, false, cond, refl, ap, ◌∙◌, sym, subst, get_or, ◌+◌, ◌*◌, ◌<◌, ◌≤◌, arith, eqb, inl, inr, w64, Option, Some, None, nat_eq, lit<, ◌⊎◌}
+use Rattle.std.proofs.Common.{◌≡◌, ℕ, List, Bool, true, false, cond, refl, ap, ◌∙◌, sym, subst, get_or, ◌+◌, ◌*◌, ◌<◌, ◌≤◌, arith, eqb, inl, inr, w64, Option, Some, None, lit<, ◌⊎◌}
 use Rattle.std.specs.Prelude.{bit_and, map, zip, ◌↔◌, IsTrue, not}
 use Rattle.std.specs.Option.{is_some, option_eq}
 use Rattle.std.specs.Int.{bit_not}
@@ -11,7 +11,7 @@ use Rattle.std.proofs.lemmas.Bool.{cases_lt, eqb-true, eq-eqb, true≢false, fal
 use Rattle.std.proofs.lemmas.List.{ext_get_or}
 use Rattle.ul_ranges.specs.Blocks.{flag, flag_at, IsExact}
 use Rattle.ul_ranges.specs.Operations.{in_both, in_first}
-use Rattle.ul_ranges.specs.Forms.{bit_in, is_one, flag_in, HasTwo, IsWord, AreForms, AreSame, AreWithin, AreApart}
+use Rattle.ul_ranges.specs.Forms.{bit_in, is_one, HasTwo, IsWord, AreForms, AreSame, AreWithin, AreApart}
 use Rattle.ul_ranges.specs.declared.forms.Form.{Form}
 use Rattle.ul_ranges.specs.declared.forms.Form.TheVariants.{Word, Few, Many}
 use Rattle.ul_ranges.proofs.BlockLaws.{flag-zero, same_word, flag_at-place, flag-and, flag-and_not, all_of_map, all_clear, clear_all, and_flagwise, less_flagwise, zip_exact, zip_flag}
@@ -106,14 +106,6 @@ many_differ m xs (Few n o) h s = absurd (not_two o xs h.left.two (λ k e. sym (s
 many_differ m xs (Many n ys) h s = (n, ys, refl)
 
 -- ---- inclusion
-pub none_within : (size : ℕ) (g : Form) → IsTrue true ↔ AreWithin (Few size None) g
-none_within size g = (λ e k a. absurd (false≢true a), λ h. refl)
-
-pub one_within : (size m : ℕ) (g : Form) (r : Bool) → r ≡ flag_in g m → IsTrue r ↔ AreWithin (Few size (Some m)) g
-one_within size m g r e = (
-  λ t k a. ap (λ (i : ℕ). flag_in g i) (sym (eqb-true m k a)) ∙ sym e ∙ t,
-  λ h. e ∙ h m (eq-eqb m m refl),
-)
 
 pub words_within : (m n x y : ℕ) → IsWord m x → IsWord n y → IsTrue (eqb (bit_and x (bit_not w64 y)) 0) ↔ AreWithin (Word m x) (Word n y)
 words_within m n x y a b = (
@@ -167,27 +159,6 @@ many_without m xs (Few n o) h s = absurd (not_two o xs h.left.two s)
 many_without m xs (Many n ys) h s = (n, ys, refl)
 
 -- ---- no common member
-pub none_apart : (size : ℕ) (g : Form) → IsTrue true ↔ AreApart (Few size None) g
-none_apart size g = (λ e k a. absurd (false≢true a), λ h. refl)
-
-pub apart_none : (size : ℕ) (f : Form) → IsTrue true ↔ AreApart f (Few size None)
-apart_none size f = (λ e k a. refl, λ h. refl)
-
-pub one_apart : (size m : ℕ) (g : Form) (r : Bool) → r ≡ flag_in g m → (r ≡ false) ↔ AreApart (Few size (Some m)) g
-one_apart size m g r e = (
-  λ t k a. ap (λ (i : ℕ). flag_in g i) (sym (eqb-true m k a)) ∙ sym e ∙ t,
-  λ h. e ∙ h m (eq-eqb m m refl),
-)
-
-not_set : (b : Bool) → (b ≡ true → ⊥) → b ≡ false
-not_set true h = absurd (h refl)
-not_set false h = refl
-
-pub apart_one : (size m : ℕ) (f : Form) (r : Bool) → r ≡ flag_in f m → (r ≡ false) ↔ AreApart f (Few size (Some m))
-apart_one size m f r e = (
-  λ t k a. not_set (nat_eq m k) (λ q. true≢false (sym a ∙ ap (λ (i : ℕ). flag_in f i) (sym (eqb-true m k q)) ∙ sym e ∙ t)),
-  λ h. e ∙ not_set (flag_in f m) (λ a. true≢false (sym (eq-eqb m m refl) ∙ h m a)),
-)
 
 pub words_apart : (m n x y : ℕ) → IsWord m x → IsWord n y → IsTrue (eqb (bit_and x y) 0) ↔ AreApart (Word m x) (Word n y)
 words_apart m n x y a b = (

@@ -2,15 +2,14 @@
 use Rattle.std.proofs.Common.{◌≡◌, ℕ, zero, suc, List, [], ◌∷◌, ◌++◌, Bool, true, false, cond, refl, ap, ◌∙◌, sym, get_or, ◌+◌, ◌^◌, ◌<◌, ◌≤◌, length, arith, inl, inr, eqb, Some, nat_cmp}
 use Rattle.std.specs.Prelude.{map, zip, ◌⊎◌, ◌↔◌, slice_get, All, Contains, IsPermutation, IsSorted}
 use Rattle.std.specs.List.{dedup}
-use Rattle.std.proofs.lemmas.Bool.{cases_lt}
-use Rattle.std.proofs.lemmas.List.{get_or_past, get_or_default}
+use Rattle.std.proofs.lemmas.List.{get_or_default}
 use Rattle.std.proofs.lemmas.List.Elements.{Contains-append_left, Contains-append_right, Contains-append_cases, All-contains}
 use Rattle.std.proofs.lemmas.List.Kept.{Contains-dedup_nat, Contains-from_dedup}
 use Rattle.std.proofs.lemmas.List.Sorted.{list_any-IsPermutation}
 use Rattle.std.proofs.lemmas.Map.Keys.{IsStrictlyIncreasing-dedup}
 use Rattle.std.specs.List.Sorted.{IsStrictlyIncreasing}
 use Rattle.ul_ranges.specs.Flags.{both, either, less}
-use Rattle.ul_ranges.specs.Pieces.{AreStarts, IsPiece, IsRefinement}
+use Rattle.ul_ranges.specs.Pieces.{AreStarts, IsRefinement}
 use Rattle.ul_ranges.proofs.FlagLaws.{any_in, in_any}
 use Rattle.ul_ranges.proofs.PieceLaws.{rises, first_is_zero}
 
@@ -80,20 +79,3 @@ pub record IsLastSeen (starts : List ℕ) (x n piece : ℕ) : Type 0 where
   pub seen : 0 < n → piece < n
   pub from : get_or starts piece 0 ≤ x
   pub after : (k : ℕ) → piece < k → k < n → x < get_or starts k 0
-
-pub none_seen : (starts : List ℕ) (x : ℕ) → AreStarts starts → IsLastSeen starts x 0 0
-none_seen starts x a =
-    let f = first_is_zero starts a.first in
-    record { place = omega arith; seen = λ h. absurd (omega arith); from = let e = f.1 in omega arith; after = λ k h l. absurd (omega arith) }
-
-pub seen_whole : (starts : List ℕ) (x piece : ℕ) → AreStarts starts → x < 2 ^ 96 → IsLastSeen starts x (length starts) piece → IsPiece starts piece x
-seen_whole starts x piece a small r =
-    let f = first_is_zero starts a.first in
-    record {
-      piece = r.seen f.0;
-      from = r.from;
-      to = elim (cases_lt (piece + 1) (length starts)) [
-        | inl h ↦ let e = get_or_default starts (piece + 1) (2 ^ 96) 0 h in let g = r.after (piece + 1) (omega arith) h in omega arith
-        | inr h ↦ rw (get_or_past starts (piece + 1) (2 ^ 96) h) small
-      ];
-    }

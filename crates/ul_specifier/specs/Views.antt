@@ -18,11 +18,6 @@ abbrev pub operator_view : Option (Op × Bor (List ℕ)) → Option (Op × List 
 operator_view None = None
 operator_view (Some p) = Some (p.0, p.1.now)
 
--- the text after or before a word
-abbrev pub rest_view : Option (Bor (List ℕ)) → Option (List ℕ)
-rest_view None = None
-rest_view (Some rest) = Some rest.now
-
 -- the answer of a reader that may lack memory: what it read is what the text spells, and it finds no
 -- reading only where there is none
 abbrev pub Reads : {X Y : Type 0} → (X → Y) → Result X SpecFault → Option Y → Type 0

@@ -6,7 +6,7 @@ ghost use Rattle.ul_version.specs.Reading as Versions;
 ghost use Rattle.ul_specifier.specs.Clauses;
 ghost use Rattle.ul_specifier.specs.Clauses.{IsClause};
 ghost use Rattle.ul_specifier.specs.Reading as spec;
-ghost use Rattle.ul_specifier.specs.Views.{clauses_view, operator_view, rest_view, space, Reads};
+ghost use Rattle.ul_specifier.specs.Views.{clauses_view, operator_view, space, Reads};
 
 use crate::local::has_local;
 use crate::{Clause, Op, SpecFault, Specifiers};

@@ -1,5 +1,5 @@
 -- Lemmas on what stands in front of a text.
-use Rattle.std.proofs.Common.{◌≡◌, ◌≢◌, ℕ, zero, suc, ◌+◌, ◌-◌, ◌*◌, ◌^◌, ◌<◌, ◌≤◌, List, [], ◌∷◌, ◌++◌, length, drop, take, get_or, map, refl, sym, ap, ◌∙◌, arith, Bool, true, false, inl, inr, Option, Some, None, le_trans, add-one}
+use Rattle.std.proofs.Common.{◌≡◌, ◌≢◌, ℕ, zero, suc, ◌+◌, ◌-◌, ◌*◌, ◌^◌, ◌<◌, ◌≤◌, List, [], ◌∷◌, ◌++◌, length, drop, take, get_or, map, refl, sym, ap, ◌∙◌, arith, true, false, inl, inr, Option, Some, None, le_trans, add-one}
 use Rattle.std.specs.Prelude.{if◌then◌else◌, nat_lt, ◌==◌}
 use Rattle.std.proofs.lemmas.List.{drop_more, drop_all, map_more, append-nil, append_assoc}
 use Rattle.std.proofs.lemmas.Bool.{cases_Bool, and_parts, lt-ltb, le-ltb, eq-eqb, ne_eqb}
@@ -8,7 +8,7 @@ use Rattle.std.specs.Char.{is_ascii_alphanumeric, is_ascii_digit, to_ascii_lower
 use Rattle.ul_version.specs.Reading.{lowercase_text, digits, after_digits, value_after, number, after_word, Cut, required_number, release, points, marked_digits, onto, is_separator, segment, segments, pieces_of, ◌>>=◌}
 use Rattle.ul_version.specs.declared.fields.Segment.{Segment}
 use Rattle.ul_version.specs.Fields.{is_word_byte}
-use Rattle.std.specs.List.{list_all, slice_split, onto_first}
+use Rattle.std.specs.List.{list_all, onto_first}
 
 -- ---- numbers
 
@@ -135,25 +135,8 @@ numeric-lowered (b ∷ xs) = rw (digit-lower b, numeric-lowered xs) refl
 separator-lower : (b : ℕ) → is_separator (to_ascii_lowercase b) ≡ is_separator b
 separator-lower b = grind (arith, nat_tests)
 
-onto_first-lowered : (b : ℕ) (pieces : List (List ℕ)) → onto_first (to_ascii_lowercase b) (map lowercase_text pieces) ≡ map lowercase_text (onto_first b pieces)
-onto_first-lowered b [] = refl
-onto_first-lowered b (piece ∷ pieces) = refl
-
--- the pieces of a text in lower case are the pieces of the text, in lower case
-pub slice_split-lowered : (xs : List ℕ) → slice_split is_separator (lowercase_text xs) ≡ map lowercase_text (slice_split is_separator xs)
-slice_split-lowered [] = refl
-slice_split-lowered (b ∷ xs) = elim (cases_Bool (is_separator b)) [
-  | inl yes_one ↦ rw (separator-lower b, yes_one, slice_split-lowered xs) refl
-  | inr no_one ↦ rw (separator-lower b, no_one, slice_split-lowered xs) (onto_first-lowered b (slice_split is_separator xs))
-]
-
 word_byte-ascii : (b : ℕ) → is_word_byte b ≡ true → b < 128
 word_byte-ascii b h = grind (arith, nat_tests)
-
-list_all-at : (p : ℕ → Bool) (xs : List ℕ) (k d : ℕ) → list_all p xs ≡ true → k < length xs → p (get_or xs k d) ≡ true
-list_all-at p [] k d h lt = absurd (omega arith)
-list_all-at p (x ∷ xs) zero d h lt = (and_parts (p x) (list_all p xs) h).0
-list_all-at p (x ∷ xs) (suc k) d h lt = list_all-at p xs k d (and_parts (p x) (list_all p xs) h).1 (omega arith)
 
 -- the bytes of a word are ASCII
 pub word-ascii : (xs : List ℕ) (k : ℕ) → list_all is_word_byte (lowercase_text xs) ≡ true → k < length xs → to_ascii_lowercase (get_or xs k 0) < 128

@@ -18,10 +18,6 @@ use Rattle.ul_version.specs.declared.fields.Segment.TheVariants.{Number, Word}
 
 -- ---- releases
 
--- two lists of one length, each with the same zeros after it
-slice_cmp-zeros : (n : ℕ) → numbers_cmp (replicate n 0) (replicate n 0) ≡ Equal
-slice_cmp-zeros n = tied_itself nat_list_cmp_total (replicate n 0)
-
 slice_cmp-append : (xs ys zs : List ℕ) → length xs ≡ length ys → numbers_cmp (xs ++ zs) (ys ++ zs) ≡ numbers_cmp xs ys
 slice_cmp-append [] [] zs e = tied_itself nat_list_cmp_total zs
 slice_cmp-append [] (y ∷ ys) zs e = absurd (omega arith)

@@ -110,11 +110,6 @@ after_pre-begin : (q d : Option ℕ) (l : List Segment) → begins is_ascii_digi
 after_pre-begin None d l = dev-begin d l
 after_pre-begin (Some n) d l = refl
 
-kind-begin : (k : PreKind) (text : List ℕ) → begins is_ascii_digit (kind_text k ++ text) ≡ false
-kind-begin A text = refl
-kind-begin B text = refl
-kind-begin Rc text = refl
-
 dev-read : (d : Option ℕ) (l : List Segment) → ((n : ℕ) → d ≡ Some n → n < 2 ^ 64) → dev (numbered_text (codes ".dev") d ++ local_text l) ≡ Some (d, local_text l)
 unfolding dev after_word
 dev-read None [] h = refl

@@ -24,10 +24,6 @@ exclamation_mark = 33
 abbrev pub double_quote : ℕ
 double_quote = 34
 
--- `'`
-abbrev pub single_quote : ℕ
-single_quote = 39
-
 -- `(`
 abbrev pub left_parenthesis : ℕ
 left_parenthesis = 40
@@ -35,10 +31,6 @@ left_parenthesis = 40
 -- `)`
 abbrev pub right_parenthesis : ℕ
 right_parenthesis = 41
-
--- `*`
-abbrev pub asterisk : ℕ
-asterisk = 42
 
 -- `+`
 abbrev pub plus : ℕ
@@ -56,25 +48,9 @@ hyphen = 45
 abbrev pub point : ℕ
 point = 46
 
--- `0`
-abbrev pub zero_digit : ℕ
-zero_digit = 48
-
 -- `;`
 abbrev pub semicolon : ℕ
 semicolon = 59
-
--- `<`
-abbrev pub less_sign : ℕ
-less_sign = 60
-
--- `=`
-abbrev pub equals_sign : ℕ
-equals_sign = 61
-
--- `>`
-abbrev pub greater_sign : ℕ
-greater_sign = 62
 
 -- `@`
 abbrev pub at_sign : ℕ

@@ -1,12 +1,10 @@
 -- What workers drew, and the seats that are taken in.
-use Rattle.std.proofs.Common.{◌≡◌, ℕ, ◌+◌, ◌<◌, ◌≤◌, ◌⊎◌, Bool, true, false, not, List, [], ◌∷◌, ◌++◌, All, get_or, Option, sym, refl, ap, subst, ⊎_elim, inl, inr, arith}
+use Rattle.std.proofs.Common.{◌≡◌, ℕ, ◌+◌, ◌<◌, ◌≤◌, ◌⊎◌, Bool, true, false, not, List, [], ◌∷◌, ◌++◌, All, get_or, sym, refl, subst, ⊎_elim, inl, inr, arith}
 use Rattle.std.specs.Prelude.{Any, Contains}
 use Rattle.std.proofs.lemmas.List.Elements.{All-append, All-cons, All-nil, Contains-push_cases}
 use Rattle.std.proofs.lemmas.List.Quantifiers.{Any-push}
-use Rattle.std.proofs.lemmas.List.Sums.{sum_by_push}
 use Rattle.ul_claims.specs.Seats.{SeatView, ClaimsView, IsDrawn, HadNone}
 use Rattle.ul_interner.specs.Known.{Held}
-use Rattle.ul_workers.specs.Work.{Full, parts_of_seats}
 
 pub all_push : {X : Type 0} (F : X → Type 0) (xs ys : List X) (x : X) → ys ≡ xs ++ x ∷ [] → All F xs → F x → All F ys
 all_push F xs ys x e a f = subst (All F) (sym e) (All-append F xs (x ∷ []) a (All-cons F x [] f (All-nil F)))
@@ -19,9 +17,6 @@ good_on fits known p q on xs a k d l = let t = a k d l in (t.0, on (get_or xs k 
 pub not_failed : (b : Bool) → not b ≡ true → b ≡ false
 not_failed true e = sym e
 not_failed false e = refl
-
-pub parts_push : (xs ys : List SeatView) (s : SeatView) → ys ≡ xs ++ s ∷ [] → s.parts ≡ 1 → parts_of_seats ys ≡ parts_of_seats xs + 1
-parts_push xs ys s e one = omega (arith, ap parts_of_seats e, sum_by_push (λ (t : SeatView). t.parts) xs s, one)
 
 any_push_cases : {X : Type 0} (P : X → Type 0) (xs : List X) (y : X) → Any P (xs ++ y ∷ []) → Any P xs ⊎ P y
 any_push_cases P xs y h = ⊎_elim (λ c. inl (c.0, h.1, c.1, c.2, h.4)) (λ e. inr (subst P (sym e) h.4)) (Contains-push_cases xs y h.1 (h.0, h.2, h.3))
@@ -38,10 +33,3 @@ pub none_push : (claims : ClaimsView) (l : ℕ) (xs ys : List SeatView) (s : Sea
 none_push claims l xs ys s nums e own f high =
     subst HadNone (sym e) (Any-push (λ (t : SeatView). Any (λ n. t.claims.limit ≤ n) t.drawn) xs s
     (subst (λ z. Any (λ n. s.claims.limit ≤ n) z) (sym f) (Any-push (λ n. s.claims.limit ≤ n) nums l (subst (λ (c : ClaimsView). c.limit ≤ l) (sym own) high))))
-
--- a seat that drew nothing
-pub none_drawn : {O : Type 0} (limit : ℕ) (seats : List SeatView) (s : SeatView) (places : List (Option O)) → seats ≡ s ∷ [] → s.drawn ≡ [] → Full limit seats places
-none_drawn {O} limit seats s places e f k low h =
-    ⊎_elim (λ before. absurd (omega (arith, before.2)))
-    (λ here. let there : Contains [] k = subst (λ z. Contains z k) f here in absurd (omega (arith, there.1)))
-    (any_push_cases (λ (t : SeatView). Contains t.drawn k) [] s (subst (λ z. IsDrawn z k) e h))

@@ -1,3 +1,4 @@
+pub mod WorkerCount
 pub mod Headline
 pub mod Work
 pub mod InThreads

@@ -4,6 +4,7 @@ ghost use Rattle.std.specs.List.{slice_get};
 ghost use Rattle.std.specs.Vec.{vec_capacity};
 ghost use Rattle.ul_interner.specs.Known.{Knows};
 ghost use Rattle.ul_workers.specs.Headline.{AreResults};
+ghost use Rattle.ul_workers.specs.WorkerCount.{IsWorkerCount};
 ghost use Rattle.ul_workers.specs.Work.{Filled, AreIn};
 
 use crate::gather::take_all;
@@ -53,7 +54,7 @@ pub fn run_all<R: Threads + Wait + Sync, L: Label, J: Job<L>>(
     job: &J,
     count: u64,
 ) -> Result<(Vec<J::Out>, Round), AllocError>
-    requires workers { (1 ≤ workers) × (workers ≤ 64) }
+    requires workers { IsWorkerCount workers }
     requires count { count ≤ 4096 }
     requires own { pass.old.table ≡ interner.now }
     requires ready { (n : ℕ) → n < count → J.ready job.now pass.old n }
