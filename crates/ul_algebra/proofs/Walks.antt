@@ -1,13 +1,11 @@
 -- The branches of a tree, one after another.
 use Rattle.std.proofs.Common.{◌≡◌, ◌≢◌, ℕ, suc, ◌+◌, ◌≤◌, List, [], ◌∷◌, ◌++◌, refl, ap, sym, ◌∙◌, subst, add-one, Option, Some, None, true}
-use Rattle.std.specs.Option.{is_some, option_map}
 use Rattle.ul_nodes.specs.Plain.{Plain, truth, node, Branches, done, branch}
 use Rattle.ul_nodes.specs.Reduced.{IsReduced}
 use Rattle.ul_nodes.specs.Apply.{close, leaf_truth}
-use Rattle.ul_nodes.specs.Keys.{key_view, level_view, top_of, rest_of, branches_of, branches_from, branch_count, then_branches, is_key_of, has_kind}
+use Rattle.ul_nodes.specs.Keys.{key_view, top_of, rest_of, branches_of, branches_from, branch_count, then_branches, is_key_of, has_kind}
 use Rattle.ul_nodes.specs.Rows.{made_view}
 use Rattle.ul_nodes.specs.declared.level.Key.{Key}
-use Rattle.ul_nodes.specs.declared.level.Level.{Level}
 use Rattle.ul_nodes.proofs.ForCallers.{from_end, made_push, then_none}
 
 -- a tree that has a top level is a node
@@ -16,11 +14,6 @@ a_node l t e q = let r : Some l ≡ None = e ∙ q in absurd (no r)
   where
     no : Some l ≡ None → ⊥
     no r = cc
-
--- the same, where its level was looked for
-pub is_node : (r : Option Level) (t : Plain) → is_some r ≡ true → option_map level_view r ≡ top_of t → top_of t ≢ None
-is_node None t h e = cc
-is_node (Some l) t h e = a_node (level_view l) t e
 
 -- a tree without a top level is its truth
 pub leaf_is : (t : Plain) → None ≡ top_of t → truth (leaf_truth t) ≡ t

@@ -10,7 +10,7 @@ ghost use Rattle.ul_algebra.specs.Spelled.{tree_of};
 ghost use Rattle.ul_algebra.specs.Answers.{IsDiagram};
 
 use crate::algebra::Algebra;
-use crate::depth::{DEEPEST, deeper};
+use crate::depth::DEEPEST;
 use crate::join::closed;
 use crate::{Diagram, nodes};
 use std::alloc::{AllocError, Global};
@@ -18,7 +18,7 @@ use std::sync::Wait;
 use ul_base::owned::{beside, made_from, with_made};
 use ul_nodes::level::{Key, Level};
 use ul_tree::join::closed as closed_tree;
-use ul_tree::{Tree, part};
+use ul_tree::{Tree, deeper, part};
 
 impl<'a> Algebra<'a> {
     /// The diagram of a tree.

@@ -13,7 +13,6 @@ ghost use Rattle.ul_algebra.specs.declared.labels.DiagramLabel.TheVariants.{Opaq
 
 use crate::Diagram;
 use crate::algebra::Algebra;
-use crate::depth::deeper;
 use crate::labels::DiagramLabel;
 use crate::lists::{Points, Starts};
 use crate::nodes::{Diagrams, known, truth_value};
@@ -26,6 +25,7 @@ use ul_nodes::branches::add;
 use ul_nodes::closing::{Closed, closed_level};
 use ul_nodes::level::{Key, Level};
 use ul_nodes::nodes::{first_level, level_keys, part_at, rest_at};
+use ul_tree::deeper;
 
 // The parts of keys, and then the other part.
 fn parts_and_other(parts: Vec<Diagram>, other: Diagram) -> Result<Vec<Diagram>, AllocError>

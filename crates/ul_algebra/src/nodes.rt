@@ -144,6 +144,10 @@ impl Nodes for Diagrams {
 
     ghost below_itself = { λ d h k. k };
 
+    fn leaf_truth(node: &Diagram) -> bool {
+        known(node)
+    }
+
     fn level_of(node: &Diagram) -> Option<Level<'_>> {
         level_of(node)
     }

@@ -9,8 +9,7 @@ use Rattle.ul_nodes.specs.Apply.{keys, leaf_truth}
 use Rattle.ul_tree.specs.FirstParts.{is_false}
 use Rattle.ul_nodes.specs.declared.level.Level.{Level}
 use Rattle.ul_nodes.specs.declared.level.Key.{Key}
-use Rattle.ul_nodes.specs.declared.level.Key.TheVariants.{Literal, Number, Holds}
-use Rattle.ul_nodes.specs.Keys.{level_view, is_key_of, has_kind, is_number_key, top_of, rest_of, branches_of}
+use Rattle.ul_nodes.specs.Keys.{level_view, is_key_of, has_kind, top_of, rest_of, branches_of}
 use Rattle.ul_nodes.specs.Levels.{python_level}
 use Rattle.ul_tree.specs.PathList.{Step, interval, point, others, longer_paths, paths_to_true, paths_from, paths_at}
 use Rattle.ul_tree.specs.Comparisons.{Comparison, at_least, below, lower, upper, comparisons_of, path_comparisons}
@@ -102,22 +101,9 @@ pieces_paths (node k d bs) h =
     let q : k ≡ python_level = cc in
     ap (λ b. if b then paths_from 0 (paths_to_true d) bs else paths_at k bs ++ longer_paths (others k (keys bs)) (paths_to_true d)) (ap carries q)
 
--- a part has the key of its level
-pub node_top : (t : Plain) (l : List ℕ) → top_of t ≡ Some l → t ≡ node l (rest_of t) (branches_of t)
-node_top (truth b) l h = absurd cc
-node_top (node k d bs) l h = let q : k ≡ l = cc in ap (λ z. node z d bs) q
-
 pub key_kind : (t : Plain) (l : List ℕ) (k : Key) → top_of t ≡ Some l → is_key_of t k ≡ true → has_kind l k ≡ true
 key_kind (truth b) l k h e = absurd cc
 key_kind (node m d bs) l k h e = let q : m ≡ l = cc in subst (λ (z : List ℕ). has_kind z k ≡ true) q e
-
-pub number_kind : (t : Plain) (k : Key) → top_of t ≡ Some python_level → is_key_of t k ≡ true → is_number_key k ≡ true
-number_kind t k h e = go k (key_kind t python_level k h e)
-  where
-    go : (k : Key) → has_kind python_level k ≡ true → is_number_key k ≡ true
-    go (Literal text) e = absurd cc
-    go (Number number) e = refl
-    go Holds e = absurd cc
 
 -- ---- steps of printing
 

@@ -6,7 +6,7 @@ use Rattle.std.specs.declared.alloc.Global.{Global}
 use Rattle.std.proofs.lemmas.Bool.{eqb-true}
 use Rattle.std.proofs.lemmas.List.{drop_more, drop_all, length-map}
 use Rattle.std.proofs.lemmas.Slice.Eq.{bytes_eq-Decides}
-use Rattle.ul_tree.specs.Fans.{Fan, stop, end, edge, same_step, same_keys, put_path, fan_of, tree_of, parts_of, node_of}
+use Rattle.ul_tree.specs.Fans.{Fan, stop, end, edge, same_step, same_keys, put_path, fan_of}
 use Rattle.ul_tree.specs.PathList as PathList
 use Rattle.ul_tree.specs.PathList.{interval, point, others}
 use Rattle.ul_tree.proofs.ForCallers.{step_self}
@@ -131,9 +131,6 @@ fan_grouped r rows at s p e =
 
 pub fan_ended : (r : Vec Step Global) (rows : List (Vec Step Global)) (at : ℕ) → path_from at r ≡ [] → fan_from at (r ∷ rows) ≡ end
 fan_ended r rows at e = ap (λ z. fan_of (z ∷ paths_from at rows)) e
-
-pub edge_tree : (fan more rest : Fan) (s : PathList.Step) → fan ≡ edge s more rest → tree_of fan ≡ node_of (parts_of fan)
-edge_tree fan more rest s e = subst (λ (z : Fan). tree_of z ≡ node_of (parts_of z)) (sym e) refl
 
 -- ---- paths counted in front
 

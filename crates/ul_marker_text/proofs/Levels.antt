@@ -1,16 +1,13 @@
 -- A path to true has a step for each node on it, and a reduced tree's deepest nodes stand on paths to true.
-use Rattle.std.proofs.Common.{◌≡◌, ℕ, zero, suc, ◌<◌, ◌≤◌, ◌^◌, List, [], ◌∷◌, ◌++◌, Bool, true, false, max, min, length, take, drop, get_or, refl, ap, sym, ◌∙◌, arith, Option, Some, None, if◌then◌else◌}
-use Rattle.std.specs.Prelude.{nat_le, ◌&&◌, is_some, option_map, Vec}
+use Rattle.std.proofs.Common.{◌≡◌, ℕ, zero, suc, ◌<◌, ◌≤◌, ◌^◌, List, [], ◌∷◌, ◌++◌, Bool, true, false, length, take, drop, get_or, arith, if◌then◌else◌}
+use Rattle.std.specs.Prelude.{nat_le, Vec}
 use Rattle.std.specs.declared.alloc.Global.{Global}
-use Rattle.std.proofs.lemmas.Bool.{and_parts, leb-true, le-leb, lt-leb}
+use Rattle.std.proofs.lemmas.Bool.{and_parts, leb-true, le-leb}
 use Rattle.std.proofs.lemmas.List.{length-map}
 use Rattle.ul_marker.specs.declared.printed.Comparison.{Comparison}
 use Rattle.ul_nodes.specs.Apply.{keys}
-use Rattle.ul_nodes.specs.Keys.{level_view, top_of, rest_of, branches_of, branches_from, branch_count}
 use Rattle.ul_nodes.specs.Plain.{Plain, truth, node, Branches, done, branch, carries, carried_part}
 use Rattle.ul_nodes.specs.Reduced.{Fits, FitsAll}
-use Rattle.ul_nodes.specs.declared.level.Level.{Level}
-use Rattle.ul_nodes.proofs.ForCallers.{from_end}
 use Rattle.ul_tree.specs.PathList.{Step as PathStep, interval, point, others, start_of, longer_paths, paths_to_true, paths_from, paths_at}
 use Rattle.ul_tree.specs.Paths.{paths_of, levels_of, levels_in, is_printable}
 use Rattle.ul_tree.proofs.ForCallers.{tree_back}
@@ -22,50 +19,7 @@ use Rattle.ul_marker_text.specs.declared.steps.Step.{Step}
 use Rattle.ul_marker_text.proofs.StepsBack.{Filled}
 use Rattle.ul_marker_text.proofs.TreeTexts.{Walked, walked_node, some_path}
 
--- ---- whether a tree has few nodes on each path
-
-same_le : (m n p q : ℕ) → (m ≤ n → p ≤ q) → (p ≤ q → m ≤ n) → nat_le m n ≡ nat_le p q
-same_le m n p q to from = go (nat_le m n) (nat_le p q) refl refl
-  where
-    go : (x y : Bool) → nat_le m n ≡ x → nat_le p q ≡ y → x ≡ y
-    go true true e f = refl
-    go false false e f = refl
-    go true false e f = let r : true ≡ false = sym (le-leb p q (to (leb-true m n e))) ∙ f in absurd cc
-    go false true e f = let r : true ≡ false = sym (le-leb m n (from (leb-true p q f))) ∙ e in absurd cc
-
--- a node has one more than its parts
-levels_are : (found : Option Level) (a : Plain) → is_some found ≡ true → option_map level_view found ≡ top_of a → levels_of a ≡ suc (max (levels_of (rest_of a)) (levels_in (branches_of a)))
-levels_are None a h e = absurd cc
-levels_are (Some l) (truth b) h e = absurd cc
-levels_are (Some l) (node m d bs) h e = refl
-
--- where no branch has too many, the other part decides
-pub rest_decides : (found : Option Level) (a : Plain) (room rest i : ℕ) → is_some found ≡ true → option_map level_view found ≡ top_of a → room ≡ suc rest → branch_count (branches_of a) ≤ i
-    → nat_le (levels_in (branches_from i (branches_of a))) rest ≡ nat_le (levels_in (branches_of a)) rest
-    → nat_le (levels_of (rest_of a)) rest ≡ nat_le (levels_of a) room
-rest_decides found a room rest i h e deeper end passed =
-    let bs = branches_of a in
-    let is = levels_are found a h e in
-    let few : levels_in bs ≤ rest =
-    leb-true (levels_in bs) rest (sym passed ∙ ap (λ z. nat_le (levels_in z) rest) (from_end bs i end) ∙ le-leb 0 rest (omega arith)) in
-    same_le (levels_of (rest_of a)) rest (levels_of a) room (λ x. omega (arith, x, is, few, deeper)) (λ x. omega (arith, x, is, few, deeper))
-
--- where few paths lead to true, by a count that stops at 2^127, the nodes on them decide
-pub few_printed : (t : Plain) (count : ℕ) (within : Bool) → count ≡ min (paths_of t) (2 ^ 127) → count ≤ 4096 → within ≡ nat_le (levels_of t) 512 → within ≡ is_printable t
-unfolding is_printable
-few_printed t count within is few e = e ∙ sym (ap (λ b. b && nat_le (levels_of t) 512) (le-leb (paths_of t) 4096 (omega (arith, is, few))))
-
-pub many_unprinted : (t : Plain) (count : ℕ) → count ≡ min (paths_of t) (2 ^ 127) → 4096 < count → nat_le count 4096 ≡ is_printable t
-unfolding is_printable
-many_unprinted t count is many =
-    lt-leb count 4096 many ∙ sym (ap (λ b. b && nat_le (levels_of t) 512) (lt-leb (paths_of t) 4096 (omega (arith, is, many))))
-
 -- ---- paths with few steps
-
-pub within_first : (n : ℕ) (paths : List (Vec Step Global)) (i : ℕ) (d : Vec Step Global) → i < length paths → AreWithin n (paths_view paths) → length (get_or paths i d).items ≤ n
-within_first n [] i d lt h = absurd (omega (arith, lt))
-within_first n (p ∷ ps) zero d lt h = let e = length-map p.items step_view in let w = h.0 in omega (arith, e, w)
-within_first n (p ∷ ps) (suc i) d lt h = within_first n ps i d (omega (arith, lt)) h.1
 
 pub within_drop : (n : ℕ) (paths : List (Vec Step Global)) (k : ℕ) → AreWithin n (paths_view paths) → AreWithin n (paths_view (drop k paths))
 within_drop n [] zero h = h

@@ -100,14 +100,6 @@ mutual
 
 -- ---- trees of printed comparisons have their truth
 
-bound_truth : (o : Ordering) (lower : Bool) → by_order o (not lower) lower lower ≡ as_asked lower (not (is_before o))
-bound_truth Less true = refl
-bound_truth Less false = refl
-bound_truth Equal true = refl
-bound_truth Equal false = refl
-bound_truth Greater true = refl
-bound_truth Greater false = refl
-
 bound_is : (lower : Bool) (n : ℕ) → 0 < n → n < 2 ^ 96 → bound_tree lower n ≡ point_tree python_level (n ∷ []) lower
 bound_is lower n some low = go (eqb n 0) (nat_lt n (2 ^ 96)) refl (lt-ltb n (2 ^ 96) low)
   where

@@ -24,10 +24,6 @@ keeps_none l given t e unfit = record { reduced = subst (λ (z : Plain). Fits z 
 pub keeps_itself : (l : List ℕ) (given t : Plain) → Fits t l → t ≡ given → Keeps l given t
 keeps_itself l given t h e = record { reduced = h; same = λ f. e }
 
--- a truth keeps itself
-pub keeps_truth : (l : List ℕ) (b : Bool) (t : Plain) → t ≡ truth b → Keeps l (truth b) t
-keeps_truth l b t e = record { reduced = subst (λ (z : Plain). Fits z l) (sym e) tt; same = λ h. e }
-
 pub keeps_given : (l : List ℕ) (g h t : Plain) → g ≡ h → Keeps l g t → Keeps l h t
 keeps_given l g h t e k = subst (λ (z : Plain). Keeps l z t) e k
 
@@ -76,13 +72,6 @@ none_starts (branch k c rest) = tt
 
 pub not_apart : (bs : Branches) (l b : List ℕ) (d : Plain) → are_apart None (carries l) d bs ≡ false → Fits (node l d bs) b → ⊥
 not_apart bs l b d e h = let p : true ≡ false = sym (fits_apart bs l d None h.3 (none_starts bs)) ∙ e in cc
-
-pub not_below : (bs : Branches) (l b : List ℕ) (d : Plain) → is_lt (text_cmp b l) ≡ false → Fits (node l d bs) b → ⊥
-not_below bs l b d e h = let p : true ≡ false = sym (ap is_lt h.0) ∙ e in cc
-
-pub no_branch : (bs : Branches) (l b : List ℕ) (d : Plain) → bs ≡ done → Fits (node l d bs) b → ⊥
-no_branch done l b d e h = h.1
-no_branch (branch k c rest) l b d e h = absurd cc
 
 has_any : (bs : Branches) → bs ≢ done → HasBranch bs
 has_any done n = absurd (n refl)
@@ -157,9 +146,6 @@ other_fits ((others m js, p) ∷ ps) l ks d h e = subst (λ (z : Plain). Fits z 
 -- the node of the interpreter, without its first branch
 pub opened_node : (bs rest : Branches) (k : List ℕ) (d : Plain) → bs ≡ branch k d rest → opening_node bs ≡ node python_level d rest
 opened_node bs rest k d e = ap opening_node e
-
-pub opened_none : (bs : Branches) → bs ≡ done → opening_node bs ≡ truth false
-opened_none bs e = ap opening_node e
 
 pub node_pieces : (ps : List Part) → has_interval ps ≡ true → node_of ps ≡ opening_node (pieces_from 0 ps)
 node_pieces [] e = absurd cc

@@ -1,7 +1,7 @@
 -- Parts of nodes, taken one after the other.
 use Rattle.std.proofs.Common.{◌≡◌, ◌≢◌, ℕ, ◌<◌, ◌≤◌, ◌+◌, ◌^◌, List, [], ◌∷◌, ◌++◌, map, drop, length, get_or, Bool, true, false, eqb, refl, ap, sym, ◌∙◌, subst, arith, Option, Some, None, if◌then◌else◌}
 use Rattle.std.proofs.lemmas.List.{drop_more, drop_all}
-use Rattle.std.proofs.lemmas.List.Elements.{All-nil, All-push}
+use Rattle.std.proofs.lemmas.List.Elements.{All-push}
 use Rattle.std.proofs.lemmas.Bool.{eqb-true, eq-eqb}
 use Rattle.std.specs.Borrow.{Bor}
 use Rattle.ul_marker.specs.declared.printed.Comparison.{Comparison}
@@ -16,9 +16,9 @@ use Rattle.ul_nodes.specs.declared.level.Key.{Key}
 use Rattle.ul_nodes.specs.declared.level.Key.TheVariants.{Number}
 use Rattle.ul_tree.specs.declared.tree.Tree.{Tree}
 use Rattle.ul_tree.proofs.ForCallers.{made_push, then_none}
-use Rattle.ul_marker_text.specs.NodeViews.{IsKeyOf, AreKeysIn, has_point, keys_of_other}
+use Rattle.ul_marker_text.specs.NodeViews.{IsKeyOf, AreKeysIn, keys_of_other}
 use Rattle.ul_marker_text.specs.Nodes.{Part, gap, parts_view, number_branches, key_branches, AreKeys}
-use Rattle.ul_marker_text.specs.StepViews.{step_view, comparison_key}
+use Rattle.ul_marker_text.specs.StepViews.{comparison_key}
 use Rattle.ul_marker_text.specs.declared.steps.Step.{Step}
 use Rattle.ul_marker_text.specs.declared.steps.Step.TheVariants.{Interval, Point, Others}
 
@@ -118,9 +118,6 @@ pub record KeysLeft (level : List ℕ) (made : List (Key × Tree)) (left all : B
   pub valid : AreKeys level left → AreKeys level all
   pub back : AreKeys level all → AreKeys level left
 
-pub keys_start : (level : List ℕ) (all : Branches) → KeysLeft level [] all all
-keys_start level all = record { view = refl; kinds = All-nil (λ e. has_kind level e.0 ≡ true); valid = λ h. h; back = λ h. h }
-
 pub keys_more : (level k : List ℕ) (key : Key) (t : Tree) (made : List (Key × Tree)) (left rest all : Branches) → left ≡ branch k (tree_view t) rest → IsKeyOf level k key → KeysLeft level made left all
     → KeysLeft level (made ++ (key, t) ∷ []) rest all
 keys_more level k key t made left rest all e is h = record {
@@ -150,45 +147,6 @@ pub no_high : (n : ℕ) → 2 ^ 96 ≤ n → IsKey python_level (n ∷ []) → �
 no_high n e h = let p : n ≡ h.0 = ap (λ z. get_or z 0 0) h.1 in let q = h.3 in absurd (omega (arith, p, q, e))
 
 -- ---- the other part, and the part of a key
-
-pub other_point : (parts rest : List (Step × Tree)) (c : Comparison) (t : Tree) → parts ≡ (Point c, t) ∷ rest → other_part (parts_view rest) ≡ other_part (parts_view parts)
-other_point parts rest c t e = ap (λ z. other_part (parts_view z)) (sym e)
-
-pub other_next : (parts : List (Step × Tree)) (i : ℕ) (d : Step × Tree) (c : Comparison) → i < length parts → (get_or parts i d).0 ≡ Point c → other_part (parts_view (drop (i + 1) parts)) ≡ other_part (parts_view (drop i parts))
-other_next parts i d c h e =
-    ap (λ s. other_part ((step_view s, tree_view (get_or parts i d).1) ∷ parts_view (drop (i + 1) parts))) (sym e) ∙ ap (λ z. other_part (parts_view z)) (sym (drop_more parts i d h))
-
-pub other_interval : (parts : List (Step × Tree)) (i : ℕ) (d : Step × Tree) (a b : ℕ) → i < length parts → (get_or parts i d).0 ≡ Interval a b → other_part (parts_view (drop i parts)) ≡ None
-other_interval parts i d a b h e =
-    ap (λ z. other_part (parts_view z)) (drop_more parts i d h) ∙ ap (λ s. other_part ((step_view s, tree_view (get_or parts i d).1) ∷ parts_view (drop (i + 1) parts))) e
-
-pub other_found : (parts : List (Step × Tree)) (i : ℕ) (d : Step × Tree) (c : Comparison) (cs : Bor (List Comparison)) → i < length parts → (get_or parts i d).0 ≡ Others c cs
-    → other_part (parts_view (drop i parts)) ≡ Some (comparison_key c ∷ map comparison_key cs.now, tree_view (get_or parts i d).1)
-other_found parts i d c cs h e =
-    ap (λ z. other_part (parts_view z)) (drop_more parts i d h) ∙ ap (λ s. other_part ((step_view s, tree_view (get_or parts i d).1) ∷ parts_view (drop (i + 1) parts))) e
-
-pub other_end : (parts : List (Step × Tree)) (i : ℕ) → length parts ≤ i → other_part (parts_view (drop i parts)) ≡ None
-other_end parts i h = ap (λ z. other_part (parts_view z)) (drop_all i parts h)
-
--- a key that isn't listed next
-pub point_missing : (parts : List Part) (k : List ℕ) (ks : List (List ℕ)) → has_point k parts ≡ false → filled_points (k ∷ ks) parts ≡ branch k (truth false) (filled_points ks parts)
-point_missing [] k ks e = refl
-point_missing ((PathList.interval a b, p) ∷ parts) k ks e = refl
-point_missing ((PathList.point l j, p) ∷ parts) k ks e = ap (λ b. if b then branch k p (filled_points ks parts) else branch k (truth false) (filled_points ks ((PathList.point l j, p) ∷ parts))) e
-point_missing ((PathList.others l js, p) ∷ parts) k ks e = refl
-
-pub point_found : (s : PathList.Step) (p : Plain) (parts : List Part) (k : List ℕ) (ks : List (List ℕ)) → has_point k ((s, p) ∷ parts) ≡ true → filled_points (k ∷ ks) ((s, p) ∷ parts) ≡ branch k p (filled_points ks parts)
-point_found (PathList.interval a b) p parts k ks e = absurd cc
-point_found (PathList.point l j) p parts k ks e = ap (λ b. if b then branch k p (filled_points ks parts) else branch k (truth false) (filled_points ks ((PathList.point l j, p) ∷ parts))) e
-point_found (PathList.others l js) p parts k ks e = absurd cc
-
-pub other_after : (s : PathList.Step) (p : Plain) (parts : List Part) (k : List ℕ) → has_point k ((s, p) ∷ parts) ≡ true → other_part parts ≡ other_part ((s, p) ∷ parts)
-other_after (PathList.interval a b) p parts k e = absurd cc
-other_after (PathList.point l j) p parts k e = refl
-other_after (PathList.others l js) p parts k e = absurd cc
-
-pub no_point_left : (k : List ℕ) (parts : List (Step × Tree)) → parts ≡ [] → has_point k (parts_view parts) ≡ true → ⊥
-no_point_left k parts e h = let p : false ≡ true = ap (λ z. has_point k (parts_view z)) (sym e) ∙ h in cc
 
 pub no_numbers : (xs : List (ℕ × Tree)) → length xs ≡ 0 → number_branches xs ≡ done
 no_numbers [] h = refl

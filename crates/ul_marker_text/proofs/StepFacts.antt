@@ -1,12 +1,12 @@
 -- Comparisons of the code, cut into steps.
-use Rattle.std.proofs.Common.{◌≡◌, ℕ, zero, suc, ◌<◌, ◌≤◌, ◌+◌, ◌-◌, List, [], ◌∷◌, ◌++◌, map, take, drop, length, get_or, true, false, refl, ap, sym, ◌∙◌, arith, append_assoc, append-nil, add-one, Some, None}
-use Rattle.std.proofs.lemmas.List.{drop_more, take_more, drop_all, take_all, length-drop, map-append}
+use Rattle.std.proofs.Common.{◌≡◌, ℕ, zero, suc, ◌+◌, ◌-◌, List, [], ◌∷◌, ◌++◌, map, take, drop, length, true, false, refl, ap, sym, ◌∙◌, arith, append_assoc, append-nil, add-one, Some, None}
+use Rattle.std.proofs.lemmas.List.{take_all, length-drop, map-append}
 use Rattle.ul_marker.specs.declared.printed.Comparison.{Comparison}
 use Rattle.ul_marker.specs.declared.printed.Comparison.TheVariants.{Bound, Extra, Text, Opaque}
 use Rattle.ul_tree.specs.Comparisons as Plain
 use Rattle.ul_tree.specs.PathList as PathList
 use Rattle.ul_marker_text.specs.Rows.{is_other, front_keys, after_keys, interval_from, front_step, steps_with, steps_of}
-use Rattle.ul_marker_text.specs.StepViews.{plain_comparison, comparison_key, comparison_level, row_view, step_view}
+use Rattle.ul_marker_text.specs.StepViews.{plain_comparison, comparison_key, row_view, step_view}
 use Rattle.ul_marker_text.specs.declared.steps.Step.{Step}
 
 -- ---- keys in front
@@ -22,53 +22,10 @@ front_more l (Text variable literal false) cs e = rw e (refl, refl)
 front_more l (Opaque atom true) cs e = absurd cc
 front_more l (Opaque atom false) cs e = rw e (refl, refl)
 
-pub front_stop : (l : List ℕ) (x : Comparison) (cs : List Plain.Comparison) → is_other l (plain_comparison x) ≡ false
-    → (front_keys l (plain_comparison x ∷ cs) ≡ []) × (after_keys l (plain_comparison x ∷ cs) ≡ plain_comparison x ∷ cs)
-front_stop l (Bound true python) cs e = (refl, refl)
-front_stop l (Bound false python) cs e = (refl, refl)
-front_stop l (Extra literal true) cs e = (refl, refl)
-front_stop l (Extra literal false) cs e = rw e (refl, refl)
-front_stop l (Text variable literal true) cs e = (refl, refl)
-front_stop l (Text variable literal false) cs e = rw e (refl, refl)
-front_stop l (Opaque atom true) cs e = (refl, refl)
-front_stop l (Opaque atom false) cs e = rw e (refl, refl)
-
 -- what has been counted in front
 pub record Counted (l : List ℕ) (row : List Comparison) (i : ℕ) : Type 0 where
   pub keys : map comparison_key (take i row) ++ front_keys l (row_view (drop i row)) ≡ front_keys l (row_view row)
   pub rest : after_keys l (row_view (drop i row)) ≡ after_keys l (row_view row)
-
-pub counted_more : (l : List ℕ) (row : List Comparison) (i : ℕ) (d : Comparison) → i < length row → is_other l (plain_comparison (get_or row i d)) ≡ true → Counted l row i → Counted l row (i + 1)
-counted_more l row i d h e k =
-    let x = get_or row i d in
-    let more = front_more l x (row_view (drop (i + 1) row)) e in
-    let cut = drop_more row i d h in
-    record {
-      keys = ap (λ z. map comparison_key z ++ front_keys l (row_view (drop (i + 1) row))) (take_more row i d h)
-          ∙ ap (λ z. z ++ front_keys l (row_view (drop (i + 1) row))) (map-append comparison_key (take i row) (x ∷ []))
-          ∙ append_assoc (map comparison_key (take i row)) (comparison_key x ∷ []) (front_keys l (row_view (drop (i + 1) row)))
-          ∙ ap (λ z. map comparison_key (take i row) ++ z) (sym more.0 ∙ ap (λ z. front_keys l (row_view z)) (sym cut))
-          ∙ k.keys;
-      rest = sym more.1 ∙ ap (λ z. after_keys l (row_view z)) (sym cut) ∙ k.rest;
-    }
-
-pub counted_stop : (l : List ℕ) (row : List Comparison) (i : ℕ) (d : Comparison) → i < length row → is_other l (plain_comparison (get_or row i d)) ≡ false → Counted l row i
-    → (map comparison_key (take i row) ≡ front_keys l (row_view row)) × (row_view (drop i row) ≡ after_keys l (row_view row))
-counted_stop l row i d h e k =
-    let x = get_or row i d in
-    let stop = front_stop l x (row_view (drop (i + 1) row)) e in
-    let cut = drop_more row i d h in (
-      sym (append-nil (map comparison_key (take i row))) ∙ ap (λ z. map comparison_key (take i row) ++ z) (sym stop.0 ∙ ap (λ z. front_keys l (row_view z)) (sym cut)) ∙ k.keys,
-      ap row_view cut ∙ sym stop.1 ∙ ap (λ z. after_keys l (row_view z)) (sym cut) ∙ k.rest,
-    )
-
-pub counted_end : (l : List ℕ) (row : List Comparison) (i : ℕ) → length row ≤ i → Counted l row i
-    → (map comparison_key (take i row) ≡ front_keys l (row_view row)) × (row_view (drop i row) ≡ after_keys l (row_view row))
-counted_end l row i h k =
-    let cut = drop_all i row h in (
-      sym (append-nil (map comparison_key (take i row))) ∙ ap (λ z. map comparison_key (take i row) ++ front_keys l (row_view z)) (sym cut) ∙ k.keys,
-      ap row_view cut ∙ ap (λ z. after_keys l (row_view z)) (sym cut) ∙ k.rest,
-    )
 
 -- ---- steps
 
@@ -85,9 +42,6 @@ pub steps_none : (found : List Step) (row : List Plain.Comparison) (n : ℕ) (al
 steps_none found row zero all f h = sym (append-nil (map step_view found)) ∙ h
 steps_none found row (suc n) all f h = sym (append-nil (map step_view found)) ∙ ap (λ z. map step_view found ++ steps_with (steps_of n) z) f ∙ h
 
-pub steps_end : (found : List Step) (row : List Plain.Comparison) (n : ℕ) (all : List PathList.Step) → n ≡ 0 → map step_view found ++ steps_of n row ≡ all → map step_view found ≡ all
-steps_end found row n all e h = sym (append-nil (map step_view found)) ∙ ap (λ k. map step_view found ++ steps_of k row) (sym e) ∙ h
-
 -- ---- the step in front
 
 pub lower_front : (row rest : List Comparison) (x : Comparison) (n k : ℕ) (s : PathList.Step) → row ≡ x ∷ rest → Plain.at_least n ≡ plain_comparison x → Some (s, row_view (drop k rest)) ≡ interval_from n (row_view rest)
@@ -102,22 +56,6 @@ lower_front row rest x n k s e a h =
 pub upper_front : (row rest : List Comparison) (x : Comparison) (n : ℕ) → row ≡ x ∷ rest → Plain.below n ≡ plain_comparison x → Some (PathList.interval 0 n, row_view (drop 1 row)) ≡ front_step (row_view row)
 upper_front row rest x n e a =
     ap (λ z. Some (PathList.interval 0 n, row_view (drop 1 z))) e ∙ ap (λ c. front_step (c ∷ row_view rest)) a ∙ ap (λ z. front_step (row_view z)) (sym e)
-
-pub point_front : (row rest : List Comparison) (x : Comparison) → row ≡ x ∷ rest → Plain.equals (comparison_level x) (comparison_key x) ≡ plain_comparison x
-    → Some (PathList.point (comparison_level x) (comparison_key x), row_view (drop 1 row)) ≡ front_step (row_view row)
-point_front row rest x e a =
-    ap (λ z. Some (PathList.point (comparison_level x) (comparison_key x), row_view (drop 1 z))) e ∙ ap (λ c. front_step (c ∷ row_view rest)) a ∙ ap (λ z. front_step (row_view z)) (sym e)
-
-pub others_front : (row rest : List Comparison) (x : Comparison) (k : ℕ) (ks : List (List ℕ)) → row ≡ x ∷ rest → Plain.differs (comparison_level x) (comparison_key x) ≡ plain_comparison x
-    → ks ≡ front_keys (comparison_level x) (row_view rest) → row_view (drop k rest) ≡ after_keys (comparison_level x) (row_view rest)
-    → Some (PathList.others (comparison_level x) (comparison_key x ∷ ks), row_view (drop (k + 1) row)) ≡ front_step (row_view row)
-others_front row rest x k ks e a f g =
-    ap (λ z. Some (PathList.others (comparison_level x) (comparison_key x ∷ ks), row_view (drop (k + 1) z))) e
-    ∙ ap (λ j. Some (PathList.others (comparison_level x) (comparison_key x ∷ ks), row_view (drop j (x ∷ rest)))) (add-one k)
-    ∙ ap (λ z. Some (PathList.others (comparison_level x) (comparison_key x ∷ z), row_view (drop k rest))) f
-    ∙ ap (λ z. Some (PathList.others (comparison_level x) (comparison_key x ∷ front_keys (comparison_level x) (row_view rest)), z)) g
-    ∙ ap (λ c. front_step (c ∷ row_view rest)) a
-    ∙ ap (λ z. front_step (row_view z)) (sym e)
 
 -- a row from a place on, as a slice
 pub tail_slice : (row : List Comparison) (at : ℕ) → take (length row - at) (drop at row) ≡ drop at row

@@ -1,5 +1,5 @@
 -- What is read of a tree's text is the tree.
-use Rattle.std.proofs.Common.{◌≡◌, ◌≢◌, ℕ, List, [], map, true, false, refl, ap, sym, ◌∙◌, subst, Option, Some, None, Result, Ok, Err}
+use Rattle.std.proofs.Common.{◌≡◌, ◌≢◌, ℕ, List, [], map, true, false, refl, ap, sym, ◌∙◌, subst, Some, None, Result, Ok, Err}
 use Rattle.std.specs.Prelude.{Vec, IfOk, codes}
 use Rattle.std.specs.declared.alloc.Global.{Global}
 use Rattle.std.specs.Str.{bytes_eq}
@@ -7,10 +7,7 @@ use Rattle.std.proofs.lemmas.Slice.Eq.{bytes_eq-Decides}
 use Rattle.ul_comparison.specs.Formulas.{Formula}
 use Rattle.ul_comparison.specs.Printed.{comparison_formula}
 use Rattle.ul_marker.specs.PrintedPaths.{paths_formula}
-use Rattle.ul_marker.specs.Readers.{Reads}
 use Rattle.ul_marker.specs.Reading.{marker_of}
-use Rattle.ul_marker.specs.declared.fault.MarkerFault.{MarkerFault}
-use Rattle.ul_marker.specs.declared.fault.MarkerFault.TheVariants.{NoReading, NoMemory}
 use Rattle.ul_marker.specs.declared.printed.Comparison.{Comparison}
 use Rattle.ul_tree.specs.Fans.{fan_of, tree_of}
 use Rattle.ul_tree.specs.FirstParts.{is_false}
@@ -78,10 +75,6 @@ readable_rows spelled t f rows h e r is = subst (λ z. AreWithin 512 z) (sym (ro
 pub found_by : {X F : Type 0} (result : Result X F) (A B C : X → Type 0) → ((x : X) → A x → B x → C x) → IfOk result A → IfOk result B → IfOk result C
 found_by (Ok x) A B C f a b = f x a b
 found_by (Err e) A B C f a b = tt
-
-pub reads_none : {X Y : Type 0} (view : X → Y) (fault : MarkerFault) (reading : Option Y) → Reads view (Err fault) reading → fault ≡ NoReading → reading ≡ None
-reads_none view NoReading reading h e = h
-reads_none view NoMemory reading h e = absurd cc
 
 -- ---- whole texts
 

@@ -92,8 +92,3 @@ is_after (Some j) k = is_lt (text_cmp j k)
 abbrev pub are_apart : Option (List ℕ) → Bool → Plain → Branches → Bool
 are_apart last m d done = true
 are_apart last m d (branch k c rest) = is_after last k && (not (same c d) && are_apart (Some k) m (carried_part m c d) rest)
-
--- whether there is a branch
-abbrev pub has_branch : Branches → Bool
-has_branch done = false
-has_branch (branch k c rest) = true

@@ -4,7 +4,7 @@ use Rattle.std.specs.Str.{bytes_eq}
 use Rattle.ul_comparison.specs.Formulas.{Formula, Formulas, extra, python, python_list, text, opaque, all, any, none, more}
 use Rattle.ul_comparison.specs.Printed as Printed
 use Rattle.ul_comparison.specs.Printed.{bound, extra_is, text_is, atom_is, comparison_formula, IsComparison}
-use Rattle.ul_marker.specs.PrintedPaths.{IsPath, path_formula, paths_formula}
+use Rattle.ul_marker.specs.PrintedPaths.{IsPath, paths_formula}
 use Rattle.ul_tree.specs.Comparisons.{Comparison, at_least, below, equals, differs}
 use Rattle.ul_nodes.specs.Levels.{extra_level, text_level, atom_level}
 use Rattle.ul_tree.specs.PathList.{Step, interval, point, others}
@@ -48,10 +48,6 @@ IsNoRow fs = (cs : List Printed.Comparison) → All IsComparison cs → map comp
 -- no paths say what a formula says
 abbrev pub IsNoRows : Formula → Type 0
 IsNoRows f = (paths : List (List Printed.Comparison)) → 0 < length paths → All IsPath paths → paths_formula paths ≢ f
-
--- no path does
-abbrev pub IsNoPath : Formula → Type 0
-IsNoPath f = (path : List Printed.Comparison) → IsPath path → path_formula path ≢ f
 
 -- ---- what a printed comparison asks of a level
 

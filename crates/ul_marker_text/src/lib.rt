@@ -2,7 +2,6 @@
 #![tactic(auto)]
 
 mod building;
-mod depth;
 mod fault;
 pub mod laws;
 mod nodes;
@@ -11,6 +10,5 @@ mod rows;
 mod steps;
 mod texts;
 
-pub use depth::{DEEPEST_TEXT, is_printable};
 pub use fault::TextFault;
 pub use texts::{read, read_marker, text};

@@ -19,7 +19,6 @@ ghost use Rattle.ul_marker_text.specs.TextFacts.{AreWithin, IsFound, IsNodeText}
 
 use crate::TextFault;
 use crate::building::build;
-use crate::depth::{DEEPEST_TEXT, is_printable};
 use crate::printing::print;
 use crate::rows::rows;
 use crate::steps::{Step, steps};
@@ -28,7 +27,7 @@ use ul_base::owned::{beside, refused};
 use ul_marker::printed::Comparison;
 use ul_marker::{Marker, MarkerFault};
 use ul_tree::part::{asks_extra, is_false, known, truth_value};
-use ul_tree::{Tree, paths};
+use ul_tree::{MOST_LEVELS, Tree, is_printable, paths};
 
 // The text of a tree, however long.
 fn whole_text(alloc: Global, tree: &Tree) -> Result<String, AllocError>
@@ -75,7 +74,7 @@ fn paths_of_rows<'r, 'm>(
     let mut found = Vec::new(alloc);
     for row in rows {
         let path = steps(alloc, row)?;
-        if path.len() > DEEPEST_TEXT {
+        if path.len() > MOST_LEVELS {
             return Err(MarkerFault::NoReading);
         }
         found.push(path)?;
@@ -93,7 +92,7 @@ fn tree_of_rows(alloc: Global, rows: &[Vec<Comparison<'_>>]) -> Result<Tree, Mar
         Ok(paths) => paths,
         Err(fault) => return Err(fault),
     };
-    let tree = build(alloc, &paths, 0, None, DEEPEST_TEXT)?;
+    let tree = build(alloc, &paths, 0, None, MOST_LEVELS)?;
     Ok(tree)
 }
 

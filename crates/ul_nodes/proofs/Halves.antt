@@ -84,10 +84,6 @@ pick_at (branch j e rest) l v k m c d f r (suc i) h q o =
     past_key v j e d rest m (subst (λ (z : List ℕ). text_cmp j z ≡ Less) (sym (cmp_equal v k o)) (later rest l j k c (carried_part (carries l) e f) r i h.4 h.1 q))
     ∙ pick_at rest l v k m c (carried_part m e d) (carried_part (carries l) e f) r i h.4 q o
 
--- below the key, no branch from it on is taken
-pub starts_at : (bs : Branches) (v k : List ℕ) (c : Plain) (r : Branches) → bs ≡ branch k c r → text_cmp v k ≡ Less → StartsAfter (Some v) bs
-starts_at bs v k c r q o = subst (λ (z : Branches). StartsAfter (Some v) z) (sym q) o
-
 pub pick_before : (bs : Branches) (v : List ℕ) (m : Bool) (d : Plain) → StartsAfter (Some v) bs → pick bs m v d ≡ d
 pick_before done v m d s = refl
 pick_before (branch k c rest) v m d s = before_key v k c d rest m s

@@ -4,7 +4,7 @@
 ghost use Rattle.std.specs.Prelude.{◌≡◌, ◌<◌, ℕ, suc, List, option_map, IfOk, All, true};
 ghost use Rattle.ul_nodes.specs.Plain.{Plain};
 ghost use Rattle.ul_nodes.specs.Reduced.{IsReduced};
-ghost use Rattle.ul_nodes.specs.Apply.{first_of, keys, key_union, rest_at, part_at, keys_at};
+ghost use Rattle.ul_nodes.specs.Apply.{first_of, keys, key_union, leaf_truth, rest_at, part_at, keys_at};
 ghost use Rattle.ul_nodes.specs.Keys.{level_view, key_view, keys_view, top_of, rest_of, branches_of, branch_count, is_level, is_key_of, IsBranchAt, AreKeysOf, keys_of_both, part_by};
 
 use crate::level::{Key, Level};
@@ -26,6 +26,11 @@ pub trait Nodes {
 
     // what is known of a node is known of a part of it
     ghost below: { Self.Node → Self.Node → Type 0 };
+
+    /// The truth that a node is; false for one with a level.
+    fn leaf_truth(node: &Self::Node) -> bool
+        requires { IsReduced (tree node.now) }
+        ensures { result ≡ leaf_truth (tree node.now) };
 
     /// The top level of a node; none of a truth.
     fn level_of(node: &Self::Node) -> Option<Level<'_>>

@@ -37,6 +37,7 @@ pub mod KeptParts
 pub mod Shortcuts
 pub mod Tools
 pub mod Counted
+pub mod PathsLeft
 pub mod FanTrees
 pub mod Truths
 pub mod TreeTruths

@@ -21,3 +21,4 @@ pub mod SampleVectors
 pub mod Simplify
 pub mod SimplifyLaws
 pub mod SimplifyViews
+pub mod PathsLeft

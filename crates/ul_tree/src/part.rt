@@ -27,6 +27,10 @@ impl Nodes for Trees {
 
     ghost below_itself = { λ t. tt };
 
+    fn leaf_truth(node: &Tree) -> bool {
+        known(node)
+    }
+
     fn level_of(node: &Tree) -> Option<Level<'_>> {
         level_of(node)
     }

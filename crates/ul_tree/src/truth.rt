@@ -13,7 +13,7 @@ use ul_nodes::level::{Key, Level};
 use ul_nodes::nodes::part_at;
 
 // The count at which paths are no longer counted.
-const MOST_PATHS: u128 = 1 << 127;
+const MOST_COUNTED: u128 = 1 << 127;
 
 /// Whether a tree holds at a world with an extra, which may be empty. Takes no memory.
 pub fn holds(root: &Tree, world: &World, extra: &str) -> bool
@@ -60,7 +60,7 @@ pub fn paths(tree: &Tree) -> u128
     for index in 0..branch_count(tree) {
         count = count
             .saturating_add(paths(branch_at(tree, index).part))
-            .min(MOST_PATHS);
+            .min(MOST_COUNTED);
     }
     count
 }

@@ -9,6 +9,8 @@ mod markers;
 #[cfg(test)]
 mod operations;
 #[cfg(test)]
+mod printable;
+#[cfg(test)]
 mod samples;
 #[cfg(test)]
 mod simplify;

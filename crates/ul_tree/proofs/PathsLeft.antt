@@ -4,7 +4,7 @@ use Rattle.std.specs.Option.{is_some}
 use Rattle.std.proofs.lemmas.Bool.{le-leb, leb-true}
 use Rattle.ul_nodes.specs.Plain.{Plain}
 use Rattle.ul_tree.specs.Paths.{paths_of, levels_of, is_printable}
-use Rattle.ul_algebra.specs.Counted.{AreLeft}
+use Rattle.ul_tree.specs.PathsLeft.{AreLeft}
 
 -- two tests that don't both hold
 not_both : (x y : Bool) → (x ≡ true → y ≡ true → ⊥) → x && y ≡ false
