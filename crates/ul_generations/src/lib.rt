@@ -16,4 +16,4 @@ pub use judges::Judge;
 pub use outcomes::Outcome;
 pub use paths::Path;
 pub use rows::Leaf;
-pub use turns::fork_all;
+pub use turns::{MOST_FORKS, fork_all};

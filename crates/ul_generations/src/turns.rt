@@ -2,9 +2,10 @@
 ghost use Rattle.std.specs.Prelude.{◌≡◌, ◌≤◌, ◌++◌, ◌∷◌, ℕ, [], List, length, IfOk, OnOk, IfErr, Some};
 ghost use Rattle.std.specs.List.{slice_get};
 ghost use Rattle.ul_interner.specs.Known.{Knows};
+ghost use Rattle.ul_workers.specs.WorkerCount.{IsWorkerCount};
 ghost use Rattle.ul_generations.specs.declared.outcomes.Outcome.{Outcome};
 ghost use Rattle.ul_generations.specs.Rows.{open_regions};
-ghost use Rattle.ul_generations.specs.Generations.{AreOutcomes};
+ghost use Rattle.ul_generations.specs.Generations.{AreOutcomes, most_forks};
 ghost use Rattle.ul_generations.specs.Answers.{Answers, Fails};
 ghost use Rattle.ul_generations.specs.Known.{RowsKnown, OutcomeKnown, StepKnown, AnswerKnown};
 ghost use Rattle.ul_generations.specs.Steps.{MakesStep};
@@ -23,6 +24,9 @@ use ul_core::Label;
 use ul_interner::{Interner, Pass};
 use ul_workers::{Round, run_all};
 
+/// How many leaves and open regions a generation may have together.
+pub const MOST_FORKS: usize = 2_048;
+
 // Judges the open regions of the rows, by one call of `run_all`.
 fn judge_rows<R: Threads + Wait + Sync, L: Label, J: Judge<L>, G: Gate + Sync>(
     rt: &R,
@@ -34,8 +38,8 @@ fn judge_rows<R: Threads + Wait + Sync, L: Label, J: Judge<L>, G: Gate + Sync>(
     gate: &G,
     rows: &[Row<J::Region, J::Done>],
 ) -> Result<(Vec<Outcome<J::Region, J::Done, J::Refusal>>, Round), AllocError>
-    requires workers { (1 ≤ workers) × (workers ≤ 64) }
-    requires few { length rows.now ≤ 2048 }
+    requires workers { IsWorkerCount workers }
+    requires few { length rows.now ≤ most_forks }
     requires own { pass.old.table ≡ interner.now }
     requires ready { J.ready judge.now pass.old }
     requires known { RowsKnown (J.may judge.now) (J.region_known pass.old) (J.done_known pass.old) rows.now }
@@ -69,8 +73,8 @@ fn turn<R: Threads + Wait + Sync, L: Label, J: Judge<L>, G: Gate + Sync>(
     rows: Vec<Row<J::Region, J::Done>>,
     rounds: &mut Vec<Round>,
 ) -> Result<Step<J::Region, J::Done, J::Refusal>, AllocError>
-    requires workers { (1 ≤ workers) × (workers ≤ 64) }
-    requires few { length rows.items ≤ 2048 }
+    requires workers { IsWorkerCount workers }
+    requires few { length rows.items ≤ most_forks }
     requires own { pass.old.table ≡ interner.now }
     requires ready { J.ready judge.now pass.old }
     requires known { RowsKnown (J.may judge.now) (J.region_known pass.old) (J.done_known pass.old) rows.items }
@@ -109,7 +113,7 @@ pub fn fork_all<R: Threads + Wait + Sync, L: Label, J: Judge<L>, G: Gate + Sync>
     gate: &G,
     region: J::Region,
 ) -> Result<(Forked<J::Region, J::Done, J::Refusal>, Vec<Round>), ForkFault>
-    requires workers { (1 ≤ workers) × (workers ≤ 64) }
+    requires workers { IsWorkerCount workers }
     requires own { pass.old.table ≡ interner.now }
     requires ready { J.ready judge.now pass.old }
     requires may { J.may judge.now region }
@@ -123,7 +127,7 @@ pub fn fork_all<R: Threads + Wait + Sync, L: Label, J: Judge<L>, G: Gate + Sync>
     let mut rows = first_rows(alloc, region)?;
     let mut rounds = Vec::new(alloc);
     'generations: loop {
-        if rows.len() > 2048 {
+        if rows.len() > MOST_FORKS {
             return Err(ForkFault::TooManyForks {
                 count: rows.len() as u64,
             });

@@ -1,5 +1,6 @@
-ghost use Rattle.std.specs.Prelude.{◌≡◌, ◌<◌, ◌≤◌, ◌+◌, IfOk};
+ghost use Rattle.std.specs.Prelude.{◌≡◌, ◌<◌, ◌+◌, IfOk};
 ghost use Rattle.ul_interner.specs.Known.{Known, Knows};
+ghost use Rattle.ul_workers.specs.WorkerCount.{IsWorkerCount};
 
 use std::alloc::{AllocError, Global};
 use std::sync::Wait;
@@ -143,7 +144,7 @@ fn forks<R: Threads + Wait + Sync, G: Gate + Sync>(
     refused: u64,
     gate: &G,
 ) -> Answer
-    requires workers { (1 ≤ workers) × (workers ≤ 64) }
+    requires workers { IsWorkerCount workers }
     requires some { 0 < high }
 {
     let (interner, mut pass) = Interner::<Number>::begin(alloc)?;

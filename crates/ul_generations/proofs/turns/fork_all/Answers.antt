@@ -16,13 +16,13 @@ generations-init g c = (
   came_first (g.J.Judge.outcome c.args.judge.now) c.args.region c.args.workers c.in_ok-rows.rows.items c.new-rounds.result.items c.in_ok-rows.ensures c.new-rounds.ensures.items,
 )
 
-pub returns-then-len-gt2048-clause-fault : goal.returns-then-len-gt2048-clause-fault
-returns-then-len-gt2048-clause-fault g c =
+pub returns-then-len-gt-MOST_FORKS-clause-fault : goal.returns-then-len-gt-MOST_FORKS-clause-fault
+returns-then-len-gt-MOST_FORKS-clause-fault g c =
     let rows = c.generations.rows.items in
     let came = c.generations.invariant.2 in
-    let high : 2048 < length rows = omega (arith, c.if-len-gt2048.true, c.len.ensures, c.generations.rows.ok.0) in
-    let is : length rows ≡ c.len-then-len-gt2048.result = omega (arith, c.len-then-len-gt2048.ensures, c.generations.rows.ok.0) in
-    (came.counts ++ [], came.leads [] (too_many c.len-then-len-gt2048.result) (subst (λ (n : ℕ). GivesFrom (g.J.Judge.outcome c.args.judge.now) rows [] (too_many n)) is (gives_many (g.J.Judge.outcome c.args.judge.now) rows high)))
+    let high : 2048 < length rows = omega (arith, c.if-len-gt-MOST_FORKS.true, c.len.ensures, c.generations.rows.ok.0) in
+    let is : length rows ≡ c.len-then-len-gt-MOST_FORKS.result = omega (arith, c.len-then-len-gt-MOST_FORKS.ensures, c.generations.rows.ok.0) in
+    (came.counts ++ [], came.leads [] (too_many c.len-then-len-gt-MOST_FORKS.result) (subst (λ (n : ℕ). GivesFrom (g.J.Judge.outcome c.args.judge.now) rows [] (too_many n)) is (gives_many (g.J.Judge.outcome c.args.judge.now) rows high)))
 
 pub turn-requires-clause-ready : goal.turn-requires-clause-ready
 turn-requires-clause-ready g c κs within =
@@ -39,7 +39,7 @@ pub returns-in-Stop-clause-answer : goal.returns-in-Stop-clause-answer
 returns-in-Stop-clause-answer g c =
     let rows = c.generations.rows.items in
     let came = c.generations.invariant.2 in
-    let low : length rows ≤ 2048 = omega (arith, c.if-len-gt2048.false, c.len.ensures, c.generations.rows.ok.0) in
+    let low : length rows ≤ 2048 = omega (arith, c.if-len-gt-MOST_FORKS.false, c.len.ensures, c.generations.rows.ok.0) in
     let step = c.in_ok-path.ensures.step in
     let here = subst (IsStep rows step.0) c.in-Stop.is step.2 in
     let n : ℕ = length (open_regions rows) in (
@@ -58,7 +58,7 @@ pub returns-then-not-has_open-clause-answer : goal.returns-then-not-has_open-cla
 returns-then-not-has_open-clause-answer g c =
     let rows = c.generations.rows.items in
     let came = c.generations.invariant.2 in
-    let low : length rows ≤ 2048 = omega (arith, c.if-len-gt2048.false, c.len.ensures, c.generations.rows.ok.0) in
+    let low : length rows ≤ 2048 = omega (arith, c.if-len-gt-MOST_FORKS.false, c.len.ensures, c.generations.rows.ok.0) in
     let step = c.in_ok-path.ensures.step in
     let here = subst (IsStep rows step.0) c.in-Next.is step.2 in
     let none : open_regions (expand rows step.0) ≡ [] = subst (λ z. open_regions z ≡ []) (c.as_slice.ensures.value ∙ here.1) (c.has_open.ensures.none c.if-not-has_open.true) in
@@ -80,7 +80,7 @@ returns-then-not-has_open-clause-known g c =
 pub generations-smaller : goal.generations-smaller
 generations-smaller g c =
     let rows = c.generations.rows.items in
-    let low : length rows ≤ 2048 = omega (arith, c.if-len-gt2048.false, c.len.ensures, c.generations.rows.ok.0) in
+    let low : length rows ≤ 2048 = omega (arith, c.if-len-gt-MOST_FORKS.false, c.len.ensures, c.generations.rows.ok.0) in
     let step = c.in_ok-path.ensures.step in
     let here = subst (IsStep rows step.0) c.in-Next.is step.2 in
     let some : 0 < length (open_regions (expand rows step.0)) = some_left (open_regions (expand rows step.0)) (subst (λ z. open_regions z ≡ [] → ⊥) (c.as_slice.ensures.value ∙ here.1) (c.has_open.ensures.some c.if-not-has_open.false)) in
@@ -92,7 +92,7 @@ pub generations-preserved : goal.generations-preserved
 generations-preserved g c =
     let rows = c.generations.rows.items in
     let came = c.generations.invariant.2 in
-    let low : length rows ≤ 2048 = omega (arith, c.if-len-gt2048.false, c.len.ensures, c.generations.rows.ok.0) in
+    let low : length rows ≤ 2048 = omega (arith, c.if-len-gt-MOST_FORKS.false, c.len.ensures, c.generations.rows.ok.0) in
     let may = g.J.Judge.may c.args.judge.now in
     let region = g.J.Judge.region_known c.turn.new.pass in
     let done = g.J.Judge.done_known c.turn.new.pass in
