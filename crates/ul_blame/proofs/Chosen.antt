@@ -37,13 +37,6 @@ no_base σ o v e b f = absurd (none_is o b e f)
 pub base_at : (σ : Selection) (o : Option ℕ) (v b w : ℕ) → o ≡ Some b → σ b ≡ Some w → w ≡ v → HasBaseAt σ o v
 base_at σ o v b w e f g c h = subst (λ (n : ℕ). σ n ≡ Some v) (one_is o b c e h) (f ∙ ap Some g)
 
--- what is fit at the version is fit where it is chosen
-pub fit_where : (p : Plain) (σ : Selection) (n v : ℕ) → σ n ≡ Some v → IsFitAt p σ n v → (w : ℕ) → σ n ≡ Some w → IsFitAt p σ n w
-fit_where p σ n v e h w f = subst (IsFitAt p σ n) (one_is (σ n) v w e f) h
-
-pub nowhere_chosen : (p : Plain) (σ : Selection) (n : ℕ) → σ n ≡ None → (w : ℕ) → σ n ≡ Some w → IsFitAt p σ n w
-nowhere_chosen p σ n e w f = absurd (none_is (σ n) w e f)
-
 -- what is chosen of the nodes before a place is fit
 abbrev pub AreFitBefore : Plain → Selection → ℕ → Type 0
 AreFitBefore p σ i = (n v : ℕ) → n < i → σ n ≡ Some v → IsFitAt p σ n v
@@ -82,13 +75,6 @@ pub roots_all : (σ : Selection) (roots : List ℕ) (i : ℕ) → length roots �
 roots_all σ roots i l h n c = let r = one_place roots n c in let w = slice_get_within roots r.0 n r.1 in h r.0 n (omega (arith, l, w)) r.1
 
 -- ---- the needs
-
--- a need isn't asked for where its version isn't chosen
-pub not_asked : (p : Plain) (σ : Selection) (c : CoreNeed) → σ c.node ≡ None → IsMet p σ c
-not_asked p σ c e need at f = absurd (none_is (σ c.node) c.version e f)
-
-pub other_asked : (p : Plain) (σ : Selection) (c : CoreNeed) (v : ℕ) → σ c.node ≡ Some v → (v ≡ c.version → ⊥) → IsMet p σ c
-other_asked p σ c v e z need at f = absurd (z (one_is (σ c.node) v c.version e f))
 
 -- the target is chosen at a permitted version
 pub reached : (p : Plain) (σ : Selection) (c : CoreNeed) (need : Need) (v : ℕ) → slice_get (needs_of p c.node c.version) c.place ≡ Some need → σ need.node ≡ Some v → has v need.permitted ≡ true → IsMet p σ c

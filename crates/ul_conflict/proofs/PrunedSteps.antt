@@ -1,6 +1,6 @@
 -- Marks of the steps that a derivation rests on, and their new numbers.
-use Rattle.std.proofs.Common.{◌≡◌, ℕ, zero, suc, ◌+◌, ◌-◌, List, [], ◌∷◌, ◌++◌, Bool, true, false, Some, refl, ap, ◌∙◌, sym, subst, ◌<◌, ◌≤◌, inl, inr, arith, slice_get, slice_set, get_or, length, take, append_assoc, length-append, replicate}
-use Rattle.std.proofs.lemmas.Bool.{cases_eq, cases_lt, true≢false}
+use Rattle.std.proofs.Common.{◌≡◌, ℕ, zero, suc, ◌+◌, ◌-◌, List, [], ◌∷◌, ◌++◌, Bool, true, false, Some, refl, ap, ◌∙◌, sym, subst, ◌<◌, inl, inr, arith, slice_get, slice_set, get_or, length, take, append_assoc, length-append}
+use Rattle.std.proofs.lemmas.Bool.{cases_lt, true≢false}
 use Rattle.std.proofs.lemmas.List.{append-nil, get_or-set_other, length-set}
 use Rattle.std.proofs.lemmas.Grind.{get_or-set_at}
 use Rattle.std.proofs.lemmas.Option.{none-some, same_Some, slice_get_within, slice_get_read, slice_get-get_or, get_or_from_slice_get}
@@ -22,63 +22,14 @@ set_here xs i v h = slice_get_read (slice_set xs i v) (length (slice_set xs i v)
 set_past : {A : Type 0} (xs : List A) (i j : ℕ) (v q : A) → (j ≡ i → ⊥) → slice_get xs j ≡ Some q → slice_get (slice_set xs i v) j ≡ Some q
 set_past xs i j v q n e = slice_get_read (slice_set xs i v) (length (slice_set xs i v)) j q refl (subst (λ (k : ℕ). j < k) (sym (length-set xs i v)) (slice_get_within xs j q e)) (sym (get_or-set_other xs i j v q n ∙ get_or_from_slice_get xs j q q e))
 
-set_back : {A : Type 0} (xs : List A) (i j : ℕ) (v q : A) → (j ≡ i → ⊥) → slice_get (slice_set xs i v) j ≡ Some q → slice_get xs j ≡ Some q
-set_back xs i j v q n e = slice_get_read xs (length xs) j q refl (subst (λ (k : ℕ). j < k) (length-set xs i v) (slice_get_within (slice_set xs i v) j q e)) (sym (sym (get_or-set_other xs i j v q n) ∙ get_or_from_slice_get (slice_set xs i v) j q q e))
-
--- marks grow
-pub grown_same : (place : ℕ) (xs : List Bool) → HaveGrown place xs xs
-grown_same place xs = record { count = refl; more = λ k h. h; late = λ k l h. h }
-
 pub grown_join : (place : ℕ) (a b c : List Bool) → HaveGrown place a b → HaveGrown place b c → HaveGrown place a c
 grown_join place a b c g h = record { count = h.count ∙ g.count; more = λ k m. h.more k (g.more k m); late = λ k l m. g.late k l (h.late k l m) }
-
-pub grown_set : (place i : ℕ) (xs : List Bool) → i < place → place ≤ length xs → HaveGrown place xs (slice_set xs i true)
-grown_set place i xs l w = record {
-  count = length-set xs i true;
-  more = λ k m. elim (cases_eq k i) [ inl e ↦ subst (λ (j : ℕ). slice_get (slice_set xs i true) j ≡ Some true) (sym e) (set_here xs i true (omega arith)) | inr n ↦ set_past xs i k true true n m ];
-  late = λ k h m. set_back xs i k true true (λ e. omega arith) m;
-}
-
-pub marked_set : (place number : ℕ) (xs : List Bool) → (number ≡ 0 → ⊥) → number ≤ place → place ≤ length xs → IsMarkedFor place number (slice_set xs (number - 1) true)
-marked_set place number xs z l w k e h = subst (λ (j : ℕ). slice_get (slice_set xs (number - 1) true) j ≡ Some true) (omega arith) (set_here xs (number - 1) true (omega arith))
 
 pub marked_none : (place number : ℕ) (xs : List Bool) → number ≡ 0 → IsMarkedFor place number xs
 marked_none place number xs z k e h = absurd (omega arith)
 
-pub marked_late : (place number : ℕ) (xs : List Bool) → place < number → IsMarkedFor place number xs
-marked_late place number xs z k e h = absurd (omega arith)
-
-marked_more : (place at number : ℕ) (a b : List Bool) → HaveGrown at a b → IsMarkedFor place number a → IsMarkedFor place number b
-marked_more place at number a b g h k e l = g.more k (h k e l)
-
-parts_more : (place at : ℕ) (s : Step) (a b : List Bool) → HaveGrown at a b → AreMarkedFor place s a → AreMarkedFor place s b
-parts_more place at (NeedStep n v m w) a b g h = tt
-parts_more place at (Python n v) a b g h = tt
-parts_more place at (Base n v) a b g h = tt
-parts_more place at (Cut i j m ts) a b g h = (marked_more place at i a b g h.0, marked_more place at j a b g h.1)
-
-pub parts_cut : (place i j m : ℕ) (ts : List Term) (s : Step) (a b : List Bool) → s ≡ Cut i j m ts → IsMarkedFor place i a → HaveGrown place a b → IsMarkedFor place j b → AreMarkedFor place s b
-parts_cut place i j m ts s a b e h g k = subst (λ (x : Step). AreMarkedFor place x b) (sym e) (marked_more place place i a b g h, k)
-
 pub marked_read : (marks : List Bool) (k : ℕ) → k < length marks → get_or marks k false ≡ true → slice_get marks k ≡ Some true
 marked_read marks k l e = slice_get-get_or marks k false l ∙ ap Some e
-
--- one place after another
-pub parts_skip : (steps : List Step) (place : ℕ) (marks : List Bool) (b : Bool) → ArePartsMarked steps (suc place) marks → place < length marks → b ≡ get_or marks place b → b ≡ false → ArePartsMarked steps place marks
-parts_skip steps place marks b h w r z k s l m e = elim (cases_eq k place) [
-  | inl q ↦ absurd (true≢false (same_Some true false (sym (subst (λ (j : ℕ). slice_get marks j ≡ Some true) q m) ∙ (slice_get_read marks (length marks) place b refl w r ∙ ap Some z))))
-  | inr n ↦ h k s (omega arith) m e
-]
-
-pub parts_next : (steps : List Step) (place : ℕ) (old now : List Bool) (s : Step) → ArePartsMarked steps (suc place) old → HaveGrown place old now → slice_get steps place ≡ Some s → AreMarkedFor place s now → ArePartsMarked steps place now
-parts_next steps place old now s h g at p k u l m e = elim (cases_eq k place) [
-  | inl q ↦ (let same : s ≡ u = same_Some s u (sym at ∙ subst (λ (j : ℕ). slice_get steps j ≡ Some u) q e) in
-      subst (λ (x : Step). AreMarkedFor k x now) same (subst (λ (j : ℕ). AreMarkedFor j s now) (sym q) p))
-  | inr n ↦ parts_more k place u old now g (h k u (omega arith) (g.late k l m) e)
-]
-
-pub parts_end : (steps : List Step) (count : ℕ) (marks : List Bool) → length marks ≡ count → ArePartsMarked steps count marks
-parts_end steps count marks c k s l m e = absurd (let w = slice_get_within marks k true m in omega arith)
 
 -- a step is right after those before it
 pub right_here : (p : Plain) (earlier xs : List Step) (k : ℕ) (s : Step) → AreRightAfter p earlier xs → slice_get xs k ≡ Some s → IsRight p (earlier ++ take k xs) s
@@ -160,19 +111,6 @@ get_end (x ∷ xs) n = get_end xs n
 pub pruned_none : (p : Plain) (steps : List Step) (marks : List Bool) → IsPruned p steps marks [] []
 pruned_none p steps marks = record { right = tt; same = λ k l m. absurd (omega arith); end = λ k e m. absurd (omega arith) }
 
-pub pruned_skip : (p : Plain) (steps : List Step) (marks : List Bool) (kept : List Step) (numbers numbers' : List ℕ) (b : Bool) → IsPruned p steps marks kept numbers → length numbers < length marks → b ≡ get_or marks (length numbers) b → b ≡ false → numbers' ≡ numbers ++ 0 ∷ [] → IsPruned p steps marks kept numbers'
-pruned_skip p steps marks kept numbers numbers' b h w r z e =
-    let out : IsMarked marks (length numbers) → ⊥ = λ m. true≢false (same_Some true false (sym m ∙ (slice_get_read marks (length marks) (length numbers) b refl w r ∙ ap Some z))) in
-    let len : length (numbers ++ 0 ∷ []) ≡ length numbers + 1 = length-append numbers (0 ∷ []) in
-    subst (IsPruned p steps marks kept) (sym e) (record {
-      right = h.right;
-      same = λ k l m. elim (cases_lt k (length numbers)) [
-        | inl a ↦ subst (λ (n : ℕ). IsKeptAs p steps kept n k) (sym (get_front numbers 0 k a)) (h.same k a m)
-        | inr a ↦ absurd (out (subst (IsMarked marks) (omega arith) m))
-      ];
-      end = λ k q m. absurd (out (subst (IsMarked marks) (omega arith) m));
-    })
-
 pub pruned_keep : (p : Plain) (steps : List Step) (marks : List Bool) (old now : Pruned) (s : Step) → AreRightAfter p [] steps → ArePartsMarked steps 0 marks → IsPrunedTo p steps marks old → slice_get steps (length old.numbers.items) ≡ Some s → IsMarked marks (length old.numbers.items) → IsKept s old now → IsPrunedTo p steps marks now
 pruned_keep p steps marks old now s right parts h at m k =
     let numbers : List ℕ = old.numbers.items in
@@ -210,9 +148,3 @@ pruned_accepted p steps marks kept numbers count need h c closes =
     let q = place_in kept (length kept) r.again at in
     let roots : AreRootTerms p (says p r.again) = subst (AreRootTerms p) (sym (r.said ∙ ap (says p) same)) closes.2 in
     (h.right, subst (ClosesWith p) (ap (λ (j : ℕ). take j kept) (sym q.1) ∙ take_whole kept) (closes_front p kept q.0 r.again q.2 roots))
-
-pub needed_first : (count : ℕ) (marks : List Bool) → 0 < count → marks ≡ slice_set (replicate count false) (count - 1) true → length (replicate count false) ≡ count → (length marks ≡ count) × ((k : ℕ) → count ≡ suc k → IsMarked marks k)
-needed_first count marks z e c = (
-  ap (λ (l : List Bool). length l) e ∙ (length-set (replicate count false) (count - 1) true ∙ c),
-  (λ k q. subst (λ (l : List Bool). IsMarked l k) (sym e) (subst (λ (j : ℕ). slice_get (slice_set (replicate count false) (count - 1) true) j ≡ Some true) (omega arith) (set_here (replicate count false) (count - 1) true (omega arith)))),
-)

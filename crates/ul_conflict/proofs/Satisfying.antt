@@ -86,10 +86,6 @@ down_step facts ts skip place z l h = down_one facts ts skip (place - 1) l (subs
 pub part_here : (facts : List Fact) (ts : List Term) (skip : Option ℕ) (place : ℕ) → TakesPart facts ts skip (place - 1) → (i : ℕ) → place ≡ suc i → TakesPart facts ts skip i
 part_here facts ts skip place h i e = subst (TakesPart facts ts skip) (omega arith) h
 
--- node by node
-pub apart_all : (facts : List Fact) (ts : List Term) (skip : Option ℕ) → ((t : Term) (k : ℕ) → term_on k ts ≡ Some t → IsHeld facts t) → IsHeldApart facts ts skip
-apart_all facts ts skip h = record { at = λ k t s e. h t k e }
-
 pub more_held : (xs ys : List Fact) (t : Term) → IsHeld xs t → IsHeld (xs ++ ys) t
 more_held xs ys t h = λ o x. h o (append_within xs ys (node_of t) o x)
 

@@ -397,8 +397,3 @@ jump_again p t level number learned learned' again w h l ea el =
       ];
       derives = record { front = learned; step = h.step; last = is; term = h.term; but = h.but; possible = h.possible; least = h.least; unrooted = h.unrooted };
     }
-
-pub again_place : (p : Plain) (t : Track) (level number : ℕ) (learned : List Step) → LeadsBack p t level number learned → number ≤ length t.steps → (0 < number) × ((number - 1) < length t.steps)
-again_place p t level number learned h l =
-    let k = held_place p t level number learned h l in
-    let e = k.1 in let b = slice_get_within t.steps k.0 h.step k.2 in (omega arith, omega arith)

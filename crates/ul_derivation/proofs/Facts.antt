@@ -14,9 +14,8 @@ use Rattle.ul_problem.specs.declared.problem.NodeFacts.{NodeFacts}
 use Rattle.ul_problem.specs.declared.step.Step.{Step}
 use Rattle.ul_problem.specs.declared.step.Step.TheVariants.{Cut}
 use Rattle.ul_problem.specs.declared.term.Term.{Term}
-use Rattle.ul_problem.proofs.ForCallers.{all_within, barred_size, need_fits, node_whole, says_whole, step_place}
+use Rattle.ul_problem.proofs.ForCallers.{all_within, barred_size, need_fits, node_whole, step_place}
 use Rattle.ul_derivation.specs.Looking.{AreCut, IsSaid}
-use Rattle.ul_problem.specs.Terms.{IsOrdered}
 
 abbrev pub IsSetOf : Plain → ℕ → List Bool → Type 0
 IsSetOf p n s = (n < length p.nodes) × (length s ≡ size_of p n)
@@ -74,9 +73,6 @@ need_tested p n m s w x rows b e q t h k = (
 pub cut_said : (p : Plain) (i j m : ℕ) (ts : List Term) → IsStepWithin p (Cut i j m ts) → IsSaid p (Cut i j m ts) ts
 cut_said p i j m ts h = record { same = refl; fits = h.0; is_ordered = h.1.0 }
 
-pub made_said : (p : Plain) (s : Step) (ts : List Term) → IsStepWithin p s → ts ≡ says p s → AreTermsOf p ts → IsSaid p s ts
-made_said p s ts h e f = record { same = e; fits = f; is_ordered = subst IsOrdered (sym e) (says_whole p s h).0 }
-
 pub are_of_one : (p : Plain) (s t : Step) (l r : List Term) → IsSaid p s l → IsSaid p t r → AreOfOne l r
 are_of_one p s t l r a b = (p, a.fits, b.fits)
 
@@ -96,12 +92,6 @@ cut_of_two p earlier i j m s t ts b e f g = (
         let a : says p left ≡ says p s = ap (says p) (same_Some left s (sym el ∙ e)) in
         let c : says p right ≡ says p t = ap (says p) (same_Some right t (sym er ∙ f)) in
         (subst (HasTermOn m) a hl, subst (HasTermOn m) c hr, subst (λ (d : List Term). IsResolvent m d (says p t) ts) a (subst (λ (d : List Term). IsResolvent m (says p left) d ts) c res))
-
-pub no_left : (p : Plain) (earlier : List Step) (i j m : ℕ) (ts : List Term) → step_of earlier i ≡ None → IsCutOf p earlier i j m ts → ⊥
-no_left p earlier i j m ts e (left, right, el, er, hl, hr, res) = none-some left (sym e ∙ el)
-
-pub no_right : (p : Plain) (earlier : List Step) (i j m : ℕ) (ts : List Term) → step_of earlier j ≡ None → IsCutOf p earlier i j m ts → ⊥
-no_right p earlier i j m ts e (left, right, el, er, hl, hr, res) = none-some right (sym e ∙ er)
 
 -- a step of a number, as it is read
 pub step_within : (p : Plain) (earlier : List Step) (i : ℕ) (s : Step) → AreRightAfter p [] earlier → step_of earlier i ≡ Some s → IsStepWithin p s

@@ -25,6 +25,3 @@ pub roots_more : (p : Plain) (ts : List Term) (i : ℕ) (t : Term) (Q : Type 0) 
 roots_more p ts i t Q h e f a =
     let g = front_is ts i t h e in
     record { to = λ r. a.to (subst (AreRootTerms p) (sym g) (f, r)); from = λ q. (subst (AreRootTerms p) g (a.from q)).1 }
-
-pub roots_not : (p : Plain) (ts : List Term) (i : ℕ) (t : Term) (Q : Type 0) → i < length ts → t ≡ get_or ts i t → (IsRootTerm p t → ⊥) → IsAlike (AreRootTerms p (drop i ts)) Q → Q → ⊥
-roots_not p ts i t Q h e f a q = f (subst (AreRootTerms p) (front_is ts i t h e) (a.from q)).0

@@ -1,17 +1,13 @@
 -- One more right step.
-use Rattle.std.proofs.Common.{◌≡◌, ℕ, ◌+◌, ◌<◌, ◌≤◌, List, [], ◌∷◌, ◌++◌, take, length, get_or, subst, sym, append_assoc, refl, ◌∙◌}
+use Rattle.std.proofs.Common.{◌≡◌, ℕ, ◌+◌, ◌<◌, List, [], ◌∷◌, ◌++◌, take, length, get_or, subst, sym, append_assoc, refl, ◌∙◌}
 use Rattle.std.proofs.Common.{ap}
 use Rattle.std.proofs.lemmas.List.{append-nil, take_more, take_all}
-use Rattle.ul_problem.specs.Serving.{HasNone}
-use Rattle.ul_problem.specs.Problems.{IsWellFormed}
 use Rattle.ul_problem.specs.Steps.{Accepts}
 use Rattle.ul_derivation.specs.Faults.{IsFirstBad}
 use Rattle.std.specs.Prelude.{Bool, false, IsTrue, ◌↔◌}
 use Rattle.std.proofs.lemmas.Option.{none-some, same_Some, slice_get_read, slice_get_within}
 use Rattle.std.proofs.lemmas.Bool.{cases_order, true≢false}
 use Rattle.std.proofs.Common.{zero, suc, ◌-◌, Some, slice_get, arith, inl, inr}
-use Rattle.ul_problem.specs.Steps.{ClosesWith}
-use Rattle.ul_problem.proofs.ForCallers.{accepted_none}
 use Rattle.ul_problem.specs.Plain.{Plain}
 use Rattle.ul_problem.specs.Steps.{IsRight, AreRightAfter}
 use Rattle.ul_problem.specs.declared.step.Step.{Step}
@@ -24,10 +20,6 @@ pub right_next : (p : Plain) (steps : List Step) (i : ℕ) (s : Step) → i < le
 right_next p steps i s low is h r =
     let e : take (i + 1) steps ≡ take i steps ++ s ∷ [] = take_more steps i s low ∙ ap (λ (x : Step). take i steps ++ x ∷ []) (sym is) in
     subst (AreRightAfter p []) (sym e) (right_more p [] (take i steps) s h r)
-
--- all steps are right, and the last closes
-pub none_at : (p : Plain) (steps all : List Step) (i : ℕ) → steps ≡ all → length steps ≤ i → AreRightAfter p [] (take i steps) → ClosesWith p steps → IsWellFormed p → HasNone p
-none_at p steps all i e h r c wf = accepted_none p steps wf (subst (AreRightAfter p []) (take_all i steps h) r, c)
 
 -- a step of a right front is right
 right_at : (p : Plain) (n : ℕ) (earlier xs : List Step) (i : ℕ) (s : Step) → AreRightAfter p earlier (take n xs) → i < n → slice_get xs i ≡ Some s → IsRight p (earlier ++ take i xs) s

@@ -1,8 +1,8 @@
 -- The needs of firm requirements, as a loop collects them.
 use Rattle.std.specs.Prelude.{slice_get}
 use Rattle.std.proofs.Common.{◌≡◌, ◌<◌, ◌≤◌, ◌+◌, ℕ, List, [], ◌∷◌, ◌++◌, length, get_or, drop, Bool, false, Decides, Some, refl, sym, ap, subst, ◌∙◌, inl, inr, ⊎_elim}
-use Rattle.std.proofs.lemmas.List.{drop_all, append-nil, append_assoc, length-append}
-use Rattle.std.proofs.lemmas.Option.{get_or_from_slice_get, same_Some}
+use Rattle.std.proofs.lemmas.List.{drop_all, append-nil, append_assoc}
+use Rattle.std.proofs.lemmas.Option.{get_or_from_slice_get}
 use Rattle.ul_problem.specs.declared.problem.Need.{Need}
 use Rattle.ul_region.specs.declared.rows.Asked.{Asked}
 use Rattle.ul_index.specs.Regions.{Region}
@@ -11,15 +11,11 @@ use Rattle.ul_region.specs.Truths.{DiagramMark, PassView}
 use Rattle.ul_region.specs.declared.rows.Row.{Row}
 use Rattle.ul_prepared.specs.declared.prepared.Planned.{Planned}
 use Rattle.ul_placing.specs.Aims.{AreFirmNeeds, AreRowsOf, AreThoseOf}
-use Rattle.ul_placing.proofs.Lists.{rest_more, there, read_there, pushed_at}
+use Rattle.ul_placing.proofs.Lists.{rest_more, there, read_there}
 
 -- what was collected, and then what is left
 abbrev pub IsCollected : (Asked → Type 0) → List Asked → List (List Need) → ℕ → List Need → Type 0
 IsCollected P asked aims i done = (rest : List Need) → AreThoseOf P (drop i asked) (drop i aims) rest → AreThoseOf P asked aims (done ++ rest)
-
--- at the beginning nothing was collected
-pub collected_none : (P : Asked → Type 0) (asked : List Asked) (aims : List (List Need)) (done : List Need) → done ≡ [] → IsCollected P asked aims 0 done
-collected_none P asked aims done e rest h = subst (λ (z : List Need). AreThoseOf P asked aims (z ++ rest)) (sym e) h
 
 those_more : (P : Asked → Type 0) (a : Asked) (r : List Need) (asked xs : List Asked) (aims ys : List (List Need)) (rest : List Need) → xs ≡ a ∷ asked → ys ≡ r ∷ aims → P a → AreThoseOf P asked aims rest → AreThoseOf P xs ys (r ++ rest)
 those_more P a r asked xs aims ys rest d e p h =
@@ -62,26 +58,9 @@ pub row_long : (h : PassView) (truths : List DiagramMark) (p : Planned) (v : ℕ
     → length aims ≡ length row.asked
 row_long h truths p v row aims is l e d = (is.each v row aims (read_there p.rows.items v row l e) (read_there p.aims.items v aims (subst (λ (n : ℕ). v < n) (sym is.count) l) d)).1
 
--- a list with one element more is longer by one
-pub length_more : {A : Type 0} (xs now : List A) (a : A) (i : ℕ) → now ≡ xs ++ a ∷ [] → length xs ≡ i → length now ≡ i + 1
-length_more xs now a i e h = ap length e ∙ (length-append xs (a ∷ []) ∙ ap (λ (n : ℕ). n + 1) h)
-
 -- the needs of each version so far
 abbrev pub AreAimsTo : Region → Planned → List (List Need) → Type 0
 AreAimsTo R p list = (v : ℕ) (row : Row) (aims : List (List Need)) (a : List Need) → slice_get p.rows.items v ≡ Some row → slice_get p.aims.items v ≡ Some aims → slice_get list v ≡ Some a → AreFirmNeeds R p.node row aims a
-
--- the needs of one more version
-pub aims_next : (R : Region) (p : Planned) (i : ℕ) (list now : List (List Need)) (a : List Need) (row : Row) (aims : List (List Need)) → now ≡ list ++ a ∷ [] → length list ≡ i → AreAimsTo R p list → slice_get p.rows.items i ≡ Some row → slice_get p.aims.items i ≡ Some aims
-    → AreFirmNeeds R p.node row aims a → AreAimsTo R p now
-aims_next R p i list now a row aims grown long before at aimed firm v r xs b e d f =
-    ⊎_elim (λ h. before v r xs b e d h)
-    (λ h.
-    let same : v ≡ i = h.0 ∙ long in
-    let rows : row ≡ r = same_Some row r (sym at ∙ subst (λ (z : ℕ). slice_get p.rows.items z ≡ Some r) same e) in
-    let lists : aims ≡ xs = same_Some aims xs (sym aimed ∙ subst (λ (z : ℕ). slice_get p.aims.items z ≡ Some xs) same d) in
-    subst (λ (z : List Need). AreFirmNeeds R p.node r xs z) (sym h.1)
-    (subst (λ (z : List (List Need)). AreFirmNeeds R p.node r z a) lists (subst (λ (z : Row). AreFirmNeeds R p.node z aims a) rows firm)))
-    (pushed_at list a v b (subst (λ (z : List (List Need)). slice_get z v ≡ Some b) grown f))
 
 -- where a test that decides something fails, it does not hold
 pub none_so : (P : Type 0) (b : Bool) → Decides b P → b ≡ false → P → ⊥

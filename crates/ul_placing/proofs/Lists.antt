@@ -4,24 +4,13 @@ use Rattle.std.proofs.Common.{◌≡◌, ◌<◌, ◌+◌, ◌⊎◌, ℕ, zero,
 use Rattle.std.proofs.lemmas.List.{take_more, map-append, append-nil}
 use Rattle.std.proofs.lemmas.Grind.{flat_map-append}
 use Rattle.std.proofs.Math.Seq.{drop-cons}
-use Rattle.std.proofs.lemmas.Option.{none-some, same_Some, slice_get_within, slice_get-get_or, get_or_from_slice_get}
+use Rattle.std.proofs.lemmas.Option.{none-some, slice_get_within, slice_get-get_or, get_or_from_slice_get}
 
 -- what stands at a place stands there when more follows
 pub kept_at : {A : Type 0} (xs ys : List A) (j : ℕ) (x : A) → slice_get xs j ≡ Some x → slice_get (xs ++ ys) j ≡ Some x
 kept_at [] ys j x e = absurd (none-some x e)
 kept_at (z ∷ zs) ys zero x e = e
 kept_at (z ∷ zs) ys (suc j) x e = kept_at zs ys j x e
-
--- after one more element, what stands at a place stood there, or is that element
-pub pushed_at : {A : Type 0} (xs : List A) (y : A) (j : ℕ) (x : A) → slice_get (xs ++ y ∷ []) j ≡ Some x → (slice_get xs j ≡ Some x) ⊎ ((j ≡ length xs) × (x ≡ y))
-pushed_at [] y zero x e = inr (refl, sym (same_Some y x e))
-pushed_at [] y (suc j) x e = absurd (none-some x e)
-pushed_at (z ∷ zs) y zero x e = inl e
-pushed_at {A} (z ∷ zs) y (suc j) x e = later (pushed_at zs y j x e)
-  where
-    later : (slice_get zs j ≡ Some x) ⊎ ((j ≡ length zs) × (x ≡ y)) → (slice_get (z ∷ zs) (suc j) ≡ Some x) ⊎ ((suc j ≡ length (z ∷ zs)) × (x ≡ y))
-    later (inl h) = inl h
-    later (inr h) = inr (ap suc h.0, h.1)
 
 -- something stands at each place of a list
 pub there : {A : Type 0} (xs : List A) (k : ℕ) → k < length xs → (x : A) × (slice_get xs k ≡ Some x)

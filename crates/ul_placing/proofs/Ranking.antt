@@ -1,7 +1,6 @@
 -- What is known of the reached nodes stands at their ranks.
 use Rattle.std.specs.Prelude.{slice_get}
-use Rattle.std.proofs.Common.{◌≡◌, ◌+◌, ℕ, zero, suc, List, [], ◌∷◌, ◌++◌, get_or, Option, Some, None, refl, sym, ap, subst, ◌∙◌, arith}
-use Rattle.std.proofs.lemmas.List.{append_assoc}
+use Rattle.std.proofs.Common.{◌≡◌, ◌+◌, ℕ, zero, suc, List, [], ◌∷◌, get_or, Option, Some, None, refl, sym, subst, ◌∙◌, arith}
 use Rattle.std.proofs.lemmas.Option.{none-some, same_Some}
 use Rattle.std.specs.declared.cmp.Ordering.TheVariants.{Less}
 use Rattle.ul_base.specs.Nodes.{node_cmp}
@@ -107,13 +106,3 @@ module _ (R : Region) (all : Prepared) (ranks : List ℕ) where
   facts_increase (q ∷ ps) [] fs i h = absurd h
   facts_increase (q ∷ ps) (None ∷ aims) fs i h = facts_increase ps aims fs (tail PlannedBefore planned_trans q ps i) h
   facts_increase (q ∷ ps) (Some b ∷ aims) fs i h = subst (λ (z : List NodeFacts). Increases NodeBefore z) (sym h.are) (rise_from q ps aims h.rest h.facts h.is.node i h.more)
-
--- ---- loops
-
--- the ranks, as a loop counts them
-pub ranks_next : (done now : List ℕ) (r : ℕ) (rest after : List (Option NodeAims)) (a : NodeAims) (whole : List ℕ) → rest ≡ Some a ∷ after → now ≡ done ++ r ∷ [] → done ++ ranks_from r rest ≡ whole → now ++ ranks_from (r + 1) after ≡ whole
-ranks_next done now r rest after a whole e n h = ap (λ (z : List ℕ). z ++ ranks_from (r + 1) after) n ∙ (append_assoc done (r ∷ []) (ranks_from (r + 1) after) ∙ (ap (λ (z : List (Option NodeAims)). done ++ ranks_from r z) (sym e) ∙ h))
-
--- the ranks where the next node was not looked at
-pub ranks_pass : (done now : List ℕ) (r : ℕ) (rest after : List (Option NodeAims)) (whole : List ℕ) → rest ≡ None ∷ after → now ≡ done ++ r ∷ [] → done ++ ranks_from r rest ≡ whole → now ++ ranks_from r after ≡ whole
-ranks_pass done now r rest after whole e n h = ap (λ (z : List ℕ). z ++ ranks_from r after) n ∙ (append_assoc done (r ∷ []) (ranks_from r after) ∙ (ap (λ (z : List (Option NodeAims)). done ++ ranks_from r z) (sym e) ∙ h))

@@ -135,10 +135,15 @@ run_marked_then runs i run a b c q r s l at one two =
 
 -- ---- rows of runs
 
--- the rows of one run more, mapped, as a loop puts them behind others
-pub rows_mapped : (f : List Need → List Need) (runs : List Run) (i : ℕ) (run : Run) (done now : List (List Need)) → i < length runs → run ≡ get_or runs i run → now ≡ done ++ map f (rows_in run) → done ≡ map f (rows_of (take i runs)) → now ≡ map f (rows_of (take (i + 1) runs))
-rows_mapped f runs i run done now l at e h =
-    e ∙ (ap (λ (z : List (List Need)). z ++ map f (rows_in run)) h ∙ (sym (map-append f (rows_of (take i runs)) (rows_in run)) ∙ ap (map f) (sym (joined_front rows_in runs i run l at))))
+-- the rows of the next run, mapped, were put behind others
+pub rows_left : (f : List Need → List Need) (run : Run) (left rest : List Run) (done now all : List (List Need)) → now ≡ done ++ map f (rows_in run) → left ≡ run ∷ rest → done ++ map f (rows_of left) ≡ all → now ++ map f (rows_of rest) ≡ all
+rows_left f run left rest done now all e s h =
+    ap (λ (z : List (List Need)). z ++ map f (rows_of rest)) e ∙ (append_assoc done (map f (rows_in run)) (map f (rows_of rest))
+    ∙ (ap (λ (z : List (List Need)). done ++ z) (sym (map-append f (rows_in run) (rows_of rest))) ∙ (ap (λ (z : List Run). done ++ map f (rows_of z)) (sym s) ∙ h)))
+
+-- no run is left
+pub rows_done : (f : List Need → List Need) (left : List Run) (done all : List (List Need)) → left ≡ [] → done ++ map f (rows_of left) ≡ all → done ≡ all
+rows_done f left done all e h = sym (append-nil done) ∙ (ap (λ (z : List Run). done ++ map f (rows_of z)) (sym e) ∙ h)
 
 -- the row of a run and its copies, mapped
 pub run_mapped : (f : List Need → List Need) (run : Run) → f run.needs ∷ replicate run.others (f run.needs) ≡ map f (rows_in run)
@@ -147,13 +152,6 @@ run_mapped f run = ap (λ z. f run.needs ∷ z) (sym (copies_mapped f run.others
 -- copies behind others, and then what was copied
 pub copies_put : {A : Type 0} (before done now : List A) (n : ℕ) (x : A) → done ≡ before ++ replicate n x → now ≡ done ++ x ∷ [] → now ≡ before ++ x ∷ replicate n x
 copies_put before done now n x h e = e ∙ (ap (λ z. z ++ x ∷ []) h ∙ (append_assoc before (replicate n x) (x ∷ []) ∙ ap (λ z. before ++ z) (copies_turned n x)))
-
-one_more : (n : ℕ) → suc n ≡ n + 1
-one_more n = omega arith
-
--- one copy more behind others
-pub copies_more : {A : Type 0} (before done now : List A) (n : ℕ) (x : A) → done ≡ before ++ replicate n x → now ≡ done ++ x ∷ [] → now ≡ before ++ replicate (n + 1) x
-copies_more before done now n x h e = copies_put before done now n x h e ∙ ap (λ k. before ++ replicate k x) (one_more n)
 
 -- what is found of the first version of a run, whichever way its row is read
 pub first_firm : (R : Region) (p : Planned) (first : ℕ) (row : Row) (aims : List (List Need)) (needs : List Need) → slice_get p.rows.items first ≡ Some row → slice_get p.aims.items first ≡ Some aims → AreFirmNeeds R p.node row aims needs

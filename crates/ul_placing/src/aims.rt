@@ -28,12 +28,25 @@ pub(crate) struct NodeAims {
 }
 
 // Puts needs behind others. Their sets are shared.
-fn push_needs(alloc: Global, needs: &mut Vec<Need>, more: &[Need]) -> Result<(), AllocError>
-    ensures { IfOk result (λ _. needs.new.items ≡ needs.old.items ++ more.now) }
+fn push_needs(alloc: Global, needs: &mut NeedRow, more: &[Need]) -> Result<(), AllocError>
+    ensures { IfOk result (λ _. needs.new ≡ needs.old ++ more.now) }
 {
     for need in more {
         let copied = need.copy(alloc)?;
-        needs.push(copied)?;
+        needs.push(alloc, copied)?;
+    }
+    Ok(())
+}
+
+// Room for so many needs, where so many more make a list of the first two: a version with few firm requirements takes no
+// memory.
+fn make_room(alloc: Global, needs: &mut NeedRow, more: usize, size: usize) -> Result<(), AllocError>
+    ensures { IfOk result (λ _. needs.new ≡ needs.old) }
+{
+    let held = needs.as_slice().len();
+    let count = held.saturating_add(more);
+    if held <= 2 && count > 2 {
+        needs.make_room(alloc, size.max(count))?;
     }
     Ok(())
 }
@@ -50,15 +63,16 @@ fn version_aims(
     ensures { IfOk result (AreFirmNeeds (region_asked at.now) at.now.node.now at.now.row.now aims.now) }
 {
     let asked: &[Asked<'_>] = at.row.asked.as_slice();
-    let mut needs = Vec::with_capacity(alloc, asked.len())?;
+    let mut needs = NeedRow::none();
     for k in 0..asked.len() {
         if !at.is_firm(algebra, &asked[k]) {
             continue;
         }
-        push_needs(alloc, &mut needs, aims[k].as_slice())?;
+        let more = aims[k].as_slice();
+        make_room(alloc, &mut needs, more.len(), asked.len())?;
+        push_needs(alloc, &mut needs, more)?;
     }
-    let row = NeedRow::of(alloc, needs)?;
-    Ok(row)
+    Ok(needs)
 }
 
 // The end of the versions from one on that have its list of requirements.

@@ -1,5 +1,5 @@
 //! What is known of the nodes that a region reaches.
-ghost use Rattle.std.specs.Prelude.{◌≡◌, ◌<◌, ◌^◌, ◌++◌, ◌∷◌, IfOk, IsTrue, Decides, Some, length, map, replicate, slice_get};
+ghost use Rattle.std.specs.Prelude.{◌≡◌, ◌<◌, ◌^◌, ◌++◌, ◌∷◌, IfOk, Decides, Some, length, map, replicate, slice_get};
 ghost use Rattle.ul_index.specs.Catalogs.{is_release_fit};
 ghost use Rattle.ul_index.specs.Serves.{Suits};
 ghost use Rattle.ul_region.specs.Asked.{IsAtNode, IsInRegion, region_asked};
@@ -10,42 +10,31 @@ ghost use Rattle.ul_placing.specs.Facts.{AreBarred, AreFacts, IsFacts, needs_ran
 ghost use Rattle.ul_placing.specs.Runs.{rows_in, rows_of};
 
 use crate::aims::{NodeAims, Run};
-use crate::ranks::{base_at, rank_at};
+use crate::ranks::base_at;
 use std::alloc::{AllocError, Global};
 use ul_algebra::Algebra;
 use ul_prepared::{NameFacts, Planned, Prepared};
-use ul_problem::{Need, NeedRow, NeedRows, NodeFacts};
+use ul_problem::{NeedRow, NeedRows, NodeFacts};
 use ul_ranges::Ordinals;
 use ul_region::{AtNode, InRegion};
 use ul_requirement::{Strategy, Wish};
 
-// Whether each target has its place as its rank, as it has where all nodes before it are reached.
-fn are_ranked(ranks: &[u64], needs: &[Need]) -> bool
-    ensures { IsTrue result → needs_ranked ranks.now needs.now ≡ needs.now }
+// The needs of a run's versions by ranks: each has the rank of its target in place of its place. Where there are others
+// beside the first, they share a list.
+fn ranked_row(
+    alloc: Global,
+    ranks: &[u64],
+    needs: NeedRow,
+    others: usize,
+) -> Result<NeedRow, AllocError>
+    ensures { IfOk result (λ row. row ≡ needs_ranked ranks.now needs) }
 {
-    for need in needs {
-        if rank_at(ranks, need.node) != need.node {
-            return false;
-        }
+    let mut row = needs;
+    row.renumber(alloc, ranks)?;
+    if others == 0 {
+        return Ok(row);
     }
-    true
-}
-
-// The needs of a version by ranks: each has the rank of its target in place of its place.
-fn ranked_row(alloc: Global, ranks: &[u64], row: &NeedRow) -> Result<NeedRow, AllocError>
-    ensures { IfOk result (λ r. r ≡ needs_ranked ranks.now row.now) }
-{
-    let needs: &[Need] = row.as_slice();
-    if are_ranked(ranks, needs) {
-        return row.copy(alloc);
-    }
-    let mut list = Vec::with_capacity(alloc, needs.len())?;
-    for need in needs {
-        let permitted = need.permitted.copy(alloc)?;
-        let node = rank_at(ranks, need.node);
-        list.push(Need { node, permitted })?;
-    }
-    NeedRow::of(alloc, list)
+    row.share(alloc)
 }
 
 // Puts so many copies of a row behind others.
@@ -69,12 +58,13 @@ fn push_run(
     alloc: Global,
     ranks: &[u64],
     rows: &mut Vec<NeedRow>,
-    run: &Run,
+    run: Run,
 ) -> Result<(), AllocError>
-    ensures { IfOk result (λ _. rows.new.items ≡ rows.old.items ++ map (needs_ranked ranks.now) (rows_in run.now)) }
+    ensures { IfOk result (λ _. rows.new.items ≡ rows.old.items ++ map (needs_ranked ranks.now) (rows_in run)) }
 {
-    let row = ranked_row(alloc, ranks, &run.needs)?;
-    push_copies(alloc, rows, &row, run.others)?;
+    let Run { needs, others } = run;
+    let row = ranked_row(alloc, ranks, needs, others)?;
+    push_copies(alloc, rows, &row, others)?;
     rows.push(row)?;
     Ok(())
 }
@@ -83,10 +73,10 @@ fn push_run(
 fn ranked_rows(
     alloc: Global,
     ranks: &[u64],
-    runs: &[Run],
+    runs: Vec<Run>,
     size: usize,
 ) -> Result<NeedRows, AllocError>
-    ensures { IfOk result (λ rows. rows ≡ map (needs_ranked ranks.now) (rows_of runs.now)) }
+    ensures { IfOk result (λ rows. rows ≡ map (needs_ranked ranks.now) (rows_of runs.items)) }
 {
     let mut rows = Vec::with_capacity(alloc, size)?;
     for run in runs {
@@ -158,7 +148,7 @@ fn facts_of<'p, 'r>(
     let versions = name.versions.copy()?;
     let order = name.order.copy()?;
     let barred = barred_of(alloc, algebra, place, wish.strategy, planned)?;
-    let needs = ranked_rows(alloc, ranks, aims.runs.as_slice(), planned.rows.len())?;
+    let needs = ranked_rows(alloc, ranks, aims.runs, planned.rows.len())?;
     Ok(NodeFacts {
         node,
         base: base_at(ranks, planned.base),

@@ -42,8 +42,8 @@ pub(crate) fn places_of(alloc: Global, aims: &[Option<NodeAims>]) -> Result<Vec<
     Ok(places)
 }
 
-/// The rank at a place.
-pub(crate) fn rank_at(ranks: &[u64], place: u64) -> u64
+// The rank at a place.
+fn rank_at(ranks: &[u64], place: u64) -> u64
     ensures { result ≡ get_or ranks.now place 0 }
 {
     match ranks.get(place as usize) {

@@ -105,10 +105,6 @@ needs_more nodes xs i x Q h e r s =
       from = λ q. subst (λ (l : List Need). AreNeedsAfter nodes l (drop (i + 1) xs)) (sym t) (subst (AreNeedsAfter nodes (take i xs)) g (s.from q)).1;
     }
 
-pub needs_not : (nodes : List NodeFacts) (xs : List Need) (i : ℕ) (x : Need) (Q : Type 0) → i < length xs → x ≡ get_or xs i x → (IsNeedAfter nodes (take i xs) x → ⊥)
-    → IsAlike (AreNeedsAfter nodes (take i xs) (drop i xs)) Q → Q → ⊥
-needs_not nodes xs i x Q h e r s q = r (subst (AreNeedsAfter nodes (take i xs)) (rest_is xs i x h e) (s.from q)).0
-
 -- what holds of an answer
 pub ok_then : {A E : Type 0} (r : Result A E) (P Q : A → Type 0) → IfOk r P → ((x : A) → P x → Q x) → IfOk r Q
 ok_then (Ok x) P Q h f = f x h

@@ -2,14 +2,14 @@
 use Rattle.std.proofs.Common.{◌≡◌, ℕ, zero, suc, ◌+◌, ◌<◌, ◌≤◌, List, [], ◌∷◌, ◌++◌, Bool, true, false, Option, Some, None, take, drop, length, get_or, set, slice_get, arith, refl, sym, ap, subst, ◌∙◌, inl, inr, ◌⊎◌}
 use Rattle.std.specs.Prelude.{◌↔◌}
 use Rattle.std.proofs.lemmas.Bool.{cases_eq, true≢false}
-use Rattle.std.proofs.lemmas.List.{get_or-set_same, get_or-set_other, length-set, take_more, take_all, drop_more}
+use Rattle.std.proofs.lemmas.List.{get_or-set_same, get_or-set_other, length-set, take_more, take_all}
 use Rattle.std.proofs.lemmas.Option.{same_Some, slice_get_read, slice_get_within}
 use Rattle.ul_problem.specs.Plain.{base_in}
-use Rattle.ul_problem.specs.Marks.{HasNoMark, AreMarked, IsBaseMarked, IsNeedMarked}
+use Rattle.ul_problem.specs.Marks.{AreMarked, IsBaseMarked, IsNeedMarked}
 use Rattle.ul_problem.specs.Problems.{HasTarget, IsAfterBase, IsNeedAfter, AreNeedsAfter, AreNeeds}
 use Rattle.ul_problem.specs.declared.problem.Need.{Need}
 use Rattle.ul_problem.specs.declared.problem.NodeFacts.{NodeFacts}
-use Rattle.ul_problem.proofs.Loops.{IsAlike, needs_more, needs_not}
+use Rattle.ul_problem.proofs.Loops.{IsAlike, needs_more}
 
 target_left : (n : ℕ) (xs ys : List Need) → HasTarget n xs → HasTarget n (xs ++ ys)
 target_left n [] ys h = absurd h
@@ -32,14 +32,6 @@ pub record IsMarking (nodes : List NodeFacts) (needs : List Need) (k : ℕ) (mar
   pub exact : (n : ℕ) → (get_or marks n false ≡ true) ↔ HasTarget n (take k needs)
   pub within : (i : ℕ) (need : Need) → i < k → slice_get needs i ≡ Some need → need.node < length nodes
   pub alike : IsAlike (AreNeedsAfter nodes (take k needs) (drop k needs)) (AreNeeds nodes needs)
-
-pub marking_begins : (nodes : List NodeFacts) (needs : List Need) (marks : List Bool) → HasNoMark (length nodes) marks → IsMarking nodes needs 0 marks
-marking_begins nodes needs marks h = record {
-  long = h.long;
-  exact = λ n. (λ e. absurd (true≢false (sym e ∙ h.clear n)), λ t. absurd t);
-  within = λ i need l. absurd (omega arith);
-  alike = record { to = λ a. a; from = λ a. a };
-}
 
 base_alike : (marks : List Bool) (earlier : List Need) (o : Option ℕ) → ((n : ℕ) → (get_or marks n false ≡ true) ↔ HasTarget n earlier) → IsBaseMarked marks o ↔ IsAfterBase earlier o
 base_alike marks earlier None h = (λ a. a, λ a. a)
@@ -75,11 +67,6 @@ marking_more nodes needs k marks need l e h m =
       alike = needs_more nodes needs k need (AreNeeds nodes needs) l e ((need_alike nodes needs k marks need m).0 h) m.alike;
     }
 
-pub marking_fails : (nodes : List NodeFacts) (needs : List Need) (k : ℕ) (marks : List Bool) (need : Need) → k < length needs → need ≡ get_or needs k need
-    → (IsNeedMarked nodes marks need → ⊥) → IsMarking nodes needs k marks → AreNeeds nodes needs → ⊥
-marking_fails nodes needs k marks need l e n m =
-    needs_not nodes needs k need (AreNeeds nodes needs) l e (λ h. n ((need_alike nodes needs k marks need m).1 h)) m.alike
-
 none_left : (nodes : List NodeFacts) (earlier needs : List Need) (k : ℕ) → length needs ≤ k → AreNeedsAfter nodes earlier (drop k needs)
 none_left nodes earlier [] zero h = tt
 none_left nodes earlier [] (suc k) h = tt
@@ -102,38 +89,3 @@ pub record IsClearing (size : ℕ) (needs : List Need) (k : ℕ) (marks : List B
   pub long : length marks ≡ size
   pub targets : (n : ℕ) → get_or marks n false ≡ true → HasTarget n (drop k needs)
   pub within : (i : ℕ) (need : Need) → slice_get needs i ≡ Some need → need.node < size
-
-pub clearing_begins : (size : ℕ) (needs : List Need) (marks : List Bool) → AreMarked size needs marks → IsClearing size needs 0 marks
-clearing_begins size needs marks h = record { long = h.long; targets = h.targets; within = h.within }
-
-pub clearing_more : (size : ℕ) (needs : List Need) (k : ℕ) (marks : List Bool) (need : Need) → k < length needs → need ≡ get_or needs k need
-    → IsClearing size needs k marks → IsClearing size needs (k + 1) (set marks need.node false)
-clearing_more size needs k marks need l e m =
-    let d : drop k needs ≡ need ∷ drop (k + 1) needs = drop_more needs k need l ∙ ap (λ (y : Need). y ∷ drop (k + 1) needs) (sym e) in
-    let inside : need.node < length marks =
-    let a = m.long in let b = m.within k need (slice_get_read needs (length needs) k need refl l e) in omega arith in
-    record {
-      long = length-set marks need.node false ∙ m.long;
-      targets = λ n g. elim (cases_eq n need.node) [
-        | inl s ↦ absurd (true≢false (sym g ∙ ap (λ (i : ℕ). get_or (set marks need.node false) i false) s ∙ get_or-set_same marks need.node false false inside))
-        | inr ne ↦ later n need (drop (k + 1) needs) ne (subst (HasTarget n) d (m.targets n (sym (get_or-set_other marks need.node n false false ne) ∙ g)))
-      ];
-      within = m.within;
-    }
-  where
-    later : (n : ℕ) (x : Need) (xs : List Need) → (n ≡ x.node → ⊥) → HasTarget n (x ∷ xs) → HasTarget n xs
-    later n x xs ne (inl s) = absurd (ne (sym s))
-    later n x xs ne (inr h) = h
-
-pub clearing_ends : (size : ℕ) (needs : List Need) (k : ℕ) (marks : List Bool) → length needs ≤ k → IsClearing size needs k marks → HasNoMark size marks
-clearing_ends size needs k marks l m = record { long = m.long; clear = λ n. not_set (get_or marks n false) (λ e. nothing needs k n l (m.targets n e)) }
-  where
-    not_set : (b : Bool) → (b ≡ true → ⊥) → b ≡ false
-    not_set true h = absurd (h refl)
-    not_set false h = refl
-
-    nothing : (xs : List Need) (k n : ℕ) → length xs ≤ k → HasTarget n (drop k xs) → ⊥
-    nothing [] zero n h t = t
-    nothing [] (suc k) n h t = t
-    nothing (x ∷ xs) zero n h t = absurd (omega arith)
-    nothing (x ∷ xs) (suc k) n h t = nothing xs k n (omega arith) t

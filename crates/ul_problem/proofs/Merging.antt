@@ -98,10 +98,6 @@ at_from : (n : ℕ) (ts : List Term) → IsOrderedFrom n ts → IsOrderedAt (suc
 at_from n [] h = tt
 at_from n (t ∷ ts) h = (omega (arith, h.0), h.1)
 
-from_above : (low n : ℕ) (ts : List Term) → IsOrderedFrom n ts → low ≤ n → IsOrderedFrom low ts
-from_above low n [] h i = tt
-from_above low n (t ∷ ts) h i = (omega (arith, h.0), h.1)
-
 -- one turn that takes the terms on a node
 step : (m n : ℕ) (left right out l r l' r' : List Term) (x : Option Term) → (s : IsMerging m left right out l r) → s.low ≤ n
     → IsOrderedFrom n l' → IsOrderedFrom n r' → IsOn n x → x ≡ resolvent_term m n (term_on n l) (term_on n r)

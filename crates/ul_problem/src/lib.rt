@@ -7,6 +7,7 @@ mod fitting;
 mod incompat;
 pub mod laws;
 mod lists;
+mod needs;
 mod problem;
 mod resolving;
 mod saying;

@@ -1,15 +1,16 @@
 //! A problem: nodes with their versions, and what each version needs.
-ghost use Rattle.std.specs.Prelude.{◌≡◌, ◌<◌, ◌++◌, ◌∷◌, [], length, option_to_list, IfOk};
-ghost use Rattle.ul_problem.specs.HeldNeeds.{needs_held};
+ghost use Rattle.std.specs.Prelude.{◌≡◌, ◌<◌, ◌++◌, ◌∷◌, [], length, map, IfOk};
+ghost use Rattle.ul_problem.specs.HeldNeeds.{need_renumbered};
 ghost use Rattle.ul_problem.specs.Plain.{base_of, needs_of, order_of, size_of};
 ghost use Rattle.ul_problem.specs.Problems.{IsWellFormed};
 
 use crate::lists::{Places, Versions};
+use crate::needs::{HeldNeeds, copied, few, listed, renumber_needs, renumbered, shared, with_need};
 use std::alloc::{AllocError, Global};
 use std::marker::Model;
+use std::mem;
 use ul_base::Node;
-use ul_base::owned::beside;
-use ul_ranges::{Ordinals, SharedList};
+use ul_ranges::Ordinals;
 
 /// A need of a version: a target, and which of its versions meet the need.
 #[derive(Drop)]
@@ -33,53 +34,7 @@ impl Need {
     }
 }
 
-// Needs of a version as they are held: up to two, as most versions have, in place, and more in a list that versions may share.
-#[derive(Drop)]
-enum HeldNeeds {
-    Empty,
-    One([Need; 1]),
-    Two([Need; 2]),
-    Listed(SharedList<Need>),
-}
-
-// Needs that were taken off a list's end, of which the one before the last is there only beside it.
-fn few(first: Option<Need>, last: Option<Need>) -> HeldNeeds
-    ensures { needs_held result ≡ option_to_list first ++ option_to_list last }
-{
-    match (first, last) {
-        (Some(first), Some(last)) => HeldNeeds::Two([first, last]),
-        (Some(only), None) | (None, Some(only)) => HeldNeeds::One([only]),
-        (None, None) => HeldNeeds::Empty,
-    }
-}
-
-// Two needs equal to these.
-fn copied_two(alloc: Global, first: &Need, last: &Need) -> Result<HeldNeeds, AllocError>
-    ensures { IfOk result (λ h. needs_held h ≡ first.now ∷ last.now ∷ []) }
-{
-    let (first, last) = beside(first.copy(alloc)?, last.copy(alloc))?;
-    Ok(HeldNeeds::Two([first, last]))
-}
-
-// The same needs, held once more.
-fn copied(alloc: Global, held: &HeldNeeds) -> Result<HeldNeeds, AllocError>
-    ensures { IfOk result (λ h. needs_held h ≡ needs_held held.now) }
-{
-    match held {
-        HeldNeeds::Empty => Ok(HeldNeeds::Empty),
-        HeldNeeds::One([only]) => {
-            let only = only.copy(alloc)?;
-            Ok(HeldNeeds::One([only]))
-        }
-        HeldNeeds::Two([first, last]) => copied_two(alloc, first, last),
-        HeldNeeds::Listed(list) => {
-            let list = list.copy()?;
-            Ok(HeldNeeds::Listed(list))
-        }
-    }
-}
-
-/// The needs of one version. Those of several versions may be one list.
+/// The needs of one version. Those of several versions may be one list; a row that is written to has one of its own.
 #[derive(Drop)]
 pub struct NeedRow {
     held: HeldNeeds,
@@ -106,28 +61,34 @@ impl NeedRow {
     }
 
     /// The needs of a list, in its order.
+    pub fn of(mut needs: Vec<Need>) -> NeedRow
+        ensures { result ≡ needs.items }
+    {
+        if needs.len() > 2 {
+            return NeedRow {
+                held: HeldNeeds::Listed(needs),
+            };
+        }
+        let last = needs.pop();
+        let first = needs.pop();
+        NeedRow {
+            held: few(first, last),
+        }
+    }
+
+    /// The same needs, where more than two stand in a list that copies of the row share.
     ///
     /// # Errors
     ///
     /// Only for want of memory.
-    pub fn of(alloc: Global, needs: Vec<Need>) -> Result<NeedRow, AllocError>
-        ensures { IfOk result (λ row. row ≡ needs.items) }
+    pub fn share(self, alloc: Global) -> Result<NeedRow, AllocError>
+        ensures { IfOk result (λ row. row ≡ self) }
     {
-        if needs.len() > 2 {
-            let list = SharedList::of(alloc, needs)?;
-            return Ok(NeedRow {
-                held: HeldNeeds::Listed(list),
-            });
-        }
-        let mut needs = needs;
-        let last = needs.pop();
-        let first = needs.pop();
-        Ok(NeedRow {
-            held: few(first, last),
-        })
+        let held = shared(alloc, self.held)?;
+        Ok(NeedRow { held })
     }
 
-    /// The same needs. More than two aren't copied: the two rows share them.
+    /// An equal row. It shares a list that `share` made.
     ///
     /// # Errors
     ///
@@ -148,7 +109,59 @@ impl NeedRow {
             HeldNeeds::One(needs) => &needs[..],
             HeldNeeds::Two(needs) => &needs[..],
             HeldNeeds::Listed(needs) => needs.as_slice(),
+            HeldNeeds::Shared(needs) => needs.as_slice(),
         }
+    }
+
+    /// Puts a need at the end.
+    ///
+    /// # Errors
+    ///
+    /// Only for want of memory; the row then has no need.
+    pub fn push(&mut self, alloc: Global, need: Need) -> Result<(), AllocError>
+        ensures { IfOk result (λ _. self.new ≡ self.old ++ need ∷ []) }
+    {
+        let held = mem::replace(&mut self.held, HeldNeeds::Empty);
+        self.held = with_need(alloc, held, need)?;
+        Ok(())
+    }
+
+    /// Room for so many needs in a list, where they are more than stand in place.
+    ///
+    /// # Errors
+    ///
+    /// Only for want of memory; the row then has no need.
+    pub fn make_room(&mut self, alloc: Global, count: usize) -> Result<(), AllocError>
+        ensures { IfOk result (λ _. self.new ≡ self.old) }
+    {
+        if count > 2 {
+            let held = mem::replace(&mut self.held, HeldNeeds::Empty);
+            let mut list = listed(alloc, held)?;
+            list.reserve(count.saturating_sub(list.len()))?;
+            self.held = HeldNeeds::Listed(list);
+        }
+        Ok(())
+    }
+
+    /// Puts the number at each target's place in its place, or 0 where there is none.
+    ///
+    /// # Errors
+    ///
+    /// Only for want of memory, which only a row that shares its list takes.
+    pub fn renumber(&mut self, alloc: Global, numbers: &[u64]) -> Result<(), AllocError>
+        ensures { IfOk result (λ _. self.new ≡ map (need_renumbered numbers.now) self.old) }
+    {
+        match &mut self.held {
+            HeldNeeds::Empty => {}
+            HeldNeeds::One(needs) => renumber_needs(numbers, &mut needs[..]),
+            HeldNeeds::Two(needs) => renumber_needs(numbers, &mut needs[..]),
+            HeldNeeds::Listed(needs) => renumber_needs(numbers, needs.as_mut_slice()),
+            HeldNeeds::Shared(needs) => {
+                let list = renumbered(alloc, numbers, needs.as_slice())?;
+                self.held = HeldNeeds::Listed(list);
+            }
+        }
+        Ok(())
     }
 }
 

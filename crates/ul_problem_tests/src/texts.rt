@@ -95,20 +95,20 @@ fn need(alloc: Global, text: &str) -> Option<Need> {
     Some(Need { node, permitted })
 }
 
-fn need_row(alloc: Global, text: &str) -> Option<NeedRow> {
+fn need_row(alloc: Global, text: &str) -> NeedRow {
     let mut needs = Vec::new(alloc);
     for part in text.split(',') {
         if !part.is_empty() {
             push_made(&mut needs, need(alloc, part));
         }
     }
-    NeedRow::of(alloc, needs).ok()
+    NeedRow::of(needs)
 }
 
 fn need_rows(alloc: Global, text: &str, size: u32) -> NeedRows {
     let mut rows = Vec::new(alloc);
     for _ in 0..size {
-        push_made(&mut rows, need_row(alloc, text));
+        let _ = rows.push(need_row(alloc, text));
     }
     NeedRows::of(rows)
 }

@@ -49,19 +49,6 @@ add_falls a x y h = omega arith
 pub facts_fall : (sizes : List ℕ) (rows : List (List Bool)) (before after : List Fact) → measure_of sizes after < measure_of sizes before → measure_with rows sizes after < measure_with rows sizes before
 facts_fall sizes rows before after h = add_falls (all_closed rows * measure_bound sizes) (measure_of sizes after) (measure_of sizes before) h
 
-times_le : (c d w : ℕ) → c ≤ d → c * w ≤ d * w
-times_le c d w h = grind (arith)
-
--- behind steps that were opened
-pub wider_falls : (sizes : List ℕ) (rows now last : List (List Bool)) (before middle after : List Fact) → all_closed now ≤ all_closed rows → middle ≡ before → measure_with last sizes after < measure_with now sizes middle → measure_with last sizes after < measure_with rows sizes before
-wider_falls sizes rows now last before middle after le same h =
-    let i : measure_with last sizes after < measure_with now sizes before = subst (λ (fs : List Fact). measure_with last sizes after < measure_with now sizes fs) same h in
-    let t = times_le (all_closed now) (all_closed rows) (measure_bound sizes) le in
-    chain (measure_with last sizes after) (all_closed now * measure_bound sizes) (all_closed rows * measure_bound sizes) (measure_of sizes before) i t
-  where
-    chain : (a b c x : ℕ) → a < b + x → b ≤ c → a < c + x
-    chain a b c x g k = omega arith
-
 -- ---- steps of a version
 
 pub opened_state : (p : Plain) (t u : Track) (rows : List (List Bool)) (k n v : ℕ) → IsState p t → AreLooked p t rows k → is_opened rows n v ≡ false → v < size_of p n → IsTrailOf p u → u.steps ≡ t.steps ++ steps_for p n v → u.facts ≡ t.facts → IsState p u
@@ -275,12 +262,6 @@ look_open p t u o x q place n v h next there one rows counts looked =
       opening = omega (arith, e, less);
     }
 
-pub looks_more : (p : Plain) (t u x : Track) (o q s : Opened) (count : ℕ) → IsWider p t o u q → IsLook p u q x s count true → IsLookedOver p t o x s true
-looks_more p t u x o q s count a b = (wider_join p t u x o q s a b.wider, (let i = a.fewer in let j = b.opening in omega arith))
-
-pub looks_end : (p : Plain) (t u : Track) (o q : Opened) (k : ℕ) → IsWider p t o u q → u ≡ t → q.looked ≡ k → k ≡ length t.facts → IsLookedOver p t o u q false
-looks_end p t u o q k a same looked all = (a, same, looked ∙ (all ∙ ap (λ (x : Track). length x.facts) (sym same)))
-
 -- ---- turns
 
 -- a version's steps, with those of the ones behind it, and what follows
@@ -310,12 +291,4 @@ looked_end p t u o q quiet a none = record {
   end = ap (λ (x : Track). next_of p (picks_of x.facts)) (sym a.1) ∙ none;
   calm = λ k c. (quiet k c.0 c.1).0 c.2;
   held = subst (λ (x : Track). HasSteps p (picks_of x.facts) x.steps) a.1 (picks_held p u q.versions.items q.looked a.0.state a.0.opened.are a.0.opened.looked a.2);
-}
-
-pub looked_forward : (p : Plain) (t u y : Track) (o q z : Opened) (g : Progress) → IsLookedOver p t o u q false → IsMove p u q y z g → IsMove p t o y z g
-looked_forward p t u y o q z g a m = record {
-  state = m.state;
-  opened = m.opened;
-  progress = m.progress;
-  falls = wider_falls (sizes_of p) o.versions.items q.versions.items z.versions.items t.facts u.facts y.facts a.0.fewer a.0.facts m.falls;
 }

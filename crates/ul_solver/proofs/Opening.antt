@@ -3,7 +3,7 @@ use Rattle.std.proofs.Common.{◌≡◌, ℕ, zero, suc, ◌+◌, List, [], ◌�
 use Rattle.std.specs.List.{Contains}
 use Rattle.std.proofs.lemmas.Bool.{cases_eq, cases_lt, le-leb, lt-leb, true≢false}
 use Rattle.std.proofs.lemmas.Option.{none-some, same_Some}
-use Rattle.std.proofs.lemmas.List.{get_or-set_same, get_or-set_other, length-set, length-append, length-replicate, take-append-drop}
+use Rattle.std.proofs.lemmas.List.{get_or-set_same, get_or-set_other, length-set, length-replicate, take-append-drop}
 use Rattle.ul_ranges.specs.Flags.{has, either, set_of}
 use Rattle.ul_ranges.proofs.ForCallers.{has-either, length-either, length-set_of}
 use Rattle.ul_problem.specs.Terms.{node_of, allows, meet_of}
@@ -317,15 +317,6 @@ last_at [] x zero h = refl
 last_at [] x (suc i) h = absurd (omega (arith, h))
 last_at (y ∷ xs) x zero h = absurd (omega (arith, h))
 last_at (y ∷ xs) x (suc i) h = last_at xs x i (omega (arith, h))
-
-pub closed_next : (p : Plain) (k : ℕ) (rows now : List (List Bool)) (row : List Bool) → AreClosedTo p k rows → row ≡ replicate (size_of p k) false → now ≡ rows ++ row ∷ [] → AreClosedTo p (k + 1) now
-closed_next p k rows now row c e n = record {
-  count = ap (λ (l : List (List Bool)). length l) n ∙ (length-append rows (row ∷ []) ∙ ap (λ (x : ℕ). x + 1) c.count);
-  each = λ m low. ap (λ (l : List (List Bool)). get_or l m []) n ∙ (elim (cases_lt m k) [
-    | inl less ↦ (let count = c.count in left_at rows (row ∷ []) m (omega arith) ∙ c.each m less)
-    | inr high ↦ (let same : m ≡ k = omega arith in let count : length rows ≡ m = c.count ∙ sym same in last_at rows row m count ∙ (e ∙ ap (λ (x : ℕ). replicate (size_of p x) false) (sym same)))
-  ]);
-}
 
 closed_has : (p : Plain) (k n v : ℕ) (rows : List (List Bool)) → AreClosedTo p k rows → is_opened rows n v ≡ false
 closed_has p k n v rows c = elim (cases_lt n k) [

@@ -28,11 +28,6 @@ pub new_at : (p : Plain) (m : ℕ) (xs ys : List Fact) → AreNewAfter p m xs ys
 new_at p m xs [] h = tt
 new_at p m xs (f ∷ ys) h = (h.0, new_at p m (xs ++ f ∷ []) ys h.3)
 
--- places of two lists
-get_right : {A : Type 0} (xs ys : List A) (x : A) (k : ℕ) → slice_get ys k ≡ Some x → (j : ℕ) × (slice_get (xs ++ ys) j ≡ Some x)
-get_right [] ys x k h = (k, h)
-get_right (z ∷ xs) ys x k h = let r = get_right xs ys x k h in (suc r.0, r.1)
-
 steered_left : (p : Plain) (front xs ys : List Fact) → IsSteered p front (xs ++ ys) → IsSteered p front xs
 steered_left p front [] ys h = tt
 steered_left p front (x ∷ xs) ys h = (h.0, h.1, steered_left p (front ++ x ∷ []) xs ys h.2)

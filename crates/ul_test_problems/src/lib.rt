@@ -53,14 +53,14 @@ fn need(alloc: Global, text: &str) -> Option<Need> {
     Some(Need { node, permitted })
 }
 
-fn need_row(alloc: Global, text: &str) -> Option<NeedRow> {
+fn need_row(alloc: Global, text: &str) -> NeedRow {
     let mut needs = Vec::new(alloc);
     for part in text.split(',') {
         if !part.is_empty() {
             push_made(&mut needs, need(alloc, part));
         }
     }
-    NeedRow::of(alloc, needs).ok()
+    NeedRow::of(needs)
 }
 
 // The rows of a node's text, each behind a bar.
@@ -68,7 +68,7 @@ fn need_rows(alloc: Global, text: &str) -> NeedRows {
     let mut rows = Vec::new(alloc);
     if let Some((_, rest)) = text.split_once('|') {
         for part in rest.split('|') {
-            push_made(&mut rows, need_row(alloc, part));
+            let _ = rows.push(need_row(alloc, part));
         }
     }
     NeedRows::of(rows)

@@ -1,13 +1,12 @@
 -- What is certain, read off what is known of a node.
-use Rattle.std.proofs.Common.{◌≡◌, ℕ, List, Bool, true, false, not, Option, Some, None, refl, ap, ◌∙◌, sym, subst, ◌<◌, ◌≤◌, ◌+◌, inl, inr, arith, length, slice_get, get_or}
-use Rattle.std.proofs.lemmas.Bool.{cases_eq, cases_lt, true≢false}
-use Rattle.std.proofs.lemmas.Option.{none-some, same_Some, slice_get_read}
-use Rattle.ul_ranges.specs.Flags.{has, IsNextMember}
+use Rattle.std.proofs.Common.{◌≡◌, ℕ, List, Bool, true, false, not, Option, Some, None, refl, ap, ◌∙◌, sym, subst, ◌<◌, ◌≤◌, arith, length, slice_get, get_or}
+use Rattle.std.proofs.lemmas.Bool.{true≢false}
+use Rattle.std.proofs.lemmas.Option.{same_Some, slice_get_read}
+use Rattle.ul_ranges.specs.Flags.{has}
 use Rattle.ul_problem.specs.Terms.{node_of, set_of, allows}
 use Rattle.ul_problem.specs.Plain.{Plain, size_of}
 use Rattle.ul_problem.specs.declared.term.Term.{Term}
-use Rattle.ul_problem.specs.declared.term.Term.TheVariants.{In, NotIn}
-use Rattle.ul_problem.proofs.ForCallers.{has_within}
+use Rattle.ul_problem.specs.declared.term.Term.TheVariants.{In}
 use Rattle.ul_trail.specs.declared.fact.Fact.{Fact}
 use Rattle.ul_trail.specs.Facts.{is_open, IsHeld, IsMirror, one_of}
 use Rattle.ul_trail.specs.Propagation.{IsAlive}
@@ -17,28 +16,6 @@ use Rattle.ul_trail.specs.Certain.{IsCertainAt, IsOnlyMember, IsOnlyOption}
 use Rattle.ul_trail.proofs.Following.{one_has}
 use Rattle.ul_trail.proofs.Firsts.{one_only}
 use Rattle.ul_trail.proofs.Propagating.{sizes_length, sizes_at}
-
--- a set without a first member
-pub no_member : (s : List Bool) → IsNextMember s 0 None → IsOnlyMember s None
-no_member s h v e = absurd (true≢false (sym e ∙ h v (omega arith)))
-
--- one with a first member and no further one
-pub one_member : (s : List Bool) (v : ℕ) → IsNextMember s 0 (Some v) → IsNextMember s (v + 1) None → IsOnlyMember s (Some v)
-one_member s v h i = (
-  has_within s v h.1,
-  h.1,
-  λ k e. elim (cases_lt k v) [
-    | inl low ↦ absurd (true≢false (sym e ∙ h.2 k (omega arith) low))
-    | inr high ↦ elim (cases_eq k v) [ inl same ↦ same | inr other ↦ absurd (true≢false (sym e ∙ i k (omega arith))) ]
-  ],
-)
-
--- one with two
-pub two_members : (s : List Bool) (v w : ℕ) → IsNextMember s 0 (Some v) → IsNextMember s (v + 1) (Some w) → IsOnlyMember s None
-two_members s v w h i k e = elim (cases_eq v k) [
-  | inl same ↦ (w, i.1, λ z. let l = i.0 in omega arith)
-  | inr other ↦ (v, h.1, other)
-]
 
 no_version : (n : ℕ) (s : List Bool) → allows (In n s) None ≡ true → ⊥
 no_version n s h = true≢false (sym h)
@@ -51,10 +28,6 @@ only_in n s (Some v) h = (h.0, which)
     which : (o : Option ℕ) → allows (In n s) o ≡ true → o ≡ Some v
     which None e = absurd (no_version n s e)
     which (Some k) e = ap Some (h.2 k e)
-
--- a term that a node may be absent by
-pub only_outside : (n : ℕ) (s : List Bool) → IsOnlyOption (NotIn n s) None
-only_outside n s = λ v e. (None, refl, λ z. none-some v z)
 
 held_only : (facts : List Fact) (n size v : ℕ) (o : Option ℕ) → IsHeld facts (In n (one_of size v)) → is_open facts n o ≡ true → o ≡ Some v
 held_only facts n size v None h e = absurd (no_version n (one_of size v) (h None e))

@@ -78,10 +78,6 @@ true_more : (σ : Selection) (fs : List Fact) (f : Fact) → AreTrue σ fs → h
 true_more σ [] f h i = (i, tt)
 true_more σ (g ∷ fs) f h i = (h.0, true_more σ fs f h.1 i)
 
-true_left : (σ : Selection) (xs ys : List Fact) → AreTrue σ (xs ++ ys) → AreTrue σ xs
-true_left σ [] ys h = tt
-true_left σ (x ∷ xs) ys h = (h.0, true_left σ xs ys h.1)
-
 facts_true : (p : Plain) (steps : List Step) (earlier fs : List Fact) (σ : Selection) → AreForbidden p steps → Serves p σ → AreTrue σ earlier → AreDerivedAfter p steps earlier fs → Agrees σ (picks_of fs) → AreTrue σ (earlier ++ fs)
 facts_true p steps earlier [] σ f s h d a = subst (λ (l : List Fact). AreTrue σ l) (sym (append-nil earlier)) h
 facts_true p steps earlier (x ∷ fs) σ f s h d a =

@@ -1,12 +1,12 @@
 -- Facts that grow by derived ones.
-use Rattle.std.proofs.Common.{◌≡◌, ℕ, List, [], ◌∷◌, ◌++◌, true, Option, refl, ap, ◌∙◌, sym, subst, arith, append_assoc}
+use Rattle.std.proofs.Common.{◌≡◌, ℕ, List, [], ◌∷◌, ◌++◌, true, ap, ◌∙◌, sym, subst, arith, append_assoc}
 use Rattle.std.proofs.lemmas.List.{append-nil}
 use Rattle.std.proofs.lemmas.Option.{slice_get_within}
 use Rattle.ul_problem.specs.Plain.{Plain}
 use Rattle.ul_problem.specs.Best.{Picks, joined_needs}
 use Rattle.ul_trail.specs.Track.{Track}
 use Rattle.ul_trail.specs.declared.fact.Fact.{Fact}
-use Rattle.ul_trail.specs.Facts.{is_open, picks_of, pick_with, level_of, AreAt}
+use Rattle.ul_trail.specs.Facts.{is_open, level_of, AreAt}
 use Rattle.ul_trail.specs.Propagation.{IsTrailOf, AreDerivedAfter, AreLevels, AreNewAfter, HasGrown, root_facts}
 use Rattle.ul_trail.proofs.Following.{derived_left}
 use Rattle.ul_trail.proofs.Keeping.{levels_left}
@@ -17,10 +17,6 @@ use Rattle.ul_trail.proofs.Rooted.{rooted_level, root_level}
 new_level : (p : Plain) (level : ℕ) (earlier more : List Fact) → AreNewAfter p level earlier more → AreAt level more
 new_level p level earlier [] h = tt
 new_level p level earlier (f ∷ fs) h = (h.0, new_level p level (earlier ++ f ∷ []) fs h.3)
-
-new_unpicked : (p : Plain) (level : ℕ) (earlier more : List Fact) → AreNewAfter p level earlier more → picks_of more ≡ []
-new_unpicked p level earlier [] h = refl
-new_unpicked p level earlier (f ∷ fs) h = ap (λ (c : Option ℕ). pick_with c f.term (picks_of fs)) h.1.1 ∙ new_unpicked p level (earlier ++ f ∷ []) fs h.3
 
 new_join : (p : Plain) (level : ℕ) (earlier xs ys : List Fact) → AreNewAfter p level earlier xs → AreNewAfter p level (earlier ++ xs) ys → AreNewAfter p level earlier (xs ++ ys)
 new_join p level earlier [] ys h i = subst (λ (l : List Fact). AreNewAfter p level l ys) (append-nil earlier) i

@@ -48,11 +48,6 @@ all_derived_steps : (p : Plain) (steps learned : List Step) (earlier fs : List F
 all_derived_steps p steps learned earlier [] h = tt
 all_derived_steps p steps learned earlier (f ∷ fs) h = (derived_steps p steps learned earlier f.term f.cause h.0, all_derived_steps p steps learned (earlier ++ f ∷ []) fs h.1)
 
--- levels
-levels_from : (low high : ℕ) (fs : List Fact) → low ≤ high → AreLevels high fs → AreLevels low fs
-levels_from low high [] h i = tt
-levels_from low high (f ∷ fs) h i = (omega (arith, i.0), i.1)
-
 pub levels_left : (low : ℕ) (xs ys : List Fact) → AreLevels low (xs ++ ys) → AreLevels low xs
 levels_left low [] ys h = tt
 levels_left low (x ∷ xs) ys h = (h.0, levels_left x.level xs ys h.1)

@@ -120,13 +120,6 @@ numbered_held s old now k n e = elim n [
   | inr h ↦ other_held s old now k h.0 e h.1
 ]
 
--- steps one after the other
-pub none_held : (held : HeldSteps) → HoldsAlso [] held held
-none_held held p terms h = (
-  subst (ArePlaced held.places.items held.others.items) (sym (append-nil terms)) h,
-  ap (steps_in held) (append-nil terms) ∙ sym (append-nil (steps_in held terms)),
-)
-
 pub held_join : (xs ys : List Step) (a b c : HeldSteps) → HoldsAlso xs a b → HoldsAlso ys b c → HoldsAlso (xs ++ ys) a c
 held_join xs ys a b c g h p terms w =
     let first = g p terms w in

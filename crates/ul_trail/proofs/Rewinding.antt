@@ -2,14 +2,14 @@
 use Rattle.std.proofs.Common.{◌≡◌, ℕ, zero, suc, ◌+◌, List, [], ◌∷◌, ◌++◌, Bool, true, false, cond, Option, Some, refl, ap, ◌∙◌, sym, subst, ◌<◌, ◌≤◌, arith, slice_get, length, take, nat_le, append_assoc, length-append}
 use Rattle.std.proofs.lemmas.List.{append-nil}
 use Rattle.std.proofs.lemmas.Option.{none-some, same_Some, slice_get_within}
-use Rattle.ul_problem.specs.Terms.{node_of, IsOrdered}
+use Rattle.ul_problem.specs.Terms.{node_of}
 use Rattle.ul_problem.specs.Plain.{Plain}
 use Rattle.ul_problem.specs.Problems.{IsWellFormed}
 use Rattle.ul_problem.specs.Best.{Picks, joined_needs}
 use Rattle.ul_problem.specs.Steps.{says, AreRightAfter, IsStepWithin, AreTermsOf, said_by}
 use Rattle.ul_problem.specs.declared.term.Term.{Term}
 use Rattle.ul_problem.specs.declared.step.Step.{Step}
-use Rattle.ul_problem.proofs.ForCallers.{says_whole, says_fits, all_within, fits_at, said_append, said_place, place_one}
+use Rattle.ul_problem.proofs.ForCallers.{says_fits, all_within, fits_at, said_append, said_place, place_one}
 use Rattle.ul_trail.specs.Track.{Track}
 use Rattle.ul_trail.specs.declared.fact.Fact.{Fact}
 use Rattle.ul_trail.specs.declared.mark.Mark.{Mark}
@@ -58,10 +58,6 @@ pub turns_at : (marks : List Mark) (l : ℕ) (m : Mark) → slice_get marks l �
 turns_at [] l m e = absurd (none-some m e)
 turns_at (x ∷ xs) zero m e = ap (λ (y : Mark). Some y.queue) (same_Some x m e)
 turns_at (x ∷ xs) (suc l) m e = turns_at xs l m e
-
-pub turns_length : (marks : List Mark) → length (turns_of marks) ≡ length marks
-turns_length [] = refl
-turns_length (m ∷ ms) = ap suc (turns_length ms)
 
 -- what is kept going back
 pub indexed_take : (d : Picks) (positions : List ℕ) (n : ℕ) → IsIndexed d positions → IsIndexed (take n d) positions
@@ -216,9 +212,6 @@ trail_learned p t learned w r f = record {
 -- holding
 pub held_nodes : (p : Plain) (ts : List Term) (rows : List (List ℕ)) → length rows ≡ length p.nodes → AreTermsOf p ts → (i : ℕ) (t : Term) → slice_get ts i ≡ Some t → node_of t < length rows
 held_nodes p ts rows e h i t g = let f = fits_at p ts t h (place_one ts i t g) in let a = f.0 in omega arith
-
-pub held_ordered : (p : Plain) (s : Step) (ts : List Term) → IsStepWithin p s → ts ≡ says p s → IsOrdered ts
-held_ordered p s ts w e = subst IsOrdered (sym e) (says_whole p s w).0
 
 pub held_next : (p : Plain) (start terms now : List (List Term)) (steps : List Step) (i : ℕ) (s : Step) (ts : List Term) → slice_get steps i ≡ Some s → terms ≡ start ++ said_by p (take i steps) → ts ≡ says p s → now ≡ terms ++ ts ∷ [] → now ≡ start ++ said_by p (take (i + 1) steps)
 held_next p start terms now steps i s ts e t q n =

@@ -17,8 +17,6 @@ use Rattle.ul_trail.specs.declared.fact.Fact.{Fact}
 use Rattle.ul_trail.specs.Facts.{is_open, one_of, picks_of, level_of, IsMirror}
 use Rattle.ul_trail.specs.Counts.{size_list, sizes_of}
 use Rattle.ul_trail.specs.Propagation.{IsTrailOf, AreDerivedAfter, AreLevels, root_fact, root_facts}
-use Rattle.ul_trail.specs.Standing.{IsStanding}
-use Rattle.ul_trail.specs.Watched.{IsWatched}
 use Rattle.ul_trail.specs.Kept.{AreMarks}
 use Rattle.ul_trail.specs.Roots.{root_picks}
 use Rattle.ul_trail.proofs.Places.{last_cases, take_next}
@@ -65,31 +63,9 @@ blank_next sizes known now k s h e n = subst (λ (x : List Term). AreBlank sizes
   ];
 })
 
-pub blank_start : (sizes : List ℕ) → AreBlank sizes [] 0
-blank_start sizes = record { count = refl; mirror = λ n q g. absurd (none-some q g) }
-
-pub blank_all : (sizes : List ℕ) (known : List Term) (k : ℕ) → AreBlank sizes known k → k ≡ length sizes → IsStanding sizes known [] []
-blank_all sizes known k h e = record { count = h.count ∙ e; mirror = h.mirror; aligned = refl; undo = λ i f q g x. absurd (none-some f g); inside = λ i f g. absurd (none-some f g) }
-
--- rows
-row_blank : (xs : List (List ℕ)) (n : ℕ) → ((m : ℕ) → get_or xs m [] ≡ []) → get_or (xs ++ [] ∷ []) n [] ≡ []
-row_blank [] zero h = refl
-row_blank [] (suc n) h = refl
-row_blank (x ∷ xs) zero h = h 0
-row_blank (x ∷ xs) (suc n) h = row_blank xs n (λ m. h (suc m))
-
 pub record AreEmpty (rows : List (List ℕ)) (k : ℕ) : Type 0 where
   pub count : length rows ≡ k
   pub each : (m : ℕ) → get_or rows m [] ≡ []
-
-pub empty_next : (rows now : List (List ℕ)) (k : ℕ) (r : List ℕ) → AreEmpty rows k → r ≡ [] → now ≡ rows ++ r ∷ [] → AreEmpty now (k + 1)
-empty_next rows now k r h e n = subst (λ (x : List (List ℕ)). AreEmpty x (k + 1)) (sym (n ∙ ap (λ (z : List ℕ). rows ++ z ∷ []) e)) (record {
-  count = length-append rows ([] ∷ []) ∙ ap (λ (j : ℕ). j + 1) h.count;
-  each = λ m. row_blank rows m h.each;
-})
-
-pub empty_watched : (rows : List (List ℕ)) (k : ℕ) → AreEmpty rows k → IsWatched [] rows
-empty_watched rows k h = record { row = λ n l. h.each n }
 
 -- roots
 inc_from : (x : ℕ) (ns : List ℕ) (k r : ℕ) → IncreasesFrom PlaceBefore x ns → slice_get ns k ≡ Some r → (x < r) × (is_decided r (root_picks (take k ns)) ≡ false)

@@ -2,4 +2,4 @@ use Rattle.std.proofs.Common.{◌≡◌, ◌++◌, take}
 use Rattle.ul_placing.proofs.aims.push_needs.Given as goal
 
 abbrev pub invariant-loop-need : goal.invariant-loop-need
-invariant-loop-need l = l.needs.items ≡ l.initial.needs.items ++ take l.need-index l.more
+invariant-loop-need l = l.needs ≡ l.initial.needs ++ take l.need-index l.more
