@@ -31,22 +31,6 @@ entries_ahead groups expand group i e es list answer h = ap (λ (a : Expanding L
 pub left : {X : Type 0} (xs : List X) (n : ℕ) (x : X) → n < length xs → x ≡ get_or xs n x → drop n xs ≡ x ∷ drop (n + 1) xs
 left {X} xs n x lt is = drop-cons xs n x lt ∙ ap (λ (y : X). y ∷ drop (suc n) xs) (sym is) ∙ ap (λ (k : ℕ). x ∷ drop k xs) (sym (add-one n))
 
--- the next entry was added
-pub entries_next : (groups : GroupByName) (expand : Expand) (group : List ℕ) (i : ℕ) (es : List GroupEntry) (n : ℕ) (e : GroupEntry) (list after : ListFields)
-    → n < length es → e ≡ get_or es n e → with_entry groups expand group i e list ≡ Ok after
-    → with_entries groups expand group i (drop n es) list ≡ with_entries groups expand group (i + 1) (drop (n + 1) es) after
-entries_next groups expand group i es n e list after lt is h =
-    ap (λ (rest : List GroupEntry). with_entries groups expand group i rest list) (left es n e lt is)
-    ∙ entries_ahead groups expand group i e (drop (n + 1) es) list (Ok after) h
-
--- the next entry is refused
-pub entries_stop : (groups : GroupByName) (expand : Expand) (group : List ℕ) (i : ℕ) (es : List GroupEntry) (n : ℕ) (e : GroupEntry) (list : ListFields) (stop : Stop)
-    → n < length es → e ≡ get_or es n e → with_entry groups expand group i e list ≡ Err stop
-    → with_entries groups expand group i (drop n es) list ≡ Err stop
-entries_stop groups expand group i es n e list stop lt is h =
-    ap (λ (rest : List GroupEntry). with_entries groups expand group i rest list) (left es n e lt is)
-    ∙ entries_ahead groups expand group i e (drop (n + 1) es) list (Err stop) h
-
 -- a group's entries are added through one level less
 pub group_entries : (depth : ℕ) (groups : GroupByName) (g : GroupFields) (list : ListFields) → (depth ≡ 0 → ⊥)
     → with_group depth groups g list ≡ with_entries groups (with_group (depth - 1) groups) g.name 0 g.entries list

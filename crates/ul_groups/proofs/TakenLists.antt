@@ -1,7 +1,5 @@
 -- Elements that are taken from the front of a list, one by one.
-use Rattle.std.proofs.Common.{◌≡◌, ◌+◌, ◌-◌, ◌≤◌, ◌++◌, ◌∙◌, ℕ, zero, suc, List, [], ◌∷◌, length, take, drop, add-one, length-drop, arith, ap, sym}
-use Rattle.std.proofs.Math.ListN.{drop_of_length-le}
-use Rattle.std.proofs.lemmas.List.{take_all}
+use Rattle.std.proofs.Common.{◌≡◌, ◌+◌, ◌-◌, ◌++◌, ◌∙◌, ℕ, zero, suc, List, [], ◌∷◌, take, drop, add-one, ap, sym}
 
 first_taken : {X : Type 0} (xs : List X) (i : ℕ) (x : X) (rest : List X) → drop i xs ≡ x ∷ rest → take (suc i) xs ≡ take i xs ++ x ∷ []
 first_taken [] zero x rest e = absurd (let f : [] ≡ x ∷ rest = e in cc)
@@ -29,19 +27,3 @@ next_taken {X} xs i before rest list after x l d e a =
 pub dropped_more : {X : Type 0} (xs : List X) (i : ℕ) (before : List X) (x : X) (rest : List X) → before ≡ drop i xs → before ≡ x ∷ rest
     → rest ≡ drop (i + 1) xs
 dropped_more xs i before x rest d e = sym (ap (λ k. drop k xs) (add-one i) ∙ first_dropped xs i x rest (sym d ∙ e))
-
-none_long : {X : Type 0} (xs : List X) (i : ℕ) → drop i xs ≡ [] → length xs ≤ i
-none_long xs i e =
-    let l : length xs - i ≡ 0 = sym (length-drop i xs) ∙ ap length e in
-    omega (arith, l)
-
--- where nothing is left, all were taken
-pub all_taken : {X : Type 0} (xs : List X) (i n : ℕ) (rest : List X) → rest ≡ drop i xs → rest ≡ [] → i ≤ n → take i xs ≡ take n xs
-all_taken xs i n rest d e le =
-    let short = none_long xs i (sym d ∙ e) in
-    take_all i xs short ∙ sym (take_all n xs (omega (arith, short, le)))
-
--- and dropped
-pub all_dropped : {X : Type 0} (xs : List X) (i n : ℕ) (rest : List X) → rest ≡ drop i xs → rest ≡ [] → i ≤ n → rest ≡ drop n xs
-all_dropped xs i n rest d e le =
-    e ∙ sym (drop_of_length-le xs (omega (arith, none_long xs i (sym d ∙ e), le)))

@@ -1,6 +1,6 @@
 //! Catalogs adjusted by a project's overrides and constraints.
 
-ghost use Rattle.std.specs.Prelude.{◌≡◌, [], IfOk, IsTrue, map};
+ghost use Rattle.std.specs.Prelude.{◌≡◌, ◌↔◌, [], IfOk, IsTrue, map};
 ghost use Rattle.ul_groups.specs.Adjusted as Adjusted;
 ghost use Rattle.ul_groups.specs.NameLists.{at_name};
 
@@ -124,8 +124,7 @@ fn adjusted_packages(
 
 // Whether a project has neither constraints nor overrides.
 fn adjusts_nothing(project: &Project) -> bool
-    ensures constraints { IsTrue result → project.now.constraints ≡ [] }
-    ensures overrides { IsTrue result → project.now.overrides ≡ [] }
+    ensures { IsTrue result ↔ ((project.now.constraints ≡ []) × (project.now.overrides ≡ [])) }
 {
     let constraints: &Vec<Requirement> = &project.constraints;
     let overrides: &Vec<Requirement> = &project.overrides;

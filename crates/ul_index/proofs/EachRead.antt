@@ -1,5 +1,5 @@
 -- What was read, before what is left to read.
-use Rattle.std.proofs.Common.{◌≡◌, ◌++◌, List, [], ◌∷◌, Option, Some, None, true, false, is_some, refl, ap, sym, append_assoc, append-nil}
+use Rattle.std.proofs.Common.{◌≡◌, ◌++◌, List, [], ◌∷◌, Option, Some, None, true, false, is_some, refl, ap, sym, append_assoc}
 use Rattle.std.specs.Prelude.{ℕ, Ok, Err}
 use Rattle.serde_json.specs.Data.{Data}
 use Rattle.serde_json.specs.Find.{as_str}
@@ -22,31 +22,7 @@ pub found_then-one : {A B : Type 0} (f : A → Option B) (found after : List B) 
     → found_then found (read_each f (x ∷ xs)) ≡ found_then after (read_each f xs)
 found_then-one f found after x xs y e s = rw (e, s) (then_one found y (read_each f xs))
 
--- one has no reading
-pub found_then-none : {A B : Type 0} (f : A → Option B) (found : List B) (x : A) (xs : List A) → f x ≡ None → found_then found (read_each f (x ∷ xs)) ≡ None
-found_then-none f found x xs e = rw e refl
-
--- nothing is left
-pub found_then-all : {A B : Type 0} (f : A → Option B) (found : List B) → found_then found (read_each f []) ≡ Some found
-found_then-all f found = ap Some (append-nil found)
-
--- nothing was read yet
-pub found_then-start : {B : Type 0} (found : List B) (rest : Option (List B)) → found ≡ [] → rest ≡ found_then found rest
-found_then-start found None e = refl
-found_then-start found (Some ys) e = rw e refl
-
 -- ---- values of an array
-
--- one value is no text
-pub texts-none : (d : Data) (ds : List Data) → as_str d ≡ None → is_some (read_each as_str (d ∷ ds)) ≡ false
-texts-none d ds e = rw e refl
-
-some_after : {B : Type 0} (y : B) (rest : Option (List B)) → is_some (option_bind rest (λ ys. Some (y ∷ ys))) ≡ is_some rest
-some_after y None = refl
-some_after y (Some ys) = refl
-
-pub texts-some : (d : Data) (ds : List Data) (s : List ℕ) → as_str d ≡ Some s → is_some (read_each as_str (d ∷ ds)) ≡ is_some (read_each as_str ds)
-texts-some d ds s e = rw e (some_after s (read_each as_str ds))
 
 -- texts are read as the values that they are
 each_text : (d : Data) (ds : List Data) (o : Option (List ℕ)) (rest : Option (List (List ℕ))) → as_str d ≡ o

@@ -68,10 +68,3 @@ ordered_behind earlier set rest = cond (differ_after earlier rest) (Some (fold (
 pub ordered_start : (files set : List FileFields) → set ≡ [] → ordered_files files ≡ ordered_behind [] set files
 unfolding ordered_files
 ordered_start files set e = rw e refl
-
-pub ordered_twin : (earlier set rest : List FileFields) (f : FileFields) → has_file earlier f.file ≡ true → ordered_behind earlier set (f ∷ rest) ≡ None
-ordered_twin earlier set rest f h = rw h refl
-
-pub ordered_next : (earlier set now rest : List FileFields) (f : FileFields) → has_file earlier f.file ≡ false → now ≡ insert_key by_name set f
-    → ordered_behind earlier set (f ∷ rest) ≡ ordered_behind (earlier ++ f ∷ []) now rest
-ordered_next earlier set now rest f h e = rw (h, e) refl

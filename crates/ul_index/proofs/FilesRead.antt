@@ -15,10 +15,6 @@ then_one : {B : Type 0} (found : List B) (y : B) (rest : Reading (List B)) → b
 then_one found y (Ok ys) = ap Ok (sym (append_assoc found (y ∷ []) ys))
 then_one found y (Err e) = refl
 
-pub files-start : (found : List FileFields) (rest : Reading (List FileFields)) → found ≡ [] → rest ≡ behind found rest
-files-start found (Ok ys) e = rw e refl
-files-start found (Err f) e = refl
-
 pub files-next : (entry i : ℕ) (found after : List FileFields) (d : Data) (ds : List Data) (f : FileFields) → or_fault (shape (File entry i)) (file_of d) ≡ Ok f → after ≡ found ++ f ∷ []
     → behind found (files_from entry i (d ∷ ds)) ≡ behind after (files_from entry (i + 1) ds)
 unfolding files_from

@@ -2,7 +2,6 @@
 use Rattle.std.proofs.Common.{◌≡◌, ◌+◌, ◌<◌, ℕ, zero, suc, List, [], ◌∷◌, map, filter, drop, length, get_or, Bool, true, false, cond, ◌||◌, Option, Some, None, refl, sym, ap, subst, ◌∙◌, arith}
 use Rattle.std.specs.Prelude.{All}
 use Rattle.std.proofs.lemmas.List.{drop_more}
-use Rattle.std.proofs.lemmas.List.Elements.{All-nil}
 use Rattle.std.proofs.lemmas.Map.Views.{All-insert_key}
 use Rattle.std.proofs.lemmas.Option.{slice_get_read}
 use Rattle.std.specs.BTreeSet.{insert_key}
@@ -47,16 +46,8 @@ differ_from_place (suc n) (r ∷ rs) h = differ_from_place n rs h.1
 abbrev pub versions_from : (ReleaseFields → Bool) → List ReleaseFields → ℕ → List Fields
 versions_from test rs i = in_order (map (λ r. r.version) (filter test (drop i rs)))
 
-pub versions-none : (test : ReleaseFields → Bool) (rs : List ReleaseFields) (n : ℕ) → drop n rs ≡ [] → [] ≡ versions_from test rs n
-versions-none test rs n e = rw e refl
-
 at_place : (rs : List ReleaseFields) (n i : ℕ) (r : ReleaseFields) → n ≡ i + 1 → i < length rs → r ≡ get_or rs i r → drop i rs ≡ r ∷ drop n rs
 at_place rs n i r e lt at = drop_more rs i r lt ∙ ap (λ x. x ∷ drop (i + 1) rs) (sym at) ∙ ap (λ m. r ∷ drop m rs) (sym e)
-
--- the release doesn't count
-pub versions-skip : (test : ReleaseFields → Bool) (rs : List ReleaseFields) (n i : ℕ) (r : ReleaseFields) → n ≡ i + 1 → i < length rs → r ≡ get_or rs i r → test r ≡ false
-    → versions_from test rs n ≡ versions_from test rs i
-versions-skip test rs n i r e lt at fails = rw (at_place rs n i r e lt at, fails) refl
 
 -- it counts
 pub versions-take : (test : ReleaseFields → Bool) (rs : List ReleaseFields) (n i : ℕ) (r : ReleaseFields) (ps now : List (Fields × ℕ)) → n ≡ i + 1 → i < length rs → r ≡ get_or rs i r → test r ≡ true
@@ -78,9 +69,6 @@ places-take rs i r ps now lt at have is =
     version_in : Option ReleaseFields → Option Fields
     version_in None = None
     version_in (Some s) = Some s.version
-
-pub places-none : (rs : List ReleaseFields) (ps : List (Fields × ℕ)) → ps ≡ [] → All (IsPlaceIn rs) ps
-places-none rs ps e = subst (All (IsPlaceIn rs)) (sym e) (All-nil (IsPlaceIn rs))
 
 -- ---- the places of an order
 

@@ -6,12 +6,12 @@ use Rattle.ul_index.specs.Places.{place_text}
 use Rattle.ul_index.specs.declared.fault.IndexFault.{IndexFault}
 use Rattle.ul_index.specs.declared.fault.IndexFault.TheVariants.{NotJson, Shape, WrongName, NoMemory}
 use Rattle.ul_project.specs.Fields.{ProjectFields}
-use Rattle.ul_load.specs.Loading.{Beginning, Fault, Found, IsRead, LoadAnswer, beginning_of, document, too_long, too_many_bytes, too_many_packages, too_many_releases, too_many_comparisons}
+use Rattle.ul_load.specs.Loading.{Beginning, Fault, Found, IsRead, LoadAnswer, beginning_of, document, file_bytes, most_comparisons, most_packages, most_releases, too_long, total_bytes, too_many_bytes, too_many_packages, too_many_releases, too_many_comparisons}
 use Rattle.ul_load.specs.Faults.{fault_of}
 use Rattle.ul_load.specs.declared.fault.LoadFault.{LoadFault}
 use Rattle.ul_load.specs.declared.fault.LoadFault.TheVariants.{Read}
 use Rattle.ul_groups.specs.Adjusted.{adjusted_catalog, adjusted_package, all_on}
-use Rattle.ul_inputs.specs.Inputs.{Input, ◌>>=◌, just, file_bytes}
+use Rattle.ul_inputs.specs.Inputs.{Input, ◌>>=◌, just}
 use Rattle.ul_inputs.specs.Refusals.{IsRefusalFor}
 use Rattle.ul_inputs.specs.declared.refusal.Refusal.{Refusal}
 use Rattle.ul_inputs.specs.declared.refusal.Refusal.TheVariants.{ReadFault}
@@ -27,10 +27,10 @@ document_fault_text wrong_name = codes "name"
 abbrev pub refused_load : Fault → Refused
 refused_load (document path fault) = malformed path (document_fault_text fault)
 refused_load (too_long path) = limit (codes "file-bytes") file_bytes
-refused_load too_many_bytes = limit (codes "total-bytes") 268435456
-refused_load too_many_packages = limit (codes "packages") 20000
-refused_load too_many_releases = limit (codes "releases") 200000
-refused_load too_many_comparisons = limit (codes "comparisons") 256
+refused_load too_many_bytes = limit (codes "total-bytes") total_bytes
+refused_load too_many_packages = limit (codes "packages") most_packages
+refused_load too_many_releases = limit (codes "releases") most_releases
+refused_load too_many_comparisons = limit (codes "comparisons") most_comparisons
 
 -- what a document's fault of the code says, if it isn't want of memory
 abbrev pub refused_document : List ℕ → IndexFault → Option Refused

@@ -2,6 +2,7 @@
 -- that the two can't drift apart.
 use Rattle.std.specs.Prelude.{◌≡◌, ◌⊎◌, ℕ, List, codes, length, nat_le, Option, Some, None, Result, Ok, Err, if◌then◌else◌}
 use Rattle.ul_base.specs.Files.{FileMap, content}
+use Rattle.ul_load.specs.Loading.{file_bytes}
 use Rattle.ul_inputs.specs.Refused.{Refused, malformed, limit}
 
 -- which values or refusals the files' contents give, and which paths are read
@@ -75,10 +76,6 @@ present path (Some bytes) = Ok bytes
 -- the bytes of a file that has to be there
 abbrev pub present_file : List ℕ → ℕ → List ℕ → Input (List ℕ)
 present_file name most path = file_at name most path >>= λ found. just (present path found)
-
--- the most bytes of a project file, of a machine file or of an index document
-abbrev pub file_bytes : ℕ
-file_bytes = 16777216
 
 -- the most bytes of a lock or of a derivation
 abbrev pub text_bytes : ℕ

@@ -6,13 +6,12 @@ ghost use Rattle.ul_load.specs.Begun.{BeginsWith};
 ghost use Rattle.ul_inputs.specs.Catalogs as spec;
 ghost use Rattle.ul_inputs.specs.Refusals.{Answers, Cause, IsRefusalFor};
 
-use crate::files::FILE_BYTES;
 use crate::refusal::{Refusal, malformed, malformed_at};
 use std::alloc::{AllocError, Global};
 use ul_base::Files;
 use ul_groups::adjust;
 use ul_index::{Catalog, IndexFault, Place};
-use ul_load::{COMPARISONS, LoadFault, PACKAGES, RELEASES, TOTAL_BYTES, load_project};
+use ul_load::{COMPARISONS, FILE_BYTES, LoadFault, PACKAGES, RELEASES, TOTAL_BYTES, load_project};
 use ul_project::Project;
 
 // A place of another shape, behind the word on it.

@@ -7,9 +7,8 @@ ghost use Rattle.ul_inputs.specs.Refusals.{Answers, Cause};
 use crate::refusal::{Refusal, malformed_at};
 use std::alloc::Global;
 use ul_base::{Files, ReadRefused};
+use ul_load::FILE_BYTES;
 
-/// The most bytes that a project file or a machine file may have.
-pub const FILE_BYTES: u64 = 16_777_216;
 /// The most bytes that a lock or a derivation may have.
 pub const TEXT_BYTES: u64 = 67_108_864;
 

@@ -9,7 +9,7 @@ mod projects;
 mod refusal;
 mod resolutions;
 
-pub use files::{FILE_BYTES, TEXT_BYTES, large_file, small_file};
+pub use files::{TEXT_BYTES, large_file, small_file};
 pub use locks::lock_file;
 pub use machines::machine_file;
 pub use projects::project_file;

@@ -9,4 +9,4 @@ mod writing;
 
 pub use paths::too_many;
 pub use sheets::{Head, Sheet};
-pub use writing::{WriteFault, write};
+pub use writing::{TEXT_BYTES, WriteFault, write};

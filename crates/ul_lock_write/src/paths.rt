@@ -4,8 +4,7 @@ ghost use Rattle.std.specs.Prelude.{◌≡◌, flat_map, ◌++◌};
 ghost use Rattle.ul_lock_write.specs.Markers.{edge_marker, extra_markers, first_over, fork_marker, markers_of, over, package_markers};
 
 use ul_lock::{Edge, Extra, Lock, Locked, Region};
-use ul_marker_text::is_printable;
-use ul_tree::paths;
+use ul_tree::{is_printable, paths};
 
 /// How many paths to true a marker has, if it isn't printed: more than 4,096, or one of its paths has more than 512
 /// nodes.

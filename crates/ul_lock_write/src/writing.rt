@@ -18,8 +18,8 @@ use ul_lock_lines::escaped_text;
 use ul_requirement::FileEntry;
 use ul_version::Version;
 
-// The most bytes of a lock that is written.
-const TEXT_BYTES: usize = 67_108_864;
+/// The most bytes of a text that is written: a lock, or the requirements file of one.
+pub const TEXT_BYTES: usize = 67_108_864;
 
 /// Why a lock isn't written.
 #[derive(Debug, Drop)]
@@ -27,7 +27,7 @@ pub enum WriteFault {
     /// The first marker that isn't printed, since it has more than 4,096 paths to true or one with more than 512 nodes,
     /// has so many to true; 2^127 stands for more.
     TooManyPaths { paths: u128 },
-    /// The text is longer than 67,108,864 bytes.
+    /// The text is longer than `TEXT_BYTES`.
     TooLong,
     /// Memory ran out.
     NoMemory,

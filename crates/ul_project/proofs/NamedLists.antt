@@ -1,11 +1,11 @@
 -- Lists that were put in order, before those that are left to read.
-use Rattle.std.proofs.Common.{◌≡◌, ◌||◌, ◌∙◌, not, ℕ, List, [], ◌∷◌, fold, Bool, true, false, Option, Some, refl, ap, sym, is_some, cond}
+use Rattle.std.proofs.Common.{◌≡◌, ◌||◌, ◌∙◌, not, ℕ, List, [], ◌∷◌, fold, Bool, true, false, Option, Some, refl, is_some, cond}
 use Rattle.std.specs.Prelude.{Ok, Err}
 use Rattle.std.specs.BTreeMap.{is_at}
 use Rattle.std.specs.Map.{lookup}
 use Rattle.toml.specs.Data.{Data, Members, no_members, member}
-use Rattle.ul_base.specs.Names.{name_cmp, name_of}
-use Rattle.ul_project.specs.Lists.{Named, are_new, group_extra, has_name, is_new, list_at, lists_in, names_of, put_list, with_name}
+use Rattle.ul_base.specs.Names.{name_cmp}
+use Rattle.ul_project.specs.Lists.{Named, group_extra, has_name, is_new, list_at, lists_in, names_of, put_list}
 use Rattle.ul_project.specs.Results.{◌>>=◌}
 use Rattle.ul_project.specs.Shapes.{Fault, Reading}
 
@@ -35,11 +35,6 @@ pub lists-end : {L : Type 0} (no_name : Fault) (read : List ℕ → Option Data 
 unfolding lists_in
 lists-end no_name read found = refl
 
--- no list was read yet
-pub lists-start : {L : Type 0} (no_name : Fault) (read : List ℕ → Option Data → Reading L) (found : List (Named L)) (ms : Members) → found ≡ []
-    → (lists_in no_name read ms >>= λ lists. Ok (fold put_list [] lists)) ≡ put_behind found (lists_in no_name read ms)
-lists-start no_name read found ms e = ap (λ f. put_behind f (lists_in no_name read ms)) (sym e)
-
 -- ---- names
 
 found_or_not : {L : Type 0} (here : Bool) (list : L) (rest : Option L) (more : Bool) → is_some rest ≡ more → is_some (cond here (Some list) rest) ≡ (here || more)
@@ -59,12 +54,3 @@ not_other false = refl
 pub name_new : (extras earlier : List (List ℕ)) (name : List ℕ) (said : Option (List ℕ)) (added : Bool) → said ≡ Some name
     → has_name extras (group_extra name) ≡ false → added ≡ not (has_name earlier name) → added ≡ is_new extras earlier said
 name_new extras earlier name said added s t a = rw (s, t) (a ∙ not_other (has_name earlier name))
-
--- a key that isn't new ends the keys
-pub key-old : (extras earlier : List (List ℕ)) (key : List ℕ) (d : Data) (ms : Members) → is_new extras earlier (name_of key) ≡ false → are_new extras earlier (member key d ms) ≡ false
-key-old extras earlier key d ms e = rw e refl
-
--- a new key leaves it to the others
-pub key-new : (extras earlier after : List (List ℕ)) (key : List ℕ) (d : Data) (ms : Members) → is_new extras earlier (name_of key) ≡ true → after ≡ with_name earlier (name_of key)
-    → are_new extras earlier (member key d ms) ≡ are_new extras after ms
-key-new extras earlier after key d ms e s = rw (e, s) refl
