@@ -1,14 +1,9 @@
 -- Needs of requirements, one after another.
 use Rattle.std.specs.Prelude.{slice_get}
-use Rattle.std.proofs.Common.{◌≡◌, ◌<◌, ◌+◌, ℕ, zero, suc, List, [], ◌∷◌, ◌++◌, length, get_or, map, take, true, Some, arith, sym, ap, subst, ◌∙◌, refl}
-use Rattle.std.specs.Ordering.{is_eq}
-use Rattle.std.specs.declared.cmp.Ordering.{Ordering}
-use Rattle.std.specs.declared.cmp.Ordering.TheVariants.{Less, Equal, Greater}
+use Rattle.std.proofs.Common.{◌≡◌, ◌<◌, ◌+◌, ℕ, List, [], ◌∷◌, ◌++◌, length, get_or, map, take, Some, sym, ap, subst, ◌∙◌}
 use Rattle.std.proofs.lemmas.List.{map_more, take_more}
-use Rattle.std.proofs.lemmas.Option.{same_Some, slice_get-get_or}
+use Rattle.std.proofs.lemmas.Option.{same_Some}
 use Rattle.ul_base.specs.declared.node.Node.{Node}
-use Rattle.ul_base.specs.Nodes.{node_cmp}
-use Rattle.ul_base.proofs.ForCallers.{node_cmp_same}
 use Rattle.ul_specifier.specs.Clauses.{ClauseFields}
 use Rattle.ul_specifier.specs.Meaning.{meets_list}
 use Rattle.ul_problem.specs.declared.problem.Need.{Need as PlaceNeed}
@@ -19,14 +14,6 @@ use Rattle.ul_prepared.specs.Aims.{HasNode, needs_on}
 use Rattle.ul_prepared.specs.Permitted.{IsPermitted}
 use Rattle.ul_prepared.specs.declared.prepared.NameFacts.{NameFacts}
 use Rattle.ul_prepared.specs.declared.prepared.Planned.{Planned}
-
-tie_is : (o : Ordering) → is_eq o ≡ true → o ≡ Equal
-tie_is Less e = cc
-tie_is Equal e = refl
-tie_is Greater e = cc
-
-pub same_node : (a b : Node) → is_eq (node_cmp a b) ≡ true → a ≡ b
-same_node a b e = node_cmp_same a b (tie_is (node_cmp a b) e)
 
 module _ (names : List NameFacts) (nodes : List Planned) where
   -- the need of a target at its place
@@ -66,13 +53,3 @@ module _ (names : List NameFacts) (nodes : List Planned) where
       subst (λ (zs : List (List PlaceNeed)). AreRowAims names nodes zs (take (i + 1) asked)) (sym e)
       (subst (λ (zs : List Asked). AreRowAims names nodes (done ++ ks ∷ []) zs) (ap (λ (u : Asked). take i asked ++ u ∷ []) at ∙ sym (take_more asked i a l))
       (rows_push done (take i asked) ks a h one))
-
-something : {A : Type 0} (xs : List A) (k : ℕ) → k < length xs → (x : A) × (slice_get xs k ≡ Some x)
-something [] k l = absurd (omega (arith, l))
-something (z ∷ zs) zero l = (z, refl)
-something (z ∷ zs) (suc k) l = something zs k (omega (arith, l))
-
--- a node that is found at a place, with a name that is known
-pub found_at : (names : List NameFacts) (nodes : List Planned) (k : ℕ) (n : Node) (planned : Planned) → k < length nodes → planned ≡ get_or nodes k planned → planned.node ≡ n → planned.name < length names → HasNode names nodes n k
-found_at names nodes k n planned l at same known = let f = something names planned.name known in
-    (f.0, record { planned = planned; at = slice_get-get_or nodes k planned l ∙ ap Some (sym at); node = same; facts = f.1 })

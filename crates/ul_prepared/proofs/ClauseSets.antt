@@ -157,10 +157,6 @@ pub from_within : (after : Bool) (high size from : ℕ) → from ≡ cond after 
 from_within true high size from e l = omega (arith, e, l)
 from_within false high size from e l = omega (arith, e)
 
-pub to_within : (after : Bool) (low size to : ℕ) → to ≡ cond after size low → low ≤ size → to ≤ size
-to_within true low size to e l = omega (arith, e)
-to_within false low size to e l = omega (arith, e, l)
-
 less_greater : Less ≡ Greater → ⊥
 less_greater e = cc
 

@@ -8,7 +8,6 @@ mod Sides
 mod Admitted
 mod ClauseSets
 mod Aiming
-mod Bases
 mod NameSets
 pub mod ForCallers
 mod Still
@@ -19,3 +18,6 @@ mod ListPlaces
 mod Taken
 mod SharedFacts
 mod NodeRows
+mod TargetFacts
+mod PlaceFacts
+mod BareNodes

@@ -2,7 +2,7 @@
 use Rattle.std.specs.Prelude.{All, slice_get}
 use Rattle.std.specs.Borrow.{Bor}
 use Rattle.std.proofs.Common.{◌≡◌, ℕ, zero, suc, List, [], ◌∷◌, ◌++◌, length, Some, refl, sym, ap, subst, ◌∙◌}
-use Rattle.std.proofs.lemmas.List.{length-map, map-append}
+use Rattle.std.proofs.lemmas.List.{map-append}
 use Rattle.std.proofs.lemmas.List.Elements.{All-push, All-weaker}
 use Rattle.std.proofs.lemmas.Option.{none-some}
 use Rattle.ul_requirement.specs.Fields.{RequirementFields}
@@ -26,14 +26,6 @@ lists_pushed ls ms l e = ap lists_of e ∙ map-append (λ (b : Bor (List Require
 -- one list more
 pub stays_pushed : (ls ms : List (Bor (List RequirementFields))) (l : Bor (List RequirementFields)) → ms ≡ ls ++ l ∷ [] → StaysListed (lists_of ls) (lists_of ms)
 stays_pushed ls ms l e k qs at = subst (λ (z : List (List RequirementFields)). slice_get z k ≡ Some qs) (sym (lists_pushed ls ms l e)) (push_stays (lists_of ls) l.now k qs at)
-
-pub place_pushed : (ls ms : List (Bor (List RequirementFields))) (l : Bor (List RequirementFields)) (k : ℕ) → ms ≡ ls ++ l ∷ [] → k ≡ length ls → slice_get (lists_of ms) k ≡ Some l.now
-place_pushed ls ms l k e count =
-    subst (λ (z : List (List RequirementFields)). slice_get z k ≡ Some l.now) (sym (lists_pushed ls ms l e))
-    (subst (λ (j : ℕ). slice_get (lists_of ls ++ l.now ∷ []) j ≡ Some l.now) (length-map ls (λ (b : Bor (List RequirementFields)). b.now) ∙ sym count) (push_there (lists_of ls) l.now))
-
-pub stays_itself : (ls : List (List RequirementFields)) → StaysListed ls ls
-stays_itself ls k qs e = e
 
 -- one release more
 pub listed_more : (before after : List (List RequirementFields)) (done now : List Listed) (l : Listed) → now ≡ done ++ l ∷ [] → StaysListed before after → All (IsListed before) done → IsListed after l → All (IsListed after) now

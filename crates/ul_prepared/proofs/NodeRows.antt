@@ -1,9 +1,9 @@
 -- Nodes with the rows of their names' releases.
 use Rattle.std.specs.Prelude.{All, slice_get}
-use Rattle.std.proofs.Common.{◌≡◌, ◌<◌, ◌+◌, ℕ, zero, suc, List, [], ◌∷◌, ◌++◌, length, get_or, map, take, Option, Some, None, sym, ap, subst, ◌∙◌, refl}
-use Rattle.std.proofs.lemmas.List.{length-map, take_more}
-use Rattle.std.proofs.lemmas.List.Elements.{All-contains, All-push, All-weaker}
-use Rattle.std.proofs.lemmas.Option.{none-some, same_Some, slice_get_within, slice_get-get_or, get_or_from_slice_get}
+use Rattle.std.proofs.Common.{◌≡◌, ◌<◌, ◌+◌, ℕ, zero, suc, List, [], ◌∷◌, ◌++◌, length, get_or, map, Option, Some, None, sym, ap, subst, ◌∙◌, refl}
+use Rattle.std.proofs.lemmas.List.{length-map}
+use Rattle.std.proofs.lemmas.List.Elements.{All-push, All-weaker}
+use Rattle.std.proofs.lemmas.Option.{none-some, same_Some, slice_get-get_or}
 use Rattle.std.proofs.lemmas.Slice.Zip.{AllZip-long}
 use Rattle.ul_base.specs.declared.node.Node.{Node}
 use Rattle.ul_base.specs.Nodes.{node_cmp}
@@ -18,7 +18,6 @@ use Rattle.ul_region.specs.Truths.{DiagramMark, IsGrown, PassView}
 use Rattle.ul_region.specs.declared.rows.Asked.{Asked}
 use Rattle.ul_region.specs.declared.rows.Row.{Row}
 use Rattle.ul_region.proofs.ForCallers.{row_grown}
-use Rattle.ul_prepared.specs.Aims.{HasNode}
 use Rattle.ul_prepared.specs.Gathered.{AreAimsOf, AreKnown, AreSameNodes, HasOwnRows, HasRows, node_in, release_in}
 use Rattle.ul_prepared.specs.Lists.{releases_in}
 use Rattle.ul_prepared.specs.Prepared.{AreAims, AreNodesAt, AreRowAims, HasBaseAt, IsAim, IsNodeAt, IsPlanned, IsPrepared, PlannedBefore}
@@ -30,7 +29,7 @@ use Rattle.ul_prepared.specs.declared.prepared.Prepared.{Prepared}
 use Rattle.ul_prepared.specs.declared.releases.Releases.{Releases}
 use Rattle.ul_prepared.specs.declared.shared.Shared.{Shared}
 use Rattle.ul_prepared.proofs.KnownNames.{known_at, known_names}
-use Rattle.ul_prepared.proofs.Zipped.{image_at, zip_at}
+use Rattle.ul_prepared.proofs.Zipped.{all_there, image_at, zip_at}
 
 -- ---- where more is known
 
@@ -147,9 +146,6 @@ mapped_at [] k rs e = absurd (none-some rs e)
 mapped_at (r ∷ own) zero rs e = (r, refl, same_Some (releases_in r) rs e)
 mapped_at (r ∷ own) (suc k) rs e = mapped_at own k rs e
 
-row_there : (P : Row → Type 0) (rows : List Row) (v : ℕ) (row : Row) → All P rows → slice_get rows v ≡ Some row → P row
-row_there P rows v row a e = All-contains P rows row a (v, slice_get_within rows v row e, get_or_from_slice_get rows v row row e)
-
 module _ (c : Packages) (wish : WishFields) (h : PassView) (names : List NameFacts) (nodes : List Planned) (truths : List DiagramMark) where
   rows_are : (f : NameFacts) (rs : List ReleaseFields) (p : Planned) → slice_get names p.name ≡ Some f → AreReleasesOf c f.name f.versions rs → HasRows h names nodes truths rs p → IsPlanned c h names nodes truths p
   rows_are f rs p at known has =
@@ -165,7 +161,7 @@ module _ (c : Packages) (wish : WishFields) (h : PassView) (names : List NameFac
         rows = λ v x row aims e d u.
             let there : slice_get rs v ≡ Some (release_in row) = ap (λ (z : List ReleaseFields). slice_get z v) (sym has.releases) ∙ image_at release_in p.rows.items v row d in record {
               found = subst (λ (n : List ℕ). release_of c n x ≡ Some row.release.now) named (known.each v x (release_in row) e there);
-              holds = row_there (IsRow h p.node truths) p.rows.items v row has.rows d;
+              holds = all_there (IsRow h p.node truths) p.rows.items v row has.rows d;
               aimed = zip_at (AreAimsOf names nodes) p.aims.items p.rows.items v aims row has.aims u d;
             };
       }
@@ -181,19 +177,17 @@ module _ (c : Packages) (wish : WishFields) (h : PassView) (names : List NameFac
 
 -- ---- places of nodes
 
-nodes_at_push : (nodes : List Planned) (ks : List ℕ) (ns : List Node) (k : ℕ) (n : Node) (p : Planned) → AreNodesAt nodes ks ns → slice_get nodes k ≡ Some p → p.node ≡ n → AreNodesAt nodes (ks ++ k ∷ []) (ns ++ n ∷ [])
-nodes_at_push nodes [] [] k n p h at is = record { planned = p; at = at; node = is; rest = tt }
-nodes_at_push nodes [] (m ∷ ns) k n p h at is = absurd h
-nodes_at_push nodes (j ∷ ks) [] k n p h at is = absurd h
-nodes_at_push nodes (j ∷ ks) (m ∷ ns) k n p h at is = record { planned = h.planned; at = h.at; node = h.node; rest = nodes_at_push nodes ks ns k n p h.rest at is }
-
--- one place more
-pub nodes_at_more : (names : List NameFacts) (nodes : List Planned) (done now : List ℕ) (starts : List Node) (i k : ℕ) (n : Node) → now ≡ done ++ k ∷ [] → AreNodesAt nodes done (take i starts) → HasNode names nodes n k
-    → i < length starts → n ≡ get_or starts i n → AreNodesAt nodes now (take (i + 1) starts)
-nodes_at_more names nodes done now starts i k n e h there l at =
-    subst (λ (z : List ℕ). AreNodesAt nodes z (take (i + 1) starts)) (sym e)
-    (subst (λ (z : List Node). AreNodesAt nodes (done ++ k ∷ []) z) (ap (λ (u : Node). take i starts ++ u ∷ []) at ∙ sym (take_more starts i n l))
-    (nodes_at_push nodes done (take i starts) k n there.1.planned h there.1.at there.1.node))
+-- the same nodes stand at the places
+pub nodes_at_over : (ps qs : List Planned) → AreSameNodes qs ps → (ks : List ℕ) (ns : List Node) → AreNodesAt ps ks ns → AreNodesAt qs ks ns
+nodes_at_over ps qs same [] [] h = tt
+nodes_at_over ps qs same [] (n ∷ ns) h = absurd h
+nodes_at_over ps qs same (k ∷ ks) [] h = absurd h
+nodes_at_over ps qs same (k ∷ ks) (n ∷ ns) h = let t = node_there ps qs k h.planned same h.at in record {
+  planned = t.0;
+  at = t.1;
+  node = ap (λ (x : Node × ℕ). x.0) t.2 ∙ h.node;
+  rest = nodes_at_over ps qs same ks ns h.rest;
+}
 
 -- ---- the whole
 

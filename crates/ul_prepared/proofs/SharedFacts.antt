@@ -3,8 +3,8 @@ use Rattle.std.specs.Prelude.{All, slice_get}
 use Rattle.std.proofs.Common.{◌≡◌, ◌<◌, ◌+◌, ℕ, zero, suc, List, [], ◌∷◌, ◌++◌, append_assoc, length, get_or, map, take, true, Some, refl, sym, ap, subst, ◌∙◌, arith}
 use Rattle.std.specs.List.{AllZip}
 use Rattle.std.proofs.lemmas.List.{length-map, map-append}
-use Rattle.std.proofs.lemmas.List.Elements.{All-contains, All-nil, All-cons, All-head, All-tail, All-push, All-weaker}
-use Rattle.std.proofs.lemmas.Option.{get_or_from_slice_get, none-some, same_Some, slice_get_within}
+use Rattle.std.proofs.lemmas.List.Elements.{All-nil, All-cons, All-head, All-tail, All-push, All-weaker}
+use Rattle.std.proofs.lemmas.Option.{none-some, same_Some, slice_get_within}
 use Rattle.std.proofs.lemmas.Slice.Zip.{AllZip-long}
 use Rattle.ul_base.specs.declared.node.Node.{Node}
 use Rattle.ul_version.specs.Fields.{plain}
@@ -20,16 +20,16 @@ use Rattle.ul_region.specs.declared.rows.Asked.{Asked}
 use Rattle.ul_region.specs.declared.rows.Row.{Row}
 use Rattle.ul_region.proofs.ForCallers.{asked_grown, truth_grown}
 use Rattle.ul_prepared.specs.Gathered.{AreAimsOf, HasBaseFor, HasRows, IsNamed, release_in}
-use Rattle.ul_prepared.specs.Lists.{AreListed, IsListed, listed_in, release_listed, releases_in}
+use Rattle.ul_prepared.specs.Lists.{AreListed, IsListed, listed_in, lists_in, release_listed, releases_in}
 use Rattle.ul_prepared.specs.Prepared.{AreRowAims, AreSharedLists}
-use Rattle.ul_prepared.specs.Shared.{HasList, IsFitted, IsOfList, IsPlaced, IsRowOf, IsShared, fitted_in, list_in, release_fitted, releases_shared}
+use Rattle.ul_prepared.specs.Shared.{HasList, IsFitted, IsOfList, IsPlaced, IsRowOf, IsShared, fitted_in, list_in, lists_shared, release_fitted, releases_shared}
 use Rattle.ul_prepared.specs.declared.prepared.NameFacts.{NameFacts}
 use Rattle.ul_prepared.specs.declared.prepared.Planned.{Planned}
 use Rattle.ul_prepared.specs.declared.releases.Listed.{Listed}
 use Rattle.ul_prepared.specs.declared.releases.Releases.{Releases}
 use Rattle.ul_prepared.specs.declared.shared.Fitted.{Fitted}
 use Rattle.ul_prepared.specs.declared.shared.Shared.{Shared}
-use Rattle.ul_prepared.proofs.Zipped.{made_second, zip_at}
+use Rattle.ul_prepared.proofs.Zipped.{all_there, made_second, zip_at}
 
 -- ---- the same releases
 
@@ -91,14 +91,23 @@ pub rest_left : (left rest : List Releases) (r : Releases) → left ≡ r ∷ re
 rest_left left rest r e a = All-tail AreListed r rest (subst (All AreListed) e a)
 
 -- what is shared of one name more of those that are left
+images_next : {C : Type 0} (f : Shared → C) (g : Releases → C) (done now : List Shared) (s : Shared) (r : Releases) (left after all : List Releases) → now ≡ done ++ s ∷ [] → left ≡ r ∷ after → f s ≡ g r
+    → map f done ++ map g left ≡ map g all → map f now ++ map g after ≡ map g all
+images_next {C} f g done now s r left after all e next same h =
+    ap (λ (z : List Shared). map f z ++ map g after) e
+    ∙ (ap (λ (z : List C). z ++ map g after) (map-append f done (s ∷ []))
+    ∙ (append_assoc (map f done) (f s ∷ []) (map g after)
+    ∙ (ap (λ (z : C). map f done ++ z ∷ map g after) same
+    ∙ (ap (λ (z : List Releases). map f done ++ map g z) (sym next) ∙ h))))
+
 pub names_next : (done now : List Shared) (s : Shared) (r : Releases) (left after all : List Releases) → now ≡ done ++ s ∷ [] → left ≡ r ∷ after → releases_shared s ≡ releases_in r
     → map releases_shared done ++ map releases_in left ≡ map releases_in all → map releases_shared now ++ map releases_in after ≡ map releases_in all
-names_next done now s r left after all e next same h =
-    ap (λ (z : List Shared). map releases_shared z ++ map releases_in after) e
-    ∙ (ap (λ (z : List (List ReleaseFields)). z ++ map releases_in after) (map-append releases_shared done (s ∷ []))
-    ∙ (append_assoc (map releases_shared done) (releases_shared s ∷ []) (map releases_in after)
-    ∙ (ap (λ (z : List ReleaseFields). map releases_shared done ++ z ∷ map releases_in after) same
-    ∙ (ap (λ (z : List Releases). map releases_shared done ++ map releases_in z) (sym next) ∙ h))))
+names_next = images_next releases_shared releases_in
+
+-- and their lists
+pub lists_next : (done now : List Shared) (s : Shared) (r : Releases) (left after all : List Releases) → now ≡ done ++ s ∷ [] → left ≡ r ∷ after → lists_shared s ≡ lists_in r
+    → map lists_shared done ++ map lists_in left ≡ map lists_in all → map lists_shared now ++ map lists_in after ≡ map lists_in all
+lists_next = images_next lists_shared lists_in
 
 -- what is asked of each list
 pub all_asked_grown : (g h : PassView) (n : Node) (ms ns : List DiagramMark) (qss : List (List RequirementFields)) (lists : List (List Asked)) → IsGrown g ms h ns → AllZip (AreAsked g n ms) qss lists → AllZip (AreAsked h n ns) qss lists
@@ -160,9 +169,6 @@ list_there [] k l e = absurd (none-some l e)
 list_there (f ∷ fs) zero l e = (f, refl, same_Some f.list l e)
 list_there (f ∷ fs) (suc k) l e = list_there fs k l e
 
-has_there : (lists : List (List RequirementFields)) (fs : List Fitted) (k : ℕ) (f : Fitted) → All (HasList lists) fs → slice_get fs k ≡ Some f → HasList lists f
-has_there lists fs k f a e = All-contains (HasList lists) fs f a (k, slice_get_within fs k f e, get_or_from_slice_get fs k f f e)
-
 module _ (lists : List (List RequirementFields)) (asked : List (List Asked)) (aims : List (List (List PlaceNeed))) (fs : List Fitted) (p : Planned) (has : All (HasList lists) fs)
     (rows : AllZip (IsRowOf asked) fs p.rows.items) (needs : AllZip (IsOfList aims) fs p.aims.items) (places : p.lists.items ≡ map list_in fs) where
   listed_at : (k l : ℕ) → slice_get p.lists.items k ≡ Some l → (f : Fitted) × (slice_get fs k ≡ Some f) × (f.list ≡ l)
@@ -173,7 +179,7 @@ module _ (lists : List (List RequirementFields)) (asked : List (List Asked)) (ai
       let t = listed_at k l at in
       let is = zip_at (IsRowOf asked) fs p.rows.items k t.0 row rows t.1 there in (
         subst (λ (i : ℕ). slice_get lists i ≡ Some row.release.now.requirements) t.2
-            (has_there lists fs k t.0 has t.1 ∙ ap (λ (r : ReleaseFields). Some r.requirements) (sym is.release)),
+            (all_there (HasList lists) fs k t.0 has t.1 ∙ ap (λ (r : ReleaseFields). Some r.requirements) (sym is.release)),
         subst (λ (i : ℕ). slice_get asked i ≡ Some row.asked) t.2 is.asked,
       )
 

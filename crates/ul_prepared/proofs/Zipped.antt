@@ -1,9 +1,42 @@
--- Lists that agree place by place.
-use Rattle.std.specs.Prelude.{slice_get}
-use Rattle.std.proofs.Common.{◌≡◌, ◌<◌, ◌+◌, ℕ, zero, suc, List, [], ◌∷◌, ◌++◌, length, get_or, map, take, Some, sym, ap, subst, ◌∙◌}
+-- Lists by their places, and lists that agree place by place.
+use Rattle.std.specs.Prelude.{All, slice_get}
+use Rattle.std.proofs.Common.{◌≡◌, ◌<◌, ◌≤◌, ◌+◌, ◌⊎◌, inl, inr, ℕ, zero, suc, List, [], ◌∷◌, ◌++◌, length, get_or, map, take, Some, arith, refl, sym, ap, subst, ◌∙◌}
 use Rattle.std.specs.List.{AllZip}
+use Rattle.std.proofs.lemmas.Bool.{cases_lt}
 use Rattle.std.proofs.lemmas.List.{take_more}
-use Rattle.std.proofs.lemmas.Option.{none-some, same_Some}
+use Rattle.std.proofs.lemmas.List.Elements.{All-contains, All-cons, All-head, All-more, All-nil, All-tail, All-weaker}
+use Rattle.std.proofs.lemmas.Option.{get_or_from_slice_get, none-some, same_Some, slice_get-get_or, slice_get_within}
+
+-- a place below the next one
+pub below_or : (k i : ℕ) → k < i + 1 → (k < i) ⊎ (i ≡ k)
+below_or k i l = by_cases (cases_lt k i)
+  where
+    by_cases : (k < i) ⊎ (i ≤ k) → (k < i) ⊎ (i ≡ k)
+    by_cases (inl a) = inl a
+    by_cases (inr a) = inr (omega (arith, a, l))
+
+-- something stands at each place of a list
+pub item_there : {A : Type 0} (xs : List A) (k : ℕ) → k < length xs → (x : A) × (slice_get xs k ≡ Some x)
+item_there [] k l = absurd (omega (arith, l))
+item_there (z ∷ zs) zero l = (z, refl)
+item_there (z ∷ zs) (suc k) l = item_there zs k (omega (arith, l))
+
+-- what holds of each item holds of the one at a place
+pub all_there : {A : Type 0} (P : A → Type 0) (xs : List A) (k : ℕ) (x : A) → All P xs → slice_get xs k ≡ Some x → P x
+all_there P xs k x a e = All-contains P xs x a (k, slice_get_within xs k x e, get_or_from_slice_get xs k x x e)
+
+-- and the other way round
+pub there_all : {A : Type 0} (P : A → Type 0) (xs : List A) → ((k : ℕ) (x : A) → slice_get xs k ≡ Some x → P x) → All P xs
+there_all P xs h k d l = h k (get_or xs k d) (slice_get-get_or xs k d l)
+
+-- what holds of each image
+pub all_of_map : {A B : Type 0} (P : B → Type 0) (f : A → B) (xs : List A) → All P (map f xs) → All (λ x. P (f x)) xs
+all_of_map P f [] a = All-nil (λ x. P (f x))
+all_of_map P f (x ∷ xs) a = All-cons (λ x. P (f x)) x xs (All-head P (f x) (map f xs) a) (all_of_map P f xs (All-tail P (f x) (map f xs) a))
+
+-- one item more, where what held of the others is more
+pub all_next : {A : Type 0} (P Q : A → Type 0) (xs : List A) (i : ℕ) (x : A) → ((y : A) → P y → Q y) → All P (take i xs) → Q x → i < length xs → x ≡ get_or xs i x → All Q (take (i + 1) xs)
+all_next P Q xs i x into a q l at = All-more Q xs i x l (All-weaker P Q into (take i xs) a) (subst Q at q)
 
 -- the image of what stands at a place
 pub image_at : {A B : Type 0} (f : A → B) (xs : List A) (k : ℕ) (x : A) → slice_get xs k ≡ Some x → slice_get (map f xs) k ≡ Some (f x)

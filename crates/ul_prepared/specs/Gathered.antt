@@ -1,11 +1,13 @@
 -- Names with their releases, and nodes with the rows of their names' releases.
-use Rattle.std.specs.Prelude.{◌≡◌, ◌-◌, ℕ, List, All, Option, Some, bytes_eq, length, map, slice_get}
+use Rattle.std.specs.Prelude.{◌≡◌, ◌-◌, ℕ, List, All, Contains, Option, Some, bytes_eq, length, map, slice_get, true}
 use Rattle.std.specs.HashMap.{HashMap, get}
+use Rattle.std.specs.HashSet.{contains}
 use Rattle.std.specs.List.{AllZip}
 use Rattle.std.specs.declared.cmp.Ordering.TheVariants.{Less}
 use Rattle.ul_base.specs.declared.node.Node.{Node}
-use Rattle.ul_base.specs.Nodes.{node_cmp}
+use Rattle.ul_base.specs.Nodes.{node_cmp, node_eq}
 use Rattle.ul_requirement.specs.Fields.{ReleaseFields, WishFields}
+use Rattle.ul_requirement.specs.Truth.{base}
 use Rattle.ul_problem.specs.declared.problem.Need.{Need as PlaceNeed}
 use Rattle.ul_index.specs.Catalogs.{Packages}
 use Rattle.ul_region.specs.Rows.{IsRow}
@@ -14,6 +16,7 @@ use Rattle.ul_region.specs.Truths.{DiagramMark, PassView}
 use Rattle.ul_prepared.specs.Lists.{AreListed, releases_in}
 use Rattle.ul_prepared.specs.Prepared.{AreRowAims, AreSharedLists, HasBaseAt, IsName}
 use Rattle.ul_prepared.specs.Releases.{AreReleasesOf}
+use Rattle.ul_prepared.specs.Targets.{ListsTargets}
 use Rattle.ul_prepared.specs.declared.releases.Releases.{Releases}
 use Rattle.ul_prepared.specs.declared.gathering.Gathered.{Gathered}
 use Rattle.ul_prepared.specs.declared.prepared.NameFacts.{NameFacts}
@@ -45,11 +48,27 @@ HasPlace places n = (k : ℕ) × (get bytes_eq places n ≡ Some k)
 abbrev pub IsPlacedNode : {S : Type 0} → HashMap (List ℕ) ℕ S → Node → Type 0
 IsPlacedNode places n = HasPlace places n.name
 
--- What was taken in: names that are known, their places, and nodes of these names.
+-- What was taken in: names that are known, their places and bases, and nodes of these names.
 pub record IsGathered (c : Packages) (wish : WishFields) (g : Gathered) : Type 0 where
   pub known : AreKnown c wish g.names.items g.releases.items
   pub places : ArePlaces g.names.items g.places
   pub placed : All (IsPlacedNode g.places) g.nodes.items
+  pub based : (n : List ℕ) → HasPlace g.places n → Contains g.nodes.items (base n)
+  pub seen : (n : Node) → contains node_eq g.seen n ≡ true → Contains g.nodes.items n
+
+-- more was taken in: what was there is there
+pub record TakesMore (before after : Gathered) : Type 0 where
+  pub nodes : (n : Node) → Contains before.nodes.items n → Contains after.nodes.items n
+  pub releases : (k : ℕ) (r : Releases) → slice_get before.releases.items k ≡ Some r → slice_get after.releases.items k ≡ Some r
+
+-- All was taken in that is reached from the nodes that a region starts from.
+pub record IsWhole (from : List Node) (g : Gathered) : Type 0 where
+  pub starts : All (Contains g.nodes.items) from
+  pub targets : All (ListsTargets (Contains g.nodes.items)) g.releases.items
+
+-- the map has the place of the node's name
+abbrev pub IsNamedBy : {S : Type 0} → HashMap (List ℕ) ℕ S → Planned → Type 0
+IsNamedBy places p = get bytes_eq places p.node.name ≡ Some p.name
 
 -- the name of a node stands at its place among the names
 abbrev pub IsNamed : List NameFacts → Planned → Type 0

@@ -11,3 +11,5 @@ pub mod Aims
 pub mod Lists
 pub mod Shared
 pub mod Gathered
+pub mod Targets
+pub mod Places

@@ -1,5 +1,5 @@
 -- The releases of a name, and the lists of requirements that they have.
-use Rattle.std.specs.Prelude.{◌≡◌, ℕ, List, All, Some, map, slice_get}
+use Rattle.std.specs.Prelude.{◌≡◌, ℕ, List, [], All, Option, Some, None, map, slice_get}
 use Rattle.std.specs.Borrow.{Bor}
 use Rattle.ul_requirement.specs.Fields.{ReleaseFields, RequirementFields}
 use Rattle.ul_prepared.specs.declared.releases.Listed.{Listed}
@@ -20,6 +20,18 @@ releases_in r = map release_listed r.releases.items
 -- lists of requirements that are lent
 abbrev pub lists_of : List (Bor (List RequirementFields)) → List (List RequirementFields)
 lists_of ls = map (λ l. l.now) ls
+
+-- the lists of requirements that the releases of a name have
+abbrev pub lists_in : Releases → List (List RequirementFields)
+lists_in r = lists_of r.lists.items
+
+abbrev pub lists_there : Option Releases → List (List RequirementFields)
+lists_there None = []
+lists_there (Some r) = lists_in r
+
+-- those of the name at a place
+abbrev pub lists_at : List Releases → ℕ → List (List RequirementFields)
+lists_at names place = lists_there (slice_get names place)
 
 -- the requirements of the release stand at its place among lists
 abbrev pub IsListed : List (List RequirementFields) → Listed → Type 0

@@ -41,6 +41,10 @@ release_fitted f = f.release.now
 abbrev pub releases_shared : Shared → List ReleaseFields
 releases_shared s = map release_fitted s.releases.items
 
+-- the lists of requirements that are shared
+abbrev pub lists_shared : Shared → List (List RequirementFields)
+lists_shared s = s.lists.items
+
 -- the row of a release has what a node asks of the release's list
 pub record IsRowOf (lists : List (List Asked)) (f : Fitted) (row : Row) : Type 0 where
   pub release : row.release.now ≡ f.release.now

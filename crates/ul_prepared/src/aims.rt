@@ -1,9 +1,11 @@
 //! Needs of requirements by places of nodes.
-ghost use Rattle.std.specs.Prelude.{◌≡◌, All, Decides, IfOk};
+ghost use Rattle.std.specs.Prelude.{◌≡◌, All, IfOk};
 ghost use Rattle.std.specs.List.{AllZip};
-ghost use Rattle.ul_prepared.specs.Aims.{HasNode, needs_on};
+ghost use Rattle.ul_prepared.specs.Aims.{needs_on};
+ghost use Rattle.ul_prepared.specs.Places.{IsAmong, IsFound, IsFoundAt, IsNodeIndex};
 ghost use Rattle.ul_prepared.specs.Permitted.{IsRising, IsSetOf};
 ghost use Rattle.ul_prepared.specs.Prepared.{AreAims, AreRowAims, IsAim};
+ghost use Rattle.ul_prepared.specs.Targets.{AsksTargets, HasTargets};
 ghost use Rattle.ul_region.specs.Best.{needs_of};
 
 use crate::permitted::Sets;
@@ -18,37 +20,12 @@ use ul_region::Asked;
 use ul_requirement::Requirement;
 use ul_specifier::Specifiers;
 
-fn is_same(one: &Node, other: &Node) -> bool
-    ensures { Decides result (one.now ≡ other.now) }
+/// The place of a node that has one.
+pub(crate) fn place_of(index: &HashMap<Node, usize>, node: &Node) -> usize
+    requires { IsFound index.now node.now }
+    ensures { IsFoundAt index.now node.now result }
 {
-    one == other
-}
-
-/// The place of a node. Each node that is asked for has a place.
-///
-/// # Errors
-///
-/// Only for want of memory.
-pub(crate) fn place_of(
-    index: &HashMap<Node, usize>,
-    names: &[NameFacts],
-    nodes: &[Planned<'_>],
-    node: &Node,
-) -> Result<usize, AllocError>
-    ensures { IfOk result (HasNode names.now nodes.now node.now) }
-{
-    let Some(found) = index.get(node) else {
-        return Err(AllocError);
-    };
-    let place = *found;
-    if place >= nodes.len() {
-        return Err(AllocError);
-    }
-    let planned: &Planned<'_> = &nodes[place];
-    if !is_same(&planned.node, node) || planned.name >= names.len() {
-        return Err(AllocError);
-    }
-    Ok(place)
+    index[node]
 }
 
 // The need of a target.
@@ -61,13 +38,15 @@ fn aim<'a>(
     specifiers: &'a Specifiers,
     target: &Node,
 ) -> Result<Need, AllocError>
+    requires index { IsNodeIndex names.now nodes.now index.now }
+    requires target { IsAmong nodes.now target.now }
     requires rising { All IsRising names.now }
     requires sets { All (IsSetOf names.now) sets.old.list.items }
     ensures sets { All (IsSetOf names.now) sets.new.list.items }
     ensures aim { IfOk result (λ k. IsAim names.now nodes.now k
         (record { node = target.now; specifiers = specifiers.now })) }
 {
-    let place = place_of(index, names, nodes, target)?;
+    let place = place_of(index, target);
     let permitted = sets.of(alloc, names, nodes[place].name, specifiers)?;
     Ok(Need {
         node: place as u64,
@@ -84,6 +63,8 @@ fn aims_of<'a>(
     nodes: &[Planned<'_>],
     requirement: &'a Requirement,
 ) -> Result<NeedRow, AllocError>
+    requires index { IsNodeIndex names.now nodes.now index.now }
+    requires targets { HasTargets (IsAmong nodes.now) requirement.now }
     requires rising { All IsRising names.now }
     requires sets { All (IsSetOf names.now) sets.old.list.items }
     ensures sets { All (IsSetOf names.now) sets.new.list.items }
@@ -112,6 +93,8 @@ fn aims_at<'a>(
     specifiers: &'a Specifiers,
     targets: &[Node],
 ) -> Result<NeedRow, AllocError>
+    requires index { IsNodeIndex names.now nodes.now index.now }
+    requires targets { All (IsAmong nodes.now) targets.now }
     requires rising { All IsRising names.now }
     requires sets { All (IsSetOf names.now) sets.old.list.items }
     ensures sets { All (IsSetOf names.now) sets.new.list.items }
@@ -122,7 +105,7 @@ fn aims_at<'a>(
         let one = aim(alloc, sets, index, names, nodes, specifiers, target);
         row = with_made(row, one)?;
     }
-    NeedRow::of(alloc, row)
+    Ok(NeedRow::of(row))
 }
 
 // The needs of each requirement that is asked about, in order.
@@ -134,6 +117,8 @@ fn asked_aims<'a>(
     nodes: &[Planned<'_>],
     asked: &[Asked<'a>],
 ) -> Result<SharedList<NeedRow>, AllocError>
+    requires index { IsNodeIndex names.now nodes.now index.now }
+    requires targets { All (AsksTargets (IsAmong nodes.now)) asked.now }
     requires rising { All IsRising names.now }
     requires sets { All (IsSetOf names.now) sets.old.list.items }
     ensures sets { All (IsSetOf names.now) sets.new.list.items }
@@ -161,6 +146,8 @@ pub(crate) fn list_aims<'a>(
     nodes: &[Planned<'_>],
     lists: &[SharedList<Asked<'a>>],
 ) -> Result<Vec<SharedList<NeedRow>>, AllocError>
+    requires index { IsNodeIndex names.now nodes.now index.now }
+    requires targets { All (All (AsksTargets (IsAmong nodes.now))) lists.now }
     requires rising { All IsRising names.now }
     requires sets { All (IsSetOf names.now) sets.old.list.items }
     ensures sets { All (IsSetOf names.now) sets.new.list.items }

@@ -1,11 +1,16 @@
 //! The names and nodes that any requirement of an eligible release reaches, whatever the region.
-ghost use Rattle.std.specs.Prelude.{◌≡◌, All, Decides, IfOk};
+ghost use Rattle.std.specs.Prelude.{◌≡◌, ◌<◌, All, Contains, Decides, IfOk, Some, bytes_eq, length, slice_get};
+ghost use Rattle.std.specs.HashMap.{get};
 ghost use Rattle.ul_requirement.specs.Fields.{WishFields};
+ghost use Rattle.ul_requirement.specs.Truth.{base};
 ghost use Rattle.ul_index.specs.Catalogs.{Packages};
 ghost use Rattle.ul_problem.specs.Problems.{Increases};
-ghost use Rattle.ul_prepared.specs.Gathered.{ArePlaces, ComesAfter, HasName, HasPlace};
-ghost use Rattle.ul_prepared.specs.Gathered.{IsGathered, IsKnown, IsNamed, IsPlacedNode};
+ghost use Rattle.ul_prepared.specs.Gathered.{ComesAfter, HasPlace, IsGathered, IsKnown, IsNamedBy};
+ghost use Rattle.ul_prepared.specs.Gathered.{IsPlacedNode, IsWhole, TakesMore};
+ghost use Rattle.ul_prepared.specs.Lists.{lists_at};
+ghost use Rattle.ul_prepared.specs.Places.{AreNodesOf, IsIndexOf};
 ghost use Rattle.ul_prepared.specs.Prepared.{PlannedBefore};
+ghost use Rattle.ul_prepared.specs.Targets.{HasTargets, HaveTargets};
 
 use crate::names::{name_facts, releases_of};
 use crate::prepared::{NameFacts, Planned};
@@ -48,6 +53,35 @@ fn known_of<'a>(
     beside(facts, made_from(listed, list))
 }
 
+/// The base of a name.
+///
+/// # Errors
+///
+/// Only for want of memory.
+pub(crate) fn base_node(alloc: Global, name: &Name) -> Result<Node, AllocError>
+    ensures { IfOk result (λ n. n ≡ base name.now) }
+{
+    let name = name.copy(alloc)?;
+    Ok(Node { name, extra: None })
+}
+
+// In how many lists the requirements of the name at a place stand.
+fn list_count(names: &[Releases<'_>], place: usize) -> usize
+    requires { place < length names.now }
+    ensures { result ≡ length (lists_at names.now place) }
+{
+    names[place].lists.len()
+}
+
+// One of these lists.
+fn list_at<'a>(names: &[Releases<'a>], place: usize, k: usize) -> &'a [Requirement]
+    requires there { place < length names.now }
+    requires list { k < length (lists_at names.now place) }
+    ensures { Some result.now ≡ slice_get (lists_at names.now place) k }
+{
+    names[place].lists[k]
+}
+
 impl<'a> Gathered<'a> {
     pub(crate) fn new(alloc: Global) -> Gathered<'a>
         ensures { (c : Packages) (wish : WishFields) → IsGathered c wish result }
@@ -61,7 +95,7 @@ impl<'a> Gathered<'a> {
         }
     }
 
-    // Takes a name in, unless it was taken in before.
+    // Takes a name in, with its base, unless it was taken in before.
     fn meet_name(
         &mut self,
         alloc: Global,
@@ -70,6 +104,7 @@ impl<'a> Gathered<'a> {
     ) -> Result<(), AllocError>
         requires { IsGathered sources.now.0 sources.now.1 self.old }
         ensures gathered { IfOk result (λ _. IsGathered sources.now.0 sources.now.1 self.new) }
+        ensures more { IfOk result (λ _. TakesMore self.old self.new) }
         ensures placed { IfOk result (λ _. HasPlace self.new.places name.now) }
     {
         if self.places.contains_key(name) {
@@ -78,6 +113,8 @@ impl<'a> Gathered<'a> {
         let own = name.copy(alloc)?;
         let place = self.names.len();
         self.places.insert(own, place)?;
+        let base = base_node(alloc, name)?;
+        self.nodes.push(base)?;
         self.names.reserve(1)?;
         self.releases.reserve(1)?;
         let (facts, releases) = known_of(alloc, sources, name)?;
@@ -86,7 +123,7 @@ impl<'a> Gathered<'a> {
         Ok(())
     }
 
-    // Takes a node in, with its name, unless it was taken in before.
+    // Takes a node in, with its name and its base, unless it was taken in before.
     fn meet(
         &mut self,
         alloc: Global,
@@ -94,35 +131,22 @@ impl<'a> Gathered<'a> {
         node: &Node,
     ) -> Result<(), AllocError>
         requires { IsGathered sources.now.0 sources.now.1 self.old }
-        ensures { IfOk result (λ _. IsGathered sources.now.0 sources.now.1 self.new) }
+        ensures gathered { IfOk result (λ _. IsGathered sources.now.0 sources.now.1 self.new) }
+        ensures more { IfOk result (λ _. TakesMore self.old self.new) }
+        ensures taken { IfOk result (λ _. Contains self.new.nodes.items node.now) }
     {
+        self.meet_name(alloc, sources, &node.name)?;
+        if node.extra.is_none() {
+            return Ok(());
+        }
         if self.seen.contains(node) {
             return Ok(());
         }
-        self.meet_name(alloc, sources, &node.name)?;
         let own = node.copy(alloc)?;
         self.nodes.push(own)?;
         let own = node.copy(alloc)?;
         self.seen.insert(own)?;
         Ok(())
-    }
-
-    // Takes in a node that a region starts from, and its base before it.
-    fn meet_start(
-        &mut self,
-        alloc: Global,
-        sources: &Sources<'a, '_>,
-        start: &Node,
-    ) -> Result<(), AllocError>
-        requires { IsGathered sources.now.0 sources.now.1 self.old }
-        ensures { IfOk result (λ _. IsGathered sources.now.0 sources.now.1 self.new) }
-    {
-        let base = Node {
-            name: start.name.copy(alloc)?,
-            extra: None,
-        };
-        made_from(self.meet(alloc, sources, &base), base)?;
-        self.meet(alloc, sources, start)
     }
 
     // Takes the targets of a requirement in.
@@ -133,10 +157,13 @@ impl<'a> Gathered<'a> {
         requirement: &Requirement,
     ) -> Result<(), AllocError>
         requires { IsGathered sources.now.0 sources.now.1 self.old }
-        ensures { IfOk result (λ _. IsGathered sources.now.0 sources.now.1 self.new) }
+        ensures gathered { IfOk result (λ _. IsGathered sources.now.0 sources.now.1 self.new) }
+        ensures more { IfOk result (λ _. TakesMore self.old self.new) }
+        ensures targets { IfOk result (λ _. HasTargets (Contains self.new.nodes.items) requirement.now) }
     {
-        // a name is taken in with its base
-        if requirement.extras.is_empty() && self.places.contains_key(&requirement.name) {
+        if requirement.extras.is_empty() {
+            // a name is taken in with its base
+            self.meet_name(alloc, sources, &requirement.name)?;
             return Ok(());
         }
         let targets = requirement.targets(alloc)?;
@@ -154,20 +181,14 @@ impl<'a> Gathered<'a> {
         requirements: &[Requirement],
     ) -> Result<(), AllocError>
         requires { IsGathered sources.now.0 sources.now.1 self.old }
-        ensures { IfOk result (λ _. IsGathered sources.now.0 sources.now.1 self.new) }
+        ensures gathered { IfOk result (λ _. IsGathered sources.now.0 sources.now.1 self.new) }
+        ensures more { IfOk result (λ _. TakesMore self.old self.new) }
+        ensures targets { IfOk result (λ _. HaveTargets (Contains self.new.nodes.items) requirements.now) }
     {
         for requirement in requirements {
             self.meet_targets(alloc, sources, requirement)?;
         }
         Ok(())
-    }
-
-    // In how many lists the requirements of the name at a place stand.
-    fn list_count(&self, place: usize) -> usize {
-        match self.releases.get(place) {
-            Some(own) => own.lists.len(),
-            None => 0,
-        }
     }
 
     // Takes in what the releases of the name at a place aim at.
@@ -177,18 +198,16 @@ impl<'a> Gathered<'a> {
         sources: &Sources<'a, '_>,
         place: usize,
     ) -> Result<(), AllocError>
-        requires { IsGathered sources.now.0 sources.now.1 self.old }
-        ensures { IfOk result (λ _. IsGathered sources.now.0 sources.now.1 self.new) }
+        requires gathered { IsGathered sources.now.0 sources.now.1 self.old }
+        requires there { place < length self.old.releases.items }
+        ensures gathered { IfOk result (λ _. IsGathered sources.now.0 sources.now.1 self.new) }
+        ensures more { IfOk result (λ _. TakesMore self.old self.new) }
+        ensures targets { IfOk result (λ _. All (HaveTargets (Contains self.new.nodes.items))
+            (lists_at self.new.releases.items place)) }
     {
-        let count = self.list_count(place);
+        let count = list_count(self.releases.as_slice(), place);
         for k in 0..count {
-            let Some(own) = self.releases.get(place) else {
-                return Ok(());
-            };
-            let Some(list) = own.lists.get(k) else {
-                return Ok(());
-            };
-            let list: &'a [Requirement] = *list;
+            let list = list_at(self.releases.as_slice(), place, k);
             self.meet_list(alloc, sources, list)?;
         }
         Ok(())
@@ -202,13 +221,14 @@ impl<'a> Gathered<'a> {
         starts: &[Node],
     ) -> Result<(), AllocError>
         requires { IsGathered sources.now.0 sources.now.1 self.old }
-        ensures { IfOk result (λ _. IsGathered sources.now.0 sources.now.1 self.new) }
+        ensures gathered { IfOk result (λ _. IsGathered sources.now.0 sources.now.1 self.new) }
+        ensures whole { IfOk result (λ _. IsWhole starts.now self.new) }
     {
         for start in starts {
-            self.meet_start(alloc, sources, start)?;
+            self.meet(alloc, sources, start)?;
         }
         let mut place = 0;
-        while place < self.names.len() {
+        while place < self.releases.len() {
             self.meet_releases(alloc, sources, place)?;
             place += 1;
         }
@@ -227,7 +247,8 @@ pub(crate) fn gather_all<'a>(
     starts: &[Node],
     wish: &Wish,
 ) -> Result<Gathered<'a>, AllocError>
-    ensures { IfOk result (IsGathered catalog.now wish.now) }
+    ensures gathered { IfOk result (IsGathered catalog.now wish.now) }
+    ensures whole { IfOk result (IsWhole starts.now) }
 {
     let sources = Sources::of(alloc, catalog, wish)?;
     let mut all = Gathered::new(alloc);
@@ -237,15 +258,11 @@ pub(crate) fn gather_all<'a>(
 }
 
 // The place of a name that has one.
-fn name_place(names: &[NameFacts], places: &HashMap<Name, usize>, name: &Name) -> usize
-    requires places { ArePlaces names.now places.now }
-    requires placed { HasPlace places.now name.now }
-    ensures { HasName names.now name.now result }
+fn name_place(places: &HashMap<Name, usize>, name: &Name) -> usize
+    requires { HasPlace places.now name.now }
+    ensures { get bytes_eq places.now name.now ≡ Some result }
 {
-    match places.get(name) {
-        Some(place) => *place,
-        None => 0,
-    }
+    places[name]
 }
 
 // Whether a node comes after the last one.
@@ -259,18 +276,12 @@ fn comes_after(bare: &[Planned<'_>], node: &Node) -> bool
 }
 
 // A node without its rows.
-fn bare_node<'a>(
-    alloc: Global,
-    names: &[NameFacts],
-    places: &HashMap<Name, usize>,
-    node: Node,
-) -> Planned<'a>
-    requires places { ArePlaces names.now places.now }
-    requires placed { HasPlace places.now node.name }
+fn bare_node<'a>(alloc: Global, places: &HashMap<Name, usize>, node: Node) -> Planned<'a>
+    requires { HasPlace places.now node.name }
     ensures node { result.node ≡ node }
-    ensures named { IsNamed names.now result }
+    ensures named { IsNamedBy places.now result }
 {
-    let name = name_place(names, places, &node.name);
+    let name = name_place(places, &node.name);
     Planned {
         node,
         base: None,
@@ -288,21 +299,20 @@ fn bare_node<'a>(
 /// Only for want of memory.
 pub(crate) fn bare_nodes<'a>(
     alloc: Global,
-    names: &[NameFacts],
     places: &HashMap<Name, usize>,
     nodes: Vec<Node>,
 ) -> Result<Vec<Planned<'a>>, AllocError>
-    requires places { ArePlaces names.now places.now }
-    requires placed { All (IsPlacedNode places.now) nodes.items }
+    requires { All (IsPlacedNode places.now) nodes.items }
     ensures increasing { IfOk result (λ v. Increases PlannedBefore v.items) }
-    ensures named { IfOk result (λ v. All (IsNamed names.now) v.items) }
+    ensures named { IfOk result (λ v. All (IsNamedBy places.now) v.items) }
+    ensures nodes { IfOk result (λ v. AreNodesOf nodes.items v.items) }
 {
     let mut nodes = nodes;
     nodes.sort()?;
     let mut bare: Vec<Planned<'a>> = Vec::new(alloc);
     for node in nodes {
         if comes_after(bare.as_slice(), &node) {
-            let one = bare_node(alloc, names, places, node);
+            let one = bare_node(alloc, places, node);
             bare = with_one(bare, one)?;
         }
     }
@@ -336,7 +346,9 @@ pub(crate) fn extra_counts(
 pub(crate) fn index_of(
     alloc: Global,
     nodes: &[Planned<'_>],
-) -> Result<HashMap<Node, usize>, AllocError> {
+) -> Result<HashMap<Node, usize>, AllocError>
+    ensures { IfOk result (IsIndexOf nodes.now) }
+{
     let mut index = HashMap::new(alloc);
     for place in 0..nodes.len() {
         let own: &Node = &nodes[place].node;

@@ -4,14 +4,17 @@ ghost use Rattle.std.specs.List.{AllZip};
 ghost use Rattle.ul_algebra.specs.Answers.{IsDiagram};
 ghost use Rattle.ul_region.specs.Rows.{AreAsked};
 ghost use Rattle.ul_region.specs.Truths.{IsGrown};
-ghost use Rattle.ul_prepared.specs.Gathered.{AreSameNodes, HasBaseFor, HasOwnRows, HasRows, IsNamed, node_in};
+ghost use Rattle.ul_prepared.specs.Gathered.{AreSameNodes, HasOwnRows, HasRows, IsNamed, node_in};
 ghost use Rattle.ul_prepared.specs.Lists.{AreListed, releases_in};
 ghost use Rattle.ul_prepared.specs.Permitted.{IsRising, IsSetOf};
+ghost use Rattle.ul_prepared.specs.Places.{IsAmong, IsBased, IsBasePlace, IsFound, IsFoundAt, IsNodeIndex};
 ghost use Rattle.ul_prepared.specs.Prepared.{AreNodesAt};
 ghost use Rattle.ul_prepared.specs.Shared.{IsShared, releases_shared};
+ghost use Rattle.ul_prepared.specs.Targets.{HaveTargets, ListsTargets, SharesTargets};
+ghost use Rattle.ul_requirement.specs.Truth.{base};
 
 use crate::aims::{list_aims, place_of};
-use crate::gathering::index_of;
+use crate::gathering::{base_node, index_of};
 use crate::permitted::Sets;
 use crate::prepared::{NameFacts, Planned};
 use crate::releases::Releases;
@@ -48,28 +51,20 @@ fn asked_lists<'a, R: Wait>(
     Ok(list)
 }
 
-// The place of a node's base, where it has an extra. Base and extras have one name's place.
+// The place of a node's base, where the node has an extra.
 fn base_of(
     alloc: Global,
     index: &HashMap<Node, usize>,
-    names: &[NameFacts],
-    nodes: &[Planned<'_>],
-    planned: &Planned<'_>,
+    node: &Node,
 ) -> Result<Option<u64>, AllocError>
-    requires { IsNamed names.now planned.now }
-    ensures { IfOk result (HasBaseFor names.now nodes.now planned.now) }
+    requires { IsFound index.now (base node.now.name) }
+    ensures { IfOk result (IsBasePlace index.now node.now) }
 {
-    if planned.node.extra.is_none() {
+    if node.extra.is_none() {
         return Ok(None);
     }
-    let base = Node {
-        name: planned.node.name.copy(alloc)?,
-        extra: None,
-    };
-    let place = place_of(index, names, nodes, &base)?;
-    if nodes[place].name != planned.name {
-        return Err(AllocError);
-    }
+    let base = base_node(alloc, &node.name)?;
+    let place = place_of(index, &base);
     Ok(Some(place as u64))
 }
 
@@ -86,6 +81,9 @@ fn planned_at<'a, R: Wait>(
     own: &Shared<'a>,
     planned: &Planned<'_>,
 ) -> Result<Planned<'a>, AllocError>
+    requires index { IsNodeIndex names.now nodes.now index.now }
+    requires based { IsBased nodes.now planned.now }
+    requires targets { All (HaveTargets (IsAmong nodes.now)) own.now.lists.items }
     requires truths { All (IsDiagram algebra.old) truths.old.marks.items }
     requires rising { All IsRising names.now }
     requires sets { All (IsSetOf names.now) sets.old.list.items }
@@ -97,7 +95,7 @@ fn planned_at<'a, R: Wait>(
     ensures rows { IfOk result (HasRows algebra.new names.now nodes.now truths.new.marks.items
         (releases_shared own.now)) }
 {
-    let base = base_of(alloc, index, names, nodes, planned)?;
+    let base = base_of(alloc, index, &planned.node)?;
     let lists: &[ByExtra<'a>] = own.lists.as_slice();
     let asked = asked_lists(rt, alloc, algebra, truths, &planned.node, lists)?;
     let aims = list_aims(alloc, sets, index, names, nodes, asked.as_slice());
@@ -137,12 +135,14 @@ fn planned_nodes<'a, R: Wait>(
     shared: &[Shared<'a>],
     bare: &[Planned<'_>],
 ) -> Result<Vec<Planned<'a>>, AllocError>
+    requires index { IsNodeIndex names.now bare.now index.now }
+    requires based { All (IsBased bare.now) bare.now }
+    requires targets { All (SharesTargets (IsAmong bare.now)) shared.now }
     requires truths { All (IsDiagram algebra.old) truths.old.marks.items }
     requires rising { All IsRising names.now }
     requires sets { All (IsSetOf names.now) sets.old.list.items }
     requires shared { All (IsShared algebra.old truths.old.marks.items) shared.now }
     requires size { length shared.now ≡ length names.now }
-    requires named { All (IsNamed names.now) bare.now }
     ensures grown { IsGrown algebra.old truths.old.marks.items algebra.new truths.new.marks.items }
     ensures same { IfOk result (λ v. AreSameNodes v.items bare.now) }
     ensures rows { IfOk result (λ v. All
@@ -164,15 +164,14 @@ fn planned_nodes<'a, R: Wait>(
 fn places_of(
     alloc: Global,
     index: &HashMap<Node, usize>,
-    names: &[NameFacts],
-    nodes: &[Planned<'_>],
     starts: &[Node],
 ) -> Result<Vec<u64>, AllocError>
-    ensures { IfOk result (λ v. AreNodesAt nodes.now v.items starts.now) }
+    requires { All (IsFound index.now) starts.now }
+    ensures { IfOk result (λ v. AllZip (IsFoundAt index.now) starts.now v.items) }
 {
     let mut places = Vec::with_capacity(alloc, starts.len())?;
     for start in starts {
-        let place = place_of(index, names, nodes, start)?;
+        let place = place_of(index, start);
         places.push(place as u64)?;
     }
     Ok(places)
@@ -194,6 +193,9 @@ fn nodes_over<'a, R: Wait>(
     requires shared { All (IsShared algebra.old truths.old.marks.items) shared.now }
     requires size { length shared.now ≡ length names.now }
     requires named { All (IsNamed names.now) bare.now }
+    requires based { All (IsBased bare.now) bare.now }
+    requires targets { All (SharesTargets (IsAmong bare.now)) shared.now }
+    requires starts { All (IsAmong bare.now) starts.now }
     ensures grown { IsGrown algebra.old truths.old.marks.items algebra.new truths.new.marks.items }
     ensures same { IfOk result (λ both. AreSameNodes both.0.items bare.now) }
     ensures rows { IfOk result (λ both. All
@@ -207,7 +209,7 @@ fn nodes_over<'a, R: Wait>(
         rt, alloc, algebra, truths, &mut sets, &index, names, shared, bare,
     );
     let (places, nodes) = beside(index, made_from(planned, sets))?;
-    let roots = places_of(alloc, &places, names, nodes.as_slice(), starts);
+    let roots = places_of(alloc, &places, starts);
     beside(nodes, made_from(roots, places))
 }
 
@@ -232,6 +234,9 @@ pub(crate) fn placed_nodes<'a, R: Wait>(
     requires listed { All AreListed releases.items }
     requires size { length releases.items ≡ length names.now }
     requires named { All (IsNamed names.now) bare.now }
+    requires based { All (IsBased bare.now) bare.now }
+    requires targets { All (ListsTargets (IsAmong bare.now)) releases.items }
+    requires starts { All (IsAmong bare.now) starts.now }
     ensures grown { IsGrown algebra.old truths.old.marks.items algebra.new truths.new.marks.items }
     ensures same { IfOk result (λ both. AreSameNodes both.0.items bare.now) }
     ensures rows { IfOk result (λ both. All

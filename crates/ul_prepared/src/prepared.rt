@@ -86,7 +86,7 @@ impl<'a> Prepared<'a> {
             nodes,
             ..
         } = gather_all(alloc, catalog, starts, wish)?;
-        let bare = bare_nodes(alloc, names.as_slice(), &places, nodes);
+        let bare = bare_nodes(alloc, &places, nodes);
         let (known, bare) = beside((names, releases), made_from(bare, places))?;
         let (names, releases) = known;
         let mut truths = Truths::new(alloc);

@@ -3,8 +3,8 @@ ghost use Rattle.std.specs.Prelude.{◌≡◌, All, IfOk, MatchOption, map};
 ghost use Rattle.ul_algebra.specs.Answers.{IsDiagram};
 ghost use Rattle.ul_index.specs.Catalogs.{is_release_fit};
 ghost use Rattle.ul_region.specs.Truths.{IsGrown, IsTruthAt};
-ghost use Rattle.ul_prepared.specs.Lists.{AreListed, listed_in, lists_of, releases_in};
-ghost use Rattle.ul_prepared.specs.Shared.{IsFitted, IsShared, fitted_in, releases_shared};
+ghost use Rattle.ul_prepared.specs.Lists.{AreListed, listed_in, lists_in, lists_of, releases_in};
+ghost use Rattle.ul_prepared.specs.Shared.{IsFitted, IsShared, fitted_in, lists_shared, releases_shared};
 
 use crate::gathering::extra_counts;
 use crate::prepared::Planned;
@@ -132,6 +132,7 @@ fn shared_of<'a, R: Wait>(
     ensures grown { IsGrown algebra.old truths.old.marks.items algebra.new truths.new.marks.items }
     ensures shared { IfOk result (IsShared algebra.new truths.new.marks.items) }
     ensures releases { IfOk result (λ s. releases_shared s ≡ releases_in own.entry) }
+    ensures lists { IfOk result (λ s. s.lists.items ≡ lists_in own.entry) }
 {
     let Releases { releases, lists } = own;
     let fitted = fitted_releases(rt, alloc, algebra, truths, releases.as_slice());
@@ -162,6 +163,7 @@ fn shared_with<'a, R: Wait>(
     ensures grown { IsGrown algebra.old truths.old.marks.items algebra.new truths.new.marks.items }
     ensures shared { IfOk result (λ v. All (IsShared algebra.new truths.new.marks.items) v.items) }
     ensures releases { IfOk result (λ v. map releases_shared v.items ≡ map releases_in names.entry.items) }
+    ensures lists { IfOk result (λ v. map lists_shared v.items ≡ map lists_in names.entry.items) }
 {
     let mut shared = Vec::with_capacity(alloc, names.len())?;
     for own in names {
@@ -190,6 +192,7 @@ pub(crate) fn shared_names<'a, R: Wait>(
     ensures grown { IsGrown algebra.old truths.old.marks.items algebra.new truths.new.marks.items }
     ensures shared { IfOk result (λ v. All (IsShared algebra.new truths.new.marks.items) v.items) }
     ensures releases { IfOk result (λ v. map releases_shared v.items ≡ map releases_in names.entry.items) }
+    ensures lists { IfOk result (λ v. map lists_shared v.items ≡ map lists_in names.entry.items) }
 {
     let extras = extra_counts(alloc, names.len(), nodes);
     let (names, extras) = beside(names, extras)?;

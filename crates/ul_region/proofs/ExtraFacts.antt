@@ -187,9 +187,6 @@ module _ (parts : List Marker) (k : ℕ) (before : ExtraIndex) where
 abbrev pub IsIndexBelow : List RequirementFields → ℕ → ExtraIndex → Type 0
 IsIndexBelow qs n index = (k : ℕ) (q : RequirementFields) (x : List ℕ) → k < n → slice_get qs k ≡ Some q → marker_names q.marker x ≡ true → IsFound index x k
 
-pub index_none : (qs : List RequirementFields) (i : ExtraIndex) → IsIndexBelow qs 0 i
-index_none qs i k q x lt at h = absurd (omega (arith, lt))
-
 -- one requirement more
 pub index_more : (qs : List RequirementFields) (n : ℕ) (q : RequirementFields) (i j : ExtraIndex) → n < length qs → q ≡ get_or qs n q → HasNamed (marker_names q.marker) n i j → IsIndexBelow qs n i → IsIndexBelow qs (n + 1) j
 index_more qs n q i j lt at one below k p x l there h = elim (cases_eq k n) [

@@ -9,7 +9,6 @@ use Rattle.std.proofs.lemmas.Option.{slice_get_within, slice_get-get_or}
 use Rattle.ul_base.specs.declared.node.Node.{Node}
 use Rattle.ul_requirement.specs.Fields.{RequirementFields}
 use Rattle.ul_requirement.specs.Truth.{may_apply}
-use Rattle.ul_region.specs.Extras.{HaveAll}
 use Rattle.ul_region.specs.Rows.{asked_at}
 
 -- the requirements from a place on that may be true at a node
@@ -62,16 +61,6 @@ pub record IsWalk (qs : List RequirementFields) (n : Node) (places : List ℕ) (
   pub within : from ≤ length qs
   pub all : found ++ asked_from qs n from ≡ asked_at n qs
   pub left : (k : ℕ) (q : RequirementFields) → from ≤ k → slice_get qs k ≡ Some q → may_apply q n ≡ true → (j : ℕ) × (i ≤ j) × (j < length places) × (get_or places j 0 ≡ k)
-
-pub walk_first : (qs : List RequirementFields) (n : Node) (places : List ℕ) → HaveAll qs n places → IsWalk qs n places [] 0 0
-walk_first qs n places have = record {
-  within = omega arith;
-  all = refl;
-  left = λ k q from at may. let c = have k q at may in (c.0, omega arith, c.1, at_zero c.0 k c.1 c.2);
-}
-  where
-    at_zero : (j k : ℕ) → j < length places → get_or places j k ≡ k → get_or places j 0 ≡ k
-    at_zero j k lt e = get_or_default places j 0 k lt ∙ e
 
 module _ (qs : List RequirementFields) (n : Node) (places : List ℕ) (found : List RequirementFields) (i from : ℕ) (lt : i < length places) (w : IsWalk qs n places found i from) where
   -- a place that was passed before, or is none of a requirement

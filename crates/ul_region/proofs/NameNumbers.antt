@@ -1,13 +1,14 @@
 -- Numbers of the names of requirements.
-use Rattle.std.specs.Prelude.{All, if◌then◌else◌}
+use Rattle.std.specs.Option.{option_or}
+use Rattle.std.specs.Prelude.{All, if◌then◌else◌, is_some}
 use Rattle.std.specs.HashMap.{HashMap, get}
-use Rattle.std.proofs.Common.{◌≡◌, ◌<◌, ◌≤◌, ◌+◌, ℕ, zero, suc, List, [], ◌∷◌, ◌++◌, length, get_or, map, take, drop, set, replicate, cond, Bool, true, false, Option, Some, refl, sym, ap, subst, ◌∙◌, bytes_eq, arith, inl, inr}
+use Rattle.std.proofs.Common.{◌≡◌, ◌<◌, ◌≤◌, ◌+◌, ◌-◌, ℕ, zero, suc, List, [], ◌∷◌, ◌++◌, length, get_or, map, take, set, replicate, cond, Bool, true, false, Option, Some, None, refl, sym, ap, subst, ◌∙◌, bytes_eq, arith, inl, inr}
 use Rattle.std.proofs.lemmas.Bool.{cases_eq}
-use Rattle.std.proofs.lemmas.List.{drop_more, map_more, take_all, length-map, length-set, length-replicate, get_or-replicate, get_or-map, get_or-set_same, get_or-set_other, get_or_default}
+use Rattle.std.proofs.lemmas.List.{map_more, take_all, take_more, length-take-le, get_or-take, length-map, length-set, length-replicate, get_or-replicate, get_or-map, get_or-set_same, get_or-set_other, get_or_default}
 use Rattle.std.proofs.lemmas.List.Elements.{All-head, All-tail, All-more, All-from_get_or}
 use Rattle.std.proofs.lemmas.Slice.Eq.{bytes_eq-Decides}
 use Rattle.ul_requirement.specs.Fields.{RequirementFields}
-use Rattle.ul_region.specs.Numbers.{AreFirstPlaces, AreNextOthers, AreOthersFrom, IsFirstFrom, IsOtherFrom, first_on, numbers_of, or_zero, place_from}
+use Rattle.ul_region.specs.Numbers.{AreFirstNumbers, AreFirstPlaces, AreNextOthers, AreOthersFrom, HasNumber, IsFirstFrom, IsOtherFrom, RepeatsName, first_on, numbers_of, or_zero, place_from, place_on}
 
 -- ---- a loop that looks for the first one on a name
 
@@ -49,14 +50,93 @@ first_upto (z ∷ zs) (suc k) q l e = by_test_upto (bytes_eq z.name q.name) (fir
 
 -- ---- names that are looked up
 
--- a place before the ones that are known
-pub place_more : (qs : List RequirementFields) (n i : ℕ) (q : RequirementFields) (key name : List ℕ) (was now : Option ℕ) → n ≡ i + 1 → i < length qs → q ≡ get_or qs i q → key ≡ q.name → now ≡ cond (bytes_eq key name) (Some i) was
-    → was ≡ place_from name n (drop n qs) → now ≡ place_from name i (drop i qs)
-place_more qs n i q key name was now e lt at keyed is have =
-    let here : drop i qs ≡ q ∷ drop (i + 1) qs = drop_more qs i q lt ∙ ap (λ (x : RequirementFields). x ∷ drop (i + 1) qs) (sym at) in
-    is ∙ ap (λ (k : List ℕ). cond (bytes_eq k name) (Some i) was) keyed
-    ∙ ap (cond (bytes_eq q.name name) (Some i)) (have ∙ ap (λ (m : ℕ). place_from name m (drop m qs)) e)
-    ∙ sym (ap (place_from name i) here)
+snoc_by_test : (b : Bool) (i : ℕ) (rest known here there : Option ℕ) → rest ≡ option_or known here → here ≡ there → cond b (Some i) rest ≡ option_or (cond b (Some i) known) there
+snoc_by_test true i rest known here there e h = refl
+snoc_by_test false i rest known here there e h = e ∙ ap (option_or known) h
+
+-- a requirement behind others
+place_behind : (n : List ℕ) (i : ℕ) (qs : List RequirementFields) (q : RequirementFields) → place_from n i (qs ++ q ∷ []) ≡ option_or (place_from n i qs) (place_on q n (i + length qs))
+place_behind n i [] q = ap (place_on q n) (omega arith)
+place_behind n i (z ∷ zs) q =
+    snoc_by_test (bytes_eq z.name n) i (place_from n (i + 1) (zs ++ q ∷ [])) (place_from n (i + 1) zs) (place_on q n (i + 1 + length zs)) (place_on q n (i + length (z ∷ zs)))
+    (place_behind n (i + 1) zs q) (ap (place_on q n) (omega arith))
+
+place_taken : (qs : List RequirementFields) (i : ℕ) (q : RequirementFields) (n : List ℕ) → i < length qs → q ≡ get_or qs i q → place_from n 0 (take (i + 1) qs) ≡ option_or (place_from n 0 (take i qs)) (place_on q n i)
+place_taken qs i q n l at =
+    let size : length (take i qs) ≡ i = length-take-le i qs (omega (arith, l)) in
+    ap (place_from n 0) (take_more qs i q l ∙ ap (λ (x : RequirementFields). take i qs ++ x ∷ []) (sym at))
+    ∙ place_behind n 0 (take i qs) q
+    ∙ ap (λ (k : ℕ). option_or (place_from n 0 (take i qs)) (place_on q n k)) (omega (arith, size))
+
+-- the next requirement, whose place is kept where none is kept of its name
+pub place_next : (qs : List RequirementFields) (i : ℕ) (q : RequirementFields) (n : List ℕ) (was now : Option ℕ) → i < length qs → q ≡ get_or qs i q → was ≡ place_from n 0 (take i qs) → now ≡ option_or was (place_on q n i)
+    → now ≡ place_from n 0 (take (i + 1) qs)
+place_next qs i q n was now l at have is = is ∙ ap (λ (o : Option ℕ). option_or o (place_on q n i)) have ∙ sym (place_taken qs i q n l at)
+
+repeat_by_test : (b : Bool) (known : Option ℕ) (i j : ℕ) → option_or known (cond b (Some i) None) ≡ option_or (option_or known (cond b (Some i) None)) (cond b (Some j) None)
+repeat_by_test b (Some k) i j = refl
+repeat_by_test true None i j = refl
+repeat_by_test false None i j = refl
+
+-- the next requirement is on the same name as the one before it, whose place is kept
+pub place_repeated : (qs : List RequirementFields) (i : ℕ) (n : List ℕ) (was : Option ℕ) → RepeatsName qs i → was ≡ place_from n 0 (take i qs) → was ≡ place_from n 0 (take (i + 1) qs)
+place_repeated qs i n was r have =
+    let b : Bool = bytes_eq r.one.name n in
+    let known = place_from n 0 (take r.last qs) in
+    let here : place_from n 0 (take i qs) ≡ option_or known (cond b (Some r.last) None) =
+    ap (λ (k : ℕ). place_from n 0 (take k qs)) r.before ∙ place_taken qs r.last r.one n (omega (arith, r.before, r.within)) r.one_at in
+    let next : place_from n 0 (take (i + 1) qs) ≡ option_or (option_or known (cond b (Some r.last) None)) (cond b (Some i) None) =
+    place_taken qs i r.other n r.within r.other_at
+    ∙ ap (λ (o : Option ℕ). option_or o (place_on r.other n i)) here
+    ∙ ap (λ (m : List ℕ). option_or (option_or known (cond b (Some r.last) None)) (cond (bytes_eq m n) (Some i) None)) (sym r.same) in
+    have ∙ here ∙ repeat_by_test b known r.last i ∙ sym next
+
+-- all requirements were taken
+pub places_whole : (qs : List RequirementFields) (i : ℕ) (n : List ℕ) (was : Option ℕ) → length qs ≤ i → was ≡ place_from n 0 (take i qs) → was ≡ place_from n 0 qs
+places_whole qs i n was l have = have ∙ ap (place_from n 0) (take_all i qs l)
+
+pub same_there : (qs : List RequirementFields) (i : ℕ) (p q : RequirementFields) → i < length qs → p ≡ get_or qs i p → q ≡ get_or qs i q → p ≡ q
+same_there qs i p q l a b = a ∙ get_or_default qs i p q l ∙ sym b
+
+or_none : (o : Option ℕ) → o ≡ option_or o None
+or_none None = refl
+or_none (Some k) = refl
+
+some_or : (o other : Option ℕ) → is_some o ≡ true → o ≡ option_or o other
+some_or None other e = cc
+some_or (Some k) other e = refl
+
+not_some : (o : Option ℕ) → is_some o ≡ false → o ≡ None
+not_some None e = refl
+not_some (Some k) e = cc
+
+kept_by_test : (b : Bool) (o : Option ℕ) (k : ℕ) → (b ≡ true → is_some o ≡ true) → o ≡ option_or o (cond b (Some k) None)
+kept_by_test true o k h = some_or o (Some k) (h refl)
+kept_by_test false o k h = or_none o
+
+new_by_test : (b : Bool) (o : Option ℕ) (k : ℕ) → (b ≡ true → o ≡ None) → cond b (Some k) o ≡ option_or o (cond b (Some k) None)
+new_by_test true o k h = sym (ap (λ (x : Option ℕ). option_or x (Some k)) (h refl))
+new_by_test false o k h = or_none o
+
+-- a place is kept of the name
+pub kept_still : (f : List ℕ → Option ℕ) (name n : List ℕ) (k : ℕ) → is_some (f name) ≡ true → f n ≡ option_or (f n) (cond (bytes_eq name n) (Some k) None)
+kept_still f name n k h = kept_by_test (bytes_eq name n) (f n) k (λ t. subst (λ (m : List ℕ). is_some (f m) ≡ true) ((bytes_eq-Decides name n).0 t) h)
+
+-- a place is put, where none is kept of the name
+pub kept_now : (f : List ℕ → Option ℕ) (name n : List ℕ) (k : ℕ) → is_some (f name) ≡ false → cond (bytes_eq name n) (Some k) (f n) ≡ option_or (f n) (cond (bytes_eq name n) (Some k) None)
+kept_now f name n k h = new_by_test (bytes_eq name n) (f n) k (λ t. subst (λ (m : List ℕ). f m ≡ None) ((bytes_eq-Decides name n).0 t) (not_some (f name) h))
+
+-- the number of a name that the one before has too
+pub repeated_number : (qs : List RequirementFields) (place : ℕ) (numbers : List ℕ) → AreFirstNumbers qs place numbers → RepeatsName qs place → HasNumber qs place (get_or numbers (place - 1) 0)
+repeated_number qs place numbers are r q at =
+    let size : length (take place qs) ≡ place = length-take-le place qs (omega (arith, r.within)) in
+    let last : place - 1 ≡ r.last = omega (arith, r.before) in
+    let same : r.other ≡ q = r.other_at ∙ get_or_default qs place r.other q r.within ∙ sym at in
+    ap (λ (k : ℕ). get_or numbers k 0) last
+    ∙ ap (λ (z : List ℕ). get_or z r.last 0) are
+    ∙ get_or-map (λ (x : RequirementFields). first_on x.name qs) (take place qs) r.last r.one 0 (omega (arith, size, r.before))
+    ∙ ap (λ (x : RequirementFields). first_on x.name qs) (get_or-take place qs r.last r.one (omega (arith, r.before)) ∙ sym r.one_at)
+    ∙ ap (λ (m : List ℕ). first_on m qs) (r.same ∙ ap (λ (x : RequirementFields). x.name) same)
 
 place_by_test : (b : Bool) (i m k : ℕ) (rest : Option ℕ) → k ≡ (if b then 0 else suc m) → (b ≡ false → rest ≡ Some (i + 1 + m)) → cond b (Some i) rest ≡ Some (i + k)
 place_by_test true i m k rest e h = ap Some (omega (arith, e))
@@ -127,15 +207,6 @@ next_start numbers truths seen next n i e f s h = record {
   });
   later = λ k a b. absurd (omega (arith, a, b, f));
 }
-
--- what is known of the places behind one, for the place itself
-pub next_found : (numbers truths seen next : List ℕ) (i n number : ℕ) → All (λ (m : ℕ). m < length numbers) numbers → n ≡ i + 1 → i < length numbers → number ≡ get_or numbers i number → AreNextFrom numbers truths seen next n
-    → IsFirstFrom numbers (i + 1) (get_or numbers i 0) (get_or seen number 0)
-next_found numbers truths seen next i n number below e l at h =
-    let own : get_or numbers i 0 ≡ number = get_or_default numbers i 0 number l ∙ sym at in
-    let there : number < length numbers = subst (λ (m : ℕ). m < length numbers) (sym at) (below i number l) in
-    subst (λ (m : ℕ). IsFirstFrom numbers (i + 1) m (get_or seen number 0)) (sym own)
-    (subst (λ (x : ℕ). IsFirstFrom numbers x number (get_or seen number 0)) e (h.first number there))
 
 pub next_more : (numbers truths seen next : List ℕ) (i n number place : ℕ) → All (λ (m : ℕ). m < length numbers) numbers → n ≡ i + 1 → i < length numbers → number ≡ get_or numbers i number → AreNextFrom numbers truths seen next n
     → IsOtherFrom numbers truths (i + 1) (get_or numbers i 0) (get_or truths i 0) place

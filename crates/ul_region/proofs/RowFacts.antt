@@ -1,6 +1,6 @@
 -- Rows, as more is known and more truths are put.
 use Rattle.std.specs.Prelude.{All, Contains, option_map, slice_get, if◌then◌else◌}
-use Rattle.std.proofs.Common.{◌≡◌, ◌<◌, ◌+◌, ℕ, zero, suc, List, [], ◌∷◌, ◌++◌, length, get_or, map, take, Bool, true, false, Some, refl, sym, ap, subst, ◌∙◌, ⊎_elim, inl, inr, bytes_eq, arith}
+use Rattle.std.proofs.Common.{◌≡◌, ◌<◌, ◌+◌, ℕ, zero, suc, List, [], ◌∷◌, ◌++◌, length, get_or, map, take, Bool, true, false, not, ◌&&◌, Option, Some, None, refl, sym, ap, subst, ◌∙◌, ⊎_elim, inl, inr, bytes_eq, arith}
 use Rattle.std.proofs.lemmas.Option.{none-some, same_Some, slice_get_within, slice_get-get_or, slice_get-map, get_or_from_slice_get}
 use Rattle.std.proofs.lemmas.Bool.{cases_eq}
 use Rattle.std.proofs.lemmas.Slice.Eq.{bytes_eq-Decides}
@@ -10,16 +10,17 @@ use Rattle.ul_base.specs.declared.node.Node.{Node}
 use Rattle.ul_base.proofs.ForCallers.{none_in, contains_cases, contains_map}
 use Rattle.ul_interner.specs.Known.{Knows}
 use Rattle.ul_interner.proofs.ForCallers.{knows_itself, knows_then}
+use Rattle.ul_comparison.specs.Formulas.{Formula}
 use Rattle.ul_comparison.specs.Worlds.{WorldFields}
 use Rattle.ul_nodes.specs.Plain.{Plain}
 use Rattle.ul_tree.specs.Regions.{HasTruth}
 use Rattle.ul_algebra.specs.Answers.{IsDiagram}
 use Rattle.ul_algebra.specs.Spelled.{tree_of}
 use Rattle.ul_requirement.specs.Fields.{RequirementFields}
-use Rattle.ul_requirement.specs.Truth.{applies_at}
+use Rattle.ul_requirement.specs.Truth.{applies_at, may_hold, true_with}
 use Rattle.ul_region.specs.Truths.{PassView, DiagramMark, IsTruthAt, HasTree, Grows, IsGrown}
 use Rattle.ul_index.specs.Catalogs.{is_release_fit}
-use Rattle.ul_region.specs.Rows.{IsAsked, AreAsked, IsRow, AreLinked, AreNumbered, AreTruthsOf, next_in, number_in, requirement_of, truth_in}
+use Rattle.ul_region.specs.Rows.{IsAsked, AreAsked, IsPlaceOfAlike, IsRow, AreLinked, AreNumbered, AreTruthsOf, AreTruthsOfFirst, next_in, number_in, requirement_of, truth_in}
 use Rattle.ul_region.specs.Numbers.{AreNextOthers, IsFirstFrom, first_on, numbers_of}
 use Rattle.ul_region.specs.declared.rows.Asked.{Asked}
 use Rattle.ul_region.specs.declared.rows.Row.{Row}
@@ -55,9 +56,6 @@ grown_itself h ms a = record { knows = knows_itself h; grows = grows_itself ms; 
 
 pub grown_knows : (g h : PassView) (ms : List DiagramMark) → Knows g h → All (IsDiagram g) ms → IsGrown g ms h ms
 grown_knows g h ms more a = record { knows = more; grows = grows_itself ms; known = all_still g h ms more a }
-
-pub put_grown : (g h : PassView) (ms ns : List DiagramMark) → Knows g h → Grows ms ns → All (IsDiagram h) ns → IsGrown g ms h ns
-put_grown g h ms ns more e a = record { knows = more; grows = e; known = a }
 
 pub grown_then : (f g h : PassView) (ks ms ns : List DiagramMark) → IsGrown f ks g ms → IsGrown g ms h ns → IsGrown f ks h ns
 grown_then f g h ks ms ns a b = record { knows = knows_then f g h a.knows b.knows; grows = λ k m e. b.grows k m (a.grows k m e); known = b.known }
@@ -116,6 +114,23 @@ truths_whole h n ms qs ps i old e = record {
   size = old.size ∙ e;
   known = λ k q at. old.known k q (subst (λ (m : ℕ). k < m) (sym e) (slice_get_within qs k q at)) at;
 }
+
+-- at one node requirements with the same marker are true in the same worlds
+alike_holds : (q r : RequirementFields) (x : Option (List ℕ)) (w : WorldFields) → q.marker ≡ r.marker → true_with q x w ≡ true_with r x w
+alike_holds q r None w e = ap (λ (m : Option Formula). may_hold m w []) e
+alike_holds q r (Some x) w e = ap (λ (m : Option Formula). may_hold m w x && not (may_hold m w [])) e
+
+pub alike_truth : (h : PassView) (n : Node) (ms : List DiagramMark) (qs : List RequirementFields) (ps : List ℕ) (q : RequirementFields) (place : ℕ) → AreTruthsOfFirst h n ms qs ps → IsPlaceOfAlike qs ps q place → IsTruthAt h ms place (applies_at q n)
+alike_truth h n ms qs ps q place first at =
+    let t = first at.index at.other at.within at.there in
+    subst (λ (k : ℕ). IsTruthAt h ms k (applies_at q n)) (sym at.is) (record {
+      mark = t.mark;
+      at = t.at;
+      is = record { diagram = t.is.diagram; truth = record { reduced = t.is.truth.reduced; truth = λ w x is. t.is.truth.truth w x is ∙ alike_holds at.other q n.extra w at.alike } };
+    })
+
+pub first_truths : (h : PassView) (n : Node) (ms : List DiagramMark) (qs : List RequirementFields) (ps : List ℕ) (i : ℕ) → AreTruthsUpTo h n ms qs ps i → AreTruthsOfFirst h n ms qs ps
+first_truths h n ms qs ps i old k q l at = old.known k q (subst (λ (m : ℕ). k < m) old.size l) at
 
 -- requirements with their places are those that are asked about
 pub all_asked : (h : PassView) (n : Node) (ms : List DiagramMark) (qs : List RequirementFields) (ps : List ℕ) (asked : List Asked) → map requirement_of asked ≡ qs → map truth_in asked ≡ ps → AreTruthsOf h n ms qs ps → All (IsAsked h n ms) asked

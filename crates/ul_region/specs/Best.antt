@@ -1,15 +1,13 @@
 -- The best selection of a region, as decisions in order.
-use Rattle.std.specs.Prelude.{◌≡◌, List, [], ◌∷◌, ◌++◌, map, filter, find, flat_map, not, is_some, Contains, Option, Some, None}
+use Rattle.std.specs.Prelude.{◌≡◌, List, [], ◌∷◌, ◌++◌, map, find, flat_map, not, is_some, Contains, Option, Some, None}
 use Rattle.ul_base.specs.declared.node.Node.{Node}
 use Rattle.ul_version.specs.Fields.{Fields}
 use Rattle.ul_specifier.specs.Clauses.{ClauseFields}
-use Rattle.ul_specifier.specs.Meaning.{meets_list}
 use Rattle.ul_requirement.specs.Fields.{RequirementFields, WishFields}
 use Rattle.ul_requirement.specs.Truth.{targets}
 use Rattle.ul_base.specs.Kept.{Kept, IsFirst}
 use Rattle.ul_index.specs.Regions.{Region}
 use Rattle.ul_index.specs.Catalogs.{Packages, requirements}
-use Rattle.ul_index.specs.Eligible.{eligible}
 use Rattle.ul_index.specs.Applied.{IsFirm}
 use Rattle.ul_index.specs.Serves.{Selection, Serves, choice_of}
 use Rattle.ul_index.specs.Preference.{preference}
@@ -18,10 +16,6 @@ use Rattle.ul_index.specs.Preference.{preference}
 pub record Need : Type 0 where
   pub node : Node
   pub specifiers : List ClauseFields
-
--- the eligible versions that meet a need
-abbrev pub permitted_versions : Packages → Need → List Fields
-permitted_versions c t = filter (meets_list t.specifiers) (eligible c t.node.name)
 
 -- the needs of a requirement: its targets, in order
 abbrev pub needs_of : RequirementFields → List Need

@@ -1,5 +1,5 @@
 -- Numbers of names: the place of the first requirement on the name.
-use Rattle.std.specs.Prelude.{◌≡◌, ◌<◌, ◌≤◌, ◌+◌, ℕ, suc, List, [], ◌∷◌, Option, Some, None, cond, length, get_or, map, if◌then◌else◌}
+use Rattle.std.specs.Prelude.{◌≡◌, ◌<◌, ◌≤◌, ◌+◌, ℕ, suc, List, [], ◌∷◌, Option, Some, None, cond, length, get_or, map, take, if◌then◌else◌}
 use Rattle.std.specs.Borrow.{Bor}
 use Rattle.std.specs.HashMap.{HashMap, get}
 use Rattle.std.specs.Str.{bytes_eq}
@@ -26,6 +26,33 @@ place_from n i (q ∷ qs) = cond (bytes_eq q.name n) (Some i) (place_from n (i +
 -- of each name the place of the first requirement on it
 abbrev pub AreFirstPlaces : {S : Type 0} → List RequirementFields → HashMap (List ℕ) ℕ S → Type 0
 AreFirstPlaces qs places = (n : List ℕ) → get bytes_eq places n ≡ place_from n 0 qs
+
+-- of each name the place of the first requirement on it among the first requirements, so many
+abbrev pub ArePlacesOfFirst : {S : Type 0} → List RequirementFields → ℕ → HashMap (List ℕ) ℕ S → Type 0
+ArePlacesOfFirst qs count places = (n : List ℕ) → get bytes_eq places n ≡ place_from n 0 (take count qs)
+
+-- the place, where the requirement is on the name
+abbrev pub place_on : RequirementFields → List ℕ → ℕ → Option ℕ
+place_on q n place = cond (bytes_eq q.name n) (Some place) None
+
+-- the requirement at a place is on the same name as the one before it
+pub record RepeatsName (qs : List RequirementFields) (place : ℕ) : Type 0 where
+  pub last : ℕ
+  pub before : place ≡ last + 1
+  pub within : place < length qs
+  pub one : RequirementFields
+  pub one_at : one ≡ get_or qs last one
+  pub other : RequirementFields
+  pub other_at : other ≡ get_or qs place other
+  pub same : one.name ≡ other.name
+
+-- the number of the name of the requirement at a place
+abbrev pub HasNumber : List RequirementFields → ℕ → ℕ → Type 0
+HasNumber qs place number = (q : RequirementFields) → q ≡ get_or qs place q → number ≡ first_on q.name qs
+
+-- of the first requirements, so many, the numbers of their names
+abbrev pub AreFirstNumbers : List RequirementFields → ℕ → List ℕ → Type 0
+AreFirstNumbers qs count numbers = numbers ≡ map (λ (q : RequirementFields). first_on q.name qs) (take count qs)
 
 -- a place, where there is one, and else 0
 abbrev pub or_zero : Option ℕ → ℕ

@@ -1,5 +1,5 @@
 -- What is known in every region of the requirements of a release at a node.
-use Rattle.std.specs.Prelude.{◌≡◌, ◌↔◌, ℕ, List, map, filter, All, Contains, Some, length, get_or, slice_get}
+use Rattle.std.specs.Prelude.{◌≡◌, ◌<◌, ◌↔◌, ℕ, List, map, filter, All, Contains, Some, length, get_or, slice_get}
 use Rattle.ul_base.specs.declared.node.Node.{Node}
 use Rattle.ul_requirement.specs.Fields.{RequirementFields}
 use Rattle.ul_requirement.specs.Truth.{applies_at, may_apply}
@@ -17,6 +17,19 @@ IsAsked h n truths a = IsTruthAt h truths a.truth (applies_at a.requirement.now 
 pub record AreTruthsOf (h : PassView) (n : Node) (truths : List DiagramMark) (qs : List RequirementFields) (places : List ℕ) : Type 0 where
   pub size : length places ≡ length qs
   pub known : (k : ℕ) (q : RequirementFields) → slice_get qs k ≡ Some q → IsTruthAt h truths (get_or places k 0) (applies_at q n)
+
+-- of the first requirements, as many as there are places, the places of their truths at the node
+abbrev pub AreTruthsOfFirst : PassView → Node → List DiagramMark → List RequirementFields → List ℕ → Type 0
+AreTruthsOfFirst h n truths qs places = (k : ℕ) (q : RequirementFields) → k < length places → slice_get qs k ≡ Some q → IsTruthAt h truths (get_or places k 0) (applies_at q n)
+
+-- the place that stands beside a requirement with the same marker as this one
+pub record IsPlaceOfAlike (qs : List RequirementFields) (places : List ℕ) (q : RequirementFields) (place : ℕ) : Type 0 where
+  pub index : ℕ
+  pub other : RequirementFields
+  pub within : index < length places
+  pub there : slice_get qs index ≡ Some other
+  pub alike : other.marker ≡ q.marker
+  pub is : place ≡ get_or places index 0
 
 -- the requirement that is asked about
 abbrev pub requirement_of : Asked → RequirementFields

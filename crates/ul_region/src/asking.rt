@@ -1,10 +1,11 @@
 //! The rows of releases.
-ghost use Rattle.std.specs.Prelude.{◌≡◌, IfOk, All, length, map};
+ghost use Rattle.std.specs.Prelude.{◌≡◌, ◌≤◌, IfOk, IfSome, IsTrue, All, length, map, option_map};
 ghost use Rattle.ul_algebra.specs.Answers.{IsDiagram};
+ghost use Rattle.ul_marker.specs.Views.{marker_view};
 ghost use Rattle.ul_requirement.specs.Truth.{applies_at};
 ghost use Rattle.ul_index.specs.Catalogs.{is_release_fit};
 ghost use Rattle.ul_region.specs.Truths.{IsGrown, IsTruthAt};
-ghost use Rattle.ul_region.specs.Rows.{AreAsked, AreTruthsOf, IsAsked};
+ghost use Rattle.ul_region.specs.Rows.{AreAsked, AreTruthsOf, AreTruthsOfFirst, IsAsked, IsPlaceOfAlike};
 ghost use Rattle.ul_region.specs.Rows.{next_in, number_in, requirement_of, truth_in};
 ghost use Rattle.ul_region.specs.Numbers.{AreNextOthers, fields_in, numbers_of};
 
@@ -17,11 +18,51 @@ use std::sync::Wait;
 use ul_algebra::Algebra;
 use ul_base::Node;
 use ul_base::owned::with_made;
+use ul_marker::Marker;
 use ul_ranges::SharedList;
 use ul_requirement::{Release, Requirement};
 
-// The place of a requirement's truth at a node.
-fn truth_place<R: Wait>(
+// Whether two requirements have no marker.
+fn have_none(one: &Option<Marker>, other: &Option<Marker>) -> bool
+    ensures { IsTrue result → option_map marker_view one.now ≡ option_map marker_view other.now }
+{
+    match (one, other) {
+        (None, None) => true,
+        _ => false,
+    }
+}
+
+// Whether two requirements have no marker, or are the same.
+fn are_alike(one: &Requirement, other: &Requirement) -> bool
+    ensures { IsTrue result → one.now.marker ≡ other.now.marker }
+{
+    if have_none(&one.marker, &other.marker) {
+        return true;
+    }
+    one.same(other)
+}
+
+// The place that stands beside the last of the requirements that have one, if that has the same marker as this one.
+fn last_place(
+    requirements: &[&Requirement],
+    places: &[usize],
+    requirement: &Requirement,
+) -> Option<usize>
+    requires { length places.now ≤ length requirements.now }
+    ensures { IfSome result (IsPlaceOfAlike (fields_in requirements.now) places.now requirement.now) }
+{
+    let count = places.len();
+    if count == 0 {
+        return None;
+    }
+    if are_alike(requirements[count - 1], requirement) {
+        return Some(places[count - 1]);
+    }
+    None
+}
+
+// The place of a requirement's truth at a node, where none is known.
+fn new_place<R: Wait>(
     rt: &R,
     alloc: Global,
     algebra: &mut Algebra<'_>,
@@ -37,6 +78,31 @@ fn truth_place<R: Wait>(
     let truth = truth_at(rt, alloc, algebra, node, requirement)?;
     let place = truths.put(algebra, &truth)?;
     Ok(place)
+}
+
+// The place of a requirement's truth at a node, behind those of requirements before it. At one node the truth follows from
+// the marker, so a requirement that is like the one before it has its place.
+fn truth_place<R: Wait>(
+    rt: &R,
+    alloc: Global,
+    algebra: &mut Algebra<'_>,
+    truths: &mut Truths,
+    node: &Node,
+    requirements: &[&Requirement],
+    places: &[usize],
+    requirement: &Requirement,
+) -> Result<usize, AllocError>
+    requires truths { All (IsDiagram algebra.old) truths.old.marks.items }
+    requires few { length places.now ≤ length requirements.now }
+    requires places { AreTruthsOfFirst algebra.old node.now truths.old.marks.items (fields_in requirements.now) places.now }
+    ensures grown { IsGrown algebra.old truths.old.marks.items algebra.new truths.new.marks.items }
+    ensures truth { IfOk result (λ k.
+        IsTruthAt algebra.new truths.new.marks.items k (applies_at requirement.now node.now)) }
+{
+    if let Some(place) = last_place(requirements, places, requirement) {
+        return Ok(place);
+    }
+    new_place(rt, alloc, algebra, truths, node, requirement)
 }
 
 // Of each requirement the place of its truth at a node.
@@ -55,8 +121,16 @@ fn truth_places<R: Wait>(
 {
     let mut places = Vec::with_capacity(alloc, requirements.len())?;
     for requirement in requirements {
-        let requirement: &Requirement = requirement;
-        let place = truth_place(rt, alloc, algebra, truths, node, requirement);
+        let place = truth_place(
+            rt,
+            alloc,
+            algebra,
+            truths,
+            node,
+            requirements,
+            places.as_slice(),
+            requirement,
+        );
         places = with_made(places, place)?;
     }
     Ok(places)

@@ -1,10 +1,12 @@
 //! Numbers of the names of a release's requirements.
-ghost use Rattle.std.specs.Prelude.{◌≡◌, ◌<◌, ◌+◌, All, IfOk, get_or, length};
+ghost use Rattle.std.specs.Option.{option_or};
+ghost use Rattle.std.specs.Prelude.{◌≡◌, ◌<◌, ◌+◌, ℕ, List, All, IfOk, IsTrue, get_or, length};
 ghost use Rattle.std.specs.HashMap.{get};
 ghost use Rattle.std.specs.Str.{bytes_eq};
 ghost use Rattle.ul_region.specs.Numbers;
-ghost use Rattle.ul_region.specs.Numbers.{AreFirstPlaces, AreNextOthers, AreOthersFrom, IsFirstFrom, IsOtherFrom};
-ghost use Rattle.ul_region.specs.Numbers.{fields_in, numbers_of, or_zero};
+ghost use Rattle.ul_region.specs.Numbers.{AreFirstNumbers, AreFirstPlaces, AreNextOthers, AreOthersFrom, ArePlacesOfFirst};
+ghost use Rattle.ul_region.specs.Numbers.{HasNumber, IsFirstFrom, IsOtherFrom, RepeatsName};
+ghost use Rattle.ul_region.specs.Numbers.{fields_in, numbers_of, or_zero, place_on};
 
 use std::alloc::{AllocError, Global};
 use std::collections::HashMap;
@@ -53,11 +55,53 @@ fn few_numbers(alloc: Global, requirements: &[&Requirement]) -> Result<Vec<usize
     Ok(numbers)
 }
 
-fn own_name(alloc: Global, requirement: &Requirement) -> Result<Name, AllocError>
-    ensures { IfOk result (λ n. n ≡ requirement.now.name) }
+// Whether the requirement at a place is on the same name as the one before it.
+fn repeats_name(requirements: &[&Requirement], place: usize) -> bool
+    ensures { IsTrue result → RepeatsName (fields_in requirements.now) place }
+{
+    if place == 0 || place >= requirements.len() {
+        return false;
+    }
+    let own: &Requirement = requirements[place];
+    let name: &Name = &own.name;
+    is_on(requirements[place - 1], name)
+}
+
+// Keeps the place of a requirement's name, where none is kept.
+fn keep_first(
+    alloc: Global,
+    places: &mut HashMap<Name, usize>,
+    requirement: &Requirement,
+    place: usize,
+) -> Result<(), AllocError>
+    ensures { IfOk result (λ _. (n : List ℕ) → get bytes_eq places.new n
+        ≡ option_or (get bytes_eq places.old n) (place_on requirement.now n place)) }
 {
     let own: &Name = &requirement.name;
-    own.copy(alloc)
+    if places.contains_key(own) {
+        return Ok(());
+    }
+    let name = own.copy(alloc)?;
+    places.insert(name, place)?;
+    Ok(())
+}
+
+// Takes the requirement at a place, behind those before it. Mostly those on one name stand together.
+fn take_place(
+    alloc: Global,
+    places: &mut HashMap<Name, usize>,
+    requirements: &[&Requirement],
+    place: usize,
+) -> Result<(), AllocError>
+    requires place { place < length requirements.now }
+    requires taken { ArePlacesOfFirst (fields_in requirements.now) place places.old }
+    ensures { IfOk result (λ _. ArePlacesOfFirst (fields_in requirements.now) (place + 1) places.new) }
+{
+    if repeats_name(requirements, place) {
+        return Ok(());
+    }
+    keep_first(alloc, places, requirements[place], place)?;
+    Ok(())
 }
 
 // Where the first requirement on each name stands.
@@ -68,9 +112,8 @@ fn first_places(
     ensures { IfOk result (AreFirstPlaces (fields_in requirements.now)) }
 {
     let mut places = HashMap::new(alloc);
-    for place in (0..requirements.len()).rev() {
-        let name = own_name(alloc, requirements[place])?;
-        places.insert(name, place)?;
+    for place in 0..requirements.len() {
+        take_place(alloc, &mut places, requirements, place)?;
     }
     Ok(places)
 }
@@ -86,14 +129,33 @@ fn place_in(places: &HashMap<Name, usize>, requirement: &Requirement) -> usize
     }
 }
 
+// The number of the name of the requirement at a place, behind the numbers of those before it.
+fn next_number(
+    places: &HashMap<Name, usize>,
+    requirements: &[&Requirement],
+    numbers: &[usize],
+    place: usize,
+) -> usize
+    requires places { AreFirstPlaces (fields_in requirements.now) places.now }
+    requires place { place < length requirements.now }
+    requires numbers { AreFirstNumbers (fields_in requirements.now) place numbers.now }
+    ensures { HasNumber (fields_in requirements.now) place result }
+{
+    if repeats_name(requirements, place) {
+        return numbers[place - 1];
+    }
+    place_in(places, requirements[place])
+}
+
 // The numbers of names that are looked up.
 fn many_numbers(alloc: Global, requirements: &[&Requirement]) -> Result<Vec<usize>, AllocError>
     ensures { IfOk result (λ v. v.items ≡ numbers_of (fields_in requirements.now)) }
 {
     let places = first_places(alloc, requirements)?;
     let mut numbers = Vec::with_capacity(alloc, requirements.len())?;
-    for requirement in requirements {
-        numbers.push(place_in(&places, requirement))?;
+    for place in 0..requirements.len() {
+        let number = next_number(&places, requirements, numbers.as_slice(), place);
+        numbers.push(number)?;
     }
     Ok(numbers)
 }

@@ -1,6 +1,14 @@
+use Rattle.std.proofs.Common.{subst, sym}
+use Rattle.std.proofs.lemmas.List.Elements.{All-get_or}
 use Rattle.ul_base.proofs.ForCallers.{made_holds}
+use Rattle.ul_prepared.specs.Places.{IsAmong}
 use Rattle.ul_prepared.proofs.Aiming.{aims_more}
 use Rattle.ul_prepared.proofs.aims.aims_at.Goals as goal
+
+pub aim-one-requires-clause-target : goal.aim-one-requires-clause-target
+aim-one-requires-clause-target c =
+    let among = IsAmong c.args.nodes.now in
+    subst among (sym c.target-item.is) (All-get_or among c.args.targets.now c.loop-target.target-index c.target-item.result c.loop-target-test.true c.requires.targets)
 
 pub loop-target-preserved : goal.loop-target-preserved
 loop-target-preserved c =

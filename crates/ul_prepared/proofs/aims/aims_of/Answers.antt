@@ -1,14 +1,18 @@
-use Rattle.std.proofs.Common.{List, ap, ◌∙◌, subst}
-use Rattle.std.specs.Prelude.{IfOk}
+use Rattle.std.proofs.Common.{List, ap, ◌∙◌, sym, subst}
+use Rattle.std.specs.Prelude.{All, IfOk}
 use Rattle.ul_base.specs.declared.node.Node.{Node}
 use Rattle.ul_specifier.specs.Clauses.{ClauseFields}
 use Rattle.ul_requirement.specs.Fields.{RequirementFields}
 use Rattle.ul_requirement.specs.Truth.{targets}
 use Rattle.ul_region.specs.Best.{needs_of}
 use Rattle.ul_prepared.specs.Aims.{needs_on}
+use Rattle.ul_prepared.specs.Places.{IsAmong}
 use Rattle.ul_prepared.specs.Prepared.{AreAims}
 use Rattle.ul_prepared.proofs.Loops.{if_handed}
 use Rattle.ul_prepared.proofs.aims.aims_of.Goals as goal
+
+pub aims_at-aims-requires-clause-targets : goal.aims_at-aims-requires-clause-targets
+aims_at-aims-requires-clause-targets c = subst (All (IsAmong c.args.nodes.now)) (sym (c.as_slice.ensures.value ∙ c.in_ok-targets.ensures)) c.requires.targets
 
 pub returns-clause-aims : goal.returns-clause-aims
 returns-clause-aims c =

@@ -1,10 +1,19 @@
-use Rattle.std.proofs.Common.{subst}
+use Rattle.std.proofs.Common.{subst, sym, ◌∙◌}
+use Rattle.std.specs.Prelude.{All}
 use Rattle.std.proofs.lemmas.List.{take_all}
+use Rattle.std.proofs.lemmas.List.Elements.{All-get_or}
 use Rattle.std.specs.List.{AllZip}
 use Rattle.ul_base.proofs.ForCallers.{made_holds}
+use Rattle.ul_prepared.specs.Places.{IsAmong}
 use Rattle.ul_prepared.specs.Prepared.{AreRowAims}
+use Rattle.ul_prepared.specs.Targets.{AsksTargets}
 use Rattle.ul_prepared.proofs.Zipped.{made_first}
 use Rattle.ul_prepared.proofs.aims.list_aims.Goals as goal
+
+pub asked_aims-aims-requires-clause-targets : goal.asked_aims-aims-requires-clause-targets
+asked_aims-aims-requires-clause-targets c =
+    let ask = All (AsksTargets (IsAmong c.args.nodes.now)) in
+    subst ask (sym (c.as_slice.ensures ∙ c.asked-item.is)) (All-get_or ask c.args.lists.now c.loop-asked.asked-index c.asked-item.result c.loop-asked-test.true c.requires.targets)
 
 pub loop-asked-preserved : goal.loop-asked-preserved
 loop-asked-preserved c =

@@ -5,16 +5,21 @@ use Rattle.std.proofs.lemmas.Slice.Zip.{AllZip-long}
 use Rattle.ul_base.specs.declared.node.Node.{Node}
 use Rattle.ul_base.proofs.ForCallers.{made_holds}
 use Rattle.ul_problem.specs.declared.problem.Need.{Need as PlaceNeed}
+use Rattle.ul_requirement.specs.Truth.{base}
 use Rattle.ul_region.specs.Rows.{AreAsked}
 use Rattle.ul_region.specs.declared.rows.Asked.{Asked}
 use Rattle.ul_prepared.specs.Gathered.{HasName}
+use Rattle.ul_prepared.specs.Places.{IsAmong}
 use Rattle.ul_prepared.specs.Prepared.{AreRowAims, HasBaseAt}
 use Rattle.ul_prepared.specs.Shared.{IsOfList, IsPlaced, IsRowOf, list_in}
+use Rattle.ul_prepared.specs.Targets.{AsksTargets}
 use Rattle.ul_prepared.specs.declared.prepared.NameFacts.{NameFacts}
 use Rattle.ul_prepared.specs.declared.prepared.Planned.{Planned}
 use Rattle.ul_prepared.specs.declared.rows.OwnRows.{OwnRows}
 use Rattle.ul_prepared.specs.declared.shared.Fitted.{Fitted}
+use Rattle.ul_prepared.proofs.PlaceFacts.{base_found}
 use Rattle.ul_prepared.proofs.SharedFacts.{node_rows, placed, shared_grown}
+use Rattle.ul_prepared.proofs.TargetFacts.{lists_ask}
 use Rattle.ul_prepared.proofs.planning.planned_at.Goals as goal
 use Rattle.ul_prepared.proofs.planning.planned_at.Goals.{In_ok-asked-2, In_ok-rows-2}
 
@@ -66,6 +71,15 @@ returns-in_err-rows-2-clause-grown g c = c.asked_lists.ensures.grown
 pub returns-clause-grown : goal.returns-clause-grown
 returns-clause-grown g c = c.asked_lists.ensures.grown
 
+pub base_of-requires : goal.base_of-requires
+base_of-requires g c = c.requires.index.places.whole (base c.args.planned.now.node.name) c.requires.based.base
+
+pub list_aims-aims-requires-clause-targets : goal.list_aims-aims-requires-clause-targets
+list_aims-aims-requires-clause-targets g c =
+    subst (All (All (AsksTargets (IsAmong c.args.nodes.now)))) (sym c.as_slice.ensures.value)
+    (lists_ask (IsAmong c.args.nodes.now) c.asked_lists.new.algebra c.args.planned.now.node c.asked_lists.new.truths.marks.items c.args.own.now.lists.items c.in_ok-asked.asked.items
+    (subst (λ ls. AllZip (AreAsked c.asked_lists.new.algebra c.args.planned.now.node c.asked_lists.new.truths.marks.items) ls c.in_ok-asked.asked.items) c.as_slice-lists.ensures.value c.in_ok-asked.ensures.asked) c.requires.targets)
+
 pub returns-in_err-base-clause-sets : goal.returns-in_err-base-clause-sets
 returns-in_err-base-clause-sets g c = c.requires.sets
 
@@ -96,7 +110,7 @@ returns-clause-rows g c =
     let truths = c.asked_lists.new.truths.marks.items in
     let own = c.args.own.now in
     let name = c.args.planned.now.name in
-    let base = c.in_ok-base.base in
+    let found = c.in_ok-base.base in
     let asked = c.in_ok-asked.asked.items in
     let aims = c.in_ok-asked-2.aims.items in
     let made = c.in_ok-rows-2.rows in
@@ -118,10 +132,10 @@ returns-clause-rows g c =
     subst (λ (fs : List Fitted). made.lists.items ≡ map list_in fs) c.as_slice-releases.ensures.value
     (subst (λ (z : OwnRows). z.lists.items ≡ map list_in c.as_slice-releases.result.now) handed
     (told (λ z. z.lists.items ≡ map list_in c.as_slice-releases.result.now) c.in_ok-rows.ensures c.rows_of-rows.ensures.lists)) in
-    let p : Planned = record { node = c.in_ok-rows-2.node; base = base; name = name; rows = made.rows; aims = made.aims; lists = made.lists } in
+    let p : Planned = record { node = c.in_ok-rows-2.node; base = found; name = name; rows = made.rows; aims = made.aims; lists = made.lists } in
     node_rows h names nodes truths own asked aims p
     (subst (λ (n : Node). HasName names n.name name) same c.requires.named)
-    (subst (λ (n : Node). (f : NameFacts) × (slice_get names name ≡ Some f) × HasBaseAt names nodes n base f) same c.in_ok-base.ensures)
+    (subst (λ (n : Node). (f : NameFacts) × (slice_get names name ≡ Some f) × HasBaseAt names nodes n found f) same (base_found names nodes c.args.index.now c.args.planned.now found c.requires.index c.requires.named c.requires.based c.in_ok-base.ensures))
     (shared_grown _ _ _ _ own c.asked_lists.ensures.grown c.requires.shared)
     (subst (λ (n : Node). AllZip (AreAsked h n truths) own.lists.items asked) same (are g places.In_ok-asked-2))
     (aimed g places.In_ok-asked-2) rows needs lists

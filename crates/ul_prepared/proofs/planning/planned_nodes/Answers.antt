@@ -4,7 +4,9 @@ use Rattle.std.proofs.lemmas.List.Elements.{All-get_or}
 use Rattle.std.proofs.lemmas.Option.{slice_get_within}
 use Rattle.ul_region.proofs.ForCallers.{grown_then}
 use Rattle.ul_prepared.specs.Gathered.{HasRows, IsNamed, node_in}
+use Rattle.ul_prepared.specs.Places.{IsAmong, IsBased}
 use Rattle.ul_prepared.specs.Shared.{IsShared, releases_shared}
+use Rattle.ul_prepared.specs.Targets.{SharesTargets}
 use Rattle.ul_prepared.specs.declared.prepared.NameFacts.{NameFacts}
 use Rattle.ul_prepared.specs.declared.prepared.Planned.{Planned}
 use Rattle.ul_prepared.specs.declared.shared.Shared.{Shared}
@@ -20,7 +22,7 @@ within : (names : List NameFacts) (shared : List Shared) (p : Planned) → lengt
 within names shared p size named = subst (λ (n : ℕ). p.name < n) (sym size) (slice_get_within names p.name named.0 named.1)
 
 named_one : (g : _) (c : After-one-item g) → IsNamed c.args.names.now c.one-item.result
-named_one g c = subst (IsNamed c.args.names.now) (sym c.one-item.is) (All-get_or (IsNamed c.args.names.now) c.args.bare.now c.loop-one.one-index c.one-item.result c.loop-one-test.true c.requires.named)
+named_one g c = subst (IsNamed c.args.names.now) (sym c.one-item.is) (All-get_or (IsNamed c.args.names.now) c.args.bare.now c.loop-one.one-index c.one-item.result c.loop-one-test.true c.requires.index.named)
 
 own_shared-own-within : (g : _) (c : After-one-item g) → c.one-item.result.name < length c.args.shared.now
 own_shared-own-within g c = within c.args.names.now c.args.shared.now c.one-item.result c.requires.size (named_one g c)
@@ -36,6 +38,17 @@ planned_at-made-requires-clause-shared g c =
     let shared = IsShared c.loop-one.algebra c.loop-one.truths.marks.items in
     subst shared (sym c.own_shared-own.ensures)
     (All-get_or shared c.args.shared.now c.one-item.result.name c.own_shared-own.result.now (own_shared-own-within g (goal.at.planned_at-made-requires-clause-shared g c).After-one-item) c.loop-one.invariant.shared)
+
+pub planned_at-made-requires-clause-based : goal.planned_at-made-requires-clause-based
+planned_at-made-requires-clause-based g c =
+    let based = IsBased c.args.bare.now in
+    subst based (sym c.one-item.is) (All-get_or based c.args.bare.now c.loop-one.one-index c.one-item.result c.loop-one-test.true c.requires.based)
+
+pub planned_at-made-requires-clause-targets : goal.planned_at-made-requires-clause-targets
+planned_at-made-requires-clause-targets g c =
+    let targets = SharesTargets (IsAmong c.args.bare.now) in
+    subst targets (sym c.own_shared-own.ensures)
+    (All-get_or targets c.args.shared.now c.one-item.result.name c.own_shared-own.result.now (own_shared-own-within g (goal.at.planned_at-made-requires-clause-targets g c).After-one-item) c.requires.targets)
 
 pub returns-in_err-nodes-2-clause-grown : goal.returns-in_err-nodes-2-clause-grown
 returns-in_err-nodes-2-clause-grown g c = grown_then _ _ _ _ _ _ c.loop-one.invariant.grown c.planned_at-made.ensures.grown

@@ -1,8 +1,8 @@
 use Rattle.std.proofs.Common.{◌≡◌, ap, map, subst, sym, ◌∙◌}
 use Rattle.std.specs.Prelude.{All}
 use Rattle.std.proofs.lemmas.Result.{IfOk-weaker}
-use Rattle.ul_prepared.specs.Lists.{AreListed, releases_in}
-use Rattle.ul_prepared.specs.Shared.{IsShared, releases_shared}
+use Rattle.ul_prepared.specs.Lists.{AreListed, lists_in, releases_in}
+use Rattle.ul_prepared.specs.Shared.{IsShared, lists_shared, releases_shared}
 use Rattle.ul_prepared.proofs.Loops.{if_handed}
 use Rattle.ul_prepared.proofs.shared.shared_names.Goals as goal
 
@@ -18,3 +18,9 @@ returns-clause-releases g c =
     if_handed c.shared_with-shared.result c.made_from.result (λ v. map releases_shared v.items ≡ map releases_in c.args.names.items) c.made_from.ensures
     (IfOk-weaker c.shared_with-shared.result (λ v. map releases_shared v.items ≡ map releases_in c.in_ok-names.names.items) (λ v. map releases_shared v.items ≡ map releases_in c.args.names.items)
     (λ v e. e ∙ ap (λ z. map releases_in z.items) c.in_ok-names.ensures.0) c.shared_with-shared.ensures.releases)
+
+pub returns-clause-lists : goal.returns-clause-lists
+returns-clause-lists g c =
+    if_handed c.shared_with-shared.result c.made_from.result (λ v. map lists_shared v.items ≡ map lists_in c.args.names.items) c.made_from.ensures
+    (IfOk-weaker c.shared_with-shared.result (λ v. map lists_shared v.items ≡ map lists_in c.in_ok-names.names.items) (λ v. map lists_shared v.items ≡ map lists_in c.args.names.items)
+    (λ v e. e ∙ ap (λ z. map lists_in z.items) c.in_ok-names.ensures.0) c.shared_with-shared.ensures.lists)

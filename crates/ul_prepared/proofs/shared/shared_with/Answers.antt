@@ -2,10 +2,10 @@ use Rattle.std.proofs.Common.{◌++◌, List, ap, arith, map, sym, ◌∙◌}
 use Rattle.std.proofs.lemmas.List.{append-nil}
 use Rattle.ul_base.proofs.ForCallers.{made_holds}
 use Rattle.ul_region.proofs.ForCallers.{grown_then}
-use Rattle.ul_prepared.specs.Lists.{releases_in}
-use Rattle.ul_prepared.specs.Shared.{IsShared, releases_shared}
+use Rattle.ul_prepared.specs.Lists.{lists_in, releases_in}
+use Rattle.ul_prepared.specs.Shared.{IsShared, lists_shared, releases_shared}
 use Rattle.ul_prepared.specs.declared.releases.Releases.{Releases}
-use Rattle.ul_prepared.proofs.SharedFacts.{first_left, names_next, none_left, rest_left, shared_more}
+use Rattle.ul_prepared.proofs.SharedFacts.{first_left, lists_next, names_next, none_left, rest_left, shared_more}
 use Rattle.ul_prepared.proofs.shared.shared_with.Goals as goal
 
 pub returns-in_err-shared-2-clause-grown : goal.returns-in_err-shared-2-clause-grown
@@ -29,9 +29,15 @@ loop-own-preserved g c =
           more.2 c.shared_of-one.ensures.grown c.loop-own.invariant.shared (made_holds c.shared_of-one.result one (IsShared c.shared_of-one.new.algebra c.shared_of-one.new.truths.marks.items) more.1 c.shared_of-one.ensures.shared);
       left = rest_left left rest c.in-Some.own first c.loop-own.invariant.left;
       releases = names_next before after one c.in-Some.own left rest c.args.names.items more.2 first (made_holds c.shared_of-one.result one _ more.1 c.shared_of-one.ensures.releases) c.loop-own.invariant.releases;
+      lists = lists_next before after one c.in-Some.own left rest c.args.names.items more.2 first (made_holds c.shared_of-one.result one _ more.1 c.shared_of-one.ensures.lists) c.loop-own.invariant.lists;
     }
 
 pub returns-clause-releases : goal.returns-clause-releases
 returns-clause-releases g c =
     sym (append-nil (map releases_shared c.loop-own.shared.items))
     ∙ (ap (λ (z : List Releases). map releases_shared c.loop-own.shared.items ++ map releases_in z) (sym (none_left c.loop-own.own-iterator.rest.items (omega (arith, c.in-None.ensures.steps.0, c.loop-own.own-iterator.rest.ok)))) ∙ c.loop-own.invariant.releases)
+
+pub returns-clause-lists : goal.returns-clause-lists
+returns-clause-lists g c =
+    sym (append-nil (map lists_shared c.loop-own.shared.items))
+    ∙ (ap (λ (z : List Releases). map lists_shared c.loop-own.shared.items ++ map lists_in z) (sym (none_left c.loop-own.own-iterator.rest.items (omega (arith, c.in-None.ensures.steps.0, c.loop-own.own-iterator.rest.ok)))) ∙ c.loop-own.invariant.lists)

@@ -1,13 +1,17 @@
-use Rattle.ul_requirement.specs.Truth.{applies_at}
-use Rattle.ul_region.proofs.TruthFacts.{all_still}
-use Rattle.ul_region.proofs.RowFacts.{grown_knows, truth_there}
+use Rattle.std.proofs.Common.{ℕ, Option, subst}
+use Rattle.std.specs.Prelude.{IfSome}
+use Rattle.ul_region.specs.Numbers.{fields_in}
+use Rattle.ul_region.specs.Rows.{IsPlaceOfAlike}
+use Rattle.ul_region.proofs.RowFacts.{alike_truth, grown_itself}
 use Rattle.ul_region.proofs.asking.truth_place.Goals as goal
 
-pub returns-in_err-truth-clause-grown : goal.returns-in_err-truth-clause-grown
-returns-in_err-truth-clause-grown g c = grown_knows _ _ c.args.truths.now.marks.items c.in_err-truth.ensures.knows c.requires
+pub returns-in-Some-clause-grown : goal.returns-in-Some-clause-grown
+returns-in-Some-clause-grown g c = grown_itself c.args.algebra.now c.args.truths.now.marks.items c.requires.truths
 
-pub put-requires-clause-marks : goal.put-requires-clause-marks
-put-requires-clause-marks g c = all_still _ _ c.args.truths.now.marks.items c.in_ok-truth.ensures.knows c.requires
-
-pub returns-clause-truth : goal.returns-clause-truth
-returns-clause-truth g c = truth_there c.truth_at.new.algebra c.put.new.self.marks.items c.in_ok-place.place c.in_ok-truth.truth (applies_at c.args.requirement.now c.args.node.now) c.in_ok-place.ensures.there c.in_ok-place.ensures.marks c.in_ok-truth.ensures.truth.truth
+pub returns-in-Some-clause-truth : goal.returns-in-Some-clause-truth
+returns-in-Some-clause-truth g c =
+    let qs = fields_in c.args.requirements.now in
+    let places = c.args.places.now in
+    let q = c.args.requirement.now in
+    alike_truth c.args.algebra.now c.args.node.now c.args.truths.now.marks.items qs places q c.in-Some.place c.requires.places
+    (subst (λ (o : Option ℕ). IfSome o (IsPlaceOfAlike qs places q)) c.in-Some.is c.last_place.ensures)

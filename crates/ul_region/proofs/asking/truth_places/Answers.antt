@@ -1,11 +1,24 @@
-use Rattle.std.proofs.Common.{◌≡◌, ℕ, length, arith, ◌∙◌, sym}
+use Rattle.std.proofs.Common.{◌≡◌, ℕ, length, arith, ◌∙◌, subst, sym}
 use Rattle.ul_base.proofs.ForCallers.{made_holds}
 use Rattle.ul_requirement.specs.Truth.{applies_at}
 use Rattle.ul_region.specs.Truths.{IsTruthAt}
 use Rattle.ul_region.specs.Numbers.{fields_in}
+use Rattle.ul_region.specs.Rows.{AreTruthsOfFirst}
 use Rattle.ul_region.proofs.Lent.{lent_size, lent_there}
-use Rattle.ul_region.proofs.RowFacts.{grown_then, truths_more, truths_whole}
+use Rattle.ul_region.proofs.RowFacts.{first_truths, grown_then, truths_more, truths_whole}
 use Rattle.ul_region.proofs.asking.truth_places.Goals as goal
+
+pub truth_place-place-requires-clause-truths : goal.truth_place-place-requires-clause-truths
+truth_place-place-requires-clause-truths g c = c.loop-requirement.invariant.grown.known
+
+pub truth_place-place-requires-clause-few : goal.truth_place-place-requires-clause-few
+truth_place-place-requires-clause-few g c = let size = c.loop-requirement.invariant.truths.size in omega (arith, size, c.loop-requirement-test.true)
+
+pub truth_place-place-requires-clause-places : goal.truth_place-place-requires-clause-places
+truth_place-place-requires-clause-places g c =
+    let qs = fields_in c.args.requirements.now in
+    subst (AreTruthsOfFirst c.loop-requirement.algebra c.args.node.now c.loop-requirement.truths.marks.items qs) (sym c.as_slice.ensures.value)
+    (first_truths c.loop-requirement.algebra c.args.node.now c.loop-requirement.truths.marks.items qs c.loop-requirement.places.items c.loop-requirement.requirement-index c.loop-requirement.invariant.truths)
 
 pub returns-in_err-places-2-clause-grown : goal.returns-in_err-places-2-clause-grown
 returns-in_err-places-2-clause-grown g c = grown_then _ _ _ _ _ _ c.loop-requirement.invariant.grown c.truth_place-place.ensures.grown

@@ -2,19 +2,19 @@ use Rattle.std.proofs.Common.{ap, map, ◌∙◌}
 use Rattle.std.proofs.lemmas.List.{take_all}
 use Rattle.ul_requirement.specs.Fields.{RequirementFields}
 use Rattle.ul_region.specs.Numbers.{fields_in, first_on}
-use Rattle.ul_region.proofs.Lent.{lent_at, lent_below, lent_end}
-use Rattle.ul_region.proofs.NameNumbers.{kept_number, number_more}
+use Rattle.ul_region.proofs.Lent.{lent_below, lent_end}
+use Rattle.ul_region.proofs.NameNumbers.{number_more, some_at}
 use Rattle.ul_region.proofs.numbers.many_numbers.Goals as goal
 
-pub loop-requirement-preserved : goal.loop-requirement-preserved
-loop-requirement-preserved c = let rs = c.args.requirements.now in let i = c.loop-requirement.requirement-index in let one = c.requirement-item.result in
-    let below = lent_below rs i c.loop-requirement-test.true in
-    let at = lent_at rs i one c.loop-requirement-test.true c.requirement-item.is in
-    number_more (fields_in rs) i one.now c.loop-requirement.numbers.items c.push.new.self.items c.place_in.result c.in_ok-push.ensures.items c.loop-requirement.invariant
-    (kept_number (fields_in rs) c.in_ok-places.places i one.now c.place_in.result c.in_ok-places.ensures below at c.place_in.ensures)
-    below at
+pub loop-place-preserved : goal.loop-place-preserved
+loop-place-preserved c =
+    let rs = c.args.requirements.now in
+    let i = c.loop-place.place in
+    let l = lent_below rs i c.loop-place-test.true in
+    let q = some_at (fields_in rs) i l in
+    number_more (fields_in rs) i q.0 c.loop-place.numbers.items c.push.new.self.items c.next_number-number.result c.in_ok-push.ensures.items c.loop-place.invariant (c.next_number-number.ensures q.0 q.1) l q.1
 
 pub returns : goal.returns
 returns c = let rs = c.args.requirements.now in
-    c.loop-requirement.invariant
-    ∙ ap (map (λ (x : RequirementFields). first_on x.name (fields_in rs))) (take_all c.loop-requirement.requirement-index (fields_in rs) (lent_end rs c.loop-requirement.requirement-index c.loop-requirement-test.false))
+    c.loop-place.invariant
+    ∙ ap (map (λ (x : RequirementFields). first_on x.name (fields_in rs))) (take_all c.loop-place.place (fields_in rs) (lent_end rs c.loop-place.place c.loop-place-test.false))
