@@ -66,15 +66,6 @@ impl Region {
         &self.tree
     }
 
-    /// The tree.
-    pub fn into_tree(self) -> Tree
-        ensures tree { tree_view result ≡ self }
-        ensures region { IsRegion self }
-    {
-        let Region { tree } = self;
-        tree
-    }
-
     /// Whether these are all worlds.
     pub fn is_all(&self) -> bool
         ensures { result ≡ is_true self.now }

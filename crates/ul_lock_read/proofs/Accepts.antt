@@ -16,7 +16,7 @@ use Rattle.ul_lock_write.specs.declared.sheets.Sheet.{Sheet}
 use Rattle.ul_lock_lines.specs.declared.lines.Line.{Line}
 use Rattle.ul_lock_lines.specs.declared.lines.Line.TheVariants.{First as first, Root as root, Supported as supported, Item as item, Close as close, Gap as gap, Entry as entry, Name as name, Version as version, File as file, Edge as edge, Table as table, Opens as opens, Bare as bare}
 use Rattle.ul_lock_read.specs.declared.states.State.{State}
-use Rattle.ul_lock_read.specs.declared.states.State.TheVariants.{Start as start, Rooted as rooted, Bounded as bounded, Forking as forking, Headed as headed, Opened as opened, Named as named, Versed as versed, Filing as filing, Fresh as fresh, Needing as needing, Whole as whole, Paused as paused, Tabled as tabled, Listing as listing}
+use Rattle.ul_lock_read.specs.declared.states.State.TheVariants.{Start as start, AfterRoot as after_root, AfterSupported as after_supported, InForks as in_forks, AfterForks as after_forks, AfterEntry as after_entry, AfterName as after_name, AfterVersion as after_version, InFiles as in_files, AfterFiles as after_files, InEdges as in_edges, AfterEdges as after_edges, AfterGap as after_gap, InExtras as in_extras, InExtra as in_extra}
 use Rattle.ul_lock.specs.Region.{all_worlds, is_true}
 use Rattle.ul_lock.specs.Orders.{edge_less, extra_less, file_less, block_less}
 use Rattle.ul_lock_write.specs.Sheet.{forks_key, files_key, edges_key, fork_lines, file_lines, edge_lines, listed, extra_lines, table_lines, block_lines, head_lines, sheet_lines}
@@ -63,38 +63,38 @@ run_map at spell less each xs r =
     ap (λ k. run (at []) k) (sym (flat_map_single spell xs))
     ∙ run_list at (λ x. spell x ∷ []) less (λ _. Unit {0}) (λ ys y t _. run_one (at ys) (spell y) [] (at (ys ++ y ∷ [])) (at (ys ++ y ∷ [])) (each ys y t) refl) [] xs r (Each-all xs)
 
-run_forks : (v : Edition) (r : List ℕ) (s : Plain) (ms : List Plain) → run (forking v r s []) (map item ms) ≡ Some (forking v r s ms)
-run_forks v r s ms = run_map (λ k. forking v r s k) item (λ _ _. true) (λ xs x t. refl) ms (Rising-all ms)
+run_forks : (v : Edition) (r : List ℕ) (s : Plain) (ms : List Plain) → run (in_forks v r s []) (map item ms) ≡ Some (in_forks v r s ms)
+run_forks v r s ms = run_map (λ k. in_forks v r s k) item (λ _ _. true) (λ xs x t. refl) ms (Rising-all ms)
 
-run_filing : (h : Head) (bs : List Locked) (n : List ℕ) (v : Fields) (fs : List FileFields) → Rising file_less fs → run (filing h bs n v []) (map file fs) ≡ Some (filing h bs n v fs)
-run_filing h bs n v fs r = run_map (λ k. filing h bs n v k) file file_less (λ xs x t. may_is _ _ t) fs r
+run_in_files : (h : Head) (bs : List Locked) (n : List ℕ) (v : Fields) (fs : List FileFields) → Rising file_less fs → run (in_files h bs n v []) (map file fs) ≡ Some (in_files h bs n v fs)
+run_in_files h bs n v fs r = run_map (λ k. in_files h bs n v k) file file_less (λ xs x t. may_is _ _ t) fs r
 
-run_needing : (h : Head) (bs : List Locked) (n : List ℕ) (v : Fields) (fs : List FileFields) (es : List Edge) → Rising edge_less es → run (needing h bs n v fs []) (map edge es) ≡ Some (needing h bs n v fs es)
-run_needing h bs n v fs es r = run_map (λ k. needing h bs n v fs k) edge edge_less (λ xs x t. may_is _ _ t) es r
+run_in_edges : (h : Head) (bs : List Locked) (n : List ℕ) (v : Fields) (fs : List FileFields) (es : List Edge) → Rising edge_less es → run (in_edges h bs n v fs []) (map edge es) ≡ Some (in_edges h bs n v fs es)
+run_in_edges h bs n v fs es r = run_map (λ k. in_edges h bs n v fs k) edge edge_less (λ xs x t. may_is _ _ t) es r
 
-run_listing : (h : Head) (bs : List Locked) (n : List ℕ) (v : Fields) (fs : List FileFields) (es : List Edge) (xs : List Extra) (x : List ℕ) (ls : List Edge) → Rising edge_less ls → run (listing h bs n v fs es xs x []) (map edge ls) ≡ Some (listing h bs n v fs es xs x ls)
-run_listing h bs n v fs es xs x ls r = run_map (λ k. listing h bs n v fs es xs x k) edge edge_less (λ ys y t. may_is _ _ t) ls r
+run_in_extra : (h : Head) (bs : List Locked) (n : List ℕ) (v : Fields) (fs : List FileFields) (es : List Edge) (xs : List Extra) (x : List ℕ) (ls : List Edge) → Rising edge_less ls → run (in_extra h bs n v fs es xs x []) (map edge ls) ≡ Some (in_extra h bs n v fs es xs x ls)
+run_in_extra h bs n v fs es xs x ls r = run_map (λ k. in_extra h bs n v fs es xs x k) edge edge_less (λ ys y t. may_is _ _ t) ls r
 
 run_extra : (h : Head) (bs : List Locked) (n : List ℕ) (v : Fields) (fs : List FileFields) (es : List Edge) (xs : List Extra) (x : List ℕ) (ls : List Edge)
     → tops extra_less xs (record { name = x; edges = ls }) ≡ true → Rising edge_less ls
-    → run (tabled h bs n v fs es xs) (listed x ls) ≡ Some (tabled h bs n v fs es (xs ++ record { name = x; edges = ls } ∷ []))
-run_extra h bs n v fs es xs x [] t r = run_one (tabled h bs n v fs es xs) (bare x) [] (tabled h bs n v fs es (xs ++ record { name = x; edges = [] } ∷ [])) _ (may_is _ _ t) refl
+    → run (in_extras h bs n v fs es xs) (listed x ls) ≡ Some (in_extras h bs n v fs es (xs ++ record { name = x; edges = ls } ∷ []))
+run_extra h bs n v fs es xs x [] t r = run_one (in_extras h bs n v fs es xs) (bare x) [] (in_extras h bs n v fs es (xs ++ record { name = x; edges = [] } ∷ [])) _ (may_is _ _ t) refl
 run_extra h bs n v fs es xs x (l ∷ ls) t r =
-    run_one (tabled h bs n v fs es xs) (opens x) (map edge (l ∷ ls) ++ close ∷ []) (listing h bs n v fs es xs x []) _ (may_is _ _ (sym (extra_top xs x (l ∷ ls)) ∙ t))
-    (run_then (listing h bs n v fs es xs x []) (map edge (l ∷ ls)) (close ∷ []) (listing h bs n v fs es xs x (l ∷ ls)) _ (run_listing h bs n v fs es xs x (l ∷ ls) r) refl)
+    run_one (in_extras h bs n v fs es xs) (opens x) (map edge (l ∷ ls) ++ close ∷ []) (in_extra h bs n v fs es xs x []) _ (may_is _ _ (sym (extra_top xs x (l ∷ ls)) ∙ t))
+    (run_then (in_extra h bs n v fs es xs x []) (map edge (l ∷ ls)) (close ∷ []) (in_extra h bs n v fs es xs x (l ∷ ls)) _ (run_in_extra h bs n v fs es xs x (l ∷ ls) r) refl)
 
 run_table : (h : Head) (bs : List Locked) (n : List ℕ) (v : Fields) (fs : List FileFields) (es : List Edge) (xs : List Extra) → Rising extra_less xs → Each IsExtra xs
-    → run (paused h bs n v fs es) (table ∷ flat_map extra_lines xs) ≡ Some (tabled h bs n v fs es xs)
+    → run (after_gap h bs n v fs es) (table ∷ flat_map extra_lines xs) ≡ Some (in_extras h bs n v fs es xs)
 run_table h bs n v fs es xs r p =
-    run_one (paused h bs n v fs es) table (flat_map extra_lines xs) (tabled h bs n v fs es []) _ refl
-    (run_list (λ k. tabled h bs n v fs es k) extra_lines extra_less IsExtra (λ ys y t q. run_extra h bs n v fs es ys y.name y.edges t q) [] xs r p)
+    run_one (after_gap h bs n v fs es) table (flat_map extra_lines xs) (in_extras h bs n v fs es []) _ refl
+    (run_list (λ k. in_extras h bs n v fs es k) extra_lines extra_less IsExtra (λ ys y t q. run_extra h bs n v fs es ys y.name y.edges t q) [] xs r p)
 
 -- ---- blocks
 
 -- a state at which these blocks have been read, and another may follow
 pub record Stands (h : Head) (bs : List Locked) (s : State) : Type 0 where
   pub final : final s ≡ Some (sheet_of h bs)
-  pub next : run s (gap ∷ entry ∷ []) ≡ Some (opened h bs)
+  pub next : run s (gap ∷ entry ∷ []) ≡ Some (after_entry h bs)
 
 pub record Reaches (h : Head) (bs : List Locked) (s : State) (ls : List Line) : Type 0 where
   pub last : State
@@ -104,36 +104,36 @@ pub record Reaches (h : Head) (bs : List Locked) (s : State) (ls : List Line) : 
 -- a state behind a block's files: its edges or an empty line may follow, or the end
 record Filed (h : Head) (bs : List Locked) (n : List ℕ) (v : Fields) (fs : List FileFields) (s : State) : Type 0 where
   stands : Stands h (bs ++ plain_block n v fs [] [] ∷ []) s
-  pauses : step s gap ≡ Some (paused h bs n v fs [])
-  needs : run s (opens (edges_key) ∷ []) ≡ Some (needing h bs n v fs [])
+  pauses : step s gap ≡ Some (after_gap h bs n v fs [])
+  needs : run s (opens (edges_key) ∷ []) ≡ Some (in_edges h bs n v fs [])
 
-run_edges : (h : Head) (bs : List Locked) (n : List ℕ) (v : Fields) (fs : List FileFields) (s : State) (e : Edge) (es : List Edge) → Filed h bs n v fs s → Rising edge_less (e ∷ es) → run s (edge_lines (e ∷ es)) ≡ Some (whole h bs n v fs (e ∷ es))
-run_edges h bs n v fs s e es k r = run_then s (opens edges_key ∷ []) (map edge (e ∷ es) ++ close ∷ []) (needing h bs n v fs []) _ k.needs (run_then (needing h bs n v fs []) (map edge (e ∷ es)) (close ∷ []) (needing h bs n v fs (e ∷ es)) _ (run_needing h bs n v fs (e ∷ es) r) refl)
+run_edges : (h : Head) (bs : List Locked) (n : List ℕ) (v : Fields) (fs : List FileFields) (s : State) (e : Edge) (es : List Edge) → Filed h bs n v fs s → Rising edge_less (e ∷ es) → run s (edge_lines (e ∷ es)) ≡ Some (after_edges h bs n v fs (e ∷ es))
+run_edges h bs n v fs s e es k r = run_then s (opens edges_key ∷ []) (map edge (e ∷ es) ++ close ∷ []) (in_edges h bs n v fs []) _ k.needs (run_then (in_edges h bs n v fs []) (map edge (e ∷ es)) (close ∷ []) (in_edges h bs n v fs (e ∷ es)) _ (run_in_edges h bs n v fs (e ∷ es) r) refl)
 
 -- behind the files
 run_rest : (h : Head) (bs : List Locked) (n : List ℕ) (v : Fields) (fs : List FileFields) (s : State) (es : List Edge) (xs : List Extra) → Filed h bs n v fs s → Rising edge_less es → Rising extra_less xs → Each IsExtra xs
     → Reaches h (bs ++ plain_block n v fs es xs ∷ []) s (edge_lines es ++ table_lines xs)
 run_rest h bs n v fs s [] [] k re rx p = record { last = s; runs = refl; stands = k.stands }
 run_rest h bs n v fs s [] (x ∷ xs) k re rx p = record {
-  last = tabled h bs n v fs [] (x ∷ xs);
-  runs = run_one s gap (table ∷ flat_map extra_lines (x ∷ xs)) (paused h bs n v fs []) _ k.pauses (run_table h bs n v fs [] (x ∷ xs) rx p);
+  last = in_extras h bs n v fs [] (x ∷ xs);
+  runs = run_one s gap (table ∷ flat_map extra_lines (x ∷ xs)) (after_gap h bs n v fs []) _ k.pauses (run_table h bs n v fs [] (x ∷ xs) rx p);
   stands = record { final = refl; next = refl };
 }
 run_rest h bs n v fs s (e ∷ es) [] k re rx p = record {
-  last = whole h bs n v fs (e ∷ es);
-  runs = run_then s (edge_lines (e ∷ es)) [] (whole h bs n v fs (e ∷ es)) _ (run_edges h bs n v fs s e es k re) refl;
+  last = after_edges h bs n v fs (e ∷ es);
+  runs = run_then s (edge_lines (e ∷ es)) [] (after_edges h bs n v fs (e ∷ es)) _ (run_edges h bs n v fs s e es k re) refl;
   stands = record { final = refl; next = refl };
 }
 run_rest h bs n v fs s (e ∷ es) (x ∷ xs) k re rx p = record {
-  last = tabled h bs n v fs (e ∷ es) (x ∷ xs);
-  runs = run_then s (edge_lines (e ∷ es)) (gap ∷ table ∷ flat_map extra_lines (x ∷ xs)) (whole h bs n v fs (e ∷ es)) _ (run_edges h bs n v fs s e es k re)
-      (run_one (whole h bs n v fs (e ∷ es)) gap (table ∷ flat_map extra_lines (x ∷ xs)) (paused h bs n v fs (e ∷ es)) _ refl (run_table h bs n v fs (e ∷ es) (x ∷ xs) rx p));
+  last = in_extras h bs n v fs (e ∷ es) (x ∷ xs);
+  runs = run_then s (edge_lines (e ∷ es)) (gap ∷ table ∷ flat_map extra_lines (x ∷ xs)) (after_edges h bs n v fs (e ∷ es)) _ (run_edges h bs n v fs s e es k re)
+      (run_one (after_edges h bs n v fs (e ∷ es)) gap (table ∷ flat_map extra_lines (x ∷ xs)) (after_gap h bs n v fs (e ∷ es)) _ refl (run_table h bs n v fs (e ∷ es) (x ∷ xs) rx p));
   stands = record { final = refl; next = refl };
 }
 
 record ReachesFiles (h : Head) (bs : List Locked) (n : List ℕ) (v : Fields) (fs : List FileFields) : Type 0 where
   last : State
-  runs : run (versed h bs n v) (file_lines fs) ≡ Some last
+  runs : run (after_version h bs n v) (file_lines fs) ≡ Some last
   filed : Filed h bs n v fs last
 
 is_second : (e : Edition) (f : FileFields) (fs : List FileFields) → MayHave e (f ∷ fs) → second e ≡ true
@@ -141,11 +141,11 @@ is_second one f fs h = absurd cc
 is_second two f fs h = refl
 
 run_files : (h : Head) (bs : List Locked) (n : List ℕ) (v : Fields) (fs : List FileFields) → MayHave h.edition fs → Rising file_less fs → ReachesFiles h bs n v fs
-run_files h bs n v [] m r = record { last = versed h bs n v; runs = refl; filed = record { stands = record { final = refl; next = refl }; pauses = refl; needs = refl } }
+run_files h bs n v [] m r = record { last = after_version h bs n v; runs = refl; filed = record { stands = record { final = refl; next = refl }; pauses = refl; needs = refl } }
 run_files h bs n v (f ∷ fs) m r = record {
-  last = fresh h bs n v (f ∷ fs);
-  runs = run_one (versed h bs n v) (opens files_key) (map file (f ∷ fs) ++ close ∷ []) (filing h bs n v []) _ (may_is _ _ (is_second h.edition f fs m))
-      (run_then (filing h bs n v []) (map file (f ∷ fs)) (close ∷ []) (filing h bs n v (f ∷ fs)) _ (run_filing h bs n v (f ∷ fs) r) refl);
+  last = after_files h bs n v (f ∷ fs);
+  runs = run_one (after_version h bs n v) (opens files_key) (map file (f ∷ fs) ++ close ∷ []) (in_files h bs n v []) _ (may_is _ _ (is_second h.edition f fs m))
+      (run_then (in_files h bs n v []) (map file (f ∷ fs)) (close ∷ []) (in_files h bs n v (f ∷ fs)) _ (run_in_files h bs n v (f ∷ fs) r) refl);
   filed = record { stands = record { final = refl; next = refl }; pauses = refl; needs = refl };
 }
 
@@ -156,10 +156,10 @@ run_block h bs b s at t k m =
     let r = run_rest h bs b.name b.version b.files f.last b.edges b.extras f.filed k.edges k.extras k.each in
     let rest = edge_lines b.edges ++ table_lines b.extras in
     let all : run s (gap ∷ entry ∷ name b.name ∷ version b.version ∷ (file_lines b.files ++ rest)) ≡ Some r.last =
-    run_then s (gap ∷ entry ∷ []) (name b.name ∷ version b.version ∷ (file_lines b.files ++ rest)) (opened h bs) r.last at.next
-    (run_one (opened h bs) (name b.name) (version b.version ∷ (file_lines b.files ++ rest)) (named h bs b.name) r.last (may_is _ _ (name_tops_from bs b.name b.version top))
-    (run_one (named h bs b.name) (version b.version) (file_lines b.files ++ rest) (versed h bs b.name b.version) r.last (may_is _ _ top)
-    (run_then (versed h bs b.name b.version) (file_lines b.files) rest f.last r.last f.runs r.runs))) in
+    run_then s (gap ∷ entry ∷ []) (name b.name ∷ version b.version ∷ (file_lines b.files ++ rest)) (after_entry h bs) r.last at.next
+    (run_one (after_entry h bs) (name b.name) (version b.version ∷ (file_lines b.files ++ rest)) (after_name h bs b.name) r.last (may_is _ _ (name_tops_from bs b.name b.version top))
+    (run_one (after_name h bs b.name) (version b.version) (file_lines b.files ++ rest) (after_version h bs b.name b.version) r.last (may_is _ _ top)
+    (run_then (after_version h bs b.name b.version) (file_lines b.files) rest f.last r.last f.runs r.runs))) in
     record {
       last = r.last;
       runs = ap (λ ls. run s (gap ∷ entry ∷ name b.name ∷ version b.version ∷ ls)) (append_assoc (file_lines b.files) (edge_lines b.edges) (table_lines b.extras)) ∙ all;
@@ -176,8 +176,8 @@ run_blocks h done (b ∷ bs) s at r p m =
 
 -- ---- the top lines
 
-run_closing : (v : Edition) (r : List ℕ) (s : Plain) (m : Plain) (ms : List Plain) → NoneOrSeveral (m ∷ ms) → run (forking v r s []) (map item (m ∷ ms) ++ close ∷ []) ≡ Some (headed (head_of v r s (m ∷ ms)))
-run_closing v r s m ms k = run_then (forking v r s []) (map item (m ∷ ms)) (close ∷ []) (forking v r s (m ∷ ms)) _ (run_forks v r s (m ∷ ms)) (run_one (forking v r s (m ∷ ms)) close [] (headed (head_of v r s (m ∷ ms))) _ (may_is _ _ (are_several m ms k)) refl)
+run_closing : (v : Edition) (r : List ℕ) (s : Plain) (m : Plain) (ms : List Plain) → NoneOrSeveral (m ∷ ms) → run (in_forks v r s []) (map item (m ∷ ms) ++ close ∷ []) ≡ Some (after_forks (head_of v r s (m ∷ ms)))
+run_closing v r s m ms k = run_then (in_forks v r s []) (map item (m ∷ ms)) (close ∷ []) (in_forks v r s (m ∷ ms)) _ (run_forks v r s (m ∷ ms)) (run_one (in_forks v r s (m ∷ ms)) close [] (after_forks (head_of v r s (m ∷ ms))) _ (may_is _ _ (are_several m ms k)) refl)
 
 -- true or not, and which tree it then is
 true_is : (m : Plain) → is_true m ≡ true → all_worlds ≡ m
@@ -185,20 +185,20 @@ true_is (truth true) h = refl
 true_is (truth false) h = absurd cc
 true_is (node l d bs) h = absurd cc
 
-run_forks_lines : (v : Edition) (r : List ℕ) (s : Plain) (ms : List Plain) (at : State) → Stands (head_of v r s []) [] at → ((k : Line) → opens forks_key ≡ k → step at k ≡ Some (forking v r s [])) → NoneOrSeveral ms → Reaches (head_of v r s ms) [] at (fork_lines ms)
+run_forks_lines : (v : Edition) (r : List ℕ) (s : Plain) (ms : List Plain) (at : State) → Stands (head_of v r s []) [] at → ((k : Line) → opens forks_key ≡ k → step at k ≡ Some (in_forks v r s [])) → NoneOrSeveral ms → Reaches (head_of v r s ms) [] at (fork_lines ms)
 run_forks_lines v r s [] at st to k = record { last = at; runs = refl; stands = st }
-run_forks_lines v r s (m ∷ ms) at st to k = record { last = headed (head_of v r s (m ∷ ms)); runs = run_one at (opens forks_key) (map item (m ∷ ms) ++ close ∷ []) (forking v r s []) _ (to _ refl) (run_closing v r s m ms k); stands = record { final = refl; next = refl } }
+run_forks_lines v r s (m ∷ ms) at st to k = record { last = after_forks (head_of v r s (m ∷ ms)); runs = run_one at (opens forks_key) (map item (m ∷ ms) ++ close ∷ []) (in_forks v r s []) _ (to _ refl) (run_closing v r s m ms k); stands = record { final = refl; next = refl } }
 
 run_supported : (v : Edition) (r : List ℕ) (s : Plain) (ms : List Plain) (b : Bool) → is_true s ≡ b → NoneOrSeveral ms → Reaches (head_of v r s ms) [] start (first v ∷ root r ∷ cond b [] (supported s ∷ []) ++ fork_lines ms)
 run_supported v r s ms true q k =
     subst (λ z. Reaches (head_of v r z ms) [] start (first v ∷ root r ∷ fork_lines ms)) (true_is s q)
-    (let a = run_forks_lines v r all_worlds ms (rooted v r) (record { final = refl; next = refl }) (λ l e. subst (λ z. step (rooted v r) z ≡ Some (forking v r all_worlds [])) e refl) k in
+    (let a = run_forks_lines v r all_worlds ms (after_root v r) (record { final = refl; next = refl }) (λ l e. subst (λ z. step (after_root v r) z ≡ Some (in_forks v r all_worlds [])) e refl) k in
     record { last = a.last; runs = a.runs; stands = a.stands })
 run_supported v r s ms false q k =
-    let a = run_forks_lines v r s ms (bounded v r s) (record { final = refl; next = refl }) (λ l e. subst (λ z. step (bounded v r s) z ≡ Some (forking v r s [])) e refl) k in
-    record { last = a.last; runs = run_one (rooted v r) (supported s) (fork_lines ms) (bounded v r s) a.last (bounded_by v r s q) a.runs; stands = a.stands }
+    let a = run_forks_lines v r s ms (after_supported v r s) (record { final = refl; next = refl }) (λ l e. subst (λ z. step (after_supported v r s) z ≡ Some (in_forks v r s [])) e refl) k in
+    record { last = a.last; runs = run_one (after_root v r) (supported s) (fork_lines ms) (after_supported v r s) a.last (bounded_by v r s q) a.runs; stands = a.stands }
   where
-    bounded_by : (v : Edition) (r : List ℕ) (s : Plain) → is_true s ≡ false → step (rooted v r) (supported s) ≡ Some (bounded v r s)
+    bounded_by : (v : Edition) (r : List ℕ) (s : Plain) → is_true s ≡ false → step (after_root v r) (supported s) ≡ Some (after_supported v r s)
     bounded_by v r s q = rw q refl
 
 run_head : (h : Head) → NoneOrSeveral h.forks → Reaches h [] start (head_lines h)

@@ -17,7 +17,7 @@ use Rattle.ul_lock_write.specs.declared.sheets.Sheet.{Sheet}
 use Rattle.ul_lock_lines.specs.declared.lines.Line.{Line}
 use Rattle.ul_lock_lines.specs.declared.lines.Line.TheVariants.{First as first, Root as root, Item as item, Close as close, Gap as gap, Entry as entry, Name as name, Version as version, File as file, Edge as edge, Bare as bare}
 use Rattle.ul_lock_read.specs.declared.states.State.{State}
-use Rattle.ul_lock_read.specs.declared.states.State.TheVariants.{Start as start, Begun as begun, Rooted as rooted, Bounded as bounded, Forking as forking, Headed as headed, Gapped as gapped, Opened as opened, Named as named, Versed as versed, Filing as filing, Fresh as fresh, Needing as needing, Whole as whole, Paused as paused, Tabled as tabled, Listing as listing}
+use Rattle.ul_lock_read.specs.declared.states.State.TheVariants.{Start as start, AfterFirst as after_first, AfterRoot as after_root, AfterSupported as after_supported, InForks as in_forks, AfterForks as after_forks, AfterBlank as after_blank, AfterEntry as after_entry, AfterName as after_name, AfterVersion as after_version, InFiles as in_files, AfterFiles as after_files, InEdges as in_edges, AfterEdges as after_edges, AfterGap as after_gap, InExtras as in_extras, InExtra as in_extra}
 use Rattle.ul_lock.specs.Region.{all_worlds}
 use Rattle.ul_lock.specs.Orders.{block_less}
 use Rattle.ul_lock_write.specs.Sheet.{sheet_lines, body_lines, head_lines, block_front, block_lines}
@@ -73,13 +73,13 @@ whole_sheet : (h : Head) (bs : List Locked) → Between h bs → IsSheet (sheet_
 whole_sheet h bs g = record { forks = g.forks; blocks = g.blocks; each = g.each; allowed = g.allowed }
 
 pub ends : (s : State) (x : Sheet) → Good s → final s ≡ Some x → Ends s x
-ends (rooted v r) x g e = sheet_is _ (sheet_of (head_of v r all_worlds []) []) x (record { lines = refl; good = record { forks = tt; blocks = tt; each = tt; allowed = tt } }) e
-ends (bounded v r m) x g e = sheet_is _ (sheet_of (head_of v r m []) []) x (record { lines = append-nil (head_lines (head_of v r m [])) ∙ append-nil (spelt (bounded v r m)); good = record { forks = tt; blocks = tt; each = tt; allowed = tt } }) e
-ends (headed h) x g e = sheet_is _ (sheet_of h []) x (record { lines = append-nil (spelt (headed h)); good = whole_sheet h [] g }) e
-ends (versed h bs n v) x g e = sheet_is _ (sheet_of h (bs ++ plain_block n v [] [] [] ∷ [])) x (record { lines = body-top h bs n v []; good = whole_sheet _ _ (Between-snoc h bs (plain_block n v [] [] []) g) }) e
-ends (fresh h bs n v fs) x g e = sheet_is _ (sheet_of h (bs ++ plain_block n v fs [] [] ∷ [])) x (record { lines = body-top h bs n v fs; good = whole_sheet _ _ (Between-snoc h bs (plain_block n v fs [] []) g) }) e
-ends (whole h bs n v fs es) x g e = sheet_is _ (sheet_of h (bs ++ plain_block n v fs es [] ∷ [])) x (record { lines = body-plain h bs n v fs es; good = whole_sheet _ _ (Between-snoc h bs (plain_block n v fs es []) g) }) e
-ends (tabled h bs n v fs es xs) x g e = sheet_if _ (filled xs) (sheet_of h (bs ++ plain_block n v fs es xs ∷ [])) x (λ q. record { lines = body-table h bs n v fs es xs q; good = whole_sheet _ _ (Between-snoc h bs (plain_block n v fs es xs) g) }) e
+ends (after_root v r) x g e = sheet_is _ (sheet_of (head_of v r all_worlds []) []) x (record { lines = refl; good = record { forks = tt; blocks = tt; each = tt; allowed = tt } }) e
+ends (after_supported v r m) x g e = sheet_is _ (sheet_of (head_of v r m []) []) x (record { lines = append-nil (head_lines (head_of v r m [])) ∙ append-nil (spelt (after_supported v r m)); good = record { forks = tt; blocks = tt; each = tt; allowed = tt } }) e
+ends (after_forks h) x g e = sheet_is _ (sheet_of h []) x (record { lines = append-nil (spelt (after_forks h)); good = whole_sheet h [] g }) e
+ends (after_version h bs n v) x g e = sheet_is _ (sheet_of h (bs ++ plain_block n v [] [] [] ∷ [])) x (record { lines = body-top h bs n v []; good = whole_sheet _ _ (Between-snoc h bs (plain_block n v [] [] []) g) }) e
+ends (after_files h bs n v fs) x g e = sheet_is _ (sheet_of h (bs ++ plain_block n v fs [] [] ∷ [])) x (record { lines = body-top h bs n v fs; good = whole_sheet _ _ (Between-snoc h bs (plain_block n v fs [] []) g) }) e
+ends (after_edges h bs n v fs es) x g e = sheet_is _ (sheet_of h (bs ++ plain_block n v fs es [] ∷ [])) x (record { lines = body-plain h bs n v fs es; good = whole_sheet _ _ (Between-snoc h bs (plain_block n v fs es []) g) }) e
+ends (in_extras h bs n v fs es xs) x g e = sheet_if _ (filled xs) (sheet_of h (bs ++ plain_block n v fs es xs ∷ [])) x (λ q. record { lines = body-table h bs n v fs es xs q; good = whole_sheet _ _ (Between-snoc h bs (plain_block n v fs es xs) g) }) e
 ends s x g e = no_sheet s x e
 
 -- lines from here to an end
@@ -104,32 +104,32 @@ zero_name : IsNormalName (48 ∷ [])
 unfolding name_of is_name normal_form
 zero_name = refl
 
-from_rooted : (v : Edition) (r : List ℕ) → Finishes (rooted v r)
-from_rooted v r = stops (rooted v r) _ refl
+from_after_root : (v : Edition) (r : List ℕ) → Finishes (after_root v r)
+from_after_root v r = stops (after_root v r) _ refl
 
-from_begun : (v : Edition) → Finishes (begun v)
-from_begun v = goes (begun v) (root (48 ∷ [])) (rooted v (48 ∷ [])) zero_name refl (from_rooted v (48 ∷ []))
+from_after_first : (v : Edition) → Finishes (after_first v)
+from_after_first v = goes (after_first v) (root (48 ∷ [])) (after_root v (48 ∷ [])) zero_name refl (from_after_root v (48 ∷ []))
 
-from_headed : (h : Head) → Finishes (headed h)
-from_headed h = stops (headed h) _ refl
+from_after_forks : (h : Head) → Finishes (after_forks h)
+from_after_forks h = stops (after_forks h) _ refl
 
 two_more : (ms : List Plain) (x y : Plain) → several ((ms ++ x ∷ []) ++ y ∷ []) ≡ true
 two_more [] x y = refl
 two_more (m ∷ []) x y = refl
 two_more (m ∷ n ∷ ms) x y = refl
 
-from_forking : (v : Edition) (r : List ℕ) (s : Plain) (ms : List Plain) → Finishes (forking v r s ms)
-from_forking v r s ms =
+from_in_forks : (v : Edition) (r : List ℕ) (s : Plain) (ms : List Plain) → Finishes (in_forks v r s ms)
+from_in_forks v r s ms =
     let two_of = (ms ++ all_worlds ∷ []) ++ all_worlds ∷ [] in
-    goes _ (item all_worlds) (forking v r s (ms ++ all_worlds ∷ [])) all_readable refl
-    (goes _ (item all_worlds) (forking v r s two_of) all_readable refl
-    (goes _ close (headed (head_of v r s two_of)) tt (may_is (several two_of) (headed (head_of v r s two_of)) (two_more ms all_worlds all_worlds)) (from_headed (head_of v r s two_of))))
+    goes _ (item all_worlds) (in_forks v r s (ms ++ all_worlds ∷ [])) all_readable refl
+    (goes _ (item all_worlds) (in_forks v r s two_of) all_readable refl
+    (goes _ close (after_forks (head_of v r s two_of)) tt (may_is (several two_of) (after_forks (head_of v r s two_of)) (two_more ms all_worlds all_worlds)) (from_after_forks (head_of v r s two_of))))
 
-from_versed : (h : Head) (bs : List Locked) (n : List ℕ) (v : Fields) → Finishes (versed h bs n v)
-from_versed h bs n v = stops (versed h bs n v) _ refl
+from_after_version : (h : Head) (bs : List Locked) (n : List ℕ) (v : Fields) → Finishes (after_version h bs n v)
+from_after_version h bs n v = stops (after_version h bs n v) _ refl
 
-from_fresh : (h : Head) (bs : List Locked) (n : List ℕ) (v : Fields) (fs : List FileFields) → Finishes (fresh h bs n v fs)
-from_fresh h bs n v fs = stops (fresh h bs n v fs) _ refl
+from_after_files : (h : Head) (bs : List Locked) (n : List ℕ) (v : Fields) (fs : List FileFields) → Finishes (after_files h bs n v fs)
+from_after_files h bs n v fs = stops (after_files h bs n v fs) _ refl
 
 -- the names and versions of blocks fit
 pub record BlockFits (b : Locked) : Type 0 where
@@ -148,17 +148,17 @@ version_above_fits [] h = zero_is_version
 version_above_fits (b ∷ []) h = above_is_version b.version h.0.version
 version_above_fits (b ∷ c ∷ bs) h = version_above_fits (c ∷ bs) h.1
 
-from_named : (h : Head) (bs : List Locked) (n : List ℕ) → Each BlockFits bs → name_tops bs n ≡ true → Finishes (named h bs n)
-from_named h bs n k q = let v = version_above bs in goes (named h bs n) (version v) (versed h bs n v) (version_above_fits bs k) (may_is (tops block_less bs (plain_block n v [] [] [])) (versed h bs n v) (tops_above bs n q)) (from_versed h bs n v)
+from_after_name : (h : Head) (bs : List Locked) (n : List ℕ) → Each BlockFits bs → name_tops bs n ≡ true → Finishes (after_name h bs n)
+from_after_name h bs n k q = let v = version_above bs in goes (after_name h bs n) (version v) (after_version h bs n v) (version_above_fits bs k) (may_is (tops block_less bs (plain_block n v [] [] [])) (after_version h bs n v) (tops_above bs n q)) (from_after_version h bs n v)
 
-from_opened : (h : Head) (bs : List Locked) → Each BlockFits bs → Finishes (opened h bs)
-from_opened h bs k = let n = name_above bs in goes (opened h bs) (name n) (named h bs n) (name_above_fits bs k) (may_is (name_tops bs n) (named h bs n) (name_tops_above bs)) (from_named h bs n k (name_tops_above bs))
+from_after_entry : (h : Head) (bs : List Locked) → Each BlockFits bs → Finishes (after_entry h bs)
+from_after_entry h bs k = let n = name_above bs in goes (after_entry h bs) (name n) (after_name h bs n) (name_above_fits bs k) (may_is (name_tops bs n) (after_name h bs n) (name_tops_above bs)) (from_after_name h bs n k (name_tops_above bs))
 
-from_gapped : (h : Head) (bs : List Locked) → Each BlockFits bs → Finishes (gapped h bs)
-from_gapped h bs k = goes (gapped h bs) entry (opened h bs) tt refl (from_opened h bs k)
+from_after_blank : (h : Head) (bs : List Locked) → Each BlockFits bs → Finishes (after_blank h bs)
+from_after_blank h bs k = goes (after_blank h bs) entry (after_entry h bs) tt refl (from_after_entry h bs k)
 
-from_whole : (h : Head) (bs : List Locked) (n : List ℕ) (v : Fields) (fs : List FileFields) (es : List Edge) → Finishes (whole h bs n v fs es)
-from_whole h bs n v fs es = stops (whole h bs n v fs es) _ refl
+from_after_edges : (h : Head) (bs : List Locked) (n : List ℕ) (v : Fields) (fs : List FileFields) (es : List Edge) → Finishes (after_edges h bs n v fs es)
+from_after_edges h bs n v fs es = stops (after_edges h bs n v fs es) _ refl
 
 abbrev some_edge : Edge
 some_edge = record { target = record { name = 48 ∷ []; extra = None }; version = plain (0 ∷ []); marker = all_worlds }
@@ -179,24 +179,24 @@ some_file = record { file = 48 ∷ []; sha256 = zeros }
 file_fits : Fit (file some_file)
 file_fits = record { file = refl; sha256 = refl }
 
-from_filing : (h : Head) (bs : List Locked) (n : List ℕ) (v : Fields) (fs : List FileFields) → Finishes (filing h bs n v fs)
-from_filing h bs n v [] = goes (filing h bs n v []) (file some_file) (filing h bs n v (some_file ∷ [])) file_fits refl (goes _ close (fresh h bs n v (some_file ∷ [])) tt refl (from_fresh h bs n v (some_file ∷ [])))
-from_filing h bs n v (f ∷ fs) = goes _ close (fresh h bs n v (f ∷ fs)) tt refl (from_fresh h bs n v (f ∷ fs))
+from_in_files : (h : Head) (bs : List Locked) (n : List ℕ) (v : Fields) (fs : List FileFields) → Finishes (in_files h bs n v fs)
+from_in_files h bs n v [] = goes (in_files h bs n v []) (file some_file) (in_files h bs n v (some_file ∷ [])) file_fits refl (goes _ close (after_files h bs n v (some_file ∷ [])) tt refl (from_after_files h bs n v (some_file ∷ [])))
+from_in_files h bs n v (f ∷ fs) = goes _ close (after_files h bs n v (f ∷ fs)) tt refl (from_after_files h bs n v (f ∷ fs))
 
-from_needing : (h : Head) (bs : List Locked) (n : List ℕ) (v : Fields) (fs : List FileFields) (es : List Edge) → Finishes (needing h bs n v fs es)
-from_needing h bs n v fs [] = goes (needing h bs n v fs []) (edge some_edge) (needing h bs n v fs (some_edge ∷ [])) edge_fits refl (goes _ close (whole h bs n v fs (some_edge ∷ [])) tt refl (from_whole h bs n v fs (some_edge ∷ [])))
-from_needing h bs n v fs (e ∷ es) = goes _ close (whole h bs n v fs (e ∷ es)) tt refl (from_whole h bs n v fs (e ∷ es))
+from_in_edges : (h : Head) (bs : List Locked) (n : List ℕ) (v : Fields) (fs : List FileFields) (es : List Edge) → Finishes (in_edges h bs n v fs es)
+from_in_edges h bs n v fs [] = goes (in_edges h bs n v fs []) (edge some_edge) (in_edges h bs n v fs (some_edge ∷ [])) edge_fits refl (goes _ close (after_edges h bs n v fs (some_edge ∷ [])) tt refl (from_after_edges h bs n v fs (some_edge ∷ [])))
+from_in_edges h bs n v fs (e ∷ es) = goes _ close (after_edges h bs n v fs (e ∷ es)) tt refl (from_after_edges h bs n v fs (e ∷ es))
 
-from_paused : (h : Head) (bs : List Locked) (n : List ℕ) (v : Fields) (fs : List FileFields) (es : List Edge) → Each BlockFits (bs ++ plain_block n v fs es [] ∷ []) → Finishes (paused h bs n v fs es)
-from_paused h bs n v fs es k = goes (paused h bs n v fs es) entry (opened h (bs ++ plain_block n v fs es [] ∷ [])) tt refl (from_opened h (bs ++ plain_block n v fs es [] ∷ []) k)
+from_after_gap : (h : Head) (bs : List Locked) (n : List ℕ) (v : Fields) (fs : List FileFields) (es : List Edge) → Each BlockFits (bs ++ plain_block n v fs es [] ∷ []) → Finishes (after_gap h bs n v fs es)
+from_after_gap h bs n v fs es k = goes (after_gap h bs n v fs es) entry (after_entry h (bs ++ plain_block n v fs es [] ∷ [])) tt refl (from_after_entry h (bs ++ plain_block n v fs es [] ∷ []) k)
 
-from_tabled : (h : Head) (bs : List Locked) (n : List ℕ) (v : Fields) (fs : List FileFields) (es : List Edge) (xs : List Extra) → Finishes (tabled h bs n v fs es xs)
-from_tabled h bs n v fs es [] = goes (tabled h bs n v fs es []) (bare (48 ∷ [])) (tabled h bs n v fs es (record { name = 48 ∷ []; edges = [] } ∷ [])) zero_name refl (stops (tabled h bs n v fs es (record { name = 48 ∷ []; edges = [] } ∷ [])) _ refl)
-from_tabled h bs n v fs es (x ∷ xs) = stops (tabled h bs n v fs es (x ∷ xs)) _ refl
+from_in_extras : (h : Head) (bs : List Locked) (n : List ℕ) (v : Fields) (fs : List FileFields) (es : List Edge) (xs : List Extra) → Finishes (in_extras h bs n v fs es xs)
+from_in_extras h bs n v fs es [] = goes (in_extras h bs n v fs es []) (bare (48 ∷ [])) (in_extras h bs n v fs es (record { name = 48 ∷ []; edges = [] } ∷ [])) zero_name refl (stops (in_extras h bs n v fs es (record { name = 48 ∷ []; edges = [] } ∷ [])) _ refl)
+from_in_extras h bs n v fs es (x ∷ xs) = stops (in_extras h bs n v fs es (x ∷ xs)) _ refl
 
-from_listing : (h : Head) (bs : List Locked) (n : List ℕ) (v : Fields) (fs : List FileFields) (es : List Edge) (xs : List Extra) (x : List ℕ) (ls : List Edge) → Finishes (listing h bs n v fs es xs x ls)
-from_listing h bs n v fs es xs x [] = goes (listing h bs n v fs es xs x []) (edge some_edge) (listing h bs n v fs es xs x (some_edge ∷ [])) edge_fits refl (goes _ close (tabled h bs n v fs es (xs ++ record { name = x; edges = some_edge ∷ [] } ∷ [])) tt refl (from_tabled h bs n v fs es (xs ++ record { name = x; edges = some_edge ∷ [] } ∷ [])))
-from_listing h bs n v fs es xs x (e ∷ ls) = goes _ close (tabled h bs n v fs es (xs ++ record { name = x; edges = e ∷ ls } ∷ [])) tt refl (from_tabled h bs n v fs es (xs ++ record { name = x; edges = e ∷ ls } ∷ []))
+from_in_extra : (h : Head) (bs : List Locked) (n : List ℕ) (v : Fields) (fs : List FileFields) (es : List Edge) (xs : List Extra) (x : List ℕ) (ls : List Edge) → Finishes (in_extra h bs n v fs es xs x ls)
+from_in_extra h bs n v fs es xs x [] = goes (in_extra h bs n v fs es xs x []) (edge some_edge) (in_extra h bs n v fs es xs x (some_edge ∷ [])) edge_fits refl (goes _ close (in_extras h bs n v fs es (xs ++ record { name = x; edges = some_edge ∷ [] } ∷ [])) tt refl (from_in_extras h bs n v fs es (xs ++ record { name = x; edges = some_edge ∷ [] } ∷ [])))
+from_in_extra h bs n v fs es xs x (e ∷ ls) = goes _ close (in_extras h bs n v fs es (xs ++ record { name = x; edges = e ∷ ls } ∷ [])) tt refl (from_in_extras h bs n v fs es (xs ++ record { name = x; edges = e ∷ ls } ∷ []))
 
 blocks_fit : (bs : List Locked) → Each Fit (flat_map block_lines bs) → Each BlockFits bs
 blocks_fit [] h = tt
@@ -207,29 +207,29 @@ blocks_fit (b ∷ bs) h =
 body_fits : (h : Head) (bs : List Locked) (rest : List Line) → Each Fit (body_lines h bs ++ rest) → Each BlockFits bs
 body_fits h bs rest k = blocks_fit bs (Each-right Fit (head_lines h) (flat_map block_lines bs) (Each-left Fit (body_lines h bs) rest k))
 
-paused_fits : (h : Head) (bs : List Locked) (n : List ℕ) (v : Fields) (fs : List FileFields) (es : List Edge) → Each Fit (spelt (paused h bs n v fs es)) → Each BlockFits (bs ++ plain_block n v fs es [] ∷ [])
-paused_fits h bs n v fs es k =
+after_gap_fits : (h : Head) (bs : List Locked) (n : List ℕ) (v : Fields) (fs : List FileFields) (es : List Edge) → Each Fit (spelt (after_gap h bs n v fs es)) → Each BlockFits (bs ++ plain_block n v fs es [] ∷ [])
+after_gap_fits h bs n v fs es k =
     let r = Each-right Fit (body_lines h bs) (block_front n v fs es ++ gap ∷ []) k in
     Each-snoc BlockFits bs (plain_block n v fs es []) (body_fits h bs (block_front n v fs es ++ gap ∷ []) k) (record { name = r.1.1.0; version = r.1.1.1.0 })
 
 pub finishes : (s : State) → Good s → Each Fit (spelt s) → Finishes s
-finishes start g k = goes start (first two) (begun two) tt refl (from_begun two)
-finishes (begun v) g k = from_begun v
-finishes (rooted v r) g k = from_rooted v r
-finishes (bounded v r m) g k = stops (bounded v r m) _ refl
-finishes (forking v r s ms) g k = from_forking v r s ms
-finishes (headed h) g k = from_headed h
-finishes (gapped h bs) g k = from_gapped h bs (body_fits h bs _ k)
-finishes (opened h bs) g k = from_opened h bs (body_fits h bs _ k)
-finishes (named h bs n) g k = from_named h bs n (body_fits h bs _ k) g.1
-finishes (versed h bs n v) g k = from_versed h bs n v
-finishes (filing h bs n v fs) g k = from_filing h bs n v fs
-finishes (fresh h bs n v fs) g k = from_fresh h bs n v fs
-finishes (needing h bs n v fs es) g k = from_needing h bs n v fs es
-finishes (whole h bs n v fs es) g k = from_whole h bs n v fs es
-finishes (paused h bs n v fs es) g k = from_paused h bs n v fs es (paused_fits h bs n v fs es k)
-finishes (tabled h bs n v fs es xs) g k = from_tabled h bs n v fs es xs
-finishes (listing h bs n v fs es xs x ls) g k = from_listing h bs n v fs es xs x ls
+finishes start g k = goes start (first two) (after_first two) tt refl (from_after_first two)
+finishes (after_first v) g k = from_after_first v
+finishes (after_root v r) g k = from_after_root v r
+finishes (after_supported v r m) g k = stops (after_supported v r m) _ refl
+finishes (in_forks v r s ms) g k = from_in_forks v r s ms
+finishes (after_forks h) g k = from_after_forks h
+finishes (after_blank h bs) g k = from_after_blank h bs (body_fits h bs _ k)
+finishes (after_entry h bs) g k = from_after_entry h bs (body_fits h bs _ k)
+finishes (after_name h bs n) g k = from_after_name h bs n (body_fits h bs _ k) g.1
+finishes (after_version h bs n v) g k = from_after_version h bs n v
+finishes (in_files h bs n v fs) g k = from_in_files h bs n v fs
+finishes (after_files h bs n v fs) g k = from_after_files h bs n v fs
+finishes (in_edges h bs n v fs es) g k = from_in_edges h bs n v fs es
+finishes (after_edges h bs n v fs es) g k = from_after_edges h bs n v fs es
+finishes (after_gap h bs n v fs es) g k = from_after_gap h bs n v fs es (after_gap_fits h bs n v fs es k)
+finishes (in_extras h bs n v fs es xs) g k = from_in_extras h bs n v fs es xs
+finishes (in_extra h bs n v fs es xs x ls) g k = from_in_extra h bs n v fs es xs x ls
 
 -- ---- what runs begins a shaped text; what runs to an end is one
 

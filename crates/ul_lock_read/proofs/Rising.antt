@@ -1,5 +1,5 @@
 -- Strictly increasing lists, one more at the end.
-use Rattle.std.proofs.Common.{◌≡◌, ℕ, suc, ◌-◌, length, List, [], ◌∷◌, ◌++◌, Bool, true, refl, sym, ap, ◌∙◌, arith, Some, None}
+use Rattle.std.proofs.Common.{◌≡◌, ℕ, suc, ◌-◌, length, List, [], ◌∷◌, ◌++◌, Bool, true, refl, sym, ap, ◌∙◌, arith, Some}
 use Rattle.std.specs.Prelude.{slice_get}
 use Rattle.std.specs.Ordering.{is_lt, is_le, ordering_then}
 use Rattle.std.specs.declared.cmp.Ordering.{Ordering}
@@ -70,11 +70,6 @@ pub tops_last : {A : Type 0} (less : A → A → Bool) (xs : List A) (x y : A) �
 tops_last less [] x y e = absurd cc
 tops_last less (z ∷ []) x y e = let q : z ≡ x = cc in ap (λ k. less k y) q
 tops_last less (z ∷ w ∷ xs) x y e = tops_last less (w ∷ xs) x y (ap (slice_get (w ∷ xs)) (last_at (length xs)) ∙ (ap (slice_get (z ∷ w ∷ xs)) (sym (last_at (suc (length xs)))) ∙ e))
-
-pub tops_none : {A : Type 0} (less : A → A → Bool) (xs : List A) (y : A) → slice_get xs (length xs - 1) ≡ None → tops less xs y ≡ true
-tops_none less [] y e = refl
-tops_none less (z ∷ []) y e = absurd cc
-tops_none less (z ∷ w ∷ xs) y e = tops_none less (w ∷ xs) y (ap (slice_get (w ∷ xs)) (last_at (length xs)) ∙ (ap (slice_get (z ∷ w ∷ xs)) (sym (last_at (suc (length xs)))) ∙ e))
 
 pub name_tops_last : (bs : List Locked) (b : Locked) (n : List ℕ) → slice_get bs (length bs - 1) ≡ Some b → name_tops bs n ≡ is_le (name_cmp b.name n)
 name_tops_last [] b n e = absurd cc

@@ -21,7 +21,7 @@ use Rattle.ul_lock_lines.specs.LineReading.{line_of}
 use Rattle.ul_lock.specs.Orders.{edge_less, extra_less, file_less, block_less}
 use Rattle.ul_lock_write.specs.Sheet.{forks_key, files_key, edges_key}
 use Rattle.ul_lock_read.specs.declared.states.State.{State}
-use Rattle.ul_lock_read.specs.declared.states.State.TheVariants.{Start as start, Begun as begun, Rooted as rooted, Bounded as bounded, Forking as forking, Headed as headed, Gapped as gapped, Opened as opened, Named as named, Versed as versed, Filing as filing, Fresh as fresh, Needing as needing, Whole as whole, Paused as paused, Tabled as tabled, Listing as listing}
+use Rattle.ul_lock_read.specs.declared.states.State.TheVariants.{Start as start, AfterFirst as after_first, AfterRoot as after_root, AfterSupported as after_supported, InForks as in_forks, AfterForks as after_forks, AfterBlank as after_blank, AfterEntry as after_entry, AfterName as after_name, AfterVersion as after_version, InFiles as in_files, AfterFiles as after_files, InEdges as in_edges, AfterEdges as after_edges, AfterGap as after_gap, InExtras as in_extras, InExtra as in_extra}
 
 -- y is greater than the last of xs
 abbrev pub tops : {A : Type 0} → (A → A → Bool) → List A → A → Bool
@@ -68,44 +68,44 @@ may b s = cond b (Some s) None
 -- behind the key that opens a list of a package: its files, which version 2 alone has, or its edges
 abbrev pub block_list : Head → List Locked → List ℕ → Fields → List ℕ → Option State
 block_list h bs n v k =
-    cond (bytes_eq k files_key) (may (second h.edition) (filing h bs n v []))
-    (may (bytes_eq k edges_key) (needing h bs n v [] []))
+    cond (bytes_eq k files_key) (may (second h.edition) (in_files h bs n v []))
+    (may (bytes_eq k edges_key) (in_edges h bs n v [] []))
 
 -- the state behind a line that may follow; a block that is being read lies in the state, the complete ones in a list
 abbrev pub step : State → Line → Option State
-step start (first e) = Some (begun e)
-step (begun e) (root r) = Some (rooted e r)
-step (rooted e r) (supported m) = cond (is_true m) None (Some (bounded e r m))
-step (rooted e r) (opens k) = may (bytes_eq k forks_key) (forking e r all_worlds [])
-step (rooted e r) gap = Some (gapped (head_of e r all_worlds []) [])
-step (bounded e r m) (opens k) = may (bytes_eq k forks_key) (forking e r m [])
-step (bounded e r m) gap = Some (gapped (head_of e r m []) [])
-step (forking e r s ms) (item m) = Some (forking e r s (ms ++ m ∷ []))
-step (forking e r s ms) close = may (several ms) (headed (head_of e r s ms))
-step (headed h) gap = Some (gapped h [])
-step (gapped h bs) entry = Some (opened h bs)
-step (opened h bs) (name n) = may (name_tops bs n) (named h bs n)
-step (named h bs n) (version v) = may (tops block_less bs (plain_block n v [] [] [])) (versed h bs n v)
-step (versed h bs n v) (opens k) = block_list h bs n v k
-step (versed h bs n v) gap = Some (paused h bs n v [] [])
-step (filing h bs n v fs) (file f) = may (tops file_less fs f) (filing h bs n v (fs ++ f ∷ []))
-step (filing h bs n v fs) close = may (filled fs) (fresh h bs n v fs)
-step (fresh h bs n v fs) (opens k) = may (bytes_eq k edges_key) (needing h bs n v fs [])
-step (fresh h bs n v fs) gap = Some (paused h bs n v fs [])
-step (needing h bs n v fs es) (edge e) = may (tops edge_less es e) (needing h bs n v fs (es ++ e ∷ []))
-step (needing h bs n v fs es) close = may (filled es) (whole h bs n v fs es)
-step (whole h bs n v fs es) gap = Some (paused h bs n v fs es)
-step (paused h bs n v fs es) entry = Some (opened h (bs ++ plain_block n v fs es [] ∷ []))
-step (paused h bs n v fs es) table = Some (tabled h bs n v fs es [])
-step (tabled h bs n v fs es xs) (bare x) =
+step start (first e) = Some (after_first e)
+step (after_first e) (root r) = Some (after_root e r)
+step (after_root e r) (supported m) = cond (is_true m) None (Some (after_supported e r m))
+step (after_root e r) (opens k) = may (bytes_eq k forks_key) (in_forks e r all_worlds [])
+step (after_root e r) gap = Some (after_blank (head_of e r all_worlds []) [])
+step (after_supported e r m) (opens k) = may (bytes_eq k forks_key) (in_forks e r m [])
+step (after_supported e r m) gap = Some (after_blank (head_of e r m []) [])
+step (in_forks e r s ms) (item m) = Some (in_forks e r s (ms ++ m ∷ []))
+step (in_forks e r s ms) close = may (several ms) (after_forks (head_of e r s ms))
+step (after_forks h) gap = Some (after_blank h [])
+step (after_blank h bs) entry = Some (after_entry h bs)
+step (after_entry h bs) (name n) = may (name_tops bs n) (after_name h bs n)
+step (after_name h bs n) (version v) = may (tops block_less bs (plain_block n v [] [] [])) (after_version h bs n v)
+step (after_version h bs n v) (opens k) = block_list h bs n v k
+step (after_version h bs n v) gap = Some (after_gap h bs n v [] [])
+step (in_files h bs n v fs) (file f) = may (tops file_less fs f) (in_files h bs n v (fs ++ f ∷ []))
+step (in_files h bs n v fs) close = may (filled fs) (after_files h bs n v fs)
+step (after_files h bs n v fs) (opens k) = may (bytes_eq k edges_key) (in_edges h bs n v fs [])
+step (after_files h bs n v fs) gap = Some (after_gap h bs n v fs [])
+step (in_edges h bs n v fs es) (edge e) = may (tops edge_less es e) (in_edges h bs n v fs (es ++ e ∷ []))
+step (in_edges h bs n v fs es) close = may (filled es) (after_edges h bs n v fs es)
+step (after_edges h bs n v fs es) gap = Some (after_gap h bs n v fs es)
+step (after_gap h bs n v fs es) entry = Some (after_entry h (bs ++ plain_block n v fs es [] ∷ []))
+step (after_gap h bs n v fs es) table = Some (in_extras h bs n v fs es [])
+step (in_extras h bs n v fs es xs) (bare x) =
     may (tops extra_less xs (record { name = x; edges = [] }))
-    (tabled h bs n v fs es (xs ++ record { name = x; edges = [] } ∷ []))
-step (tabled h bs n v fs es xs) (opens x) =
-    may (tops extra_less xs (record { name = x; edges = [] })) (listing h bs n v fs es xs x [])
-step (tabled h bs n v fs es xs) gap = may (filled xs) (gapped h (bs ++ plain_block n v fs es xs ∷ []))
-step (listing h bs n v fs es xs x ls) (edge e) = may (tops edge_less ls e) (listing h bs n v fs es xs x (ls ++ e ∷ []))
-step (listing h bs n v fs es xs x ls) close =
-    may (filled ls) (tabled h bs n v fs es (xs ++ record { name = x; edges = ls } ∷ []))
+    (in_extras h bs n v fs es (xs ++ record { name = x; edges = [] } ∷ []))
+step (in_extras h bs n v fs es xs) (opens x) =
+    may (tops extra_less xs (record { name = x; edges = [] })) (in_extra h bs n v fs es xs x [])
+step (in_extras h bs n v fs es xs) gap = may (filled xs) (after_blank h (bs ++ plain_block n v fs es xs ∷ []))
+step (in_extra h bs n v fs es xs x ls) (edge e) = may (tops edge_less ls e) (in_extra h bs n v fs es xs x (ls ++ e ∷ []))
+step (in_extra h bs n v fs es xs x ls) close =
+    may (filled ls) (in_extras h bs n v fs es (xs ++ record { name = x; edges = ls } ∷ []))
 step s l = None
 
 -- a head and its packages
@@ -114,13 +114,13 @@ sheet_of h bs = record { head = h; packages = bs }
 
 -- what has been read, where it may end here
 abbrev pub final : State → Option Sheet
-final (rooted e r) = Some (sheet_of (head_of e r all_worlds []) [])
-final (bounded e r m) = Some (sheet_of (head_of e r m []) [])
-final (headed h) = Some (sheet_of h [])
-final (versed h bs n v) = Some (sheet_of h (bs ++ plain_block n v [] [] [] ∷ []))
-final (fresh h bs n v fs) = Some (sheet_of h (bs ++ plain_block n v fs [] [] ∷ []))
-final (whole h bs n v fs es) = Some (sheet_of h (bs ++ plain_block n v fs es [] ∷ []))
-final (tabled h bs n v fs es xs) = cond (filled xs) (Some (sheet_of h (bs ++ plain_block n v fs es xs ∷ []))) None
+final (after_root e r) = Some (sheet_of (head_of e r all_worlds []) [])
+final (after_supported e r m) = Some (sheet_of (head_of e r m []) [])
+final (after_forks h) = Some (sheet_of h [])
+final (after_version h bs n v) = Some (sheet_of h (bs ++ plain_block n v [] [] [] ∷ []))
+final (after_files h bs n v fs) = Some (sheet_of h (bs ++ plain_block n v fs [] [] ∷ []))
+final (after_edges h bs n v fs es) = Some (sheet_of h (bs ++ plain_block n v fs es [] ∷ []))
+final (in_extras h bs n v fs es xs) = cond (filled xs) (Some (sheet_of h (bs ++ plain_block n v fs es xs ∷ []))) None
 final s = None
 
 -- how a lock's text is read

@@ -4,13 +4,16 @@ ghost use Rattle.std.specs.Prelude.{◌≡◌, ◌++◌, ◌∷◌, [], IfOk, by
 ghost use Rattle.ul_lock_read.specs.Automaton.{step, may, second, block_list};
 ghost use Rattle.ul_lock_lines.specs.declared.lines.Line.TheVariants.{Bare as BareLine, Close as CloseLine, Edge as EdgeLine, Entry as EntryLine, File as FileLine, Gap as GapLine, Name as NameLine, Opens as OpensLine, Version as VersionLine};
 ghost use Rattle.ul_lock_write.specs.Sheet.{edges_key};
-ghost use Rattle.ul_lock_read.specs.declared.states.State.TheVariants.{Gapped, Opened, Named, Versed, Filing, Fresh, Needing, Whole, Paused, Tabled, Listing};
+ghost use Rattle.ul_lock_read.specs.declared.states.State.TheVariants.{AfterBlank, AfterEntry, AfterName, AfterVersion, InFiles, AfterFiles, InEdges, AfterEdges, AfterGap, InExtras, InExtra};
 
 use crate::orders::{
     any_edge, any_extra, any_file, edge_tops, extra_tops, file_tops, is_second, key_is,
     package_tops, version_tops,
 };
-use crate::states::{State, Top, complete, filing, fresh, listing, needing, paused, tabled, whole};
+use crate::states::{
+    State, Top, complete, state_after_edges, state_after_files, state_after_gap, state_in_edges,
+    state_in_extra, state_in_extras, state_in_files,
+};
 use std::alloc::{AllocError, Global};
 use ul_base::Name;
 use ul_base::owned::{beside, refused};
@@ -22,10 +25,10 @@ use ul_version::Version;
 
 // The state behind the line that opens a list of edges.
 fn opened_edges(alloc: Global, top: Top, files: Files, key: Name) -> Option<State>
-    ensures { result ≡ may (bytes_eq key edges_key) (Needing top.head top.blocks top.name top.version files []) }
+    ensures { result ≡ may (bytes_eq key edges_key) (InEdges top.head top.blocks top.name top.version files []) }
 {
     if key_is(&key, b"dependencies") {
-        Some(needing(top, files, Edges::new(alloc)))
+        Some(state_in_edges(top, files, Edges::new(alloc)))
     } else {
         refused((top, files))
     }
@@ -33,10 +36,10 @@ fn opened_edges(alloc: Global, top: Top, files: Files, key: Name) -> Option<Stat
 
 // The state behind the line that opens a list of files, where the format has one.
 fn opened_files(alloc: Global, top: Top) -> Option<State>
-    ensures { result ≡ may (second top.head.edition) (Filing top.head top.blocks top.name top.version []) }
+    ensures { result ≡ may (second top.head.edition) (InFiles top.head top.blocks top.name top.version []) }
 {
     if is_second(top.head.edition) {
-        Some(filing(top, Files::new(alloc)))
+        Some(state_in_files(top, Files::new(alloc)))
     } else {
         refused(top)
     }
@@ -55,20 +58,20 @@ fn opened_list(alloc: Global, top: Top, key: Name) -> Option<State>
 
 /// The state behind a line that follows the blank one before a package.
 pub fn after_blank(head: Head, blocks: Packages, line: Line) -> Option<State>
-    ensures { result ≡ step (Gapped head blocks) line }
+    ensures { result ≡ step (AfterBlank head blocks) line }
 {
     match line {
-        Line::Entry => Some(State::Opened(head, blocks)),
+        Line::Entry => Some(State::AfterEntry(head, blocks)),
         other => refused((head, blocks, other)),
     }
 }
 
 // The state behind the name of a package.
 fn named(head: Head, blocks: Packages, name: Name) -> Option<State>
-    ensures { result ≡ step (Opened head blocks) (NameLine name) }
+    ensures { result ≡ step (AfterEntry head blocks) (NameLine name) }
 {
     if package_tops(blocks.as_slice(), &name) {
-        Some(State::Named(head, blocks, name))
+        Some(State::AfterName(head, blocks, name))
     } else {
         refused((head, blocks, name))
     }
@@ -76,7 +79,7 @@ fn named(head: Head, blocks: Packages, name: Name) -> Option<State>
 
 /// The state behind a line that follows a package's first.
 pub fn after_entry(head: Head, blocks: Packages, line: Line) -> Option<State>
-    ensures { result ≡ step (Opened head blocks) line }
+    ensures { result ≡ step (AfterEntry head blocks) line }
 {
     match line {
         Line::Name(name) => named(head, blocks, name),
@@ -85,11 +88,11 @@ pub fn after_entry(head: Head, blocks: Packages, line: Line) -> Option<State>
 }
 
 // The state behind the version of a package.
-fn versed(head: Head, blocks: Packages, name: Name, version: Version) -> Option<State>
-    ensures { result ≡ step (Named head blocks name) (VersionLine version) }
+fn state_after_version(head: Head, blocks: Packages, name: Name, version: Version) -> Option<State>
+    ensures { result ≡ step (AfterName head blocks name) (VersionLine version) }
 {
     if version_tops(blocks.as_slice(), &name, &version) {
-        Some(State::Versed(head, blocks, name, version))
+        Some(State::AfterVersion(head, blocks, name, version))
     } else {
         refused((head, blocks, name, version))
     }
@@ -97,21 +100,21 @@ fn versed(head: Head, blocks: Packages, name: Name, version: Version) -> Option<
 
 /// The state behind a line that follows a package's name.
 pub fn after_name(head: Head, blocks: Packages, name: Name, line: Line) -> Option<State>
-    ensures { result ≡ step (Named head blocks name) line }
+    ensures { result ≡ step (AfterName head blocks name) line }
 {
     match line {
-        Line::Version(version) => versed(head, blocks, name, version),
+        Line::Version(version) => state_after_version(head, blocks, name, version),
         other => refused((head, blocks, name, other)),
     }
 }
 
 /// The state behind a line that follows a package's version.
 pub fn after_version(alloc: Global, top: Top, line: Line) -> Option<State>
-    ensures { result ≡ step (Versed top.head top.blocks top.name top.version) line }
+    ensures { result ≡ step (AfterVersion top.head top.blocks top.name top.version) line }
 {
     match line {
         Line::Opens(key) => opened_list(alloc, top, key),
-        Line::Gap => Some(paused(top, Files::new(alloc), Edges::new(alloc))),
+        Line::Gap => Some(state_after_gap(top, Files::new(alloc), Edges::new(alloc))),
         other => refused((top, other)),
     }
 }
@@ -119,11 +122,11 @@ pub fn after_version(alloc: Global, top: Top, line: Line) -> Option<State>
 // The state behind one more file.
 fn with_file(top: Top, files: Files, file: FileEntry) -> Result<Option<State>, AllocError>
     ensures { IfOk result (λ found. found
-        ≡ step (Filing top.head top.blocks top.name top.version files) (FileLine file)) }
+        ≡ step (InFiles top.head top.blocks top.name top.version files) (FileLine file)) }
 {
     if file_tops(files.as_slice(), &file) {
         let (top, files) = beside(top, files.with(file))?;
-        Ok(Some(filing(top, files)))
+        Ok(Some(state_in_files(top, files)))
     } else {
         Ok(refused((top, files, file)))
     }
@@ -131,10 +134,10 @@ fn with_file(top: Top, files: Files, file: FileEntry) -> Result<Option<State>, A
 
 // The state behind the line that closes the files.
 fn closed_files(top: Top, files: Files) -> Option<State>
-    ensures { result ≡ step (Filing top.head top.blocks top.name top.version files) CloseLine }
+    ensures { result ≡ step (InFiles top.head top.blocks top.name top.version files) CloseLine }
 {
     if any_file(files.as_slice()) {
-        Some(fresh(top, files))
+        Some(state_after_files(top, files))
     } else {
         refused((top, files))
     }
@@ -143,7 +146,7 @@ fn closed_files(top: Top, files: Files) -> Option<State>
 /// The state behind a line among a package's files.
 pub fn after_file(top: Top, files: Files, line: Line) -> Result<Option<State>, AllocError>
     ensures { IfOk result (λ found. found
-        ≡ step (Filing top.head top.blocks top.name top.version files) line) }
+        ≡ step (InFiles top.head top.blocks top.name top.version files) line) }
 {
     match line {
         Line::File(file) => with_file(top, files, file),
@@ -154,11 +157,11 @@ pub fn after_file(top: Top, files: Files, line: Line) -> Result<Option<State>, A
 
 /// The state behind a line that follows a package's files.
 pub fn after_files(alloc: Global, top: Top, files: Files, line: Line) -> Option<State>
-    ensures { result ≡ step (Fresh top.head top.blocks top.name top.version files) line }
+    ensures { result ≡ step (AfterFiles top.head top.blocks top.name top.version files) line }
 {
     match line {
         Line::Opens(key) => opened_edges(alloc, top, files, key),
-        Line::Gap => Some(paused(top, files, Edges::new(alloc))),
+        Line::Gap => Some(state_after_gap(top, files, Edges::new(alloc))),
         other => refused((top, files, other)),
     }
 }
@@ -166,12 +169,12 @@ pub fn after_files(alloc: Global, top: Top, files: Files, line: Line) -> Option<
 // The state behind one more edge.
 fn with_edge(top: Top, files: Files, edges: Edges, edge: Edge) -> Result<Option<State>, AllocError>
     ensures { IfOk result (λ found. found
-        ≡ step (Needing top.head top.blocks top.name top.version files edges) (EdgeLine edge)) }
+        ≡ step (InEdges top.head top.blocks top.name top.version files edges) (EdgeLine edge)) }
 {
     if edge_tops(edges.as_slice(), &edge) {
         let (kept, edges) = beside((top, files), edges.with(edge))?;
         let (top, files) = kept;
-        Ok(Some(needing(top, files, edges)))
+        Ok(Some(state_in_edges(top, files, edges)))
     } else {
         Ok(refused((top, files, edges, edge)))
     }
@@ -179,10 +182,10 @@ fn with_edge(top: Top, files: Files, edges: Edges, edge: Edge) -> Result<Option<
 
 // The state behind the line that closes the edges.
 fn closed_edges(top: Top, files: Files, edges: Edges) -> Option<State>
-    ensures { result ≡ step (Needing top.head top.blocks top.name top.version files edges) CloseLine }
+    ensures { result ≡ step (InEdges top.head top.blocks top.name top.version files edges) CloseLine }
 {
     if any_edge(edges.as_slice()) {
-        Some(whole(top, files, edges))
+        Some(state_after_edges(top, files, edges))
     } else {
         refused((top, files, edges))
     }
@@ -196,7 +199,7 @@ pub fn after_edge(
     line: Line,
 ) -> Result<Option<State>, AllocError>
     ensures { IfOk result (λ found. found
-        ≡ step (Needing top.head top.blocks top.name top.version files edges) line) }
+        ≡ step (InEdges top.head top.blocks top.name top.version files edges) line) }
 {
     match line {
         Line::Edge(edge) => with_edge(top, files, edges, edge),
@@ -207,10 +210,10 @@ pub fn after_edge(
 
 /// The state behind a line that follows a package's edges.
 pub fn after_edges(top: Top, files: Files, edges: Edges, line: Line) -> Option<State>
-    ensures { result ≡ step (Whole top.head top.blocks top.name top.version files edges) line }
+    ensures { result ≡ step (AfterEdges top.head top.blocks top.name top.version files edges) line }
 {
     match line {
-        Line::Gap => Some(paused(top, files, edges)),
+        Line::Gap => Some(state_after_gap(top, files, edges)),
         other => refused((top, files, edges, other)),
     }
 }
@@ -223,15 +226,15 @@ fn next_entry(
     edges: Edges,
 ) -> Result<Option<State>, AllocError>
     ensures { IfOk result (λ found. found
-        ≡ step (Paused top.head top.blocks top.name top.version files edges) EntryLine) }
+        ≡ step (AfterGap top.head top.blocks top.name top.version files edges) EntryLine) }
 {
     let sheet = complete(top, files, edges, Extras::new(alloc))?;
     let Sheet { head, packages } = sheet;
-    Ok(Some(State::Opened(head, packages)))
+    Ok(Some(State::AfterEntry(head, packages)))
 }
 
 /// The state behind a line that follows the blank one behind a package.
-pub fn after_pause(
+pub fn after_gap(
     alloc: Global,
     top: Top,
     files: Files,
@@ -239,11 +242,11 @@ pub fn after_pause(
     line: Line,
 ) -> Result<Option<State>, AllocError>
     ensures { IfOk result (λ found. found
-        ≡ step (Paused top.head top.blocks top.name top.version files edges) line) }
+        ≡ step (AfterGap top.head top.blocks top.name top.version files edges) line) }
 {
     match line {
         Line::Entry => next_entry(alloc, top, files, edges),
-        Line::Table => Ok(Some(tabled(top, files, edges, Extras::new(alloc)))),
+        Line::Table => Ok(Some(state_in_extras(top, files, edges, Extras::new(alloc)))),
         other => Ok(refused((top, files, edges, other))),
     }
 }
@@ -266,13 +269,13 @@ fn with_bare(
     extra: Name,
 ) -> Result<Option<State>, AllocError>
     ensures { IfOk result (λ found. found
-        ≡ step (Tabled top.head top.blocks top.name top.version files edges extras) (BareLine extra)) }
+        ≡ step (InExtras top.head top.blocks top.name top.version files edges extras) (BareLine extra)) }
 {
     if extra_tops(extras.as_slice(), &extra) {
         let made = with_extra(extras, extra, Edges::new(alloc));
         let (kept, extras) = beside((top, files, edges), made)?;
         let (top, files, edges) = kept;
-        Ok(Some(tabled(top, files, edges, extras)))
+        Ok(Some(state_in_extras(top, files, edges, extras)))
     } else {
         Ok(refused((top, files, edges, extras, extra)))
     }
@@ -287,10 +290,10 @@ fn opened_extra(
     extras: Extras,
     extra: Name,
 ) -> Option<State>
-    ensures { result ≡ step (Tabled top.head top.blocks top.name top.version files edges extras) (OpensLine extra) }
+    ensures { result ≡ step (InExtras top.head top.blocks top.name top.version files edges extras) (OpensLine extra) }
 {
     if extra_tops(extras.as_slice(), &extra) {
-        Some(listing(top, files, edges, extras, extra, Edges::new(alloc)))
+        Some(state_in_extra(top, files, edges, extras, extra, Edges::new(alloc)))
     } else {
         refused((top, files, edges, extras, extra))
     }
@@ -304,12 +307,12 @@ fn closed_table(
     extras: Extras,
 ) -> Result<Option<State>, AllocError>
     ensures { IfOk result (λ found. found
-        ≡ step (Tabled top.head top.blocks top.name top.version files edges extras) GapLine) }
+        ≡ step (InExtras top.head top.blocks top.name top.version files edges extras) GapLine) }
 {
     if any_extra(extras.as_slice()) {
         let sheet = complete(top, files, edges, extras)?;
         let Sheet { head, packages } = sheet;
-        Ok(Some(State::Gapped(head, packages)))
+        Ok(Some(State::AfterBlank(head, packages)))
     } else {
         Ok(refused((top, files, edges, extras)))
     }
@@ -325,7 +328,7 @@ pub fn after_extra(
     line: Line,
 ) -> Result<Option<State>, AllocError>
     ensures { IfOk result (λ found. found
-        ≡ step (Tabled top.head top.blocks top.name top.version files edges extras) line) }
+        ≡ step (InExtras top.head top.blocks top.name top.version files edges extras) line) }
 {
     match line {
         Line::Bare(extra) => with_bare(alloc, top, files, edges, extras, extra),
@@ -346,13 +349,13 @@ fn with_listed(
     edge: Edge,
 ) -> Result<Option<State>, AllocError>
     ensures { IfOk result (λ found. found
-        ≡ step (Listing top.head top.blocks top.name top.version files edges extras extra listed)
+        ≡ step (InExtra top.head top.blocks top.name top.version files edges extras extra listed)
         (EdgeLine edge)) }
 {
     if edge_tops(listed.as_slice(), &edge) {
         let (kept, listed) = beside((top, files, edges, extras, extra), listed.with(edge))?;
         let (top, files, edges, extras, extra) = kept;
-        Ok(Some(listing(top, files, edges, extras, extra, listed)))
+        Ok(Some(state_in_extra(top, files, edges, extras, extra, listed)))
     } else {
         Ok(refused((top, files, edges, extras, extra, listed, edge)))
     }
@@ -368,13 +371,13 @@ fn closed_listed(
     listed: Edges,
 ) -> Result<Option<State>, AllocError>
     ensures { IfOk result (λ found. found
-        ≡ step (Listing top.head top.blocks top.name top.version files edges extras extra listed)
+        ≡ step (InExtra top.head top.blocks top.name top.version files edges extras extra listed)
         CloseLine) }
 {
     if any_edge(listed.as_slice()) {
         let (kept, extras) = beside((top, files, edges), with_extra(extras, extra, listed))?;
         let (top, files, edges) = kept;
-        Ok(Some(tabled(top, files, edges, extras)))
+        Ok(Some(state_in_extras(top, files, edges, extras)))
     } else {
         Ok(refused((top, files, edges, extras, extra, listed)))
     }
@@ -391,7 +394,7 @@ pub fn after_listed(
     line: Line,
 ) -> Result<Option<State>, AllocError>
     ensures { IfOk result (λ found. found
-        ≡ step (Listing top.head top.blocks top.name top.version files edges extras extra listed) line) }
+        ≡ step (InExtra top.head top.blocks top.name top.version files edges extras extra listed) line) }
 {
     match line {
         Line::Edge(edge) => with_listed(top, files, edges, extras, extra, listed, edge),

@@ -4,7 +4,7 @@ ghost use Rattle.std.specs.Prelude.{◌≡◌, [], IfOk, bytes_eq};
 ghost use Rattle.ul_lock_read.specs.Automaton.{step, may, head_of};
 ghost use Rattle.ul_lock_lines.specs.declared.lines.Line.TheVariants.{Close as CloseLine, Item as ItemLine, Supported as SupportedLine};
 ghost use Rattle.ul_lock_write.specs.Sheet.{forks_key};
-ghost use Rattle.ul_lock_read.specs.declared.states.State.TheVariants.{Start, Begun, Rooted, Bounded, Forking, Headed, Gapped};
+ghost use Rattle.ul_lock_read.specs.declared.states.State.TheVariants.{Start, AfterFirst, AfterRoot, AfterSupported, InForks, AfterForks, AfterBlank};
 
 use crate::orders::{key_is, two_or_more};
 use crate::states::State;
@@ -17,7 +17,7 @@ use ul_lock_write::Head;
 
 // The state behind the blank line that ends a head without leaves.
 fn plain_head(alloc: Global, edition: Edition, root: Name, supported: Region) -> State
-    ensures { result ≡ Gapped (head_of edition root supported []) [] }
+    ensures { result ≡ AfterBlank (head_of edition root supported []) [] }
 {
     let head = Head {
         edition,
@@ -25,7 +25,7 @@ fn plain_head(alloc: Global, edition: Edition, root: Name, supported: Region) ->
         supported,
         forks: Regions::new(alloc),
     };
-    State::Gapped(head, Packages::new(alloc))
+    State::AfterBlank(head, Packages::new(alloc))
 }
 
 // The state behind the line that opens a list of leaves.
@@ -36,10 +36,10 @@ fn opened_forks(
     supported: Region,
     key: Name,
 ) -> Option<State>
-    ensures { result ≡ may (bytes_eq key forks_key) (Forking edition root supported []) }
+    ensures { result ≡ may (bytes_eq key forks_key) (InForks edition root supported []) }
 {
     if key_is(&key, b"resolution-markers") {
-        Some(State::Forking(edition, root, supported, Regions::new(alloc)))
+        Some(State::InForks(edition, root, supported, Regions::new(alloc)))
     } else {
         refused((root, supported))
     }
@@ -50,35 +50,35 @@ pub fn after_nothing(line: Line) -> Option<State>
     ensures { result ≡ step Start line }
 {
     match line {
-        Line::First(edition) => Some(State::Begun(edition)),
+        Line::First(edition) => Some(State::AfterFirst(edition)),
         other => refused(other),
     }
 }
 
 /// The state behind a line that follows the first.
 pub fn after_first(edition: Edition, line: Line) -> Option<State>
-    ensures { result ≡ step (Begun edition) line }
+    ensures { result ≡ step (AfterFirst edition) line }
 {
     match line {
-        Line::Root(root) => Some(State::Rooted(edition, root)),
+        Line::Root(root) => Some(State::AfterRoot(edition, root)),
         other => refused(other),
     }
 }
 
 // The state behind the line of a supported region, which isn't all worlds.
 fn bounded(edition: Edition, root: Name, marker: Region) -> Option<State>
-    ensures { result ≡ step (Rooted edition root) (SupportedLine marker) }
+    ensures { result ≡ step (AfterRoot edition root) (SupportedLine marker) }
 {
     if marker.is_all() {
         refused((root, marker))
     } else {
-        Some(State::Bounded(edition, root, marker))
+        Some(State::AfterSupported(edition, root, marker))
     }
 }
 
 /// The state behind a line that follows the root.
 pub fn after_root(alloc: Global, edition: Edition, root: Name, line: Line) -> Option<State>
-    ensures { result ≡ step (Rooted edition root) line }
+    ensures { result ≡ step (AfterRoot edition root) line }
 {
     match line {
         Line::Supported(marker) => bounded(edition, root, marker),
@@ -96,7 +96,7 @@ pub fn after_supported(
     marker: Region,
     line: Line,
 ) -> Option<State>
-    ensures { result ≡ step (Bounded edition root marker) line }
+    ensures { result ≡ step (AfterSupported edition root marker) line }
 {
     match line {
         Line::Opens(key) => opened_forks(alloc, edition, root, marker, key),
@@ -114,19 +114,19 @@ fn with_fork(
     marker: Region,
 ) -> Result<Option<State>, AllocError>
     ensures { IfOk result (λ found. found
-        ≡ step (Forking edition root supported forks) (ItemLine marker)) }
+        ≡ step (InForks edition root supported forks) (ItemLine marker)) }
 {
     let (kept, forks) = beside((root, supported), forks.with(marker))?;
     let (root, supported) = kept;
-    Ok(Some(State::Forking(edition, root, supported, forks)))
+    Ok(Some(State::InForks(edition, root, supported, forks)))
 }
 
 // The state behind the line that closes the leaves.
 fn closed_forks(edition: Edition, root: Name, supported: Region, forks: Regions) -> Option<State>
-    ensures { result ≡ step (Forking edition root supported forks) CloseLine }
+    ensures { result ≡ step (InForks edition root supported forks) CloseLine }
 {
     if two_or_more(forks.as_slice()) {
-        Some(State::Headed(Head {
+        Some(State::AfterForks(Head {
             edition,
             root,
             supported,
@@ -145,7 +145,7 @@ pub fn after_fork(
     forks: Regions,
     line: Line,
 ) -> Result<Option<State>, AllocError>
-    ensures { IfOk result (λ found. found ≡ step (Forking edition root supported forks) line) }
+    ensures { IfOk result (λ found. found ≡ step (InForks edition root supported forks) line) }
 {
     match line {
         Line::Item(marker) => with_fork(edition, root, supported, forks, marker),
@@ -156,10 +156,10 @@ pub fn after_fork(
 
 /// The state behind a line that follows the leaves.
 pub fn after_forks(alloc: Global, head: Head, line: Line) -> Option<State>
-    ensures { result ≡ step (Headed head) line }
+    ensures { result ≡ step (AfterForks head) line }
 {
     match line {
-        Line::Gap => Some(State::Gapped(head, Packages::new(alloc))),
+        Line::Gap => Some(State::AfterBlank(head, Packages::new(alloc))),
         other => refused((head, other)),
     }
 }

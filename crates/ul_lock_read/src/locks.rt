@@ -59,7 +59,7 @@ fn place_without_target(sheet: &Sheet) -> Option<usize>
 }
 
 // The targets, where there is one root.
-fn led(sheet: Sheet) -> Result<Lock, LockFault>
+fn lock_with_targets(sheet: Sheet) -> Result<Lock, LockFault>
     requires text { IsText sheet }
     requires root { has_one_root sheet.head.root sheet.packages ≡ true }
     ensures { Judged result sheet }
@@ -73,12 +73,12 @@ fn led(sheet: Sheet) -> Result<Lock, LockFault>
     }
 }
 
-fn judged(sheet: Sheet) -> Result<Lock, LockFault>
+fn lock_with_root(sheet: Sheet) -> Result<Lock, LockFault>
     requires { IsText sheet }
     ensures { Judged result sheet }
 {
     if has_root(&sheet) {
-        led(sheet)
+        lock_with_targets(sheet)
     } else {
         drop(sheet);
         Err(LockFault::Root)
@@ -96,6 +96,6 @@ pub fn read(alloc: Global, bytes: &[u8]) -> Result<Lock, LockFault>
             ShapeFault::Line(n) => Err(LockFault::Line(n)),
             ShapeFault::NoMemory => Err(LockFault::NoMemory),
         },
-        Ok(sheet) => judged(sheet),
+        Ok(sheet) => lock_with_root(sheet),
     }
 }

@@ -2,11 +2,11 @@
 
 ghost use Rattle.std.specs.Prelude.{◌≡◌, ◌++◌, ◌∷◌, [], IfOk};
 ghost use Rattle.ul_lock_read.specs.Automaton.{step, final, head_of, sheet_of, plain_block};
-ghost use Rattle.ul_lock_read.specs.declared.states.State.TheVariants.{Filing, Fresh, Needing, Whole, Paused, Tabled, Listing};
+ghost use Rattle.ul_lock_read.specs.declared.states.State.TheVariants.{InFiles, AfterFiles, InEdges, AfterEdges, AfterGap, InExtras, InExtra};
 
 use crate::blocks::{
     after_blank, after_edge, after_edges, after_entry, after_extra, after_file, after_files,
-    after_listed, after_name, after_pause, after_version,
+    after_gap, after_listed, after_name, after_version,
 };
 use crate::heads::{
     after_first, after_fork, after_forks, after_nothing, after_root, after_supported,
@@ -20,27 +20,28 @@ use ul_lock_lines::{Edition, Line};
 use ul_lock_write::{Head, Sheet};
 use ul_version::Version;
 
-/// What has been read. Blocks that are complete are in the list; the one that is being read lies in the state's own
-/// fields.
+/// What has been read: `After..` is the state behind a line or behind the end of a list, `In..` the one inside a list that
+/// grows, and a gap is a blank line within a package. Packages that are complete are in the list; the one that is being
+/// read lies in the state's own fields.
 #[derive(Drop)]
 pub enum State {
     Start,
-    Begun(Edition),
-    Rooted(Edition, Name),
-    Bounded(Edition, Name, Region),
-    Forking(Edition, Name, Region, Regions),
-    Headed(Head),
-    Gapped(Head, Packages),
-    Opened(Head, Packages),
-    Named(Head, Packages, Name),
-    Versed(Head, Packages, Name, Version),
-    Filing(Head, Packages, Name, Version, Files),
-    Fresh(Head, Packages, Name, Version, Files),
-    Needing(Head, Packages, Name, Version, Files, Edges),
-    Whole(Head, Packages, Name, Version, Files, Edges),
-    Paused(Head, Packages, Name, Version, Files, Edges),
-    Tabled(Head, Packages, Name, Version, Files, Edges, Extras),
-    Listing(Head, Packages, Name, Version, Files, Edges, Extras, Name, Edges),
+    AfterFirst(Edition),
+    AfterRoot(Edition, Name),
+    AfterSupported(Edition, Name, Region),
+    InForks(Edition, Name, Region, Regions),
+    AfterForks(Head),
+    AfterBlank(Head, Packages),
+    AfterEntry(Head, Packages),
+    AfterName(Head, Packages, Name),
+    AfterVersion(Head, Packages, Name, Version),
+    InFiles(Head, Packages, Name, Version, Files),
+    AfterFiles(Head, Packages, Name, Version, Files),
+    InEdges(Head, Packages, Name, Version, Files, Edges),
+    AfterEdges(Head, Packages, Name, Version, Files, Edges),
+    AfterGap(Head, Packages, Name, Version, Files, Edges),
+    InExtras(Head, Packages, Name, Version, Files, Edges, Extras),
+    InExtra(Head, Packages, Name, Version, Files, Edges, Extras, Name, Edges),
 }
 
 /// A package down to its version, below those that are complete.
@@ -67,8 +68,8 @@ impl Top {
 }
 
 /// The state with a list of files that grows.
-pub fn filing(top: Top, files: Files) -> State
-    ensures { result ≡ Filing top.head top.blocks top.name top.version files }
+pub fn state_in_files(top: Top, files: Files) -> State
+    ensures { result ≡ InFiles top.head top.blocks top.name top.version files }
 {
     let Top {
         head,
@@ -76,12 +77,12 @@ pub fn filing(top: Top, files: Files) -> State
         name,
         version,
     } = top;
-    State::Filing(head, blocks, name, version, files)
+    State::InFiles(head, blocks, name, version, files)
 }
 
 /// The state behind a package's files.
-pub fn fresh(top: Top, files: Files) -> State
-    ensures { result ≡ Fresh top.head top.blocks top.name top.version files }
+pub fn state_after_files(top: Top, files: Files) -> State
+    ensures { result ≡ AfterFiles top.head top.blocks top.name top.version files }
 {
     let Top {
         head,
@@ -89,12 +90,12 @@ pub fn fresh(top: Top, files: Files) -> State
         name,
         version,
     } = top;
-    State::Fresh(head, blocks, name, version, files)
+    State::AfterFiles(head, blocks, name, version, files)
 }
 
 /// The state with a list of edges that grows.
-pub fn needing(top: Top, files: Files, edges: Edges) -> State
-    ensures { result ≡ Needing top.head top.blocks top.name top.version files edges }
+pub fn state_in_edges(top: Top, files: Files, edges: Edges) -> State
+    ensures { result ≡ InEdges top.head top.blocks top.name top.version files edges }
 {
     let Top {
         head,
@@ -102,12 +103,12 @@ pub fn needing(top: Top, files: Files, edges: Edges) -> State
         name,
         version,
     } = top;
-    State::Needing(head, blocks, name, version, files, edges)
+    State::InEdges(head, blocks, name, version, files, edges)
 }
 
 /// The state behind a package's edges.
-pub fn whole(top: Top, files: Files, edges: Edges) -> State
-    ensures { result ≡ Whole top.head top.blocks top.name top.version files edges }
+pub fn state_after_edges(top: Top, files: Files, edges: Edges) -> State
+    ensures { result ≡ AfterEdges top.head top.blocks top.name top.version files edges }
 {
     let Top {
         head,
@@ -115,12 +116,12 @@ pub fn whole(top: Top, files: Files, edges: Edges) -> State
         name,
         version,
     } = top;
-    State::Whole(head, blocks, name, version, files, edges)
+    State::AfterEdges(head, blocks, name, version, files, edges)
 }
 
 /// The state behind the blank line after a package's edges.
-pub fn paused(top: Top, files: Files, edges: Edges) -> State
-    ensures { result ≡ Paused top.head top.blocks top.name top.version files edges }
+pub fn state_after_gap(top: Top, files: Files, edges: Edges) -> State
+    ensures { result ≡ AfterGap top.head top.blocks top.name top.version files edges }
 {
     let Top {
         head,
@@ -128,12 +129,12 @@ pub fn paused(top: Top, files: Files, edges: Edges) -> State
         name,
         version,
     } = top;
-    State::Paused(head, blocks, name, version, files, edges)
+    State::AfterGap(head, blocks, name, version, files, edges)
 }
 
 /// The state with extras that grow.
-pub fn tabled(top: Top, files: Files, edges: Edges, extras: Extras) -> State
-    ensures { result ≡ Tabled top.head top.blocks top.name top.version files edges extras }
+pub fn state_in_extras(top: Top, files: Files, edges: Edges, extras: Extras) -> State
+    ensures { result ≡ InExtras top.head top.blocks top.name top.version files edges extras }
 {
     let Top {
         head,
@@ -141,11 +142,11 @@ pub fn tabled(top: Top, files: Files, edges: Edges, extras: Extras) -> State
         name,
         version,
     } = top;
-    State::Tabled(head, blocks, name, version, files, edges, extras)
+    State::InExtras(head, blocks, name, version, files, edges, extras)
 }
 
 /// The state with an extra's list of edges that grows.
-pub fn listing(
+pub fn state_in_extra(
     top: Top,
     files: Files,
     edges: Edges,
@@ -153,7 +154,7 @@ pub fn listing(
     extra: Name,
     listed: Edges,
 ) -> State
-    ensures { result ≡ Listing top.head top.blocks top.name top.version files edges extras extra listed }
+    ensures { result ≡ InExtra top.head top.blocks top.name top.version files edges extras extra listed }
 {
     let Top {
         head,
@@ -161,7 +162,7 @@ pub fn listing(
         name,
         version,
     } = top;
-    State::Listing(
+    State::InExtra(
         head, blocks, name, version, files, edges, extras, extra, listed,
     )
 }
@@ -196,54 +197,54 @@ pub fn next(alloc: Global, state: State, line: Line) -> Result<Option<State>, Al
 {
     match state {
         State::Start => Ok(after_nothing(line)),
-        State::Begun(edition) => Ok(after_first(edition, line)),
-        State::Rooted(edition, root) => Ok(after_root(alloc, edition, root, line)),
-        State::Bounded(edition, root, marker) => Ok(after_supported(
+        State::AfterFirst(edition) => Ok(after_first(edition, line)),
+        State::AfterRoot(edition, root) => Ok(after_root(alloc, edition, root, line)),
+        State::AfterSupported(edition, root, marker) => Ok(after_supported(
             alloc, edition, root, marker, line,
         )),
-        State::Forking(edition, root, supported, forks) => after_fork(
+        State::InForks(edition, root, supported, forks) => after_fork(
             edition, root, supported, forks, line,
         ),
-        State::Headed(head) => Ok(after_forks(alloc, head, line)),
-        State::Gapped(head, blocks) => Ok(after_blank(head, blocks, line)),
-        State::Opened(head, blocks) => Ok(after_entry(head, blocks, line)),
-        State::Named(head, blocks, name) => Ok(after_name(head, blocks, name, line)),
-        State::Versed(head, blocks, name, version) => Ok(after_version(
+        State::AfterForks(head) => Ok(after_forks(alloc, head, line)),
+        State::AfterBlank(head, blocks) => Ok(after_blank(head, blocks, line)),
+        State::AfterEntry(head, blocks) => Ok(after_entry(head, blocks, line)),
+        State::AfterName(head, blocks, name) => Ok(after_name(head, blocks, name, line)),
+        State::AfterVersion(head, blocks, name, version) => Ok(after_version(
             alloc,
             Top::of(head, blocks, name, version),
             line,
         )),
-        State::Filing(head, blocks, name, version, files) => after_file(
+        State::InFiles(head, blocks, name, version, files) => after_file(
             Top::of(head, blocks, name, version),
             files,
             line,
         ),
-        State::Fresh(head, blocks, name, version, files) => Ok(after_files(
+        State::AfterFiles(head, blocks, name, version, files) => Ok(after_files(
             alloc,
             Top::of(head, blocks, name, version),
             files,
             line,
         )),
-        State::Needing(head, blocks, name, version, files, edges) => after_edge(
+        State::InEdges(head, blocks, name, version, files, edges) => after_edge(
             Top::of(head, blocks, name, version),
             files,
             edges,
             line,
         ),
-        State::Whole(head, blocks, name, version, files, edges) => Ok(after_edges(
+        State::AfterEdges(head, blocks, name, version, files, edges) => Ok(after_edges(
             Top::of(head, blocks, name, version),
             files,
             edges,
             line,
         )),
-        State::Paused(head, blocks, name, version, files, edges) => after_pause(
+        State::AfterGap(head, blocks, name, version, files, edges) => after_gap(
             alloc,
             Top::of(head, blocks, name, version),
             files,
             edges,
             line,
         ),
-        State::Tabled(head, blocks, name, version, files, edges, extras) => {
+        State::InExtras(head, blocks, name, version, files, edges, extras) => {
             after_extra(
                 alloc,
                 Top::of(head, blocks, name, version),
@@ -253,7 +254,7 @@ pub fn next(alloc: Global, state: State, line: Line) -> Result<Option<State>, Al
                 line,
             )
         }
-        State::Listing(head, blocks, name, version, files, edges, extras, extra, listed) => {
+        State::InExtra(head, blocks, name, version, files, edges, extras, extra, listed) => {
             after_listed(
                 Top::of(head, blocks, name, version),
                 files,
@@ -274,7 +275,7 @@ fn plain_end(
     files: Files,
     edges: Edges,
 ) -> Result<Option<Sheet>, AllocError>
-    ensures { IfOk result (λ found. found ≡ final (Whole top.head top.blocks top.name top.version files edges)) }
+    ensures { IfOk result (λ found. found ≡ final (AfterEdges top.head top.blocks top.name top.version files edges)) }
 {
     let sheet = complete(top, files, edges, Extras::new(alloc))?;
     Ok(Some(sheet))
@@ -287,7 +288,7 @@ fn table_end(
     edges: Edges,
     extras: Extras,
 ) -> Result<Option<Sheet>, AllocError>
-    ensures { IfOk result (λ found. found ≡ final (Tabled top.head top.blocks top.name top.version files edges extras)) }
+    ensures { IfOk result (λ found. found ≡ final (InExtras top.head top.blocks top.name top.version files edges extras)) }
 {
     if any_extra(extras.as_slice()) {
         let sheet = complete(top, files, edges, extras)?;
@@ -318,13 +319,20 @@ pub fn ended(alloc: Global, state: State) -> Result<Option<Sheet>, AllocError>
     ensures { IfOk result (λ found. found ≡ final state) }
 {
     match state {
-        State::Rooted(edition, root) => Ok(Some(bare_sheet(alloc, edition, root, Region::all()))),
-        State::Bounded(edition, root, marker) => Ok(Some(bare_sheet(alloc, edition, root, marker))),
-        State::Headed(head) => Ok(Some(Sheet {
+        State::AfterRoot(edition, root) => Ok(Some(bare_sheet(
+            alloc,
+            edition,
+            root,
+            Region::all(),
+        ))),
+        State::AfterSupported(edition, root, marker) => Ok(Some(bare_sheet(
+            alloc, edition, root, marker,
+        ))),
+        State::AfterForks(head) => Ok(Some(Sheet {
             head,
             packages: Packages::new(alloc),
         })),
-        State::Versed(head, blocks, name, version) => {
+        State::AfterVersion(head, blocks, name, version) => {
             plain_end(
                 alloc,
                 Top::of(head, blocks, name, version),
@@ -332,7 +340,7 @@ pub fn ended(alloc: Global, state: State) -> Result<Option<Sheet>, AllocError>
                 Edges::new(alloc),
             )
         }
-        State::Fresh(head, blocks, name, version, files) => {
+        State::AfterFiles(head, blocks, name, version, files) => {
             plain_end(
                 alloc,
                 Top::of(head, blocks, name, version),
@@ -340,10 +348,10 @@ pub fn ended(alloc: Global, state: State) -> Result<Option<Sheet>, AllocError>
                 Edges::new(alloc),
             )
         }
-        State::Whole(head, blocks, name, version, files, edges) => {
+        State::AfterEdges(head, blocks, name, version, files, edges) => {
             plain_end(alloc, Top::of(head, blocks, name, version), files, edges)
         }
-        State::Tabled(head, blocks, name, version, files, edges, extras) => {
+        State::InExtras(head, blocks, name, version, files, edges, extras) => {
             table_end(Top::of(head, blocks, name, version), files, edges, extras)
         }
         other => Ok(refused(other)),

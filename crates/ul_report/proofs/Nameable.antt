@@ -64,7 +64,3 @@ pub names_more : (p : Plain) (ss : List Step) (i : ℕ) (s : Step) (Q : Type 0) 
 names_more p ss i s Q h e f a =
     let g = front_is ss i s h e in
     record { to = λ r. a.to (subst (HaveNames p) (sym g) (f, r)); from = λ q. (subst (HaveNames p) g (a.from q)).1 }
-
--- a step that has none
-pub names_not : (p : Plain) (ss : List Step) (i : ℕ) (s : Step) (Q : Type 0) → i < length ss → s ≡ get_or ss i s → (HasNames p s → ⊥) → IsAlike (HaveNames p (drop i ss)) Q → Q → ⊥
-names_not p ss i s Q h e f a q = f (subst (HaveNames p) (front_is ss i s h e) (a.from q)).0

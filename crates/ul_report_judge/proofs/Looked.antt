@@ -5,7 +5,7 @@ use Rattle.std.proofs.lemmas.List.Elements.{All-append, All-cons, All-nil}
 use Rattle.ul_version.specs.Fields.{Fields}
 use Rattle.ul_version.specs.Order.{version_cmp}
 use Rattle.std.specs.Prelude.{All, IfSome, option_and_then, option_map}
-use Rattle.std.proofs.lemmas.Option.{slice_get_read, slice_get_within}
+use Rattle.std.proofs.lemmas.Option.{slice_get_within}
 use Rattle.std.specs.Cmp.{Equal-is}
 use Rattle.std.specs.Ordering.{is_eq}
 use Rattle.std.specs.declared.cmp.Ordering.TheVariants.{Equal}
@@ -15,7 +15,7 @@ use Rattle.ul_base.specs.declared.node.Node.{Node}
 use Rattle.ul_base.specs.Nodes.{node_cmp, node_cmp-total}
 use Rattle.ul_base.proofs.ForCallers.{node_cmp_same}
 use Rattle.ul_problem.specs.Finding.{IsFound}
-use Rattle.ul_problem.specs.Plain.{Plain, node_at}
+use Rattle.ul_problem.specs.Plain.{Plain}
 use Rattle.ul_problem.specs.Problems.{IsWellFormed}
 use Rattle.ul_problem.specs.declared.problem.NodeFacts.{NodeFacts}
 use Rattle.ul_report_judge.specs.Names.{place_of_node, place_of_version}
@@ -77,10 +77,6 @@ place_within nodes all node (Some k) e (f, g, s) = slice_get_within all k f (sym
 -- what is found has a place among the nodes
 pub found_within : (p : Plain) (nodes : List NodeFacts) (node : Node) (o : Option ℕ) → nodes ≡ p.nodes → IsFound nodes node o → IfSome o (λ k. k < length p.nodes)
 found_within p nodes node o e h = place_within nodes p.nodes node o e h
-
--- what is known of a node, read from the problem's nodes
-pub facts_read : (p : Plain) (nodes : List NodeFacts) (n : ℕ) (f : NodeFacts) → nodes ≡ p.nodes → n < length p.nodes → f ≡ get_or nodes n f → node_at p n ≡ Some f
-facts_read p nodes n f e l r = ap (λ z. slice_get z n) (sym e) ∙ slice_get_read nodes (length p.nodes) n f (ap length (sym e)) l r
 
 -- ---- a version's place
 

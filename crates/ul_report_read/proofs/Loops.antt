@@ -1,9 +1,9 @@
 -- Loops over parts of a line.
-use Rattle.std.proofs.Common.{◌≡◌, ℕ, ◌+◌, ◌<◌, ◌≤◌, List, [], ◌∷◌, ◌++◌, Bool, true, false, drop, take, length, get_or, refl, sym, ap, subst, ◌∙◌, arith, append_assoc, Option, Some, None}
+use Rattle.std.proofs.Common.{◌≡◌, ℕ, ◌+◌, ◌<◌, ◌≤◌, List, [], ◌∷◌, ◌++◌, Bool, true, false, drop, take, length, get_or, refl, sym, ap, subst, ◌∙◌, append_assoc, Option, Some, None}
 use Rattle.std.specs.Prelude.{option_and_then, option_map}
 use Rattle.std.specs.List.{slice_split}
 use Rattle.std.proofs.lemmas.Bool.{cases_lt}
-use Rattle.std.proofs.lemmas.List.{append-nil, drop_more, take_all}
+use Rattle.std.proofs.lemmas.List.{drop_more, take_all}
 use Rattle.std.proofs.Common.{inl, inr, eqb, ◌&&◌}
 use Rattle.ul_report_read.specs.Tokens.{rises_from}
 use Rattle.ul_report.specs.declared.text_steps.TextTerm.{TextTerm}
@@ -18,11 +18,6 @@ in_front before o = option_map (λ xs. before ++ xs) o
 pub next_front : {B : Type 0} (before : List B) (k : B) (more all : Option (List B)) → in_front before (option_map (λ ks. k ∷ ks) more) ≡ all → in_front (before ++ k ∷ []) more ≡ all
 next_front before k None all h = h
 next_front {B} before k (Some ks) all h = ap (λ (l : List B). Some l) (append_assoc before (k ∷ []) ks) ∙ h
-
--- nothing before
-pub in_front_none : {B : Type 0} (o : Option (List B)) → in_front [] o ≡ o
-in_front_none None = refl
-in_front_none (Some xs) = refl
 
 -- ---- parts between bytes
 
@@ -57,13 +52,6 @@ module _ {B : Type 0} (part : List ℕ → Option B) (each : List (List ℕ) →
       next_front before k (each others) all
       (sym (ap (in_front before) (ap each (m.more l) ∙ (steps (take count rest) others ∙ ap (option_and_then (λ j. option_map (λ ks. j ∷ ks) (each others))) q))) ∙ h)
 
-  pub part_last : (p : ℕ → Bool) (rest : List ℕ) (count : ℕ) (before : List B) (k : B) (all : Option (List B)) → IsMeasured p rest count → length rest ≤ count → part (take count rest) ≡ Some k → in_front before (each (slice_split p rest)) ≡ all
-      → Some (before ++ k ∷ []) ≡ all
-  part_last p rest count before k all m l q h =
-      let e : each (slice_split p rest) ≡ Some (k ∷ []) =
-      ap each (m.last l) ∙ (steps rest [] ∙ (ap (option_and_then (λ j. option_map (λ ks. j ∷ ks) (each []))) (ap part (sym (take_all count rest l)) ∙ q) ∙ ap (option_map (λ ks. k ∷ ks)) none)) in
-      sym (ap (in_front before) e) ∙ h
-
 -- ---- terms
 
 -- a term, and those behind it
@@ -84,17 +72,6 @@ pub term_none : (first : Bool) (rest : List ℕ) (count : ℕ) (before : List Te
 term_none first rest count before all m l q h =
     let others = slice_split (λ b. eqb b 125) (drop (count + 1) rest) in
     sym (ap (in_front before) (ap (each_term first) (m.more l) ∙ (each_step first (take count rest) (drop (count + 1) rest) ∙ ap (option_and_then (onto_terms (each_term false others))) q))) ∙ h
-
--- text without a brace is no term
-pub term_open : (first : Bool) (rest : List ℕ) (count : ℕ) (before : List TextTerm) (all : Option (List TextTerm)) → IsMeasured (λ b. eqb b 125) rest count → length rest ≤ count → 0 < length rest
-    → in_front before (each_term first (slice_split (λ b. eqb b 125) rest)) ≡ all → None ≡ all
-term_open first [] count before all m l f h = absurd (omega arith)
-term_open first (b ∷ rest) count before all m l f h = sym (ap (λ ts. in_front before (each_term first ts)) (m.last l)) ∙ h
-
--- where nothing is left
-pub term_end : (first : Bool) (rest : List ℕ) (before : List TextTerm) (all : Option (List TextTerm)) → length rest ≡ 0 → in_front before (each_term first (slice_split (λ b. eqb b 125) rest)) ≡ all → Some before ≡ all
-term_end first [] before all e h = ap (λ (ts : List TextTerm). Some ts) (sym (append-nil before)) ∙ h
-term_end first (b ∷ rest) before all e h = absurd (omega arith)
 
 -- ---- a list, element by element
 

@@ -98,7 +98,7 @@ fn need_row(alloc: Global, text: &str) -> Result<NeedRow, AllocError> {
     }
     let (node, permitted) = placed(alloc, text)?;
     let needs = vec![in alloc; Need { node, permitted }]?;
-    NeedRow::of(alloc, needs)
+    Ok(NeedRow::of(needs))
 }
 
 fn need_rows(alloc: Global, text: &str, size: u32) -> Result<NeedRows, AllocError> {

@@ -2,16 +2,16 @@ use Rattle.std.proofs.Common.{◌∙◌, ◌++◌, ◌∷◌, [], ap, List}
 use Rattle.ul_lock.specs.declared.parts.Edge.{Edge}
 use Rattle.ul_lock.specs.Orders.{edge_less}
 use Rattle.ul_lock_read.specs.Automaton.{tops}
-use Rattle.ul_lock_read.specs.declared.states.State.TheVariants.{Needing}
+use Rattle.ul_lock_read.specs.declared.states.State.TheVariants.{InEdges}
 use Rattle.ul_lock_read.proofs.Steps.{follows, refuses, made_is}
 use Rattle.ul_lock_read.proofs.blocks.with_edge.Goals as goal
 
 pub returns-in_ok-kept : goal.returns-in_ok-kept
 returns-in_ok-kept c =
     let grown = made_is c.with.result c.in_ok-kept.edges (c.args.edges ++ c.args.edge ∷ []) c.with.ensures c.in_ok-kept.ensures.1 in
-    follows c.edge_tops.result _ c.needing.result _ c.if-edge_tops.true (c.edge_tops.ensures ∙ ap (λ (es : List Edge). tops edge_less es c.args.edge) c.as_slice.ensures)
-    (c.needing.ensures ∙ (ap (λ k. Needing k.0.head k.0.blocks k.0.name k.0.version k.1 c.in_ok-kept.edges) c.in_ok-kept.ensures.0
-    ∙ ap (λ (es : List Edge). Needing c.args.top.head c.args.top.blocks c.args.top.name c.args.top.version c.args.files es) grown))
+    follows c.edge_tops.result _ c.state_in_edges.result _ c.if-edge_tops.true (c.edge_tops.ensures ∙ ap (λ (es : List Edge). tops edge_less es c.args.edge) c.as_slice.ensures)
+    (c.state_in_edges.ensures ∙ (ap (λ k. InEdges k.0.head k.0.blocks k.0.name k.0.version k.1 c.in_ok-kept.edges) c.in_ok-kept.ensures.0
+    ∙ ap (λ (es : List Edge). InEdges c.args.top.head c.args.top.blocks c.args.top.name c.args.top.version c.args.files es) grown))
 
 pub returns-else-edge_tops : goal.returns-else-edge_tops
 returns-else-edge_tops c = refuses c.edge_tops.result _ c.refused.result _ c.if-edge_tops.false (c.edge_tops.ensures ∙ ap (λ (es : List Edge). tops edge_less es c.args.edge) c.as_slice.ensures) c.refused.ensures

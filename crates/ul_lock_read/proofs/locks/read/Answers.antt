@@ -12,8 +12,8 @@ returns-in-Line c = by_line c.args.bytes.now c.in-Line.n (subst (λ z. Fails z (
 pub returns-in-NoMemory : goal.returns-in-NoMemory
 returns-in-NoMemory c = by_memory c.args.bytes.now
 
-pub judged-requires : goal.judged-requires
-judged-requires c = (text_taken c.args.bytes.now c.in-Ok.sheet c.in-Ok.ensures).0
+pub lock_with_root-requires : goal.lock_with_root-requires
+lock_with_root-requires c = (text_taken c.args.bytes.now c.in-Ok.sheet c.in-Ok.ensures).0
 
 pub returns-in-Ok : goal.returns-in-Ok
-returns-in-Ok c = by_sheet c.args.bytes.now c.in-Ok.sheet c.judged.result c.in-Ok.ensures c.judged.ensures
+returns-in-Ok c = by_sheet c.args.bytes.now c.in-Ok.sheet c.lock_with_root.result c.in-Ok.ensures c.lock_with_root.ensures

@@ -1,6 +1,6 @@
 use Rattle.std.proofs.Common.{sym, ◌∙◌}
 use Rattle.ul_lock_read.proofs.WithoutTargets.{none_without_target}
-use Rattle.ul_lock_read.proofs.locks.led.Goals as goal
+use Rattle.ul_lock_read.proofs.locks.lock_with_targets.Goals as goal
 
 pub returns-in-None : goal.returns-in-None
 returns-in-None c =
