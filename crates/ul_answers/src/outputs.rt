@@ -16,6 +16,7 @@ use ul_lock_write::{WriteFault, write};
 use ul_marker_text::TextFault;
 use ul_reach::{ExportFault, Reached, export_text};
 use ul_report::refusal;
+use ul_tree::MOST_PATHS;
 use ul_version::Version;
 
 /// What is printed, and with which status the program ends.
@@ -37,7 +38,7 @@ fn fixed(alloc: Global, status: u8, text: &str) -> Result<Output, AllocError>
 fn too_many_paths(alloc: Global) -> Result<Output, AllocError>
     ensures { IfOk result (λ o. output_view o ≡ spec.too_many_paths) }
 {
-    limit_output(alloc, "marker-paths", 4096)
+    limit_output(alloc, "marker-paths", MOST_PATHS as u64)
 }
 
 // The text of a lock, or the limit that it passes.

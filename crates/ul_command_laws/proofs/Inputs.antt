@@ -10,9 +10,9 @@ use Rattle.ul_project.specs.Shapes.{Fault}
 use Rattle.ul_groups.specs.Adjusted.{adjusted_catalog}
 use Rattle.ul_groups.specs.Expanded.{Expanding, expanded_project, refused}
 use Rattle.ul_load.specs.Laws.{TurnsAgree}
-use Rattle.ul_load.specs.Loading.{Traced}
+use Rattle.ul_load.specs.Loading.{Traced, file_bytes}
 use Rattle.ul_lock_read.specs.Laws.{OneFault, OneTextOneLock}
-use Rattle.ul_inputs.specs.Inputs.{answer, just, large_file, said_on, small_file, file_bytes, text_bytes}
+use Rattle.ul_inputs.specs.Inputs.{answer, just, large_file, said_on, small_file, text_bytes}
 use Rattle.ul_inputs.specs.Refused.{Refused, malformed}
 use Rattle.ul_inputs.specs.Catalogs.{beginning, catalog_in, documents, found_or_refused}
 use Rattle.ul_inputs.specs.Locks.{Kept, kept_of, lock_at, lock_said, old_lock}

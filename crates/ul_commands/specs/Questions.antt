@@ -4,6 +4,7 @@ use Rattle.ul_nodes.specs.Plain.{Plain}
 use Rattle.ul_tree.specs.Regions.{region_of}
 use Rattle.ul_problem.specs.Plain.{Plain as Problem}
 use Rattle.ul_region.specs.Problem.{IsProblemOf}
+use Rattle.ul_generations.specs.Generations.{most_forks}
 use Rattle.ul_forks.specs.Headline.{IsAnswer, TreeAnswer}
 use Rattle.ul_forks.specs.Outcome.{Question, starts_of}
 use Rattle.ul_inputs.specs.Refused.{Refused, limit}
@@ -25,4 +26,4 @@ IsProblemIn r region p = IsProblemOf r.catalog (starts_of (question_of r)) r.wis
 
 -- there are too many forks
 abbrev pub too_many_forks : Refused
-too_many_forks = limit (codes "forks") 2048
+too_many_forks = limit (codes "forks") most_forks

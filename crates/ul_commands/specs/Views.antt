@@ -1,5 +1,6 @@
 -- What the questions of the code stand for.
 use Rattle.std.specs.Prelude.{◌≡◌, ◌≤◌, [], map, option_map, string_bytes, IfOk, Result, Ok, Err}
+use Rattle.ul_workers.specs.WorkerCount.{IsWorkerCount}
 use Rattle.ul_inputs.specs.Refusals.{Answers}
 use Rattle.ul_inputs.specs.declared.refusal.Refusal.{Refusal}
 use Rattle.ul_inputs.specs.declared.refusal.Refusal.TheVariants.{ReadFault}
@@ -23,11 +24,11 @@ view (Export lock extras) = asked.export lock.now (map string_bytes extras.now)
 view (Check project folder derivation) = asked.check project.now folder.now derivation.now
 view (Verify project folder lock) = asked.verify project.now folder.now lock.now
 
--- there are 1 to 64 workers, and the size of a generated project is 1 to 2,000
+-- the number of workers is one that may run, and the size of a generated project is 1 to 2,000
 abbrev pub HasWorkers : Asked → Type 0
-HasWorkers (Lock project folder workers old) = (1 ≤ workers) × (workers ≤ 64)
-HasWorkers (Why project folder workers old) = (1 ≤ workers) × (workers ≤ 64)
-HasWorkers (Gen seed size workers) = (1 ≤ size) × ((size ≤ 2000) × ((1 ≤ workers) × (workers ≤ 64)))
+HasWorkers (Lock project folder workers old) = IsWorkerCount workers
+HasWorkers (Why project folder workers old) = IsWorkerCount workers
+HasWorkers (Gen seed size workers) = (1 ≤ size) × ((size ≤ 2000) × IsWorkerCount workers)
 HasWorkers _ = Unit {0}
 
 -- the answer isn't that the words aren't a command

@@ -1,6 +1,7 @@
 //! The commands.
 ghost use Rattle.std.specs.Prelude.{◌≡◌, ◌≤◌, map, option_map, string_bytes};
 ghost use Rattle.ul_base.specs.Files.{FileMap, Told};
+ghost use Rattle.ul_workers.specs.WorkerCount.{IsWorkerCount};
 ghost use Rattle.ul_answers.specs.Views.{view as answer_view};
 ghost use Rattle.ul_inputs.specs.Refusals.{Answers, Cause};
 ghost use Rattle.ul_inputs.specs.Resolutions.{HasUsable};
@@ -43,7 +44,7 @@ fn resolved_files<R: Threads + Wait + Sync, F: Files, G: Gate + Sync>(
     workers: u64,
     old: Option<&str>,
 ) -> Result<Answer, Refusal>
-    requires { (1 ≤ workers) × (workers ≤ 64) }
+    requires { IsWorkerCount workers }
     ensures told { Told (F.map files.old) (λ m. Answers answer_view result (spec.command
         (asked_for wanted project.now folder.now workers (option_map (λ p. p.now) old.entry)) m)) }
     ensures same { F.map files.new ≡ F.map files.old }
@@ -66,7 +67,7 @@ fn gen_files<R: Threads + Wait + Sync, G: Gate + Sync>(
     workers: u64,
 ) -> Result<Answer, Refusal>
     requires size { (1 ≤ size) × (size ≤ 2000) }
-    requires workers { (1 ≤ workers) × (workers ≤ 64) }
+    requires workers { IsWorkerCount workers }
     ensures told { (m : FileMap) → Answers answer_view result (gen_said seed size m) }
     ensures sure { IsSure result }
     ensures answering { GivesAnswer result }

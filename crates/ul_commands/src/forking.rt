@@ -1,5 +1,6 @@
 //! The fork answer of a resolution.
-ghost use Rattle.std.specs.Prelude.{◌≡◌, ◌≤◌, IfErr, IfOk};
+ghost use Rattle.std.specs.Prelude.{◌≡◌, IfErr, IfOk};
+ghost use Rattle.ul_workers.specs.WorkerCount.{IsWorkerCount};
 ghost use Rattle.ul_forks.specs.Outcome.{starts_of};
 ghost use Rattle.ul_inputs.specs.Refusals.{IsRefusalFor};
 ghost use Rattle.ul_inputs.specs.Resolutions.{IsResolution, view};
@@ -12,6 +13,7 @@ use std::thread::Threads;
 use ul_algebra::DiagramLabel;
 use ul_base::{Gate, Name, Node};
 use ul_forks::{ForkFault, Forks, Question, fork_all, start_nodes};
+use ul_generations::MOST_FORKS;
 use ul_inputs::{Refusal, Resolution};
 use ul_interner::{Interner, Pass};
 use ul_project::Project;
@@ -21,7 +23,7 @@ fn fork_refusal(fault: ForkFault) -> Refusal
     ensures { IsRefusalFor (refused_forks fault) result }
 {
     match fault {
-        ForkFault::TooManyForks { count: _ } => Refusal::Limit("forks", 2048),
+        ForkFault::TooManyForks { count: _ } => Refusal::Limit("forks", MOST_FORKS as u64),
         ForkFault::NoMemory => Refusal::NoMemory,
     }
 }
@@ -61,7 +63,7 @@ pub(crate) fn forks_of<'i, 'q, R: Threads + Wait + Sync, G: Gate + Sync>(
     resolution: &Resolution,
     question: &Question<'q>,
 ) -> Result<Forks<'i, 'q>, Refusal>
-    requires workers { (1 ≤ workers) × (workers ≤ 64) }
+    requires workers { IsWorkerCount workers }
     requires own { pass.table ≡ interner.now }
     requires resolution { IsResolution (view resolution.now) }
     requires question { IsQuestionOf (view resolution.now) question.now }

@@ -1,5 +1,6 @@
 //! What `lock` alone answers: the lock that leaves merge into, and the core of a problem that nothing serves.
-ghost use Rattle.std.specs.Prelude.{IfOk, Ok};
+ghost use Rattle.std.specs.Prelude.{◌≡◌, IfOk, Ok};
+ghost use Rattle.ul_workers.specs.WorkerCount.{IsWorkerCount};
 ghost use Rattle.ul_generations.specs.declared.answers.Forked.TheVariants.{Leaves};
 ghost use Rattle.ul_problem.specs.Serving.{HasNone};
 ghost use Rattle.ul_blame.specs.Texts.{IsCoreText};
@@ -10,24 +11,31 @@ ghost use Rattle.ul_commands.specs.Locking.{IsLockAnswer};
 
 use std::alloc::{AllocError, Global};
 use std::sync::Wait;
-use ul_algebra::Algebra;
+use std::thread::Threads;
+use ul_algebra::{Algebra, DiagramLabel};
 use ul_answers::Answer;
 use ul_blame::{core_by, lines};
 use ul_forks::ForkLeaf;
 use ul_inputs::Resolution;
+use ul_interner::Interner;
 use ul_merge::merge;
 use ul_problem::{Derivation, Problem};
 
-/// The answer of the lock that the leaves of a fork answer merge into: the lock, or that it isn't written.
-pub(crate) fn lock_answer<R: Wait>(
+/// The answer of the lock that the leaves of a fork answer merge into: the lock, or that it isn't written. The algebra is
+/// left to the end of the process.
+pub(crate) fn lock_answer<R: Threads + Wait + Sync>(
     rt: &R,
     alloc: Global,
-    algebra: &mut Algebra<'_>,
+    workers: u64,
+    interner: &Interner<DiagramLabel>,
+    algebra: Algebra<'_>,
     resolution: &Resolution,
     leaves: &Vec<ForkLeaf>,
 ) -> Result<Answer, AllocError>
+    requires workers { IsWorkerCount workers }
+    requires own { algebra.table ≡ interner.now }
     requires resolution { IsResolution (view resolution.now) }
-    requires forks { AreForksOf (view resolution.now) algebra.old (Leaves leaves.now) }
+    requires forks { AreForksOf (view resolution.now) algebra (Leaves leaves.now) }
     ensures { IfOk result (λ a. IsLockAnswer (view resolution.now) (Ok (answer_view a))) }
 {
     ul_forks::laws::fork_laws();
@@ -36,6 +44,8 @@ pub(crate) fn lock_answer<R: Wait>(
     let lock = merge(
         rt,
         alloc,
+        workers,
+        interner,
         algebra,
         &resolution.catalog,
         &resolution.project,

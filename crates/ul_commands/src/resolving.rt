@@ -1,8 +1,9 @@
 //! The answers of `lock` and `why` to a resolution: both are told of its fork answer.
-ghost use Rattle.std.specs.Prelude.{◌≡◌, ◌≢◌, ◌≤◌, IfOk, Ok, false};
+ghost use Rattle.std.specs.Prelude.{◌≡◌, ◌≢◌, IfOk, Ok, false};
 ghost use Rattle.ul_nodes.specs.Plain.{truth};
 ghost use Rattle.ul_algebra.specs.Spelled.{tree_of};
 ghost use Rattle.ul_interner.specs.Known.{Knows};
+ghost use Rattle.ul_workers.specs.WorkerCount.{IsWorkerCount};
 ghost use Rattle.ul_problem.specs.Serving.{HasNone};
 ghost use Rattle.ul_region.specs.Truths.{IsRegion};
 ghost use Rattle.ul_generations.specs.declared.answers.Forked.TheVariants.{Leaves, Refused};
@@ -22,7 +23,7 @@ use crate::wanted::Wanted;
 use std::alloc::{AllocError, Global};
 use std::sync::Wait;
 use std::thread::Threads;
-use ul_algebra::{Algebra, Diagram};
+use ul_algebra::{Algebra, Diagram, DiagramLabel};
 use ul_answers::{Answer, leave};
 use ul_base::Gate;
 use ul_forks::{ForkAnswer, ForkLeaf, Forked, Forks, Path, Question};
@@ -139,59 +140,81 @@ fn answer_of_refused<R: Wait>(
 }
 
 // The answer to leaves that are all served.
-fn answer_of_leaves<R: Wait>(
+fn answer_of_leaves<R: Threads + Wait + Sync>(
     rt: &R,
     alloc: Global,
     wanted: Wanted,
-    algebra: &mut Algebra<'_>,
+    workers: u64,
+    interner: &Interner<DiagramLabel>,
+    algebra: Algebra<'_>,
     resolution: &Resolution,
     leaves: &Vec<ForkLeaf>,
 ) -> Result<Answer, AllocError>
+    requires workers { IsWorkerCount workers }
+    requires own { algebra.table ≡ interner.now }
     requires resolution { IsResolution (view resolution.now) }
-    requires forks { AreForksOf (view resolution.now) algebra.old (Leaves leaves.now) }
+    requires forks { AreForksOf (view resolution.now) algebra (Leaves leaves.now) }
     ensures { IfOk result (λ a. spec.IsAnswerFor wanted (view resolution.now) (Ok (answer_view a))) }
 {
     match wanted {
-        Wanted::Lock => lock_answer(rt, alloc, algebra, resolution, leaves),
-        Wanted::Reason => Ok(Answer::NoneRefused),
+        Wanted::Lock => lock_answer(rt, alloc, workers, interner, algebra, resolution, leaves),
+        Wanted::Reason => {
+            leave(algebra);
+            Ok(Answer::NoneRefused)
+        }
     }
 }
 
-// The answer to a fork answer whose regions the algebra knows.
-fn answer_known<R: Wait>(
+// The answer to a fork answer whose regions the algebra knows. The algebra is left to the end of the process.
+fn answer_known<R: Threads + Wait + Sync>(
     rt: &R,
     alloc: Global,
     wanted: Wanted,
-    algebra: &mut Algebra<'_>,
+    workers: u64,
+    interner: &Interner<DiagramLabel>,
+    mut algebra: Algebra<'_>,
     prepared: &Prepared<'_>,
     resolution: &Resolution,
     forked: &ForkAnswer,
 ) -> Result<Answer, AllocError>
+    requires workers { IsWorkerCount workers }
+    requires own { algebra.table ≡ interner.now }
     requires resolution { IsResolution (view resolution.now) }
-    requires shared { IsSharedOf (view resolution.now) algebra.old prepared.now }
-    requires forks { AreForksOf (view resolution.now) algebra.old forked.now }
+    requires shared { IsSharedOf (view resolution.now) algebra prepared.now }
+    requires forks { AreForksOf (view resolution.now) algebra forked.now }
     ensures { IfOk result (λ a. spec.IsAnswerFor wanted (view resolution.now) (Ok (answer_view a))) }
 {
     match forked {
-        Forked::Leaves(leaves) => answer_of_leaves(rt, alloc, wanted, algebra, resolution, leaves),
+        Forked::Leaves(leaves) => answer_of_leaves(
+            rt, alloc, wanted, workers, interner, algebra, resolution, leaves,
+        ),
         Forked::Refused {
             path,
             region,
             refusal,
-        } => answer_of_refused(
-            rt, alloc, wanted, algebra, prepared, resolution, path, region, refusal,
-        ),
+        } => {
+            let known = &mut algebra;
+            let answer = answer_of_refused(
+                rt, alloc, wanted, known, prepared, resolution, path, region, refusal,
+            );
+            leave(algebra);
+            answer
+        }
     }
 }
 
-// The answer to a fork answer. What it was found with is left to the end of the process.
-fn answer_to<R: Wait>(
+// The answer to a fork answer, by an algebra on the interner. What it was found with is left to the end of the process.
+fn answer_to<R: Threads + Wait + Sync>(
     rt: &R,
     alloc: Global,
     wanted: Wanted,
+    workers: u64,
+    interner: &Interner<DiagramLabel>,
     resolution: &Resolution,
     forks: Forks<'_, '_>,
 ) -> Result<Answer, AllocError>
+    requires workers { IsWorkerCount workers }
+    requires own { forks.algebra.table ≡ interner.now }
     requires resolution { IsResolution (view resolution.now) }
     requires shared { IsSharedOf (view resolution.now) forks.algebra forks.prepared }
     requires forks { AreForksOf (view resolution.now) forks.algebra forks.answer }
@@ -201,12 +224,13 @@ fn answer_to<R: Wait>(
         answer: forked,
         rounds,
         prepared,
-        mut algebra,
+        algebra,
     } = forks;
-    let known = &mut algebra;
-    let answer = answer_known(rt, alloc, wanted, known, &prepared, resolution, &forked);
+    let answer = answer_known(
+        rt, alloc, wanted, workers, interner, algebra, &prepared, resolution, &forked,
+    );
     leave((forked, rounds));
-    leave((prepared, algebra));
+    leave(prepared);
     answer
 }
 
@@ -220,7 +244,7 @@ fn answer_by<R: Threads + Wait + Sync, G: Gate + Sync>(
     resolution: &Resolution,
     question: &Question<'_>,
 ) -> Result<Answer, Refusal>
-    requires workers { (1 ≤ workers) × (workers ≤ 64) }
+    requires workers { IsWorkerCount workers }
     requires resolution { IsResolution (view resolution.now) }
     requires question { IsQuestionOf (view resolution.now) question.now }
     ensures { Answers answer_view result (only (spec.IsAnswerFor wanted (view resolution.now))) }
@@ -230,7 +254,7 @@ fn answer_by<R: Threads + Wait + Sync, G: Gate + Sync>(
         rt, alloc, workers, &interner, pass, gate, resolution, question,
     ) {
         Ok(forks) => {
-            let answer = answer_to(rt, alloc, wanted, resolution, forks);
+            let answer = answer_to(rt, alloc, wanted, workers, &interner, resolution, forks);
             leave(interner);
             Ok(answer?)
         }
@@ -250,7 +274,7 @@ pub(crate) fn answer<R: Threads + Wait + Sync, G: Gate + Sync>(
     gate: &G,
     resolution: &Resolution,
 ) -> Result<Answer, Refusal>
-    requires workers { (1 ≤ workers) × (workers ≤ 64) }
+    requires workers { IsWorkerCount workers }
     requires resolution { IsResolution (view resolution.now) }
     ensures { Answers answer_view result (only (spec.IsAnswerFor wanted (view resolution.now))) }
 {

@@ -182,7 +182,3 @@ module _ (h : PassView) (shared : Prepared) (extras : List (List ℕ)) (s : InRe
   pub splits_deeper : (core : List CoreNeed) (o : Option DiagramMark) → shared.wish.now.strategy ≡ Deep → IsCore placed.problem core → CoreGives h shared.catalog.now (region_at s.region.now) placed.problem core o → SplitsDeeper h (question_with shared extras) s.region.now o
   splits_deeper core None deep k g = λ e. record { problem = placed.problem; core = core; has = has_core core k; throughout = g }
   splits_deeper core (Some t) deep k g = (g.0, record { deep = deep; problem = placed.problem; core = core; has = has_core core k; splits = g.1 }, g.2)
-
-  -- under another strategy no core splits
-  pub not_deeper : (shared.wish.now.strategy ≡ Deep → ⊥) → SplitsDeeper h (question_with shared extras) s.region.now None
-  not_deeper other e = absurd (other e)

@@ -24,7 +24,7 @@ use Rattle.ul_marker.proofs.marker.Marker.TheLaws.TheKnot as formulas
 use Rattle.ul_comparison.proofs.variable.AtomKind.TheSendSync as atomkind_threads
 use Rattle.ul_comparison.proofs.variable.Variable.TheSendSync as variable_threads
 use Rattle.ul_prepared.proofs.prepared.NameFacts.TheSendSync as namefacts_threads
-use Rattle.ul_problem.proofs.problem.HeldNeeds.TheSendSync as heldneeds_threads
+use Rattle.ul_problem.proofs.needs.HeldNeeds.TheSendSync as heldneeds_threads
 use Rattle.ul_problem.proofs.problem.Need.TheSendSync as need_threads
 use Rattle.ul_problem.proofs.problem.NeedRow.TheSendSync as needrow_threads
 use Rattle.ul_problem.proofs.problem.NeedRows.TheSendSync as needrows_threads

@@ -12,7 +12,7 @@ use Rattle.ul_deep.specs.Worlds.{ServesAt}
 use Rattle.ul_generations.specs.declared.outcomes.Outcome.TheVariants.{Split}
 use Rattle.ul_generations.specs.declared.rows.Leaf.{Leaf}
 use Rattle.ul_generations.specs.Rows.{Refusal}
-use Rattle.ul_generations.specs.Generations.{Answer, refused_at, leaves_are, IsForkAnswer}
+use Rattle.ul_generations.specs.Generations.{Answer, refused_at, leaves_are, IsForkAnswer, most_forks}
 use Rattle.ul_generations.specs.Laws.{one_if, holders, AreInOrder}
 use Rattle.ul_forks.specs.Outcome.{Question, starts_of, IsRefused, TreeOutcome, IsOutcome}
 
@@ -58,7 +58,7 @@ pub record ForksOf (q : Question) (region : Plain) : Type 0 where
   pub once : (ks ls : List ℕ) (a b : TreeAnswer) → IsAnswer q region ks a → IsAnswer q region ls b
       → (ks ≡ ls) × (a ≡ b)
   -- at most 2,048 generations are judged
-  pub few : (counts : List ℕ) (a : TreeAnswer) → IsAnswer q region counts a → length counts ≤ 2048
+  pub few : (counts : List ℕ) (a : TreeAnswer) → IsAnswer q region counts a → length counts ≤ most_forks
   -- a world of the region is in one leaf, and another world in none
   pub part : (counts : List ℕ) (ls : List TreeLeaf) → IsAnswer q region counts (leaves_are ls)
       → (w : WorldFields) → IsWorld w

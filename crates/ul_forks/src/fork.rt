@@ -1,10 +1,11 @@
 //! The fork answer of a project's supported region.
-ghost use Rattle.std.specs.Prelude.{◌≡◌, ◌≤◌, IfOk, IfErr};
+ghost use Rattle.std.specs.Prelude.{◌≡◌, IfOk, IfErr};
 ghost use Rattle.ul_interner.specs.Known.{Knows};
 ghost use Rattle.ul_requirement.specs.Truth.{base, with_extra};
 ghost use Rattle.ul_tree.specs.Regions.{IsRegionTree};
 ghost use Rattle.ul_tree.specs.Views.{tree_view};
 ghost use Rattle.ul_algebra.specs.Spelled.{tree_of};
+ghost use Rattle.ul_workers.specs.WorkerCount.{IsWorkerCount};
 ghost use Rattle.ul_generations.specs.Answers.{Fails};
 ghost use Rattle.ul_region.specs.Laws.{roots};
 ghost use Rattle.ul_region.specs.Truths.{IsRegion};
@@ -99,7 +100,7 @@ fn forks_by<'p, R: Threads + Wait + Sync, G: Gate + Sync>(
     gate: &G,
     region: Diagram,
 ) -> Result<(ForkAnswer, Vec<Round>), ForkFault>
-    requires workers { (1 ≤ workers) × (workers ≤ 64) }
+    requires workers { IsWorkerCount workers }
     requires own { pass.old.table ≡ interner.now }
     requires ready { IsReady pass.old prepared.now extras.now }
     requires region { IsRegion pass.old region }
@@ -125,7 +126,7 @@ fn forks_from<'i, 'q, R: Threads + Wait + Sync, G: Gate + Sync>(
     question: &Question<'q>,
     region: Diagram,
 ) -> Result<Forks<'i, 'q>, ForkFault>
-    requires workers { (1 ≤ workers) × (workers ≤ 64) }
+    requires workers { IsWorkerCount workers }
     requires own { algebra.table ≡ interner.now }
     requires question { IsQuestion question.now }
     requires region { IsRegion algebra region }
@@ -183,7 +184,7 @@ pub fn fork_all<'i, 'q, R: Threads + Wait + Sync, G: Gate + Sync>(
     question: &Question<'q>,
     region: &Tree,
 ) -> Result<Forks<'i, 'q>, ForkFault>
-    requires workers { (1 ≤ workers) × (workers ≤ 64) }
+    requires workers { IsWorkerCount workers }
     requires own { pass.table ≡ interner.now }
     requires question { IsQuestion question.now }
     requires region { IsRegionTree (tree_view region.now) }

@@ -1,6 +1,7 @@
 //! Fork answers of small projects.
-ghost use Rattle.std.specs.Prelude.{◌≡◌, ◌∷◌, ◌≤◌, [], IfSome};
+ghost use Rattle.std.specs.Prelude.{◌≡◌, ◌∷◌, [], IfSome};
 ghost use Rattle.ul_requirement.specs.Truth.{base};
+ghost use Rattle.ul_workers.specs.WorkerCount.{IsWorkerCount};
 ghost use Rattle.ul_prepared.specs.Project.{IsProjectOf};
 ghost use Rattle.ul_forks.specs.Forked as forked;
 
@@ -128,7 +129,7 @@ pub fn forks<'i, R: Threads + Wait + Sync, G: Gate + Sync>(
     input: &Input,
     gate: &G,
 ) -> Result<(ForkAnswer, Vec<Round>, Algebra<'i>), ForkFault>
-    requires workers { (1 ≤ workers) × (workers ≤ 64) }
+    requires workers { IsWorkerCount workers }
     requires own { pass.table ≡ interner.now }
 {
     let project: &Project = &input.project;
@@ -170,7 +171,7 @@ pub fn forked<R: Threads + Wait + Sync, G: Gate + Sync>(
     input: &Input,
     gate: &G,
 ) -> Result<ForkAnswer, ForkFault>
-    requires { (1 ≤ workers) × (workers ≤ 64) }
+    requires { IsWorkerCount workers }
 {
     let (interner, pass) = Interner::<DiagramLabel>::begin(alloc)?;
     let answer = forks(rt, alloc, workers, &interner, pass, input, gate)?;

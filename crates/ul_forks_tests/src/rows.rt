@@ -1,6 +1,7 @@
 //! Small projects: their leaves, or the region that is refused, with each number of workers.
-ghost use Rattle.std.specs.Prelude.{◌≤◌, IfOk};
+ghost use Rattle.std.specs.Prelude.{IfOk};
 ghost use Rattle.ul_tree.specs.TreeFacts.{IsTree};
+ghost use Rattle.ul_workers.specs.WorkerCount.{IsWorkerCount};
 
 use crate::forks::{Input, forks, input_of};
 use std::alloc::{AllocError, Global};
@@ -340,7 +341,7 @@ fn is_answered<R: Threads + Wait + Sync>(
     input: &Input,
     wanted: &str,
 ) -> Result<bool, ForkFault>
-    requires { (1 ≤ workers) × (workers ≤ 64) }
+    requires { IsWorkerCount workers }
 {
     let (counts, lines) = wanted.split_once('\n').unwrap_or((wanted, ""));
     let (interner, pass) = Interner::<DiagramLabel>::begin(alloc)?;

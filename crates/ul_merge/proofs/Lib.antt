@@ -18,3 +18,5 @@ mod ReleaseFacts
 mod BlockFacts
 mod WholeParts
 mod PackageFacts
+mod RunFacts
+mod Sharing

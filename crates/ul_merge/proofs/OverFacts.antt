@@ -25,7 +25,7 @@ pub one_unprinted : (t : Plain) → is_printable t ≡ false → HasOver (t ∷ 
 one_unprinted t e = (min (paths_of t) (2 ^ 127), over_one t ∙ over_if t false e)
 
 -- markers of two lists
-both_printed : (xs ys : List Plain) → first_over xs ≡ None → first_over ys ≡ None → first_over (xs ++ ys) ≡ None
+pub both_printed : (xs ys : List Plain) → first_over xs ≡ None → first_over ys ≡ None → first_over (xs ++ ys) ≡ None
 both_printed xs ys e f = over_join xs ys ∙ ap₂ or_else e f
 
 pub over_front : (xs ys : List Plain) → HasOver xs → HasOver (xs ++ ys)

@@ -11,3 +11,4 @@ pub mod Unions
 pub mod Edges
 pub mod Blocks
 pub mod Over
+pub mod Runs

@@ -3,11 +3,10 @@ use Rattle.std.specs.Prelude.{◌≡◌, ℕ, List, map}
 use Rattle.ul_base.specs.declared.node.Node.{Node}
 use Rattle.ul_index.specs.Serves.{Selection}
 use Rattle.ul_merge.specs.Gathered.{AreGroups}
-use Rattle.ul_merge.specs.Keys.{extra_cmp, pair_cmp, pick_cmp}
-use Rattle.ul_merge.specs.Rows.{MemberFields, all_members, all_uses, extra_entry, extra_rows, member_row, use_row}
+use Rattle.ul_merge.specs.Keys.{pair_cmp, pick_cmp}
+use Rattle.ul_merge.specs.Rows.{all_members, all_uses, member_row, use_row}
 use Rattle.ul_merge.specs.declared.gathering.Entry.{Entry}
 use Rattle.ul_merge.specs.declared.gathering.Group.{Group}
-use Rattle.ul_merge.specs.declared.keys.ExtraKey.{ExtraKey}
 use Rattle.ul_merge.specs.declared.keys.PairKey.{PairKey}
 use Rattle.ul_merge.specs.declared.keys.PickKey.{PickKey}
 use Rattle.ul_merge.specs.declared.members.Member.{Member}
@@ -16,10 +15,6 @@ use Rattle.ul_merge.specs.declared.targets.Use.{Use}
 -- what the leaves chose, by packages
 abbrev pub AreMembers : List Selection → List (Group PairKey Member) → Type 0
 AreMembers ss gs = (es : List (Entry PairKey Member)) × (map member_row es ≡ all_members 0 ss) × AreGroups pair_cmp es gs
-
--- what leaves chose of a package, by its extras
-abbrev pub AreExtraMembers : List MemberFields → List (Group ExtraKey ℕ) → Type 0
-AreExtraMembers ms gs = (es : List (Entry ExtraKey ℕ)) × (map extra_entry es ≡ extra_rows ms) × AreGroups extra_cmp es gs
 
 -- where leaves chose targets of requirements, by the targets at their versions
 abbrev pub AreUses : List Selection → List ℕ → List (Node × ℕ) → List (Group PickKey Use) → Type 0

@@ -50,6 +50,12 @@ with_more None o = None
 with_more (Some bs) None = None
 with_more (Some bs) (Some o) = Some (bs ++ at_most_one o)
 
+-- elements with those of another list behind them, where both were made
+abbrev pub with_list : {B : Type 0} → Option (List B) → Option (List B) → Option (List B)
+with_list None o = None
+with_list (Some bs) None = None
+with_list (Some bs) (Some cs) = Some (bs ++ cs)
+
 -- ---- what is made of parts
 
 -- an edge of its marker

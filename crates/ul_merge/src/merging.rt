@@ -1,5 +1,6 @@
 //! The lock that leaves merge into.
 ghost use Rattle.std.specs.Prelude.{◌≡◌, IfOk, All, flat_map, map};
+ghost use Rattle.ul_workers.specs.WorkerCount.{IsWorkerCount};
 ghost use Rattle.ul_interner.specs.Known.{Knows};
 ghost use Rattle.ul_algebra.specs.Answers.{IsDiagram};
 ghost use Rattle.ul_algebra.specs.Spelled.{tree_of};
@@ -10,21 +11,23 @@ ghost use Rattle.ul_merge.specs.Merging.{AreLeaves};
 ghost use Rattle.ul_merge.specs.Over.{IsMergedOrOver, OrOver, items_in, lock_by};
 ghost use Rattle.ul_merge.specs.Views.{ForkLeaf, leaf_of};
 
-use crate::blocks::made_blocks;
 use crate::choices::choices_of;
 use crate::forks::fork_regions;
 use crate::members::members_of;
 use crate::over::both;
 use crate::releases::all_differ;
+use crate::runs::blocks_by;
 use crate::sources::Sources;
 use crate::truths::marker_of;
 use std::alloc::{AllocError, Global};
 use std::sync::Wait;
-use ul_algebra::{Algebra, Diagram};
+use std::thread::Threads;
+use ul_algebra::{Algebra, Diagram, DiagramLabel};
 use ul_base::owned::{beside, made_from, with_made};
 use ul_base::{Name, Node};
 use ul_generations::Leaf;
 use ul_index::Catalog;
+use ul_interner::Interner;
 use ul_lock::{Lock, Locked, Packages, Region, Regions};
 use ul_project::Project;
 use ul_tree::Tree;
@@ -78,21 +81,24 @@ fn packages_in(row: Option<Vec<Locked>>) -> Option<Packages>
     row.map(Packages::of)
 }
 
-// The packages of the lock; none where not all of their markers are printed.
-fn packages_of<R: Wait>(
+// The packages of the lock, made by so many workers; none where not all of their markers are printed.
+fn packages_of<R: Threads + Wait + Sync>(
     rt: &R,
     alloc: Global,
-    algebra: &mut Algebra<'_>,
+    workers: u64,
+    interner: &Interner<DiagramLabel>,
+    algebra: Algebra<'_>,
     catalog: &Catalog,
     project: &Project,
     supported: &Diagram,
     leaves: &[Leaf<Diagram, Vec<(Node, Version)>>],
 ) -> Result<Option<Packages>, AllocError>
-    requires supported { IsDiagram algebra.old supported.now }
+    requires workers { IsWorkerCount workers }
+    requires own { algebra.table ≡ interner.now }
+    requires supported { IsDiagram algebra supported.now }
     requires region { tree_of supported.now ≡ project.now.region }
-    requires leaves { AreLeaves algebra.old catalog.now project.now leaves.now }
-    ensures knows { Knows algebra.old algebra.new }
-    ensures packages { IfOk result (OrOver (flat_map package_markers)
+    requires leaves { AreLeaves algebra catalog.now project.now leaves.now }
+    ensures { IfOk result (OrOver (flat_map package_markers)
         (AreBlocks catalog.now project.now (map leaf_of leaves.now))) }
 {
     let regions = regions_of(alloc, leaves)?;
@@ -107,7 +113,15 @@ fn packages_of<R: Wait>(
         choices: choices.as_slice(),
         catalog,
     };
-    let blocks = made_blocks(rt, alloc, algebra, &sources, groups.as_slice());
+    let blocks = blocks_by(
+        rt,
+        alloc,
+        workers,
+        interner,
+        algebra,
+        &sources,
+        groups.as_slice(),
+    );
     let blocks = made_from(blocks, ((regions, choices), groups))?;
     Ok(packages_in(blocks))
 }
@@ -159,28 +173,39 @@ fn whole_lock(
 /// No tree is made of a marker that isn't printed: a diagram takes as little memory as its shared parts, and its tree
 /// may have more paths than fit anywhere.
 ///
+/// From 1 to 64 workers make the packages, each a run of neighbouring ones, and the lock is the same for every number of
+/// them; where there is little to do, no more of them begin than have enough. What was found on the way is left to the
+/// end of the process, where the system takes it back at once.
+///
 /// # Errors
 ///
 /// Only for want of memory.
-pub fn merge<R: Wait>(
+pub fn merge<R: Threads + Wait + Sync>(
     rt: &R,
     alloc: Global,
-    algebra: &mut Algebra<'_>,
+    workers: u64,
+    interner: &Interner<DiagramLabel>,
+    mut algebra: Algebra<'_>,
     catalog: &Catalog,
     project: &Project,
     leaves: &[Leaf<Diagram, Vec<(Node, Version)>>],
 ) -> Result<Option<Lock>, AllocError>
-    requires { AreLeaves algebra.old catalog.now project.now leaves.now }
-    ensures knows { Knows algebra.old algebra.new }
-    ensures lock { IfOk result (IsMergedOrOver catalog.now project.now (map leaf_of leaves.now)) }
+    requires workers { IsWorkerCount workers }
+    requires own { algebra.table ≡ interner.now }
+    requires leaves { AreLeaves algebra catalog.now project.now leaves.now }
+    ensures { IfOk result (IsMergedOrOver catalog.now project.now (map leaf_of leaves.now)) }
 {
-    let supported = supported_of(rt, alloc, algebra, project)?;
-    let forks = fork_regions(rt, alloc, algebra, leaves, &supported)?;
-    let packages = packages_of(rt, alloc, algebra, catalog, project, &supported, leaves);
-    let (kept, packages) = beside(forks, packages)?;
-    let rows = both(kept, packages);
-    let region = made_from(marker_of(alloc, algebra, &supported), supported);
-    let (listed, region) = beside(rows, region)?;
-    let lock = whole_lock(alloc, project, both(region, listed))?;
+    let supported = supported_of(rt, alloc, &mut algebra, project)?;
+    let forks = fork_regions(rt, alloc, &mut algebra, leaves, &supported)?;
+    let region = marker_of(alloc, &algebra, &supported);
+    let (forks, region) = beside(forks, region)?;
+    let packages = packages_of(
+        rt, alloc, workers, interner, algebra, catalog, project, &supported, leaves,
+    );
+    let packages = made_from(packages, supported);
+    let (kept, packages) = beside((forks, region), packages)?;
+    let (forks, region) = kept;
+    let rows = both(forks, packages);
+    let lock = whole_lock(alloc, project, both(region, rows))?;
     Ok(lock)
 }

@@ -3,7 +3,7 @@
 //! Where a part isn't made the others are made all the same, so that it is known what the whole would be.
 ghost use Rattle.std.specs.Prelude.{◌≡◌, ◌++◌, IfOk, Ok, Option, Some, option_map};
 ghost use Rattle.ul_merge.specs.Made.{at_most_one};
-ghost use Rattle.ul_merge.specs.Over.{both_of, items_in, with_more};
+ghost use Rattle.ul_merge.specs.Over.{both_of, items_in, with_list, with_more};
 
 use std::alloc::AllocError;
 use ul_base::owned::with_one;
@@ -74,5 +74,22 @@ pub(crate) fn with_whole<T: Drop>(
             Ok(all)
         }
         Err(fault) => Err(fault),
+    }
+}
+
+/// A row with another behind it, where both were made.
+pub(crate) fn with_row<T: Drop>(
+    row: Option<Vec<T>>,
+    more: Option<Vec<T>>,
+) -> Result<Option<Vec<T>>, AllocError>
+    ensures { IfOk result (λ all. items_in all ≡ with_list (items_in row) (items_in more)) }
+{
+    match both(row, more) {
+        None => Ok(None),
+        Some((row, more)) => {
+            let (mut row, mut more) = (row, more);
+            row.append(&mut more)?;
+            Ok(Some(row))
+        }
     }
 }

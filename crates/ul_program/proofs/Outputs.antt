@@ -1,5 +1,5 @@
 -- What is printed is the output for the words.
-use Rattle.std.proofs.Common.{◌≡◌, ◌≢◌, ◌≤◌, ◌++◌, ℕ, List, [], Bool, true, false, if◌then◌else◌, nat_eq, nat_le, length, codes, IfOk, IfSome, Option, Some, None, Result, Ok, Err, String, Global, string_bytes, refl, ap, sym, ◌∙◌, subst, arith}
+use Rattle.std.proofs.Common.{◌≡◌, ◌≢◌, ◌++◌, ℕ, List, [], Bool, true, false, if◌then◌else◌, nat_eq, nat_le, length, codes, IfOk, IfSome, Option, Some, None, Result, Ok, Err, String, Global, string_bytes, refl, ap, sym, ◌∙◌, subst, arith}
 use Rattle.ul_base.specs.Files.{Told}
 use Rattle.ul_lock.specs.declared.parts.Lock.{Lock as LockData}
 use Rattle.ul_tree.specs.Paths.{is_printable}
@@ -238,11 +238,3 @@ pub refused : {E : Type 0} → ExportsAreExact → (words : List (List ℕ)) (q 
     → Told before.map (λ m. Answers answer_view (Err e) (command (view q) m)) → Cause {T = Answer} before.faults now.faults now.last_failed (Err e)
     → IsByWords q (Err e) → IfOk out (λ o. IsRefusalOutput e (output_view o)) → IfOk out (λ o. IsOutput words before now o.status o.text.items)
 refused law words q before now e out same told cause by h = if_ok out _ _ (λ o. refusal_printed law words q before now e o same told cause by) h
-
--- no count falls
-pub count_stays : {T : Type 0} (before now : ℕ) (last : Option (List ℕ)) (r : Result T Refusal) → Cause before now last r → before ≤ now
-count_stays before now last (Ok x) cause = omega arith
-count_stays before now last (Err (Malformed file place)) cause = omega arith
-count_stays before now last (Err (Limit name number)) cause = omega arith
-count_stays before now last (Err (ReadFault path)) cause = cause.1
-count_stays before now last (Err NoMemory) cause = cause

@@ -12,4 +12,4 @@ returns-in-Lock g c =
 pub returns-in-Reason : goal.returns-in-Reason
 returns-in-Reason g c =
     subst (λ w. IsAnswerFor w (view c.args.resolution.now) (Ok _)) (sym c.in-Reason.is)
-    (none_refused_answer (view c.args.resolution.now) c.args.algebra.now c.args.leaves.now c.requires.forks)
+    (none_refused_answer (view c.args.resolution.now) c.args.algebra c.args.leaves.now c.requires.forks)

@@ -13,29 +13,26 @@ use Rattle.ul_merge.proofs.PackageFacts.{packages_are, pair_groups}
 use Rattle.ul_merge.proofs.SourceFacts.{sources_are}
 use Rattle.ul_merge.proofs.merging.packages_of.Goals as goal
 
-pub made_blocks-blocks-requires-clause-sources : goal.made_blocks-blocks-requires-clause-sources
-made_blocks-blocks-requires-clause-sources g c = sources_are _ c.args.project.now _ c.args.leaves.now c.requires.leaves c.requires.supported c.requires.region
+pub blocks_by-blocks-requires-clause-sources : goal.blocks_by-blocks-requires-clause-sources
+blocks_by-blocks-requires-clause-sources g c κs within = sources_are _ c.args.project.now _ c.args.leaves.now c.requires.leaves c.requires.supported c.requires.region
     (c.as_slice-2.ensures.value ∙ c.in_ok-regions.ensures) (c.as_slice-3.ensures.value ∙ c.in_ok-choices.ensures) c.all_differ.ensures
 
-pub made_blocks-blocks-requires-clause-groups : goal.made_blocks-blocks-requires-clause-groups
-made_blocks-blocks-requires-clause-groups g c = pair_groups c.eligible_rises.ensures c.args.algebra.now
+pub blocks_by-blocks-requires-clause-groups : goal.blocks_by-blocks-requires-clause-groups
+blocks_by-blocks-requires-clause-groups g c κs within = pair_groups c.eligible_rises.ensures c.args.algebra
     (record { supported = c.args.supported; regions = c.as_slice-2.result; choices = c.as_slice-3.result; catalog = c.args.catalog }) c.as_slice.result.now c.in_ok-groups.groups.items c.as_slice-4.result.now
-    (sources_are c.args.algebra.now c.args.project.now (record { supported = c.args.supported; regions = c.as_slice-2.result; choices = c.as_slice-3.result; catalog = c.args.catalog }) c.args.leaves.now c.requires.leaves c.requires.supported c.requires.region
+    (sources_are c.args.algebra c.args.project.now (record { supported = c.args.supported; regions = c.as_slice-2.result; choices = c.as_slice-3.result; catalog = c.args.catalog }) c.args.leaves.now c.requires.leaves c.requires.supported c.requires.region
     (c.as_slice-2.ensures.value ∙ c.in_ok-regions.ensures) (c.as_slice-3.ensures.value ∙ c.in_ok-choices.ensures) c.all_differ.ensures)
     (c.as_slice.ensures.value ∙ sym c.as_slice-3.ensures.value) c.in_ok-groups.ensures c.as_slice-4.ensures.value
 
-pub returns-clause-packages : goal.returns-clause-packages
-returns-clause-packages g c =
+pub returns : goal.returns
+returns g c =
     let s : Sources = record { supported = c.args.supported; regions = c.as_slice-2.result; choices = c.as_slice-3.result; catalog = c.args.catalog } in
     let regions = c.as_slice-2.ensures.value ∙ c.in_ok-regions.ensures in
     let choices = c.as_slice-3.ensures.value ∙ c.in_ok-choices.ensures in
     let Are = AreBlocks c.args.catalog.now c.args.project.now (map leaf_of c.args.leaves.now) in
     subst (OrOver (flat_map package_markers) Are) (sym c.packages_in.ensures)
     (or_over (flat_map package_markers) (AreMade (MakesBlock (catalog_in s) (leaves_in s) (supported_in s)) c.as_slice-4.result.now) Are
-    (λ bs made. packages_are c.eligible_rises.ensures c.eligible_same.ensures c.args.algebra.now c.args.project.now s c.args.leaves.now c.as_slice.result.now c.in_ok-groups.groups.items c.as_slice-4.result.now bs bs c.requires.leaves
-    (sources_are c.args.algebra.now c.args.project.now s c.args.leaves.now c.requires.leaves c.requires.supported c.requires.region regions choices c.all_differ.ensures)
+    (λ bs made. packages_are c.eligible_rises.ensures c.eligible_same.ensures c.args.algebra c.args.project.now s c.args.leaves.now c.as_slice.result.now c.in_ok-groups.groups.items c.as_slice-4.result.now bs bs c.requires.leaves
+    (sources_are c.args.algebra c.args.project.now s c.args.leaves.now c.requires.leaves c.requires.supported c.requires.region regions choices c.all_differ.ensures)
     c.requires.region regions choices (c.as_slice.ensures.value ∙ sym c.as_slice-3.ensures.value) c.in_ok-groups.ensures c.as_slice-4.ensures.value made refl) (items_in c.in_ok-blocks.blocks)
-    (made_holds c.made_blocks-blocks.result c.in_ok-blocks.blocks _ c.in_ok-blocks.ensures c.made_blocks-blocks.ensures.blocks))
-
-pub returns-clause-knows : goal.returns-clause-knows
-returns-clause-knows g c = c.made_blocks-blocks.ensures.knows
+    (made_holds c.blocks_by-blocks.result c.in_ok-blocks.blocks _ c.in_ok-blocks.ensures c.blocks_by-blocks.ensures))
