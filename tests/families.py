@@ -11,6 +11,7 @@ python3 tests/families.py FAMILY NUMBERS.. FOLDER writes one: `FOLDER/p.toml` an
     absent SIZE                     a project that requires SIZE names without a document
     directs SIZE                    SIZE direct requirements on packages with a pre-release and a yanked release
     twins SIZE                      SIZE extras of one package that ask one name, each its own versions of it
+    product SPLITS SIZE             SPLITS names that the project asks in two ways, so 2^SPLITS forks, and a chain of SIZE others
 """
 
 from __future__ import annotations
@@ -28,6 +29,9 @@ MARKERS = [
     "", "", "", "; python_version < '3.11'", "; sys_platform == 'win32'", "; extra == 'test'", "; extra == 'docs'",
     "; platform_python_implementation == 'CPython'",
 ]
+
+
+VARIABLES = ["sys_platform", "os_name", "platform_machine", "platform_system", "implementation_name"]
 
 
 def project(requirements: List[str], more: str = "") -> str:
@@ -113,9 +117,20 @@ def twins(size: int) -> Family:
     return project([f"many[{wanted}]"]), documents
 
 
+def product(splits: int, size: int) -> Family:
+    texts = ["p0"]
+    for it in range(splits):
+        variable = VARIABLES[it % len(VARIABLES)]
+        texts += [f"c{it}<2; {variable} == 'k{it}'", f"c{it}>=2; {variable} != 'k{it}'"]
+    documents = {f"c{it}": document(f"c{it}", [("1", []), ("2", [])]) for it in range(splits)}
+    for it in range(size):
+        documents[f"p{it}"] = document(f"p{it}", [("1", [f"p{(it + 1) % size}", f"c{it % splits}"])])
+    return project(texts), documents
+
+
 FAMILIES: Dict[str, Callable[..., Family]] = {
     "index": index, "asked": asked, "extras": extras, "same": same, "groups": groups, "overrides": overrides,
-    "absent": absent, "directs": directs, "twins": twins,
+    "absent": absent, "directs": directs, "twins": twins, "product": product,
 }
 
 

@@ -25,6 +25,7 @@ absent 25 1 aa0ba012823662d7
 directs 30 0 3dd48899a827c521
 twins 4 1 47a323cdb5d000f5
 twins 3 0 11da087036e19fcc
+product 7 30 0 f383905aa15af991
 """
 
 

@@ -42,6 +42,16 @@ class Limits(Folder):
     def assert_limit(self, name: str, number: int, said: tuple) -> None:
         self.assertEqual(said, (4, f"limit: {name} {number}\n".encode()))
 
+    def test_an_old_lock_keeps_many_versions_of_one_name(self) -> None:
+        self.write("p.toml", PROJECT.format('["a<1400"]') + '[tool.uv]\nresolution = "lowest"\n')
+        self.document("a", *[{"version": str(number)} for number in range(1, 1501)])
+        blocks = "".join(f'[[package]]\nname = "a"\nversion = "{number}"\n\n' for number in range(301, 1501))
+        root = '[[package]]\nname = "demo"\nversion = "0.1"\ndependencies = [\n    { name = "a", version = "1500" },\n]\n'
+        self.write("old.lock", f'version = 2\nroot = "demo"\n\n{blocks}{root}')
+        status, text = self.said("lock", "p.toml", "ix", "1", "old.lock")
+        self.assertEqual(status, 0)
+        self.assertIn(b'name = "a"\nversion = "1399"\n', text)
+
     def test_packages(self) -> None:
         self.project("a==1")
         for more, is_past in ((19_998, False), (19_999, True)):
