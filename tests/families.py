@@ -11,7 +11,8 @@ python3 tests/families.py FAMILY NUMBERS.. FOLDER writes one: `FOLDER/p.toml` an
     absent SIZE                     a project that requires SIZE names without a document
     directs SIZE                    SIZE direct requirements on packages with a pre-release and a yanked release
     twins SIZE                      SIZE extras of one package that ask one name, each its own versions of it
-    product SPLITS SIZE             SPLITS names that the project asks in two ways, so 2^SPLITS forks, and a chain of SIZE others
+    product SPLITS SIZE             SPLITS names that the project asks in two ways (up to five of them 2^SPLITS forks),
+                                    and a chain of SIZE others
 """
 
 from __future__ import annotations
