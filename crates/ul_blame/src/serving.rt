@@ -51,7 +51,8 @@ fn is_fit(problem: &Problem, choice: &[Option<u32>], node: u64, version: u32) ->
 // Whether what is chosen of a node, if anything, is fit.
 fn is_fit_where_chosen(problem: &Problem, choice: &[Option<u32>], node: u64) -> bool
     requires { node < length problem.now.nodes }
-    ensures { IsTrue result → (v : ℕ) → chosen choice.now node ≡ Some v → IsFitAt problem.now (chosen choice.now) node v }
+    ensures { IsTrue result → (v : ℕ) → chosen choice.now node ≡ Some v
+        → IsFitAt problem.now (chosen choice.now) node v }
 {
     match choice_at(choice, node) {
         None => true,

@@ -48,7 +48,8 @@ impl<R: Read> Counted<R> {
     // One call of the reader.
     fn read_once(&mut self, buffer: &mut [u8]) -> io::Result<usize>
         ensures bound { ReadsAtMost result buffer.new }
-        ensures bytes { ReadConsumes (R.remaining (inner_of self.old)) (R.remaining (inner_of self.new)) result buffer.new }
+        ensures bytes { ReadConsumes
+            (R.remaining (inner_of self.old)) (R.remaining (inner_of self.new)) result buffer.new }
         ensures counted { IsCounted result self.old self.new }
     {
         let answer = self.inner.read(buffer);
@@ -60,7 +61,8 @@ impl<R: Read> Counted<R> {
     #[tactic(auto, using(crate::proofs::GivenBytes::read_kept))]
     pub fn read(&mut self, buffer: &mut [u8]) -> io::Result<usize>
         ensures bound { ReadsAtMost result buffer.new }
-        ensures bytes { ReadConsumes (R.remaining (inner_of self.old)) (R.remaining (inner_of self.new)) result buffer.new }
+        ensures bytes { ReadConsumes
+            (R.remaining (inner_of self.old)) (R.remaining (inner_of self.new)) result buffer.new }
         ensures counted { HasCounted result self.old self.new }
     {
         for _ in 0..u64::MAX {
@@ -81,7 +83,8 @@ impl<W: Write> Counted<W> {
     // One call of the writer. To take nothing of a piece is a failure.
     fn write_once(&mut self, piece: &[u8]) -> io::Result<usize>
         ensures bound { WritesAtMost result piece.now }
-        ensures bytes { WriteAppends (W.contents (inner_of self.old)) (W.contents (inner_of self.new)) result piece.now }
+        ensures bytes { WriteAppends
+            (W.contents (inner_of self.old)) (W.contents (inner_of self.new)) result piece.now }
         ensures some { IfOk result (λ n. 0 < n) }
         ensures counted { IsCounted result self.old self.new }
     {
@@ -98,7 +101,8 @@ impl<W: Write> Counted<W> {
     #[tactic(auto, using(crate::proofs::GivenBytes::write_kept))]
     pub fn write(&mut self, piece: &[u8]) -> io::Result<usize>
         ensures bound { WritesAtMost result piece.now }
-        ensures bytes { WriteAppends (W.contents (inner_of self.old)) (W.contents (inner_of self.new)) result piece.now }
+        ensures bytes { WriteAppends
+            (W.contents (inner_of self.old)) (W.contents (inner_of self.new)) result piece.now }
         ensures some { IfOk result (λ n. 0 < n) }
         ensures counted { HasCounted result self.old self.new }
     {

@@ -101,8 +101,8 @@ fn add_entry<'a>(
 ) -> Result<Option<&'a Group>, ProjectFault>
     requires { AreNamed (groups_in groups.now.entries) }
     ensures { Enters (groups_in groups.now.entries) group.now number entry.now
-        (list_fields list.old.items begun.old.keys done.now.keys) (list_fields list.new.items begun.new.keys done.now.keys)
-        result }
+        (list_fields list.old.items begun.old.keys done.now.keys)
+        (list_fields list.new.items begun.new.keys done.now.keys) result }
 {
     match entry {
         GroupEntry::Needs(requirement) => {
@@ -124,7 +124,8 @@ fn include<'a>(
     done: &BTreeSet<Name>,
 ) -> Result<Option<&'a Group>, ProjectFault>
     requires { AreNamed (groups_in groups.now.entries) }
-    ensures { (list : List RequirementFields) → Enters (groups_in groups.now.entries) group.now number (GroupEntry.Include name.now)
+    ensures { (list : List RequirementFields)
+        → Enters (groups_in groups.now.entries) group.now number (GroupEntry.Include name.now)
         (list_fields list begun.old.keys done.now.keys) (list_fields list begun.new.keys done.now.keys) result }
 {
     let Some(found) = group_at(groups, name) else {
@@ -174,7 +175,8 @@ fn add_next<'a>(
 ) -> Result<(), ProjectFault>
     requires { AreNamed (groups_in groups.now.entries) }
     ensures { GoesOn
-        (left_of (groups_in groups.now.entries) (opened opens.old.items ++ (innermost.entry.group.now, innermost.entry.number) ∷ [])
+        (left_of (groups_in groups.now.entries)
+        (opened opens.old.items ++ (innermost.entry.group.now, innermost.entry.number) ∷ [])
         (list_fields list.old.items begun.old.keys done.old.keys))
         (left_of (groups_in groups.now.entries) (opened opens.new.items)
         (list_fields list.new.items begun.new.keys done.new.keys))

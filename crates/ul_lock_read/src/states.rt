@@ -288,7 +288,8 @@ fn table_end(
     edges: Edges,
     extras: Extras,
 ) -> Result<Option<Sheet>, AllocError>
-    ensures { IfOk result (λ found. found ≡ final (InExtras top.head top.blocks top.name top.version files edges extras)) }
+    ensures { IfOk result (λ found.
+        found ≡ final (InExtras top.head top.blocks top.name top.version files edges extras)) }
 {
     if any_extra(extras.as_slice()) {
         let sheet = complete(top, files, edges, extras)?;

@@ -153,7 +153,8 @@ fn print_piece(
 ) -> Result<(), AllocError>
     requires { IsTree part.now }
     ensures { OnOk result (string_bytes out.new
-        ≡ paths_behind (string_bytes out.old) prefix.now (longer_paths (interval start end) (paths_to_true (tree_view part.now)))) }
+        ≡ paths_behind (string_bytes out.old) prefix.now
+        (longer_paths (interval start end) (paths_to_true (tree_view part.now)))) }
 {
     if is_false(part) {
         return Ok(());
@@ -178,7 +179,8 @@ fn print_point(
     requires points { carries (level_view level) ≡ false }
     requires reduced { IsTree part.now }
     ensures { OnOk result (string_bytes out.new
-        ≡ paths_behind (string_bytes out.old) prefix.now (longer_paths (point (level_view level.entry) (key_view key.entry)) (paths_to_true (tree_view part.now)))) }
+        ≡ paths_behind (string_bytes out.old) prefix.now (longer_paths
+        (point (level_view level.entry) (key_view key.entry)) (paths_to_true (tree_view part.now)))) }
 {
     if is_false(part) {
         return Ok(());

@@ -41,7 +41,8 @@ pub fn add<'a, Parts: Sameness>(
     requires next_known { Parts.known parts.now next }
     requires other_known { Parts.known parts.now other.now }
     requires made_known { All (λ e. Parts.known parts.now e.1) made.old.items }
-    ensures made { IfOk result (λ u. IsAdded Parts.tree carried other.now key.entry next made.old.items made.new.items) }
+    ensures made { IfOk result (λ u.
+        IsAdded Parts.tree carried other.now key.entry next made.old.items made.new.items) }
     ensures kinds { IfOk result (λ u. KeepsKeys key.entry made.old.items made.new.items) }
     ensures known { IfOk result (λ u. All (λ e. Parts.known parts.now e.1) made.new.items) }
 {

@@ -39,7 +39,8 @@ impl<'a, 'w> Model for Sources<'a, 'w> {
 
 // The names of requirements.
 fn names_of(alloc: Global, requirements: &[Requirement]) -> Result<HashSet<Name>, AllocError>
-    ensures { IfOk result (λ s. (n : List ℕ) → contains bytes_eq s n ≡ list_any (λ q. bytes_eq q.name n) requirements.now) }
+    ensures { IfOk result (λ s. (n : List ℕ) → contains bytes_eq s n
+        ≡ list_any (λ q. bytes_eq q.name n) requirements.now) }
 {
     let mut names = HashSet::new(alloc);
     for requirement in requirements {

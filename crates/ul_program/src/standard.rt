@@ -46,7 +46,8 @@ impl<W: Write> Sink for OutSink<W> {
         ensures whole { OnOk result
             (Appends (W.contents (inner_of self.old.writer)) (W.contents (inner_of self.new.writer)) piece.now) }
         ensures front { OnErr result ((n : ℕ)
-            × Appends (W.contents (inner_of self.old.writer)) (W.contents (inner_of self.new.writer)) (take n piece.now)) }
+            × Appends (W.contents (inner_of self.old.writer)) (W.contents (inner_of self.new.writer))
+            (take n piece.now)) }
         ensures failed { HasCounted result self.old.writer self.new.writer }
     {
         match write_all(&mut self.writer, piece) {

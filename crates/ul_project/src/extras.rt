@@ -205,7 +205,8 @@ pub(crate) fn with_extras(
     requirements: Vec<Requirement>,
     lists: BTreeMap<Name, Requirements>,
 ) -> Result<(Vec<Requirement>, Vec<Name>, Vec<u64>), AllocError>
-    ensures requirements { IfOk result (λ t. t.0.items ≡ requirements.items ++ Extras.extra_requirements lists.entries) }
+    ensures requirements { IfOk result (λ t.
+        t.0.items ≡ requirements.items ++ Extras.extra_requirements lists.entries) }
     ensures extras { IfOk result (λ t. t.1.items ≡ names_of lists.entries) }
     ensures sizes { IfOk result (λ t. t.2.items ≡ map Extras.extra_size lists.entries) }
     ensures rises { IfOk result (λ t. IsStrictlySortedBy name_cmp t.1.items) }

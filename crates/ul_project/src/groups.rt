@@ -80,7 +80,8 @@ fn included(alloc: Global, table: &Table) -> Result<Option<Name>, AllocError>
 // The group that an entry includes.
 fn include_at(alloc: Global, group: &Name, entry: u64, table: &Table) -> Result<Name, ProjectFault>
     ensures { Gives (λ n. n) result
-        (or_fault (shape (ProjectPath.Entry (Place.Group group.now) entry)) (GroupLists.included_group (table_view table.now))) }
+        (or_fault (shape (ProjectPath.Entry (Place.Group group.now) entry))
+        (GroupLists.included_group (table_view table.now))) }
 {
     match included(alloc, table)? {
         Some(name) => Ok(name),

@@ -117,7 +117,8 @@ pub(crate) fn entry_text<'a>(
     entry: u64,
     value: &'a Value,
 ) -> Result<&'a str, ProjectFault>
-    ensures { Gives (λ s. s.now) result (Shapes.text_at (ProjectPath.Entry (place_of place.entry) entry) (Some (view value.now))) }
+    ensures { Gives (λ s. s.now) result
+        (Shapes.text_at (ProjectPath.Entry (place_of place.entry) entry) (Some (view value.now))) }
 {
     match value {
         Value::String(text) => Ok(text.as_str()),
@@ -131,7 +132,8 @@ pub(crate) fn items_at<'a>(
     place: ArrayPlace<'_>,
     value: Option<&'a Value>,
 ) -> Result<&'a [Value], ProjectFault>
-    ensures { Gives values_view result (Shapes.items_at (ProjectPath.Whole (place_of place.entry)) (value_view value.entry)) }
+    ensures { Gives values_view result
+        (Shapes.items_at (ProjectPath.Whole (place_of place.entry)) (value_view value.entry)) }
 {
     match value {
         Some(Value::Array(items)) => Ok(items.as_slice()),

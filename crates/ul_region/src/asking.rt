@@ -94,7 +94,8 @@ fn truth_place<R: Wait>(
 ) -> Result<usize, AllocError>
     requires truths { All (IsDiagram algebra.old) truths.old.marks.items }
     requires few { length places.now ≤ length requirements.now }
-    requires places { AreTruthsOfFirst algebra.old node.now truths.old.marks.items (fields_in requirements.now) places.now }
+    requires places { AreTruthsOfFirst algebra.old node.now truths.old.marks.items
+        (fields_in requirements.now) places.now }
     ensures grown { IsGrown algebra.old truths.old.marks.items algebra.new truths.new.marks.items }
     ensures truth { IfOk result (λ k.
         IsTruthAt algebra.new truths.new.marks.items k (applies_at requirement.now node.now)) }
