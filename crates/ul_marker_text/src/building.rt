@@ -15,22 +15,22 @@ use ul_nodes::level::Level;
 use ul_tree::Tree;
 
 // Whether a path has a step at a place.
-fn starts_with(path: &Vec<Step<'_, '_>>, at: usize, step: &Step<'_, '_>) -> bool
-    ensures { result ≡ starts (step_view step.now) (path_from at path.now) }
+fn starts_with(path: &Vec<Step<'_, '_>>, place: usize, step: &Step<'_, '_>) -> bool
+    ensures { result ≡ starts (step_view step.now) (path_from place path.now) }
 {
-    if path.len() <= at {
+    if path.len() <= place {
         return false;
     }
-    same_step(step, &path[at])
+    same_step(step, &path[place])
 }
 
 // How many paths in front have a step at a place.
-fn group_len(paths: &[Vec<Step<'_, '_>>], at: usize, step: &Step<'_, '_>) -> usize
-    ensures count { result ≡ front_count (step_view step.now) (paths_from at paths.now) }
+fn group_len(paths: &[Vec<Step<'_, '_>>], place: usize, step: &Step<'_, '_>) -> usize
+    ensures count { result ≡ front_count (step_view step.now) (paths_from place paths.now) }
     ensures within { result ≤ length paths.now }
 {
     for index in 0..paths.len() {
-        if !starts_with(&paths[index], at, step) {
+        if !starts_with(&paths[index], place, step) {
             return index;
         }
     }
@@ -42,25 +42,25 @@ fn group_len(paths: &[Vec<Step<'_, '_>>], at: usize, step: &Step<'_, '_>) -> usi
 fn parts<'r, 'm>(
     alloc: Global,
     paths: &[Vec<Step<'r, 'm>>],
-    at: usize,
+    place: usize,
     level: Level<'m>,
     room: usize,
 ) -> Result<VecDeque<(Step<'r, 'm>, Tree)>, AllocError>
-    requires { AreWithin (at + 1 + room) (paths_view paths.now) }
-    ensures { IfOk result (λ q. KeepParts (level_view level.entry) (parts_of (fan_from at paths.now))
+    requires { AreWithin (place + 1 + room) (paths_view paths.now) }
+    ensures { IfOk result (λ q. KeepParts (level_view level.entry) (parts_of (fan_from place paths.now))
         (parts_view q.items)) }
 {
     let mut made = VecDeque::new(alloc);
     let mut from = 0;
     while from < paths.len() {
         let path = &paths[from];
-        if path.len() <= at {
+        if path.len() <= place {
             return Ok(made);
         }
-        let step = path[at];
-        let count = group_len(&paths[from..], at, &step);
+        let step = path[place];
+        let count = group_len(&paths[from..], place, &step);
         let end = from + count;
-        let tree = build(alloc, &paths[from..end], at + 1, Some(level), room)?;
+        let tree = build(alloc, &paths[from..end], place + 1, Some(level), room)?;
         made.push_back((step, tree))?;
         from = end;
     }
@@ -73,21 +73,21 @@ fn parts<'r, 'm>(
 pub fn build<'m>(
     alloc: Global,
     paths: &[Vec<Step<'_, 'm>>],
-    at: usize,
+    place: usize,
     above: Option<Level<'m>>,
     room: usize,
 ) -> Result<Tree, AllocError>
-    requires { AreWithin (at + room) (paths_view paths.now) }
-    ensures { IfOk result (λ t. Keeps (above_view above.entry) (tree_of (fan_from at paths.now)) (tree_view t)) }
+    requires { AreWithin (place + room) (paths_view paths.now) }
+    ensures { IfOk result (λ t. Keeps (above_view above.entry) (tree_of (fan_from place paths.now)) (tree_view t)) }
 {
     let [first, ..] = paths else {
         return Ok(Tree::Truth(false));
     };
-    if first.len() <= at {
+    if first.len() <= place {
         return Ok(Tree::Truth(true));
     }
-    let step = first[at];
+    let step = first[place];
     let level = step_level(&step);
-    let parts = parts(alloc, paths, at, level, room - 1)?;
+    let parts = parts(alloc, paths, place, level, room - 1)?;
     node_of(alloc, above, level, parts)
 }

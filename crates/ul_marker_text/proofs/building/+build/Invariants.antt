@@ -14,7 +14,7 @@ decreases-parts l = 2 * l.room + 1
 abbrev pub invariant-parts-loop-from : goal.invariant-parts-loop-from
 invariant-parts-loop-from l = record {
   within : l.from ≤ length l.paths;
-  kept : KeepFirst (level_view l.level) (parts_of (fan_from l.at l.paths)) (parts_view l.made.items) (parts_of (fan_from l.at (drop l.from l.paths)));
+  kept : KeepFirst (level_view l.level) (parts_of (fan_from l.place l.paths)) (parts_view l.made.items) (parts_of (fan_from l.place (drop l.from l.paths)));
 }
 
 abbrev pub decreases-parts-loop-from : goal.decreases-parts-loop-from
