@@ -25,6 +25,7 @@ lists_of ls = map (λ l. l.now) ls
 abbrev pub lists_in : Releases → List (List RequirementFields)
 lists_in r = lists_of r.lists.items
 
+-- the lists that the releases of a name have, if there is one
 abbrev pub lists_there : Option Releases → List (List RequirementFields)
 lists_there None = []
 lists_there (Some r) = lists_in r

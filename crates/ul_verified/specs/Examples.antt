@@ -16,22 +16,27 @@ use Rattle.ul_lock.specs.declared.parts.Locked.{Locked}
 use Rattle.ul_lock.specs.declared.parts.Lock.{Lock}
 use Rattle.ul_verified.specs.Verified.{IsVerified}
 
+-- the project's name
 abbrev pub demo : List ℕ
 demo = codes "demo"
 
+-- the name of the package that it requires
 abbrev pub other : List ℕ
 other = codes "a"
 
--- versions 1.0, 1, 2 and 3
+-- version 1.0
 abbrev pub one_zero : Fields
 one_zero = plain (1 ∷ 0 ∷ [])
 
+-- version 1, which is equal to 1.0 by PEP 440, in another text
 abbrev pub one : Fields
 one = plain (1 ∷ [])
 
+-- version 2
 abbrev pub two : Fields
 two = plain (2 ∷ [])
 
+-- version 3, which the index of a marks as yanked
 abbrev pub three : Fields
 three = plain (3 ∷ [])
 
@@ -55,6 +60,7 @@ on_other = on_other_at []
 abbrev pub release_at : Fields → List ClauseFields → List RequirementFields → ReleaseFields
 release_at v python qs = record { version = v; python = python; requirements = qs; yanked = false; files = [] }
 
+-- a package of this name with these releases, each an entry of its index document
 abbrev pub package_of : List ℕ → List ReleaseFields → PackageFields
 package_of n rs = record { name = n; entries = length rs; releases = rs }
 
@@ -86,13 +92,15 @@ project = project_of (on_other ∷ []) []
 abbrev pub releases : List ReleaseFields
 releases = release_at one_zero [] [] ∷ release_at two [] [] ∷ record (release_at three [] []) { yanked = true } ∷ []
 
--- the catalog of a project with these requirements; and one in which a 1.0 asks for Python 3.9
+-- the catalog of a project with these requirements: its own package, and a
 abbrev pub catalog_of : List RequirementFields → Packages
 catalog_of qs = own qs ∷ package_of other releases ∷ []
 
+-- the catalog of the project
 abbrev pub catalog : Packages
 catalog = catalog_of (on_other ∷ [])
 
+-- one in which a has 1.0 alone, which asks for Python 3.9 and later
 abbrev pub later_catalog : Packages
 later_catalog = own (on_other ∷ []) ∷ package_of other (release_at one_zero (from_3_9 ∷ []) [] ∷ []) ∷ []
 
@@ -104,6 +112,7 @@ bounded = on_other ∷ on_other_at (before_two ∷ []) ∷ []
 abbrev pub edge_to : List ℕ → Fields → Edge
 edge_to n v = record { target = base n; version = v; marker = truth true }
 
+-- a block of a lock: a name at a version, with these edges, without files and extras
 abbrev pub locked : List ℕ → Fields → List Edge → Locked
 locked n v es = record { name = n; version = v; files = []; edges = es; extras = [] }
 
@@ -115,6 +124,7 @@ lock_of bs = record { root = demo; supported = truth true; forks = []; packages 
 abbrev pub lock_at : Fields → Lock
 lock_at v = lock_of (locked other v [] ∷ locked demo one (edge_to other v ∷ []) ∷ [])
 
+-- locks of the project that are verified, and for each part of IsVerified one in which that part alone fails
 pub record VerifiedExamples : Type 0 where
   -- a lock in the catalog's own texts, and one that says 1 for 1.0
   pub right : IsVerified catalog project (lock_at one_zero)
