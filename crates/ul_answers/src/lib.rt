@@ -2,11 +2,9 @@
 #![tactic(auto)]
 
 mod answer;
-mod leaving;
 mod outputs;
 mod refusals;
 
 pub use answer::Answer;
-pub use leaving::leave;
 pub use outputs::{Output, answer_output};
 pub use refusals::refusal_output;

@@ -1,4 +1,7 @@
 //! What is printed for an answer.
+//!
+//! What was printed is left to the end of the process by `mem::forget`: that comes soon, and the system takes large
+//! values back at once, where letting go of them goes through them piece by piece.
 ghost use Rattle.std.specs.Prelude.{◌≡◌, ◌++◌, IfOk, codes, length};
 ghost use Rattle.std.specs.Fmt.{decimal};
 ghost use Rattle.ul_report.specs.Texts.{refusal_text};
@@ -6,9 +9,9 @@ ghost use Rattle.ul_answers.specs.Printed as spec;
 ghost use Rattle.ul_answers.specs.Views.{output_view, view};
 
 use crate::answer::Answer;
-use crate::leaving::leave;
 use crate::refusals::limit_output;
 use std::alloc::{AllocError, Global};
+use std::mem;
 use ul_base::Name;
 use ul_inputs::TEXT_BYTES;
 use ul_lock::{Lock, Locked, Region};
@@ -169,12 +172,12 @@ pub fn answer_output(alloc: Global, answer: Answer) -> Result<Output, AllocError
         ),
         Answer::Locked { lock, forks: _ } => {
             let output = lock_output(alloc, &lock);
-            leave(lock);
+            mem::forget(lock);
             output
         }
         Answer::Counted { lock, forks } => {
             let output = counts_output(alloc, &lock, forks);
-            leave(lock);
+            mem::forget(lock);
             output
         }
         Answer::Unwritten | Answer::Untold => too_many_paths(alloc),
@@ -190,7 +193,7 @@ pub fn answer_output(alloc: Global, answer: Answer) -> Result<Output, AllocError
         Answer::Environment(text) => Ok(Output { status: 0, text }),
         Answer::Exported(rows) => {
             let output = export_output(alloc, rows.as_slice());
-            leave(rows);
+            mem::forget(rows);
             output
         }
         Answer::Outside => fixed(alloc, 8, "outside\n"),

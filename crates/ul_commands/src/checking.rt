@@ -1,4 +1,7 @@
 //! The answer of `check`.
+//!
+//! What an answer is found with is left to the end of the process by `mem::forget`: that comes soon, and the system
+//! takes large values back at once, where letting go of them goes through them piece by piece.
 ghost use Rattle.std.specs.Prelude.{◌≡◌, IfOk, Ok, Some};
 ghost use Rattle.std.specs.Fmt.{decimal};
 ghost use Rattle.ul_base.specs.Files.{Told};
@@ -13,9 +16,10 @@ ghost use Rattle.ul_commands.specs.Questions.{IsProblemIn};
 
 use crate::forking::starts_in;
 use std::alloc::{AllocError, Global};
+use std::mem;
 use std::sync::Wait;
 use ul_algebra::{Algebra, Diagram};
-use ul_answers::{Answer, leave};
+use ul_answers::Answer;
 use ul_base::Files;
 use ul_derivation::AcceptFault;
 use ul_inputs::{Refusal, Resolution, large_file, malformed};
@@ -119,7 +123,7 @@ fn answer_for<R: Wait>(
     let region = algebra.of_tree(rt, alloc, proof.region.as_tree())?;
     let problem = problem_at(rt, alloc, algebra, resolution, &region)?;
     let answer = judged(alloc, resolution, &problem, proof);
-    leave(problem);
+    mem::forget(problem);
     answer
 }
 
@@ -136,7 +140,7 @@ pub(crate) fn check<R: Wait>(
     let (interner, pass) = Interner::begin(alloc)?;
     let mut algebra = Algebra::begin(alloc, &interner, pass);
     let answer = answer_for(rt, alloc, &mut algebra, resolution, proof);
-    leave(algebra);
-    leave(interner);
+    mem::forget(algebra);
+    mem::forget(interner);
     Ok(answer?)
 }

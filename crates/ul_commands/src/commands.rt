@@ -1,4 +1,7 @@
 //! The commands.
+//!
+//! What a command has read is left to the end of the process by `mem::forget`: that comes soon, and the system takes
+//! large values back at once, where letting go of them goes through them piece by piece.
 ghost use Rattle.std.specs.Prelude.{◌≡◌, ◌≤◌, map, option_map, string_bytes};
 ghost use Rattle.ul_base.specs.Files.{FileMap, Told};
 ghost use Rattle.ul_workers.specs.WorkerCount.{IsWorkerCount};
@@ -22,9 +25,10 @@ use crate::resolving::answer;
 use crate::verifying::verify;
 use crate::wanted::Wanted;
 use std::alloc::Global;
+use std::mem;
 use std::sync::Wait;
 use std::thread::Threads;
-use ul_answers::{Answer, leave};
+use ul_answers::Answer;
 use ul_base::{Files, Gate, SureFiles};
 use ul_inputs::{Refusal, lock_file, machine_file, project_file, resolution_in, resolution_with};
 use ul_lock::Lock;
@@ -53,7 +57,7 @@ fn resolved_files<R: Threads + Wait + Sync, F: Files, G: Gate + Sync>(
 {
     let resolution = resolution_in(alloc, files, project, folder, old)?;
     let answer = answer(rt, alloc, wanted, workers, gate, &resolution);
-    leave(resolution);
+    mem::forget(resolution);
     answer
 }
 
@@ -85,7 +89,7 @@ fn gen_files<R: Threads + Wait + Sync, G: Gate + Sync>(
         workers,
         None,
     );
-    leave(files);
+    mem::forget(files);
     match answer {
         Ok(answer) => Ok(counted(answer)),
         Err(refusal) => Err(refusal),
@@ -109,7 +113,7 @@ fn env_on<F: Files>(
 {
     let machine = machine_file(alloc, files, machine)?;
     let answer = env(alloc, lock, &machine, extras);
-    leave(machine);
+    mem::forget(machine);
     answer
 }
 
@@ -129,7 +133,7 @@ fn env_files<F: Files>(
 {
     let lock = lock_file(alloc, files, lock)?;
     let answer = env_on(alloc, files, machine, extras, &lock);
-    leave(lock);
+    mem::forget(lock);
     answer
 }
 
@@ -149,7 +153,7 @@ fn export_files<R: Wait, F: Files>(
 {
     let lock = lock_file(alloc, files, lock)?;
     let answer = export(rt, alloc, &lock, extras);
-    leave(lock);
+    mem::forget(lock);
     answer
 }
 
@@ -171,7 +175,7 @@ fn check_with<R: Wait, F: Files>(
 {
     let resolution = resolution_with(alloc, files, folder, project, Vec::new(alloc))?;
     let answer = check(rt, alloc, &resolution, proof);
-    leave(resolution);
+    mem::forget(resolution);
     answer
 }
 
@@ -194,11 +198,11 @@ fn check_on<R: Wait, F: Files>(
     match proof_file(alloc, files, derivation) {
         Ok(proof) => {
             let answer = check_with(rt, alloc, files, folder, project, &proof);
-            leave(proof);
+            mem::forget(proof);
             answer
         }
         Err(refusal) => {
-            leave(project);
+            mem::forget(project);
             Err(refusal)
         }
     }
@@ -242,7 +246,7 @@ fn verify_with<R: Wait, F: Files>(
 {
     let resolution = resolution_with(alloc, files, folder, project, Vec::new(alloc))?;
     let answer = verify(rt, alloc, &resolution, lock);
-    leave(resolution);
+    mem::forget(resolution);
     answer
 }
 
@@ -265,11 +269,11 @@ fn verify_on<R: Wait, F: Files>(
     match lock_file(alloc, files, lock) {
         Ok(lock) => {
             let answer = verify_with(rt, alloc, files, folder, project, &lock);
-            leave(lock);
+            mem::forget(lock);
             answer
         }
         Err(refusal) => {
-            leave(project);
+            mem::forget(project);
             Err(refusal)
         }
     }

@@ -1,4 +1,7 @@
 //! The answers of `lock` and `why` to a resolution: both are told of its fork answer.
+//!
+//! What an answer is found with is left to the end of the process by `mem::forget`: that comes soon, and the system
+//! takes large values back at once, where letting go of them goes through them piece by piece.
 ghost use Rattle.std.specs.Prelude.{◌≡◌, ◌≢◌, IfOk, Ok, false};
 ghost use Rattle.ul_nodes.specs.Plain.{truth};
 ghost use Rattle.ul_algebra.specs.Spelled.{tree_of};
@@ -21,10 +24,11 @@ use crate::forking::{forks_of, question_in, starts_in};
 use crate::locking::{core_lines, lock_answer};
 use crate::wanted::Wanted;
 use std::alloc::{AllocError, Global};
+use std::mem;
 use std::sync::Wait;
 use std::thread::Threads;
 use ul_algebra::{Algebra, Diagram, DiagramLabel};
-use ul_answers::{Answer, leave};
+use ul_answers::Answer;
 use ul_base::Gate;
 use ul_forks::{ForkAnswer, ForkLeaf, Forked, Forks, Path, Question};
 use ul_inputs::{Refusal, Resolution};
@@ -86,7 +90,7 @@ fn lines_at<R: Wait>(
     ul_placing::laws::equal_problems();
     let problem = problem_at(rt, alloc, prepared, algebra, region)?;
     let lines = lines_by(alloc, wanted, &problem, derivation);
-    leave(problem);
+    mem::forget(problem);
     lines
 }
 
@@ -159,7 +163,7 @@ fn answer_of_leaves<R: Threads + Wait + Sync>(
     match wanted {
         Wanted::Lock => lock_answer(rt, alloc, workers, interner, algebra, resolution, leaves),
         Wanted::Reason => {
-            leave(algebra);
+            mem::forget(algebra);
             Ok(Answer::NoneRefused)
         }
     }
@@ -197,7 +201,7 @@ fn answer_known<R: Threads + Wait + Sync>(
             let answer = answer_of_refused(
                 rt, alloc, wanted, known, prepared, resolution, path, region, refusal,
             );
-            leave(algebra);
+            mem::forget(algebra);
             answer
         }
     }
@@ -229,8 +233,8 @@ fn answer_to<R: Threads + Wait + Sync>(
     let answer = answer_known(
         rt, alloc, wanted, workers, interner, algebra, &prepared, resolution, &forked,
     );
-    leave((forked, rounds));
-    leave(prepared);
+    mem::forget((forked, rounds));
+    mem::forget(prepared);
     answer
 }
 
@@ -255,11 +259,11 @@ fn answer_by<R: Threads + Wait + Sync, G: Gate + Sync>(
     ) {
         Ok(forks) => {
             let answer = answer_to(rt, alloc, wanted, workers, &interner, resolution, forks);
-            leave(interner);
+            mem::forget(interner);
             Ok(answer?)
         }
         Err(refusal) => {
-            leave(interner);
+            mem::forget(interner);
             Err(refusal)
         }
     }

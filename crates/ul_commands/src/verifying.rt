@@ -1,4 +1,7 @@
 //! The answer of `verify`.
+//!
+//! What an answer is found with is left to the end of the process by `mem::forget`: that comes soon, and the system
+//! takes large values back at once, where letting go of them goes through them piece by piece.
 ghost use Rattle.std.specs.Prelude.{IfOk, Ok};
 ghost use Rattle.ul_lock.specs.WellFormed.{IsWellFormed};
 ghost use Rattle.ul_answers.specs.Views.{view as answer_view};
@@ -8,9 +11,10 @@ ghost use Rattle.ul_inputs.specs.Resolutions.{view};
 ghost use Rattle.ul_commands.specs.Verifying.{IsVerifyAnswer};
 
 use std::alloc::{AllocError, Global};
+use std::mem;
 use std::sync::Wait;
 use ul_algebra::Algebra;
-use ul_answers::{Answer, leave};
+use ul_answers::Answer;
 use ul_inputs::{Refusal, Resolution};
 use ul_interner::Interner;
 use ul_lock::Lock;
@@ -57,7 +61,7 @@ pub(crate) fn verify<R: Wait>(
     let (interner, pass) = Interner::begin(alloc)?;
     let mut algebra = Algebra::begin(alloc, &interner, pass);
     let answer = answer_for(rt, alloc, &mut algebra, resolution, lock);
-    leave(algebra);
-    leave(interner);
+    mem::forget(algebra);
+    mem::forget(interner);
     Ok(answer?)
 }

@@ -1,4 +1,7 @@
 //! The answer of `export`.
+//!
+//! What an answer is found with is left to the end of the process by `mem::forget`: that comes soon, and the system
+//! takes large values back at once, where letting go of them goes through them piece by piece.
 ghost use Rattle.std.specs.Prelude.{◌≡◌, IfOk, None, Ok, map, string_bytes};
 ghost use Rattle.ul_lock.specs.WellFormed.{IsWellFormed};
 ghost use Rattle.ul_lock_nodes.specs.Roots.{first_unknown};
@@ -11,9 +14,10 @@ ghost use Rattle.ul_lock_commands.specs.Words.{first_other as other_word};
 
 use crate::words::{first_other, names_of};
 use std::alloc::{AllocError, Global};
+use std::mem;
 use std::sync::Wait;
 use ul_algebra::Algebra;
-use ul_answers::{Answer, leave};
+use ul_answers::Answer;
 use ul_base::Name;
 use ul_inputs::Refusal;
 use ul_interner::Interner;
@@ -79,7 +83,7 @@ pub fn export<R: Wait>(
     let (interner, pass) = Interner::begin(alloc)?;
     let mut algebra = Algebra::begin(alloc, &interner, pass);
     let answer = answer_for(rt, alloc, &mut algebra, lock, words);
-    leave(algebra);
-    leave(interner);
+    mem::forget(algebra);
+    mem::forget(interner);
     Ok(answer?)
 }

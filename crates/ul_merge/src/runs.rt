@@ -2,6 +2,9 @@
 //!
 //! A job begins with nothing that another has found, and what one package asks the next one mostly asks too. So there are
 //! as many runs as workers, of about the same work.
+//!
+//! What was found on the way is left to the end of the process by `mem::forget`: that comes soon, and the system takes
+//! large values back at once, where letting go of them goes through them piece by piece.
 ghost use Rattle.std.specs.Prelude.{◌≡◌, ◌≤◌, IfOk, All, flat_map, length};
 ghost use Rattle.ul_workers.specs.WorkerCount.{IsWorkerCount};
 ghost use Rattle.ul_merge.specs.Blocks.{AreSources, IsPairGroup};
@@ -25,11 +28,6 @@ use ul_index::Catalog;
 use ul_interner::Interner;
 use ul_lock::Locked;
 use ul_workers::{Job, run_all};
-
-// Leaves a value to the end of the process, where the system takes it back at once.
-fn leave<T: Drop>(value: T) {
-    mem::forget(value);
-}
 
 // Makes the packages of each run of groups.
 #[derive(Drop)]
@@ -84,7 +82,7 @@ impl<'a, 's, 'g> Job<DiagramLabel> for Runs<'a, 's, 'g> {
         let (start, end) = self.cuts[claim.number() as usize];
         let groups = &self.groups[start..end];
         let made = made_blocks(rt, alloc, &mut algebra, self.sources, groups);
-        leave(algebra);
+        mem::forget(algebra);
         made
     }
 }
@@ -212,8 +210,7 @@ fn shares_of(
 
 /// The packages that leaves chose, in order, made by so many workers; none where not all of their markers are printed.
 ///
-/// One worker makes them with the given algebra. What was found on the way is left to the end of the process, where the
-/// system takes it back at once.
+/// One worker makes them with the given algebra.
 pub(crate) fn blocks_by<'a, R: Threads + Wait + Sync>(
     rt: &R,
     alloc: Global,
@@ -237,6 +234,6 @@ pub(crate) fn blocks_by<'a, R: Threads + Wait + Sync>(
         );
     }
     let blocks = made_blocks(rt, alloc, &mut algebra, sources, groups);
-    leave(algebra);
+    mem::forget(algebra);
     blocks
 }
