@@ -29,13 +29,6 @@ pub(crate) struct Progress {
     comparisons: Comparisons,
 }
 
-fn releases_in(found: &Package) -> &[Release]
-    ensures { result.now ≡ found.now.releases }
-{
-    let releases: &Vec<Release> = &found.releases;
-    releases.as_slice()
-}
-
 // The names that a package meets: its own, and those that its requirements ask for.
 fn first_names(alloc: Global, project: &Package) -> Result<IndexSet<Name>, AllocError>
     ensures { IfOk result (λ n. n.keys ≡
@@ -61,7 +54,7 @@ fn own_comparisons(
         (own_atoms (beginning_of project.now (map marker_view environments.now) constraints.now overrides.now))) }
 {
     let mut comparisons = Comparisons::new(alloc);
-    comparisons.add_releases(alloc, releases_in(project))?;
+    comparisons.add_releases(alloc, project.releases())?;
     comparisons.add_markers(alloc, environments)?;
     comparisons.add_requirements(alloc, constraints)?;
     comparisons.add_requirements(alloc, overrides)?;

@@ -85,21 +85,12 @@ pub(crate) fn files_of(alloc: Global, release: Option<&Release>) -> Result<Files
     }
 }
 
-// The releases of a package.
-fn releases_in(found: &Package) -> &[Release]
-    ensures releases { result.now ≡ found.now.releases }
-    ensures differ { VersionsDiffer found.now.releases }
-{
-    let releases: &Vec<Release> = &found.releases;
-    releases.as_slice()
-}
-
 // The versions of each package's releases differ.
 fn each_differs(packages: &[Package])
     ensures { All (λ p. VersionsDiffer p.releases) packages.now }
 {
     for one in packages {
-        let _releases = releases_in(one);
+        let _releases = one.releases();
     }
 }
 

@@ -1,4 +1,6 @@
 //! Releases and packages.
+ghost use Rattle.std.specs.Prelude.{◌≡◌};
+ghost use Rattle.ul_requirement.specs.Fields.{VersionsDiffer};
 
 use crate::Requirement;
 use std::marker::Model;
@@ -82,4 +84,15 @@ impl Model for Package {
     ghost view = { λ p. record { name = p.name; entries = p.entries; releases = p.releases.items } };
 
     ghost invariant = { λ p. IsPackage (record { name = p.name; entries = p.entries; releases = p.releases.items }) };
+}
+
+impl Package {
+    /// The usable releases, in the order of the document.
+    pub fn releases(&self) -> &[Release]
+        ensures releases { result.now ≡ self.now.releases }
+        ensures differ { VersionsDiffer self.now.releases }
+    {
+        let releases: &Vec<Release> = &self.releases;
+        releases.as_slice()
+    }
 }
