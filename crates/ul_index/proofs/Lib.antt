@@ -20,3 +20,4 @@ mod NamePlaces
 mod ReleaseExamples
 mod DocumentExamples
 mod DocumentFacts
+pub mod Sharing
