@@ -1,7 +1,8 @@
 """The definitions that a statement rests on: the cone of a definition of specs/, by the `use` lines of the files.
 
-python3 tests/cone.py prints, for each tier of docs/HEADLINE.md, the files in an order in which they can be read (each behind those
-that it uses), with how many of their definitions the statement reaches; with --write it puts the lists into that page.
+python3 tests/cone.py prints, for each tier of docs/HEADLINE.md, the files in an order in which they can be read (each
+behind those that it uses), with how many of their definitions the statement reaches; with --write it puts the lists
+into that page.
 """
 
 from __future__ import annotations
@@ -14,7 +15,10 @@ TOP = Path(__file__).resolve().parent.parent
 # The two tiers: what a lock is good for, and what every call of the program promises.
 TIERS = [("ul_sound", "Sound", "IsSound"), ("ul_program", "Headline", "Headline")]
 USE = re.compile(r"^use (Rattle\.[\w.+]+?)(?:\.\{([^}]*)\}| as (\w+))?\s*$", re.M)
-HEAD = re.compile(r"^(?:(?:abbrev|unfoldable|record|data|type|pub|module)\s+)*(?:abbrev|unfoldable|record|data)\s+(?:pub\s+)?([^\s:(]+)")
+HEAD = re.compile(
+    r"^(?:(?:abbrev|unfoldable|record|data|type|pub|module)\s+)*(?:abbrev|unfoldable|record|data)\s+"
+    r"(?:pub\s+)?([^\s:(]+)"
+)
 WORD = re.compile(r"[^\s(){}\[\],;.λ∷]+")
 
 
@@ -106,7 +110,8 @@ class Cone:
 
 
 def lines(cone: Cone) -> list[str]:
-    """The list as docs/HEADLINE.md has it: crate by crate in reading order, a file with how many definitions are reached."""
+    """The list as docs/HEADLINE.md has it: crate by crate in reading order, a file with how many definitions are
+    reached."""
     out: list[str] = []
     crate = ""
     for path in cone.in_order():

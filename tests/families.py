@@ -1,4 +1,5 @@
-"""Families of projects that grow in one direction each, by which speed is measured; at a small size their locks are tests.
+"""Families of projects that grow in one direction each, by which speed is measured; at a small size their locks are
+tests.
 
 python3 tests/families.py FAMILY NUMBERS.. FOLDER writes one: `FOLDER/p.toml` and `FOLDER/ix`.
 

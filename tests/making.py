@@ -81,7 +81,8 @@ class Folder(unittest.TestCase):
         return {**kept, **more, "PYTHONDONTWRITEBYTECODE": "1", "NO_PROXY": "*", "no_proxy": "*"}
 
     def ran(self, *words: object, status: int = 0, python: str = "", into: str = "") -> Done:
-        """Runs a tool and looks at its status: in this process, or as `tools/WORD WORDS` with an interpreter where one is named."""
+        """Runs a tool and looks at its status: in this process, or as `tools/WORD WORDS` with an interpreter where one
+        is named."""
         given = [str(it) for it in words]
         found, done = self.started(python, given, into) if python else self.called(given, into)
         self.assertEqual(found, status, f"{words}: {done.stdout}{done.stderr}")

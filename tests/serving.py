@@ -123,7 +123,8 @@ class Server:
             return sdist_body(path, stream)
 
     def page(self, name: str, known: Optional[str]) -> Tuple[int, Dict[str, str], bytes]:
-        files = sorted(it for it in self.folder.iterdir() if version_in(it.name, normal_name(name)) or it.name.startswith(f"{name}-"))
+        own = normal_name(name)
+        files = sorted(it for it in self.folder.iterdir() if version_in(it.name, own) or it.name.startswith(f"{name}-"))
         if not files:
             return 404, {}, b"there is no such project"
         body = self.json_page(name, files) if self.form == "json" else self.html_page(files)

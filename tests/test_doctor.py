@@ -1,4 +1,5 @@
-"""tools/doctor: what it finds in a project file and its index folder, and that the program refuses what it calls an error."""
+"""tools/doctor: what it finds in a project file and its index folder, and that the program refuses what it calls an
+error."""
 
 from __future__ import annotations
 
@@ -93,7 +94,10 @@ class Doctor(Folder):
         )
 
     def test_misspelt_keys(self) -> None:
-        text = START + 'dependancies = []\n[dependency-group]\n[tool.uv]\nconstraints-dependencies = []\nfork-stategy = "x"\n'
+        text = START + (
+            "dependancies = []\n[dependency-group]\n"
+            '[tool.uv]\nconstraints-dependencies = []\nfork-stategy = "x"\n'
+        )
         self.assertEqual([it for it in self.found(text) if "meant" in it], [
             "warning: dependency-group: it is passed over; is dependency-groups meant?",
             "warning: project.dependancies: it is passed over; is project.dependencies meant?",
@@ -102,14 +106,21 @@ class Doctor(Folder):
         ])  # fmt: skip
 
     def test_keys_that_are_passed_over(self) -> None:
-        text = START + '[tool.uv]\nexclude-newer = "2024-01-01"\ndefault-groups = ["a"]\nlink-mode = "copy"\nmanaged = true\n[[tool.uv.dependency-metadata]]\nname = "a"\n'
+        text = START + (
+            '[tool.uv]\nexclude-newer = "2024-01-01"\ndefault-groups = ["a"]\nlink-mode = "copy"\nmanaged = true\n'
+            '[[tool.uv.dependency-metadata]]\nname = "a"\n'
+        )
         said = self.found(text, status=0)
-        self.assertEqual([it.split(":")[1].strip() for it in said[:-1]], ["tool.uv.exclude-newer", "tool.uv.default-groups", "tool.uv.dependency-metadata"])
+        self.assertEqual(
+            [it.split(":")[1].strip() for it in said[:-1]],
+            ["tool.uv.exclude-newer", "tool.uv.default-groups", "tool.uv.dependency-metadata"],
+        )
         self.assertEqual(said[-1], "note: no index folder was looked at; `tools/index` makes one")
         self.assertIn("tool.poetry.dependencies", self.found(START + "[tool.poetry.dependencies]\na = '*'\n")[0])
 
     def test_names_without_a_document(self) -> None:
-        self.write("ix/requests.json", document("requests", {"version": "1", "requires_dist": ["urlib3", "never; python_version < '3'", "side; extra == 's'"]}))
+        needs = ["urlib3", "never; python_version < '3'", "side; extra == 's'"]
+        self.write("ix/requests.json", document("requests", {"version": "1", "requires_dist": needs}))
         self.write("ix/urllib3.json", document("urllib3"))
         said = self.found(START + 'dependencies = ["requets", "requests"]\n')
         self.assertEqual(said, [
@@ -120,17 +131,26 @@ class Doctor(Folder):
         self.assertIn("warning: ix has no document of side, which requests 1 requires", said)
 
     def test_releases_and_documents(self) -> None:
-        self.write("ix/a.json", document("a", {"version": "1", "requires_dist": ["bb (>dev)"]}, {"version": "2004d"}, {"version": "3", "requires_python": "<4,>=3.8"}))
+        releases = [
+            {"version": "1", "requires_dist": ["bb (>dev)"]},
+            {"version": "2004d"},
+            {"version": "3", "requires_python": "<4,>=3.8"},
+        ]
+        self.write("ix/a.json", document("a", *releases))
         self.write("ix/b.json", document("c"))
         self.write("ix/c.json", "{")
         self.assertEqual(self.found(START + 'dependencies = ["a", "b", "c"]\n')[:-1], [
-            f"error: {'ix/c.json'}: not JSON: Expecting property name enclosed in double quotes: line 1 column 2 (char 1)",
+            "error: ix/c.json: not JSON: "
+            "Expecting property name enclosed in double quotes: line 1 column 2 (char 1)",
             "error: ix/b.json: the document's `name` is 'c'",
             "warning: a 1 can't be used: Requires-Dist: `bb (>dev)`: `dev` is no version of PEP 440",
             "warning: a 2004d can't be used: its version `2004d` has no reading",
         ])  # fmt: skip
         last = self.printed("doctor", status=1)[-1]
-        self.assertEqual(last, "note: a 3: the upper part of Requires-Python counts as nothing here; pip will refuse an interpreter above it")
+        self.assertEqual(last, (
+            "note: a 3: the upper part of Requires-Python counts as nothing here; "
+            "pip will refuse an interpreter above it"
+        ))  # fmt: skip
 
     def test_what_is_not_there(self) -> None:
         self.assertIn("absent.toml", self.ran("doctor", "absent.toml", status=1).stderr)

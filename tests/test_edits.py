@@ -16,7 +16,8 @@ TRY_EDITS = tool("try-edits")
 
 
 def faults_of(edit: str, crate: Path) -> list[str]:
-    """What keeps an edit from being applied to a crate: each text that it takes the place of stands in its file once."""
+    """What keeps an edit from being applied to a crate: each text that it takes the place of stands in its file
+    once."""
     faults, texts, path, old, pairs = [], {}, "", "", 0
     for line in edit.split("\n"):
         word, _, value = line.partition(": ")

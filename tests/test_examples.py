@@ -77,7 +77,10 @@ class InWords(Folder):
     def test_the_refusal(self) -> None:
         want_program(self)
         said = self.printed("explain", EXAMPLES / "refused/pyproject.toml", EXAMPLES / "refused/ix")
-        self.assertEqual(said[:2], ["No choice of versions serves the project where sys_platform == 'win32'.", "Such a machine: sys_platform win32."])
+        self.assertEqual(said[:2], [
+            "No choice of versions serves the project where sys_platform == 'win32'.",
+            "Such a machine: sys_platform win32.",
+        ])  # fmt: skip
         for line in [
             "the project needs q at 1 (project.dependencies[0]: `q<2; sys_platform == 'win32'`).",
             "q 1 needs z (`z`), and the index has no document of z.",

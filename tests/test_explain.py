@@ -1,4 +1,5 @@
-"""tools/explain: refusals in sentences, and the text at a place that is refused. The program's own answers are used where it is there."""
+"""tools/explain: refusals in sentences, and the text at a place that is refused. The program's own answers are used
+where it is there."""
 
 from __future__ import annotations
 
@@ -142,7 +143,10 @@ class Sentences(Explained):
     def test_each_form_of_a_step(self) -> None:
         self.project("q[x]")
         self.index(q=[{"version": "1"}, {"version": "2"}, {"version": "3", "requires_python": ">=3.9"}])
-        steps = "1 need demo {0.1} q[x] {1,2}\n2 base q[x] {1,2}\n3 python q {3}\n4 cut 1 2 on q[x]: demo {0.1}, not q {1,2}\n5 cut 4 3 on q: demo {0.1}, q {3}\n"
+        steps = (
+            "1 need demo {0.1} q[x] {1,2}\n2 base q[x] {1,2}\n3 python q {3}\n"
+            "4 cut 1 2 on q[x]: demo {0.1}, not q {1,2}\n5 cut 4 3 on q: demo {0.1}, q {3}\n"
+        )
         said = self.told_of(HEAD + steps)
         self.assertEqual(said[2:7], [
             "1. the project needs q[x] at 1 or 2 (project.dependencies[0]: `q[x]`).",
@@ -165,7 +169,10 @@ class Places(Explained):
         return "\n".join(self.told_of(f"malformed: {file}: {place}\n"))
 
     def test_requirements(self) -> None:
-        text = '[project]\nname = "x"\ndependencies = [\n  "a",\n  "bb (>dev)",\n]\n[project.optional-dependencies]\nA_b = ["c=="]\n'
+        text = (
+            '[project]\nname = "x"\ndependencies = [\n  "a",\n  "bb (>dev)",\n]\n'
+            '[project.optional-dependencies]\nA_b = ["c=="]\n'
+        )
         self.assertEqual(
             self.place("requirement project.dependencies[1]", text),
             "p.toml: project.dependencies[1] (line 5): `bb (>dev)`: `dev` is no version of PEP 440.",

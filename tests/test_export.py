@@ -179,7 +179,8 @@ class OnThisMachine(Folder):
 class Cycles(Folder):
     def test_packages_that_require_one_another(self) -> None:
         want_program(self)
-        self.write("p.toml", '[project]\nname = "demo"\nversion = "0.1"\nrequires-python = ">=3.8"\ndependencies = ["a"]\n')
+        head = '[project]\nname = "demo"\nversion = "0.1"\nrequires-python = ">=3.8"\n'
+        self.write("p.toml", f'{head}dependencies = ["a"]\n')
         for name, needs in (("a", ["b"]), ("b", ["a; python_version >= '3.8'"])):
             releases = [{"version": "1", "requires_dist": needs}]
             self.write(f"ix/{name}.json", json.dumps({"name": name, "versions": releases}))

@@ -1,4 +1,5 @@
-"""Small projects of each family: their answers are the bytes of a program that looked at every requirement at every node."""
+"""Small projects of each family: their answers are the bytes of a program that looked at every requirement at every
+node."""
 
 from __future__ import annotations
 

@@ -46,7 +46,8 @@ class Limits(Folder):
         self.write("p.toml", PROJECT.format('["a<1400"]') + '[tool.uv]\nresolution = "lowest"\n')
         self.document("a", *[{"version": str(number)} for number in range(1, 1501)])
         blocks = "".join(f'[[package]]\nname = "a"\nversion = "{number}"\n\n' for number in range(301, 1501))
-        root = '[[package]]\nname = "demo"\nversion = "0.1"\ndependencies = [\n    { name = "a", version = "1500" },\n]\n'
+        edges = 'dependencies = [\n    { name = "a", version = "1500" },\n]\n'
+        root = f'[[package]]\nname = "demo"\nversion = "0.1"\n{edges}'
         self.write("old.lock", f'version = 2\nroot = "demo"\n\n{blocks}{root}')
         status, text = self.said("lock", "p.toml", "ix", "1", "old.lock")
         self.assertEqual(status, 0)

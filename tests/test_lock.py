@@ -1,4 +1,5 @@
-"""tools/lock: the lock is replaced by a good one alone, and what changed is said. A stand-in answers for the program in most tests."""
+"""tools/lock: the lock is replaced by a good one alone, and what changed is said. A stand-in answers for the program in
+most tests."""
 
 from __future__ import annotations
 
@@ -66,7 +67,8 @@ class StandIn(Folder):
 
     def setUp(self) -> None:
         super().setUp()
-        self.program = self.write("stand-in", f"#!/bin/sh\ncd {self.top}\necho \"$@\" >>asked\ncp \"$5\" kept 2>/dev/null\ncat answer\nexit $(cat status)\n")
+        said = 'echo "$@" >>asked\ncp "$5" kept 2>/dev/null\ncat answer\nexit $(cat status)\n'
+        self.program = self.write("stand-in", f"#!/bin/sh\ncd {self.top}\n{said}")
         Path(str(self.program)).chmod(0o755)
         self.write("pyproject.toml", "[project]\nname = 'demo'\n")
         (self.top / "ix").mkdir()

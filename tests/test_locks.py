@@ -87,7 +87,10 @@ class Tree(Folder):
 
     def test_who_needs_a_package(self) -> None:
         self.assertEqual(self.ran("tree", LOCK, "--invert", "Colorama").stdout, (
-            "colorama 0.4.6\n├── pytest 8.1.1 ; sys_platform == 'win32'\n│   └── web-app[dev] 1.2.0\n└── web-app 1.2.0 ; sys_platform == 'win32'\n"
+            "colorama 0.4.6\n"
+            "├── pytest 8.1.1 ; sys_platform == 'win32'\n"
+            "│   └── web-app[dev] 1.2.0\n"
+            "└── web-app 1.2.0 ; sys_platform == 'win32'\n"
         ))
         self.assertIn(
             "nothing needs colorama here",
@@ -165,14 +168,16 @@ class Diff(Folder):
             "supported: python_full_version >= '3.9.0' -> all",
             "fastapi 0.110.0: no longer needs starlette 0.36.3",
             "fastapi 0.110.0: now needs starlette 0.36.9",
-            "pytest 8.1.1: needs tomli 2.0.1 where python_full_version < '3.10.0', no longer where python_full_version < '3.11.0'",
+            "pytest 8.1.1: needs tomli 2.0.1 where python_full_version < '3.10.0', "
+            "no longer where python_full_version < '3.11.0'",
         ])  # fmt: skip
         self.assertEqual(self.printed("diff", LOCK, "new.lock", "--versions", status=1), ["starlette 0.36.3 -> 0.36.9"])
         self.assertEqual(self.printed("diff", LOCK, LOCK), [])
 
     def test_files(self) -> None:
         block = 'name = "a"\nversion = "1"\n'
-        files = ['files = [\n    { file = "%s", hash = "sha256:%s" },\n]\n' % it for it in [("a.whl", "0" * 64), ("a.whl", "1" * 64), ("b.whl", "1" * 64)]]
+        sums = [("a.whl", "0" * 64), ("a.whl", "1" * 64), ("b.whl", "1" * 64)]
+        files = ['files = [\n    { file = "%s", hash = "sha256:%s" },\n]\n' % it for it in sums]
         for number, told in enumerate(files):
             self.write(f"{number}.lock", f'version = 2\nroot = "a"\n\n[[package]]\n{block}{told}')
         self.assertEqual(self.printed("diff", "0.lock", "1.lock", status=1), ["a 1: file a.whl has ANOTHER HASH"])
@@ -194,7 +199,8 @@ class Outdated(Folder):
         ])  # fmt: skip
 
     def test_which_versions_count(self) -> None:
-        lock = self.write("x.lock", 'version = 2\nroot = "demo"\n\n[[package]]\nname = "a"\nversion = "1"\n\n[[package]]\nname = "demo"\nversion = "0"\n')
+        blocks = [f'[[package]]\nname = "{name}"\nversion = "{it}"\n' for name, it in (("a", "1"), ("demo", "0"))]
+        lock = self.write("x.lock", "\n".join(['version = 2\nroot = "demo"\n', *blocks]))
         for versions, said in [
             ([{"version": "1"}, {"version": "1.0.0"}, {"version": "0.9"}], []),
             ([{"version": "1"}, {"version": "1.10"}, {"version": "1.9"}], ["a 1 -> 1.10"]),

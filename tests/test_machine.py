@@ -11,8 +11,8 @@ from making import PROGRAM, TOP, Folder, skip, want_program
 from unilock_tools import machine
 
 KEYS = [
-    "os_name", "sys_platform", "platform_machine", "platform_python_implementation", "platform_release", "platform_system",
-    "platform_version", "implementation_name", "implementation_version", "python_full_version",
+    "os_name", "sys_platform", "platform_machine", "platform_python_implementation", "platform_release",
+    "platform_system", "platform_version", "implementation_name", "implementation_version", "python_full_version",
 ]  # fmt: skip
 
 
@@ -50,8 +50,10 @@ class Machine(Folder):
 
     def test_another_interpreter(self) -> None:
         told = self.told("--python", "3.9.18", "--implementation", "pypy", "--implementation-version", "7.3.15")
-        found = [told[it] for it in ("python_full_version", "implementation_name", "platform_python_implementation", "implementation_version")]
-        self.assertEqual(found, ["3.9.18", "pypy", "PyPy", "7.3.15"])
+        self.assertEqual(told["python_full_version"], "3.9.18")
+        self.assertEqual(told["implementation_name"], "pypy")
+        self.assertEqual(told["platform_python_implementation"], "PyPy")
+        self.assertEqual(told["implementation_version"], "7.3.15")
         self.assertEqual(self.told("--python", "3.11")["implementation_version"], "3.11.0")
 
     def test_a_pre_release_counts_as_its_release(self) -> None:

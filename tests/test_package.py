@@ -1,4 +1,5 @@
-"""The package and the scripts around it: one version, one list of commands, ./unilock's own words, and an installation."""
+"""The package and the scripts around it: one version, one list of commands, ./unilock's own words, and an
+installation."""
 
 from __future__ import annotations
 
@@ -52,7 +53,8 @@ class Package(Folder):
         )
 
     def test_a_reader_that_goes_away_is_no_fault(self) -> None:
-        line = f"{sys.executable} {TOP}/tools/tree {TOP}/examples/web_app/unilock.lock | head -1; echo ${{PIPESTATUS[0]}}"
+        tree = f"{sys.executable} {TOP}/tools/tree {TOP}/examples/web_app/unilock.lock"
+        line = f"{tree} | head -1; echo ${{PIPESTATUS[0]}}"
         done = subprocess.run(["bash", "-c", line], capture_output=True, text=True, env=self.environment(), check=False)
         self.assertEqual((done.stdout, done.stderr), ("web-app 1.2.0\n0\n", ""))
 
@@ -75,7 +77,8 @@ class Package(Folder):
         for name in ["lock", "machine", "diff", "tree", "requirements"]:
             code = (
                 f"import sys; sys.path.insert(0, {str(PYTHON)!r}); import unilock_tools.{name}; "
-                "print([it for it in sys.modules if it.split('.')[0] in ('pip', 'packaging', 'requests', 'tomli', 'tomllib')])"
+                "others = ('pip', 'packaging', 'requests', 'tomli', 'tomllib'); "
+                "print([it for it in sys.modules if it.split('.')[0] in others])"
             )
             done = subprocess.run([sys.executable, "-S", "-c", code], capture_output=True, text=True, check=False)
             self.assertEqual((done.stdout, done.stderr), ("[]\n", ""), name)

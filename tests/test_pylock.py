@@ -82,7 +82,8 @@ group-test = [
 
 
 def judge(test: unittest.TestCase, tables: Dict[str, Any], path: Path) -> None:
-    """Judges a pylock.toml by `packaging.pylock` where that is there, and by the rules of PEP 751 for the keys that we write."""
+    """Judges a pylock.toml by `packaging.pylock` where that is there, and by the rules of PEP 751 for the keys that we
+    write."""
     try:
         from packaging.pylock import Pylock  # type: ignore[import-not-found]
     except ImportError:
@@ -116,7 +117,8 @@ class Written(Folder):
 
     def stand_in(self) -> None:
         """A program that answers `export` with the rows above."""
-        cases = "".join(f'"export unilock.lock{" " + words if words else ""}") printf "%s" "{rows}";;\n' for words, rows in ROWS.items())
+        calls = {"export unilock.lock" + (" " + words if words else ""): rows for words, rows in ROWS.items()}
+        cases = "".join(f'"{call}") printf "%s" "{rows}";;\n' for call, rows in calls.items())
         self.program = self.write(
             "stand-in", f'#!/bin/sh\ncase "$*" in\n{cases}*) echo "extra: nope"; exit 8;;\nesac\n'
         )
@@ -137,12 +139,14 @@ class ByAStandIn(Written):
         self.ran("pylock", "unilock.lock", "--files", "wheels")
         found = self.tables()
         self.assertEqual(found["environments"], ["python_full_version >= '3.8.0'"])
-        self.assertEqual([(it["name"], it["version"], it.get("marker")) for it in found["packages"]], [("a", "1", "sys_platform == 'win32'"), ("b", "1", None)])
+        packages = [(it["name"], it["version"], it.get("marker")) for it in found["packages"]]
+        self.assertEqual(packages, [("a", "1", "sys_platform == 'win32'"), ("b", "1", None)])
         one = found["packages"][0]
         self.assertEqual(one["sdist"]["path"], "wheels/a-1.tar.gz")
         wheel = self.wheels / "a-1-py3-none-any.whl"
         self.assertEqual(one["wheels"], [{
-            "name": wheel.name, "path": f"wheels/{wheel.name}", "size": wheel.stat().st_size, "hashes": {"sha256": sha256(wheel)},
+            "name": wheel.name, "path": f"wheels/{wheel.name}", "size": wheel.stat().st_size,
+            "hashes": {"sha256": sha256(wheel)},
         }])  # fmt: skip
 
     def test_extras_and_groups(self) -> None:
@@ -161,7 +165,8 @@ class ByAStandIn(Written):
             self.assertEqual([it["url"] for it in files], [f"{base}{it}-1-py3-none-any.whl" for it in "abc"])
 
     def test_a_file_without_a_place(self) -> None:
-        self.write("ix/a.json", document("a", {"version": "1", "files": [{"file": "a-1.tar.gz", "sha256": "0" * 64, "url": "http://x/a-1.tar.gz"}]}))
+        files = [{"file": "a-1.tar.gz", "sha256": "0" * 64, "url": "http://x/a-1.tar.gz"}]
+        self.write("ix/a.json", document("a", {"version": "1", "files": files}))
         done = self.ran("pylock", "unilock.lock", "--index", "ix", status=1)
         self.assertIn("no place is known of a-1-py3-none-any.whl", done.stderr)
         self.assertFalse((self.top / "pylock.toml").exists())

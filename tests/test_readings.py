@@ -1,4 +1,5 @@
-"""What the tools say that the program reads: texts with what they mean, and the program's own judgement of the same texts."""
+"""What the tools say that the program reads: texts with what they mean, and the program's own judgement of the same
+texts."""
 
 from __future__ import annotations
 
@@ -13,20 +14,22 @@ from unilock_tools.readings import requirement_fault, requirement_of
 from unilock_tools.versions import meets, specifiers_fault, specifiers_of, version, version_of
 
 READ = [
-    "a", "A.b-C", "a[x]", "a [ x , y_z ]>=1", "a[]", "a>=1,<2", "a >= 1 , < 2", "a (>=1)", "a()", "a>=1,", "a==1.*", "a!=1.*",
-    "a>=3.5.*", "a<3.*", "a~=1.2", "a==1+local", "a!=1+l", "a==1!2.0", "a>=1.0-1", "a>=v1", "a; os_name == 'nt'",
-    'a;os_name=="nt"', "a; 'x' in sys_platform", "a; sys_platform in 'win32 linux'", "a; 'nt' == os_name", "a; os_name not in 'x'",
-    "a; python_version < '3.8' and (os_name == 'a' or os_name == 'b')", "a; extra == 'X_y'", "a; extra != ''", "a; '3' < python_version",
-    "a; python_version in '3.8, 3.9'", "a; python_version not in '3.8'", "a; python_full_version ~= '3.8.1'", "a; os.name == 'x'",
-    "a; python_implementation == 'CPython'", "a; implementation_version >= '7.3'", "a; '3' in python_version", "a; platform_release < '5'",
-    "a; python_version >= '3.*'", "a; python_version == '3.8.*'",
+    "a", "A.b-C", "a[x]", "a [ x , y_z ]>=1", "a[]", "a>=1,<2", "a >= 1 , < 2", "a (>=1)", "a()", "a>=1,", "a==1.*",
+    "a!=1.*", "a>=3.5.*", "a<3.*", "a~=1.2", "a==1+local", "a!=1+l", "a==1!2.0", "a>=1.0-1", "a>=v1",
+    "a; os_name == 'nt'", 'a;os_name=="nt"', "a; 'x' in sys_platform", "a; sys_platform in 'win32 linux'",
+    "a; 'nt' == os_name", "a; os_name not in 'x'", "a; python_version < '3.8' and (os_name == 'a' or os_name == 'b')",
+    "a; extra == 'X_y'", "a; extra != ''", "a; '3' < python_version", "a; python_version in '3.8, 3.9'",
+    "a; python_version not in '3.8'", "a; python_full_version ~= '3.8.1'", "a; os.name == 'x'",
+    "a; python_implementation == 'CPython'", "a; implementation_version >= '7.3'", "a; '3' in python_version",
+    "a; platform_release < '5'", "a; python_version >= '3.*'", "a; python_version == '3.8.*'",
 ]  # fmt: skip
 NOT_READ = [
-    "", "-a", "a-", "a>", "a==", "a===1", "a>=1.a.*", "a>1.*", "a<=1.*", "a~=1", "a~=1.*", "a>=1+l", "a>=1<2", "a (>dev)", "a>=1,,<2", "a,",
-    "a[x", "a[x y]", "a(>=1", "a @ https://example.org/a.whl", "a[x] @ file:///a", "a;", "a; os_name", "a; os_name = 'nt'",
-    "a; 'a' == 'b'", "a; os_name == sys_platform", "a; made_up == 'x'", "a; os_name ~= '1'", "a; extra > 'x'", "a; extra in 'x'",
-    "a; '1' ~= python_version", "a; python_version > 'x'", "a; python_version in '3.8 x'", "a; (os_name == 'a'", "a; os_name == 'a')",
-    "a; os_name == 'a' or", "a; os_name not == 'a'", "a; os_name === 'a'", "a; os_name == \"a'", "a>=18446744073709551616",
+    "", "-a", "a-", "a>", "a==", "a===1", "a>=1.a.*", "a>1.*", "a<=1.*", "a~=1", "a~=1.*", "a>=1+l", "a>=1<2",
+    "a (>dev)", "a>=1,,<2", "a,", "a[x", "a[x y]", "a(>=1", "a @ https://example.org/a.whl", "a[x] @ file:///a", "a;",
+    "a; os_name", "a; os_name = 'nt'", "a; 'a' == 'b'", "a; os_name == sys_platform", "a; made_up == 'x'",
+    "a; os_name ~= '1'", "a; extra > 'x'", "a; extra in 'x'", "a; '1' ~= python_version", "a; python_version > 'x'",
+    "a; python_version in '3.8 x'", "a; (os_name == 'a'", "a; os_name == 'a')", "a; os_name == 'a' or",
+    "a; os_name not == 'a'", "a; os_name === 'a'", "a; os_name == \"a'", "a>=18446744073709551616",
     "a; os_name == 'a' os_name == 'b'", "a; OS_NAME == 'x'", "a; os_name == 'a' AND os_name == 'b'",
 ]  # fmt: skip
 BOUNDS = [">=3.5", ">=3.5.*", "!=3.0.*,>=2.7", "", ">=3.5,", "~=3.8"]
@@ -47,8 +50,8 @@ MET = [
     (">=1,<2,!=1.5", "1 1.4 1.9", "0.9 1.5 2 2.0a1"),
 ]
 INCREASING = (
-    "1.0.dev456 1.0a1 1.0a2.dev456 1.0a12.dev456 1.0a12 1.0b1.dev456 1.0b2 1.0b2.post345.dev456 1.0b2.post345 1.0rc1.dev456 1.0rc1 1.0 "
-    "1.0+abc.5 1.0+abc.7 1.0+5 1.0.post456.dev34 1.0.post456 1.0.15 1.1.dev1"
+    "1.0.dev456 1.0a1 1.0a2.dev456 1.0a12.dev456 1.0a12 1.0b1.dev456 1.0b2 1.0b2.post345.dev456 1.0b2.post345 "
+    "1.0rc1.dev456 1.0rc1 1.0 1.0+abc.5 1.0+abc.7 1.0+5 1.0.post456.dev34 1.0.post456 1.0.15 1.1.dev1"
 ).split()
 
 
@@ -137,7 +140,8 @@ class TheProgramsOwn(Folder):
     """The program passes over the release of exactly those texts that the tools say it can't read."""
 
     def used(self, releases: List[dict]) -> List[bool]:
-        """Whether each release is used, asked for all at once: each is its own package, and the project wants `pK>0`."""
+        """Whether each release is used, asked for all at once: each is its own package, and the project wants
+        `pK>0`."""
         for number, entry in enumerate(releases):
             self.write(
                 f"ix/p{number}.json",

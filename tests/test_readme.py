@@ -1,4 +1,5 @@
-"""What README.md says of the tools and of the project file: a row for each. The walks themselves stand in test_walk.py."""
+"""What README.md says of the tools and of the project file: a row for each. The walks themselves stand in
+test_walk.py."""
 
 from __future__ import annotations
 
@@ -94,7 +95,8 @@ class Keys(Rows):
         if not section:
             skip(self, "README.md has no table of keys yet")
         rows = {cells[0]: cells[1] for cells in re.findall(r"(?m)^\| (`.*?) \| (.*) \|$", section)}
-        told = {name.rpartition("tool.uv.")[2]: text for cell, text in rows.items() for name in re.findall(r"`([^`]+)`", cell)}
+        named = [(name, text) for cell, text in rows.items() for name in re.findall(r"`([^`]+)`", cell)]
+        told = {name.rpartition("tool.uv.")[2]: text for name, text in named}
         for key in keys.READ:
             self.assertRegex(told[key.rpartition("tool.uv.")[2]], r"\A(read|refused)", key)
         for key in keys.REFUSED:
@@ -133,7 +135,9 @@ class Differences(Rows):
 
     def test_lowest_with_an_old_lock(self) -> None:
         self.write("ix/a.json", document("a", {"version": "1"}, {"version": "2"}, {"version": "3"}))
-        both = 'version = 2\nroot = "demo"\n\n[[package]]\nname = "a"\nversion = "1"\n\n[[package]]\nname = "a"\nversion = "2"\n\n[[package]]\nname = "demo"\nversion = "0.1"\n'
+        kept = [("a", "1"), ("a", "2"), ("demo", "0.1")]
+        blocks = [f'[[package]]\nname = "{name}"\nversion = "{version}"\n' for name, version in kept]
+        both = "\n".join(['version = 2\nroot = "demo"\n', *blocks])
         for mode in ["lowest", "highest"]:
             self.write("unilock.lock", both)
             self.write("pyproject.toml", BARE + f'[tool.uv]\nresolution = "{mode}"\n')

@@ -1,4 +1,5 @@
-"""The script `unilock`: how the program is started, and what it makes of limits of address space and of files' sizes."""
+"""The script `unilock`: how the program is started, and what it makes of limits of address space and of files'
+sizes."""
 
 from __future__ import annotations
 

@@ -55,7 +55,8 @@ class Served(Folder):
         return done.stderr
 
     def found(self) -> dict:
-        return {it.stem: [one["version"] for one in json.loads(it.read_text())["versions"]] for it in sorted(self.out.iterdir())}
+        read = {it.stem: json.loads(it.read_text()) for it in sorted(self.out.iterdir())}
+        return {name: [one["version"] for one in found["versions"]] for name, found in read.items()}
 
     def document(self, name: str) -> List[dict]:
         return json.loads((self.out / f"{name}.json").read_text())["versions"]
@@ -256,10 +257,11 @@ class Faults(Served):
 
     def test_hashes_are_checked(self) -> None:
         self.fill()
+        told = b"Metadata-Version: 2.1\nName: alpha\nVersion: 1.2\n"
         for metadata in ["core-metadata", None]:
             with Server(self.wheels, metadata=metadata, ranges=False) as server:
                 if metadata:
-                    server.metadata_of = lambda path: b"Metadata-Version: 2.1\nName: alpha\nVersion: 1.2\n"  # type: ignore[method-assign]
+                    server.metadata_of = lambda path: told  # type: ignore[method-assign]
                     page = Server(self.wheels)
                     server.json_page = page.json_page  # type: ignore[method-assign]
                     page.http.server_close()
@@ -377,7 +379,8 @@ class Words(Served):
             os.close(shown)
             self.assertEqual(running.wait(30), 0)
         self.assertRegex(said, rb"\r\x1b\[Kindex: \d+ packages, \d+ releases, \d+ open, [\d.]+ MB")
-        self.assertTrue(said.endswith(b"\r\x1b[Kindex: 12 requests, 0.0 MB\r\nindex: ix has 5 packages with 7 releases\r\n"), said)
+        end = b"\r\x1b[Kindex: 12 requests, 0.0 MB\r\nindex: ix has 5 packages with 7 releases\r\n"
+        self.assertTrue(said.endswith(end), said)
 
     def test_an_interrupt_is_not_kept_waiting_by_a_silent_server(self) -> None:
         self.fill()

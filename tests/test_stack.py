@@ -1,4 +1,5 @@
-"""How much stack the deepest trees take: with an eighth of the usual one the program answers as it does with all of it."""
+"""How much stack the deepest trees take: with an eighth of the usual one the program answers as it does with all of
+it."""
 
 from __future__ import annotations
 
@@ -79,7 +80,8 @@ class Stack(Folder):
         self.assertEqual(self.status("lock p.toml ix 1 l"), 0)
 
     def test_a_derivation_of_the_deepest_region(self) -> None:
-        reason = subprocess.run([str(PROGRAM), "why", "none.toml", "ix", "1"], cwd=self.top, capture_output=True, text=True)
+        call = [str(PROGRAM), "why", "none.toml", "ix", "1"]
+        reason = subprocess.run(call, cwd=self.top, capture_output=True, text=True)
         self.assertIn(REGION, reason.stdout)
         self.write("d", reason.stdout.replace(REGION, f"region: {marker(LEVELS)}"))
         # The line behind the region is its world, and this region has another.
@@ -89,7 +91,10 @@ class Stack(Folder):
         deeper = marker(LEVELS + 1)
         self.write("l", LOCK.format(deeper))
         self.write("d", f"no selection serves this fork\nfork: 0\nregion: {deeper}\n")
-        for words, told in [("env l m.json", "malformed: l: line 8\n"), ("check none.toml ix d", "malformed: d: line 3\n")]:
+        for words, told in [
+            ("env l m.json", "malformed: l: line 8\n"),
+            ("check none.toml ix d", "malformed: d: line 3\n"),
+        ]:
             self.assertEqual(self.status(words), 3)
             call = [str(PROGRAM), *words.split()]
             self.assertEqual(subprocess.run(call, cwd=self.top, capture_output=True, text=True).stdout, told)
