@@ -245,7 +245,6 @@ class Places(Explained):
     def test_limits_and_read_faults(self) -> None:
         self.assertIn("at most 2,048 forks", self.told_of("limit: forks 2048\n")[0])
         self.assertIn("see its permissions", self.told_of("read fault: ix/a.json\n")[0])
-        self.assertIn("doesn't have the form `export` yet", self.told_of("not built: export\n")[0])
 
     def test_what_the_program_refuses_is_explained(self) -> None:
         want_program(self)

@@ -1,5 +1,5 @@
-"""The script `unilock`: how the program is started, and what it makes of limits of address space and of files'
-sizes."""
+"""The script `unilock`: how the program is started and when it is built, and what it makes of limits of address space
+and of files' sizes."""
 
 from __future__ import annotations
 
@@ -8,7 +8,7 @@ import os
 import shutil
 import subprocess
 from pathlib import Path
-from typing import Tuple
+from typing import List, Tuple
 
 from making import PROGRAM, TOP, Folder, want_program
 
@@ -20,6 +20,31 @@ echo "$GLIBC_TUNABLES" "$(ulimit -S -s)" "$@"
 WRITING = """#!/bin/sh
 exec head -c 5000 /dev/zero
 """
+# Stands for `rt`: notes what it is asked, fails where `broken` stands beside the crates, and builds the program.
+PROVING = """#!/bin/sh
+here=${PWD##*/}
+echo "$here $*" >>../../asked
+[ ! -e ../../broken ] || { echo "no proof of $here"; exit 1; }
+[ "$1" != run ] || { mkdir -p out; printf '#!/bin/sh\\necho built "$@"\\n' >out/unilock; chmod +x out/unilock; }
+"""
+CRATES = """# Themes
+ul_high may_wait=2: ul_low ul_middle
+ul_middle: ul_low
+ul_low:
+ul_apart:
+unilock: ul_high
+ul_promises: ul_law ul_high
+ul_law: ul_low
+"""
+BUILDING = [
+    "ul_low lib",
+    "ul_middle lib",
+    "ul_high lib",
+    "unilock check",
+    "ul_law lib",
+    "ul_promises check",
+    "unilock run",
+]
 VARIABLES = [
     "os_name",
     "sys_platform",
@@ -42,7 +67,8 @@ class Script(Folder):
     def setUp(self) -> None:
         super().setUp()
         (self.top / "out").mkdir()
-        (self.top / "crates").mkdir()
+        for part in ("src", "specs"):
+            (self.top / "crates" / "ul_low" / part).mkdir(parents=True)
         (self.top / "crates.txt").touch()
         shutil.copy(TOP / "unilock", self.top / "unilock")
 
@@ -93,3 +119,43 @@ class Script(Folder):
             )
             self.assertEqual(done.returncode, status)
             self.assertEqual((self.top / "printed").stat().st_size, size)
+
+    def build(self) -> Tuple[int, str, str]:
+        """The script's status and what it prints, with a stand-in for `rt`."""
+        env = {**os.environ, "PATH": f"{self.top}/bin:{os.environ['PATH']}"}
+        done = subprocess.run(["./unilock", "a", "b"], cwd=self.top, env=env, capture_output=True, text=True)
+        return done.returncode, done.stdout, done.stderr
+
+    def asked_of_rt(self) -> List[str]:
+        """What `rt` was asked since the last call."""
+        notes = self.top / "asked"
+        lines = notes.read_text().splitlines() if notes.exists() else []
+        notes.write_text("")
+        return lines
+
+    def test_crates_are_proved_in_order_and_again_where_a_source_is_newer(self) -> None:
+        (self.top / "bin").mkdir()
+        self.write("bin/rt", PROVING).chmod(0o755)
+        self.write("crates.txt", CRATES)
+        for name in ("ul_low", "ul_middle", "ul_high", "ul_law", "ul_apart", "ul_promises", "unilock"):
+            for part in ("src/lib.rt", "specs/Lib.antt", "proofs/Lib.antt"):
+                self.write(f"crates/{name}/{part}", "")
+        status, printed, said = self.build()
+        self.assertEqual((status, printed), (0, "built a b\n"))
+        self.assertEqual(self.asked_of_rt(), BUILDING)
+        self.assertIn("proving 6 crates", said)
+        self.assertIn("6 of 6 crates are proved", said)
+        built = (self.top / "out" / "unilock").stat().st_mtime
+        for part, rebuilds in (("proofs", False), ("specs", True), ("src", True)):
+            made = self.top / "crates" / "ul_middle" / part
+            os.utime(next(made.iterdir()), (built + 5, built + 5))
+            self.assertEqual(self.build()[:2], (0, "built a b\n"))
+            self.assertEqual(self.asked_of_rt(), BUILDING if rebuilds else [], part)
+            os.utime(next(made.iterdir()), (built - 5, built - 5))
+        os.utime(self.top / "crates.txt", (built + 5, built + 5))
+        self.write("broken", "")
+        status, printed, said = self.build()
+        self.assertEqual((status, printed), (70, ""))
+        self.assertEqual(self.asked_of_rt(), ["ul_low lib"])
+        self.assertIn("no proof of ul_low", said)
+        self.assertTrue((self.top / "out" / "unilock").exists())

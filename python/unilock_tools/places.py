@@ -205,8 +205,6 @@ def told(line: str) -> Optional[List[str]]:
     if line.startswith("limit: "):
         name, _, number = line[len("limit: ") :].partition(" ")
         return [f"A limit is passed ({name} {number}): {LIMITS.get(name, 'the input is too large')}."]
-    if line.startswith("not built: "):
-        return [f"This build of unilock doesn't have the form `{line[len('not built: '):]}` yet."]
     if line.startswith("read fault: "):
         return [f"{line[len('read fault: '):]}: the file is there and can't be read; see its permissions."]
     return None
