@@ -23,9 +23,15 @@ exec head -c 5000 /dev/zero
 # Stands for `rt`: notes what it is asked, fails where `broken` stands beside the crates, and builds the program.
 PROVING = """#!/bin/sh
 here=${PWD##*/}
-echo "$here $*" >>../../asked
+echo "$here $1" >>../../asked
 [ ! -e ../../broken ] || { echo "no proof of $here"; exit 1; }
+[ "$1" != all ] || printf '== %s\\n' ul_low ul_middle ul_high unilock summary
 [ "$1" != run ] || { mkdir -p out; printf '#!/bin/sh\\necho built "$@"\\n' >out/unilock; chmod +x out/unilock; }
+"""
+# Stands for `awk` where it is asked for the memory that is free: there is enough where `room` stands beside the crates.
+ROOM = """#!/bin/sh
+case $1 in *MemAvailable*) [ -e room ]; exit ;; esac
+exec {} "$@"
 """
 CRATES = """# Themes
 ul_high may_wait=2: ul_low ul_middle
@@ -45,6 +51,7 @@ BUILDING = [
     "ul_promises check",
     "unilock run",
 ]
+BUILDING_MANY = ["unilock all", "ul_law lib", "ul_promises check", "unilock run"]
 VARIABLES = [
     "os_name",
     "sys_platform",
@@ -133,29 +140,52 @@ class Script(Folder):
         notes.write_text("")
         return lines
 
-    def test_crates_are_proved_in_order_and_again_where_a_source_is_newer(self) -> None:
+    def stand_in(self) -> None:
+        """Small crates, and stand-ins for `rt` and for how much memory is free."""
         (self.top / "bin").mkdir()
         self.write("bin/rt", PROVING).chmod(0o755)
+        self.write("bin/awk", ROOM.format(shutil.which("awk"))).chmod(0o755)
         self.write("crates.txt", CRATES)
         for name in ("ul_low", "ul_middle", "ul_high", "ul_law", "ul_apart", "ul_promises", "unilock"):
             for part in ("src/lib.rt", "specs/Lib.antt", "proofs/Lib.antt"):
                 self.write(f"crates/{name}/{part}", "")
-        status, printed, said = self.build()
-        self.assertEqual((status, printed), (0, "built a b\n"))
-        self.assertEqual(self.asked_of_rt(), BUILDING)
-        self.assertIn("proving 6 crates", said)
-        self.assertIn("6 of 6 crates are proved", said)
+
+    def test_crates_are_proved_in_order(self) -> None:
+        self.stand_in()
+        for room, asked in ((False, BUILDING), (True, BUILDING_MANY)):
+            if room:
+                self.write("room", "")
+                (self.top / "out" / "unilock").unlink()
+            status, printed, said = self.build()
+            self.assertEqual((status, printed), (0, "built a b\n"))
+            self.assertEqual(self.asked_of_rt(), asked)
+            self.assertIn("proving 6 crates", said)
+            for count in range(1, 7):
+                self.assertIn(f"unilock: {count} of 6 crates are proved\n", said)
+
+    def test_the_program_is_built_again_where_a_source_is_newer(self) -> None:
+        self.stand_in()
+        self.build()
+        self.asked_of_rt()
         built = (self.top / "out" / "unilock").stat().st_mtime
         for part, rebuilds in (("proofs", False), ("specs", True), ("src", True)):
-            made = self.top / "crates" / "ul_middle" / part
-            os.utime(next(made.iterdir()), (built + 5, built + 5))
+            made = next((self.top / "crates" / "ul_middle" / part).iterdir())
+            os.utime(made, (built + 5, built + 5))
             self.assertEqual(self.build()[:2], (0, "built a b\n"))
             self.assertEqual(self.asked_of_rt(), BUILDING if rebuilds else [], part)
-            os.utime(next(made.iterdir()), (built - 5, built - 5))
-        os.utime(self.top / "crates.txt", (built + 5, built + 5))
+            os.utime(made, (built - 5, built - 5))
+
+    def test_without_a_proof_the_old_program_stays_and_nothing_is_answered(self) -> None:
+        self.stand_in()
+        self.put(self.write("telling", TELLING))
+        kept = (self.top / "out" / "unilock").read_text()
+        os.utime(self.top / "out" / "unilock", (0, 0))
         self.write("broken", "")
-        status, printed, said = self.build()
-        self.assertEqual((status, printed), (70, ""))
-        self.assertEqual(self.asked_of_rt(), ["ul_low lib"])
-        self.assertIn("no proof of ul_low", said)
-        self.assertTrue((self.top / "out" / "unilock").exists())
+        for room, asked in ((False, ["ul_low lib"]), (True, ["unilock all"])):
+            if room:
+                self.write("room", "")
+            status, printed, said = self.build()
+            self.assertEqual((status, printed), (70, ""))
+            self.assertEqual(self.asked_of_rt(), asked)
+            self.assertIn("no proof of ", said)
+            self.assertEqual((self.top / "out" / "unilock").read_text(), kept)
