@@ -6,6 +6,9 @@ mod Verified
 mod Answers
 mod Workers
 mod Complete
+mod AlikeProblems
+mod Reordered
+mod Unkept
 mod Reasons
 mod Refusals
 mod WellFormed
