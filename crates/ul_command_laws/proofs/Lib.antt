@@ -6,6 +6,7 @@ mod Verified
 mod Answers
 mod Workers
 mod Complete
+mod ReadFiles
 mod AlikeProblems
 mod Reordered
 mod Unkept

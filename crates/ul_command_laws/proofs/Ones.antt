@@ -12,7 +12,8 @@ AreAlike {A} Same said = (a b : Result A Refused) → said.gives a → said.give
 abbrev pub IsOne : {A : Type 0} → Said A → Type 0
 IsOne {A} said = (a b : Result A Refused) → said.gives a → said.gives b → a ≡ b
 
-ok_same : (A : Type 0) (x y : A) → (let r : Result A Refused = Ok x in r) ≡ Ok y → x ≡ y
+-- equal results have equal values
+pub ok_same : (A : Type 0) (x y : A) → (let r : Result A Refused = Ok x in r) ≡ Ok y → x ≡ y
 ok_same A x y e = cc
 
 err_same : (A : Type 0) (e f : Refused) → (let r : Result A Refused = Err e in r) ≡ Err f → e ≡ f

@@ -1,8 +1,8 @@
 -- What `why` prints of a refused fork is accepted by `check`.
-use Rattle.std.proofs.Common.{◌≡◌, ◌≢◌, ◌∙◌, ◌<◌, ◌≤◌, ◌+◌, ◌^◌, ℕ, zero, suc, List, [], ◌∷◌, ◌++◌, Bool, true, false, length, map, Some, None, Result, Ok, refl, sym, ap, subst, arith, inl, inr}
-use Rattle.std.specs.Prelude.{Contains, slice_get, nat_le, codes}
+use Rattle.std.proofs.Common.{◌≡◌, ◌≢◌, ◌∙◌, ◌<◌, ◌≤◌, ◌+◌, ◌^◌, ℕ, zero, suc, List, [], ◌∷◌, ◌++◌, Bool, true, false, length, map, Some, Result, Ok, refl, sym, ap, subst, arith, inl, inr}
+use Rattle.std.specs.Prelude.{Contains, slice_get}
 use Rattle.std.proofs.lemmas.List.{length-append, length-map}
-use Rattle.ul_base.specs.Files.{FileMap, content}
+use Rattle.ul_base.specs.Files.{FileMap}
 use Rattle.ul_base.specs.declared.node.Node.{Node}
 use Rattle.ul_base.proofs.ForCallers.{contains_cases, contains_first, contains_from_map, contains_later, reached_in}
 use Rattle.ul_version.specs.Fields.{IsVersion}
@@ -35,11 +35,10 @@ use Rattle.ul_report_read.specs.Proofs.{IsNamed, IsTextOf}
 use Rattle.ul_report_read.specs.declared.proof.Proof.{Proof}
 use Rattle.ul_report_judge.specs.Laws.{PrintedIsAccepted}
 use Rattle.ul_project.specs.Fields.{ProjectFields}
-use Rattle.ul_inputs.specs.Inputs.{bounded, large_file, said_on, text_bytes}
-use Rattle.ul_inputs.specs.Locks.{Kept, old_lock}
+use Rattle.ul_inputs.specs.Inputs.{large_file, text_bytes}
 use Rattle.ul_inputs.specs.Projects.{project_at}
 use Rattle.ul_inputs.specs.Refused.{Refused}
-use Rattle.ul_inputs.specs.Resolutions.{IsResolution, ResolutionFields, resolution_in, resolution_with}
+use Rattle.ul_inputs.specs.Resolutions.{IsResolution, ResolutionFields, resolution_of, resolution_with}
 use Rattle.ul_given.specs.Given.{GivenHasTexts, GivenIsResolution, HasTexts}
 use Rattle.ul_answers.specs.Answer.{Answer, accepted, derived}
 use Rattle.ul_commands.specs.Asked.{check}
@@ -49,6 +48,8 @@ use Rattle.ul_commands.specs.Laws.{ForksAreUnserved}
 use Rattle.ul_commands.specs.Questions.{question_of}
 use Rattle.ul_commands.specs.Reasons.{AreStepsOf, DerivedWhere, GivesReason}
 use Rattle.ul_command_laws.specs.Reasons.{AcceptedAreUnserved, FilesAreAccepted, HasAcceptedProof, ReasonsAreAccepted, reason_text}
+use Rattle.ul_command_laws.proofs.ReadFiles.{file_text, read_of}
+use Rattle.ul_command_laws.proofs.Unkept.{accepted_unkept}
 
 -- the laws of lower crates on which this rests
 pub record ReasonLaws : Type 0 where
@@ -213,22 +214,6 @@ reasons_are_accepted laws r path region steps is texts h few =
 
 -- ---- files
 
-fits : (n : ℕ) → n ≤ text_bytes → nat_le n text_bytes ≡ true
-fits n h = grind arith
-
-ok_kept : (x y : List Kept) → (let r : Result (List Kept) Refused = Ok x in r) ≡ Ok y → x ≡ y
-ok_kept x y e = cc
-
--- the text of a file that isn't too long
-pub file_text : (m : FileMap) (path text : List ℕ) → content m path ≡ Some text → length text ≤ text_bytes → (large_file path m).gives (Ok text)
-file_text m path text at few = inr (record {
-  value = Some text;
-  gave =
-      let whole : bounded (codes "text-bytes") text_bytes (Some text) ≡ Ok (Some text) = rw (fits (length text) few) refl in
-      sym whole ∙ ap (bounded (codes "text-bytes") text_bytes) (sym at);
-  answers = refl;
-})
-
 -- what `check` reads and answers, part by part
 checked : (project folder derivation text : List ℕ) (m : FileMap) (p : ProjectFields) (r : ResolutionFields) (x : Proof)
     → (project_at project m).gives (Ok p) → (large_file derivation m).gives (Ok text) → IsTextOf text x
@@ -244,32 +229,18 @@ checked project folder derivation text m p r x said file is_text made answer = i
   });
 })
 
--- what was read of the project and the index folder
-pub record Parts (project folder : List ℕ) (m : FileMap) (r : ResolutionFields) : Type 0 where
-  pub fields : ProjectFields
-  pub said : (project_at project m).gives (Ok fields)
-  pub made : (resolution_with folder fields [] m).gives (Ok r)
-
-kept_parts : (project folder : List ℕ) (m : FileMap) (r : ResolutionFields) (p : ProjectFields) → (project_at project m).gives (Ok p)
-    → (said_on (old_lock None m) (λ kept. resolution_with folder p kept m)).gives (Ok r) → Parts project folder m r
-kept_parts project folder m r p said (inl h) = absurd h
-kept_parts project folder m r p said (inr h) =
-    let none = ok_kept h.value [] h.gave in
-    record { fields = p; said = said; made = subst (λ kept. (resolution_with folder p kept m).gives (Ok r)) none h.answers }
-
-pub parts_of : (project folder : List ℕ) (m : FileMap) (r : ResolutionFields) → (resolution_in project folder None m).gives (Ok r) → Parts project folder m r
-parts_of project folder m r (inl h) = absurd h
-parts_of project folder m r (inr h) = kept_parts project folder m r h.value h.gave h.answers
-
 pub files_are_accepted : ReasonLaws → GivenIsResolution → GivenHasTexts → FilesAreAccepted
-files_are_accepted laws given texts project folder derivation workers m path region steps (inl h) at few = absurd h
-files_are_accepted laws given texts project folder derivation workers m path region steps (inr h) at few =
+files_are_accepted laws given texts project folder derivation old workers m path region steps (inl h) at few = absurd h
+files_are_accepted laws given texts project folder derivation old workers m path region steps (inr h) at few =
     let text = reason_text path region steps in
-    let is = given project folder None m h.value h.gave in
-    let had = texts project folder None m h.value h.gave in
+    let is = given project folder old m h.value h.gave in
+    let had = texts project folder old m h.value h.gave in
     let found = reasons_are_accepted laws h.value path region steps is had h.answers few in
-    let parts = parts_of project folder m h.value h.gave in
-    checked project folder derivation text m parts.fields h.value found.proof parts.said (file_text m derivation text at few) found.is_text parts.made found.answer
+    let read = read_of project folder old m h.value h.gave in
+    let kept = subst (λ r. IsCheckAnswer r found.proof (Ok accepted)) read.is found.answer in
+    checked project folder derivation text m read.fields (resolution_of read.fields [] read.catalog) found.proof read.said
+    (file_text m derivation text at few) found.is_text read.made
+    (accepted_unkept read.fields read.catalog read.kept found.proof kept)
 
 -- ---- what an accepted derivation says
 

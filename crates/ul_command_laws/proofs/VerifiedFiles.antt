@@ -1,8 +1,7 @@
 -- What `verify` reads and accepts.
-use Rattle.std.proofs.Common.{◌≡◌, ℕ, List, [], ◌∷◌, map, Option, None, Result, Ok, refl, ap, subst, inl, inr}
+use Rattle.std.proofs.Common.{◌≡◌, ℕ, List, [], ◌∷◌, map, Option, None, Ok, refl, ap, subst, inl, inr}
 use Rattle.ul_base.specs.Files.{FileMap}
 use Rattle.ul_requirement.specs.Fields.{ReleaseFields}
-use Rattle.ul_index.specs.Catalogs.{Packages}
 use Rattle.ul_project.specs.Fields.{ProjectFields}
 use Rattle.ul_groups.specs.Adjusted.{ByName, adjusted_package, adjusted_release, all_on}
 use Rattle.ul_lock_read.specs.Laws.{TextIsLocks}
@@ -12,10 +11,9 @@ use Rattle.ul_lock_write.specs.Texts.{lock_text}
 use Rattle.ul_lock.specs.WellFormed.{IsWellFormed}
 use Rattle.ul_verified.specs.Headline.{HasProject, VerifiedPromises}
 use Rattle.ul_verified.specs.Verified.{IsVerified}
-use Rattle.ul_inputs.specs.Inputs.{large_file, said_on}
-use Rattle.ul_inputs.specs.Locks.{Kept, lock_at, old_lock}
+use Rattle.ul_inputs.specs.Inputs.{large_file}
+use Rattle.ul_inputs.specs.Locks.{lock_at}
 use Rattle.ul_inputs.specs.Projects.{project_at}
-use Rattle.ul_inputs.specs.Refused.{Refused}
 use Rattle.ul_inputs.specs.Resolutions.{ResolutionFields, resolution_in, resolution_of, resolution_with}
 use Rattle.ul_given.specs.Given.{BeginsWithProject, GivenBegins, GivenHasTexts, GivenIsResolution}
 use Rattle.ul_answers.specs.Answer.{environment, locked, verified}
@@ -27,7 +25,7 @@ use Rattle.ul_commands.specs.Verifying.{IsVerifyAnswer}
 use Rattle.ul_command_laws.specs.Complete.{InputsAreAnswered}
 use Rattle.ul_command_laws.specs.Verified.{EnvironmentsOfVerified, EnvironmentsOfVerifiedFiles, LocksAreVerified, VerifiedAreSound, VerifiedFilesAreSound}
 use Rattle.ul_command_laws.specs.WellFormed.{LocksAreWellFormed}
-use Rattle.ul_command_laws.proofs.Reasons.{file_text, parts_of}
+use Rattle.ul_command_laws.proofs.ReadFiles.{file_text, made_itself, read_of}
 
 -- a lock that is read is well formed
 pub read_well : (path : List ℕ) (m : FileMap) (l : Lock) → (lock_at path m).gives (Ok l) → IsWellFormed l
@@ -39,8 +37,9 @@ verified_answer : InputsAreAnswered → (project folder path : List ℕ) (m : Fi
     → (resolution_in project folder None m).gives (Ok r) → (lock_at path m).gives (Ok l)
     → (command (verify project folder path) m).gives (Ok verified) → IsVerifyAnswer r l (Ok verified)
 verified_answer inputs project folder path m r l gave read accepts =
-    let parts = parts_of project folder m r gave in
-    inputs.verify project folder path m parts.fields l r (Ok verified) parts.said read parts.made accepts
+    let had = read_of project folder None m r gave in
+    let made = made_itself project folder m r had in
+    inputs.verify project folder path m had.fields l r (Ok verified) had.said read made accepts
 
 pub verified_files_are_sound : InputsAreAnswered → VerifiedAreSound → VerifiedFilesAreSound
 verified_files_are_sound inputs sound project folder path m r l gave read accepts =
@@ -104,43 +103,6 @@ accepted project folder path text m p r l said file is_text made answer = inr (r
   });
 })
 
-same_resolution : (r s : ResolutionFields) → (let a : Result ResolutionFields Refused = Ok r in a) ≡ Ok s → r ≡ s
-same_resolution r s e = cc
-
--- what was read of the project and the index folder, whatever an old lock keeps
-record Read (project folder : List ℕ) (m : FileMap) (r : ResolutionFields) : Type 0 where
-  fields : ProjectFields
-  said : (project_at project m).gives (Ok fields)
-  catalog : Packages
-  made : (resolution_with folder fields [] m).gives (Ok (resolution_of fields [] catalog))
-  is_project : r.project ≡ fields
-  is_catalog : r.catalog ≡ catalog
-
-read_with : (project folder : List ℕ) (m : FileMap) (r : ResolutionFields) (p : ProjectFields) (kept : List Kept)
-    → (project_at project m).gives (Ok p) → (resolution_with folder p kept m).gives (Ok r) → Read project folder m r
-read_with project folder m r p kept said (inl h) = absurd h
-read_with project folder m r p kept said (inr h) =
-    let same : r ≡ resolution_of p kept h.value = same_resolution r (resolution_of p kept h.value) h.answers in
-    record {
-      fields = p;
-      said = said;
-      catalog = h.value;
-      made = inr (record { value = h.value; gave = h.gave; answers = refl });
-      is_project = ap (λ (x : ResolutionFields). x.project) same;
-      is_catalog = ap (λ (x : ResolutionFields). x.catalog) same;
-    }
-
-read_behind : (project folder : List ℕ) (old : Option (List ℕ)) (m : FileMap) (r : ResolutionFields) (p : ProjectFields)
-    → (project_at project m).gives (Ok p)
-    → (said_on (old_lock old m) (λ kept. resolution_with folder p kept m)).gives (Ok r) → Read project folder m r
-read_behind project folder old m r p said (inl h) = absurd h
-read_behind project folder old m r p said (inr h) = read_with project folder m r p h.value said h.answers
-
-read_of : (project folder : List ℕ) (old : Option (List ℕ)) (m : FileMap) (r : ResolutionFields)
-    → (resolution_in project folder old m).gives (Ok r) → Read project folder m r
-read_of project folder old m r (inl h) = absurd h
-read_of project folder old m r (inr h) = read_behind project folder old m r h.value h.gave h.answers
-
 pub locks_are_verified : PrintedLaws → LocksAreVerified
 locks_are_verified laws project folder path old workers m l forks (inl h) at few = absurd h
 locks_are_verified laws project folder path old workers m l forks (inr h) at few =
@@ -148,6 +110,6 @@ locks_are_verified laws project folder path old workers m l forks (inr h) at few
     let read = read_of project folder old m h.value h.gave in
     let is = answered_verified laws project folder old m h.value l forks h.gave h.answers in
     let here : IsVerified read.catalog read.fields l =
-    subst (λ c. IsVerified c read.fields l) read.is_catalog (subst (λ p. IsVerified h.value.catalog p l) read.is_project is) in
+    subst (λ (r : ResolutionFields). IsVerified r.catalog r.project l) read.is is in
     accepted project folder path (lock_text l) m read.fields (resolution_of read.fields [] read.catalog) l read.said
     (file_text m path (lock_text l) at few) (laws.texts l well (laws.printable h.value l forks h.answers)) read.made (inl (record { verified = here; is = refl }))

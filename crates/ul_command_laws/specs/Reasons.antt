@@ -1,5 +1,5 @@
 -- What `why` prints of a refused fork is accepted by `check`.
-use Rattle.std.specs.Prelude.{◌≡◌, ◌≤◌, ℕ, List, ◌++◌, Bool, length, Some, None, Ok}
+use Rattle.std.specs.Prelude.{◌≡◌, ◌≤◌, ℕ, List, ◌++◌, Bool, length, Option, Some, Ok}
 use Rattle.ul_base.specs.Files.{FileMap, content}
 use Rattle.ul_nodes.specs.Plain.{Plain}
 use Rattle.ul_tree.specs.Regions.{region_of}
@@ -36,11 +36,12 @@ ReasonsAreAccepted = (r : ResolutionFields) (path : List Bool) (region : Plain) 
     → IsWhyAnswer r (Ok (derived path region steps)) → length (reason_text path region steps) ≤ text_bytes
     → HasAcceptedProof r (reason_text path region steps)
 
--- so `check` accepts what `why` printed, put into a file beside the same ones
+-- so `check`, which reads no old lock, accepts what `why` printed with any old lock and any number of workers, put into a
+-- file beside the same ones
 abbrev pub FilesAreAccepted : Type 0
-FilesAreAccepted = (project folder derivation : List ℕ) (workers : ℕ) (m : FileMap) (path : List Bool) (region : Plain)
-    (steps : List ℕ)
-    → (command (why project folder workers None) m).gives (Ok (derived path region steps))
+FilesAreAccepted = (project folder derivation : List ℕ) (old : Option (List ℕ)) (workers : ℕ) (m : FileMap)
+    (path : List Bool) (region : Plain) (steps : List ℕ)
+    → (command (why project folder workers old) m).gives (Ok (derived path region steps))
     → content m derivation ≡ Some (reason_text path region steps) → length (reason_text path region steps) ≤ text_bytes
     → (command (check project folder derivation) m).gives (Ok accepted)
 

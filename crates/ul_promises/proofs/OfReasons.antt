@@ -1,5 +1,5 @@
 -- What `why` prints, and that `check` accepts it.
-use Rattle.std.proofs.Common.{◌≡◌, ◌∙◌, ◌≤◌, ℕ, length, List, Bool, true, false, Option, Some, None, Result, Ok, ap, subst}
+use Rattle.std.proofs.Common.{◌≡◌, ◌∙◌, ◌≤◌, ℕ, length, List, Bool, true, false, Option, Some, Result, Ok, ap, subst}
 use Rattle.ul_base.specs.Files.{FileMap}
 use Rattle.ul_nodes.specs.Plain.{Plain}
 use Rattle.ul_tree.specs.Paths.{is_printable}
@@ -75,10 +75,10 @@ reasons_are_right law words m bytes project folder workers old q is =
     }
 
 pub printed_are_accepted : FilesAreAccepted → PrintedAreAccepted
-printed_are_accepted law words others m bytes project folder derivation workers q c is there few =
-    let asked = asked_answer words m 1 bytes (why project folder workers None) q is in
-    let p = printed_reason project folder None workers m asked.answer bytes asked.gives asked.prints.0 asked.prints.1 in
-    let gives = subst (λ (x : Result answers.Answer Refused). (command (why project folder workers None) m).gives x) p.is asked.gives in
+printed_are_accepted law words others m bytes project folder derivation workers old q c is there few =
+    let asked = asked_answer words m 1 bytes (why project folder workers old) q is in
+    let p = printed_reason project folder old workers m asked.answer bytes asked.gives asked.prints.0 asked.prints.1 in
+    let gives = subst (λ (x : Result answers.Answer Refused). (command (why project folder workers old) m).gives x) p.is asked.gives in
     is_answer others m (check project folder derivation) (Ok answers.accepted) c
-    (law project folder derivation workers m p.path p.region p.steps gives (there ∙ ap (λ (x : List ℕ). Some x) p.text)
+    (law project folder derivation old workers m p.path p.region p.steps gives (there ∙ ap (λ (x : List ℕ). Some x) p.text)
     (subst (λ (x : List ℕ). length x ≤ text_bytes) p.text few))

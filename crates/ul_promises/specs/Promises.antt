@@ -110,7 +110,8 @@ ReasonsAreRight = (words : List (List ℕ)) (m : FileMap) (bytes project folder 
 -- put into a file beside the same ones, it is accepted by `check`, where a file may be so long
 abbrev pub PrintedAreAccepted : Type 0
 PrintedAreAccepted = (words others : List (List ℕ)) (m : FileMap) (bytes project folder derivation : List ℕ) (workers : ℕ)
-    → question words ≡ why project folder workers None → question others ≡ check project folder derivation
+    (old : Option (List ℕ))
+    → question words ≡ why project folder workers old → question others ≡ check project folder derivation
     → IsAnswer words m 1 bytes → content m derivation ≡ Some bytes → length bytes ≤ text_bytes
     → IsAnswer others m 0 (codes "accepted\n")
 
