@@ -17,3 +17,4 @@ mod Picks
 mod Environments
 mod LockFiles
 mod VerifiedFiles
+mod Statuses

@@ -33,7 +33,7 @@ read_well path m l (inl h) = absurd h
 read_well path m l (inr h) = let is : IsTextOf h.value l = h.answers in is.well_formed
 
 -- what `verify` answers to what the files give
-verified_answer : InputsAreAnswered → (project folder path : List ℕ) (m : FileMap) (r : ResolutionFields) (l : Lock)
+pub verified_answer : InputsAreAnswered → (project folder path : List ℕ) (m : FileMap) (r : ResolutionFields) (l : Lock)
     → (resolution_in project folder None m).gives (Ok r) → (lock_at path m).gives (Ok l)
     → (command (verify project folder path) m).gives (Ok verified) → IsVerifyAnswer r l (Ok verified)
 verified_answer inputs project folder path m r l gave read accepts =
@@ -82,7 +82,7 @@ pub record PrintedLaws : Type 0 where
   pub formed : LocksAreWellFormed
 
 -- the lock that is answered is verified
-answered_verified : PrintedLaws → (project folder : List ℕ) (old : Option (List ℕ)) (m : FileMap) (r : ResolutionFields) (l : Lock) (forks : ℕ)
+pub answered_verified : PrintedLaws → (project folder : List ℕ) (old : Option (List ℕ)) (m : FileMap) (r : ResolutionFields) (l : Lock) (forks : ℕ)
     → (resolution_in project folder old m).gives (Ok r) → IsLockAnswer r (Ok (locked l forks)) → IsVerified r.catalog r.project l
 answered_verified laws project folder old m r l forks gave answer =
     let of = laws.leaves r l forks (laws.resolution project folder old m r gave) answer in

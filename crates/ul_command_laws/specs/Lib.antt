@@ -5,5 +5,6 @@ pub mod Reasons
 pub mod WellFormed
 pub mod Environments
 pub mod Verified
+pub mod Statuses
 pub mod Refusals
 pub mod Complete

@@ -5,6 +5,7 @@ ghost use Rattle.ul_command_laws.specs.Environments.{EnvironmentsOfFiles, Enviro
 ghost use Rattle.ul_command_laws.specs.Lower.{LowerLaws};
 ghost use Rattle.ul_command_laws.specs.Reasons.{AcceptedAreUnserved, FilesAreAccepted, ReasonsAreAccepted};
 ghost use Rattle.ul_command_laws.specs.Refusals.{ReasonsOfFiles, RefusalsOfFiles};
+ghost use Rattle.ul_command_laws.specs.Statuses.{StatusesOfFiles, StatusesOfVerifiedFiles};
 ghost use Rattle.ul_command_laws.specs.Verified.{EnvironmentsOfVerified, EnvironmentsOfVerifiedFiles};
 ghost use Rattle.ul_command_laws.specs.Verified.{LocksAreVerified, VerifiedAreSound, VerifiedFilesAreSound};
 ghost use Rattle.ul_command_laws.specs.WellFormed.{ForksMerge, GivenAreWellFormed, LocksAreWellFormed};
@@ -194,6 +195,22 @@ pub fn verified_files()
 pub fn locks_are_verified()
     ensures { LocksAreVerified }
 {
+    ul_given::laws::given_is_resolution();
+    ul_given::laws::given_has_texts();
+    locks_are_well_formed();
+    ul_commands::laws::locks_are_sound();
+    ul_verified::laws::verified_laws();
+    ul_lock_read::laws::text_laws();
+}
+
+/// With extras of the project, `env` of a lock file into which `lock` printed, or that `verify` accepts, ends with status 0
+/// exactly where the project supports the machine's world and each word is a name.
+pub fn statuses_of_files()
+    ensures printed { StatusesOfFiles }
+    ensures verified { StatusesOfVerifiedFiles }
+{
+    inputs_are_answered();
+    ul_filter::laws::more_comparisons();
     ul_given::laws::given_is_resolution();
     ul_given::laws::given_has_texts();
     locks_are_well_formed();
