@@ -26,13 +26,13 @@ use Rattle.ul_commands.specs.Commands.{command}
 abbrev pub WordsAreNames : List (List ℕ) → Type 0
 WordsAreNames words = (word : List ℕ) → Contains words word → is_name word ≡ true
 
--- the status is 0, and so the answer neither `outside` nor `extra`, exactly where the project supports the world and each
--- word is a name
+-- the status is 0, and so the answer neither `outside` nor `extra`, exactly where the project supports the world and
+-- each word is a name
 abbrev pub EndsRightly : ProjectFields → WorldFields → List (List ℕ) → ℕ → Type 0
 EndsRightly p w words status = (status ≡ 0) ↔ ((supported_by p w ≡ true) × WordsAreNames words)
 
--- With extras of the project `env` ends rightly of what `lock` gave of some files and printed into a file, where a file may
--- be so long. In the machine's world the truth of the lock's comparisons or of more of them is known.
+-- With extras of the project `env` ends rightly of what `lock` gave of some files and printed into a file, where a file
+-- may be so long. In the machine's world the truth of the lock's comparisons or of more of them is known.
 abbrev pub StatusesOfFiles : Type 0
 StatusesOfFiles = (project folder : List ℕ) (old : Option (List ℕ)) (workers : ℕ) (path machine : List ℕ)
     (words : List (List ℕ)) (before now : FileMap) (r : ResolutionFields) (l : Lock) (forks : ℕ) (m : MachineFields)

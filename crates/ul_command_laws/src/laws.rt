@@ -203,8 +203,8 @@ pub fn locks_are_verified()
     ul_lock_read::laws::text_laws();
 }
 
-/// With extras of the project, `env` of a lock file into which `lock` printed, or that `verify` accepts, ends with status 0
-/// exactly where the project supports the machine's world and each word is a name.
+/// With extras of the project, `env` of a lock file into which `lock` printed, or that `verify` accepts, ends with
+/// status 0 exactly where the project supports the machine's world and each word is a name.
 pub fn statuses_of_files()
     ensures printed { StatusesOfFiles }
     ensures verified { StatusesOfVerifiedFiles }

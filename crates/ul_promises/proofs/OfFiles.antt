@@ -1,7 +1,7 @@
 -- What `verify` accepts, and what `env` prints of lock files.
 use Rattle.std.proofs.Common.{◌≡◌, ◌∙◌, ℕ, List, [], Bool, true, false, Option, Some, None, Result, Ok, refl, ap, sym, subst, inl, inr}
 use Rattle.ul_base.specs.Files.{FileMap}
-use Rattle.ul_comparison.specs.Machines.{MachineFields}
+use Rattle.ul_comparison.specs.Machines.{MachineFields, world_of}
 use Rattle.ul_project.specs.Fields.{ProjectFields}
 use Rattle.ul_lock.specs.declared.parts.Lock.{Lock}
 use Rattle.ul_filter.specs.Comparisons.{machine_world}
@@ -21,6 +21,7 @@ use Rattle.ul_commands.specs.Commands.{command}
 use Rattle.ul_commands.specs.Verifying.{IsVerifyAnswer, verify_on, verify_with}
 use Rattle.ul_command_laws.specs.Complete.{LocksWithinLimits}
 use Rattle.ul_command_laws.specs.Environments.{EnvironmentsOfFiles}
+use Rattle.ul_command_laws.specs.Statuses.{EndsRightly, StatusesOfFiles, StatusesOfVerifiedFiles}
 use Rattle.ul_command_laws.specs.Verified.{EnvironmentsOfVerifiedFiles, VerifiedFilesAreSound}
 use Rattle.ul_promises.specs.Promises.{EnvironmentsAreRight, VerifiedAreRight, VerifiedEnvironmentsAreRight}
 use Rattle.ul_promises.proofs.OfAnswers.{asked_answer, on_zero}
@@ -60,19 +61,27 @@ given_environment others m text path machine words a gives status e =
     let same : a ≡ Ok (answers.environment text) = p.is ∙ ap (λ t. Ok (answers.environment t)) (sym p.same) in
     subst (λ (x : Result answers.Answer Refused). (command (env path machine words) m).gives x) same gives
 
-pub environments_are_right : LocksWithinLimits → EnvironmentsOfFiles → EnvironmentsAreRight
-environments_are_right limits law words others before now bytes text project folder workers old path machine extras r x q v is there prints gave machined =
+pub environments_are_right : LocksWithinLimits → EnvironmentsOfFiles → StatusesOfFiles → EnvironmentsAreRight
+environments_are_right limits lines statuses words others before now bytes text project folder status workers old path machine extras r x
+    q v is there prints gave machined =
     let asked = asked_answer words before 0 bytes (lock project folder workers old) q is in
     let p = printed_lock limits project folder old before asked.answer bytes asked.gives asked.prints.0 asked.prints.1 in
     let gives = subst (λ (y : Result answers.Answer Refused). (command (lock project folder workers old) before).gives y) p.is asked.gives in
-    let env_asked = asked_answer others now 0 text (env path machine extras) v prints in
-    let environment = given_environment others now text path machine extras env_asked.answer env_asked.gives env_asked.prints.0 env_asked.prints.1 in
+    let env_asked = asked_answer others now status text (env path machine extras) v prints in
+    let at = there ∙ ap (λ (t : List ℕ). Some t) p.text in
     record {
       lock = p.lock;
       is = p.text;
-      lists = λ comparisons all world own.
-          law project folder old workers path machine extras before now r p.lock p.forks x text comparisons gave gives
-          (there ∙ ap (λ (t : List ℕ). Some t) p.text) machined all world own environment;
+      right = λ comparisons all own. record {
+        ends =
+            subst (EndsRightly r.project (world_of x comparisons) extras) (sym env_asked.prints.0)
+            (statuses project folder old workers path machine extras before now r p.lock p.forks x env_asked.answer comparisons gave gives
+            at p.few machined all own env_asked.gives);
+        lists = λ ended world.
+            lines project folder old workers path machine extras before now r p.lock p.forks x text comparisons gave gives
+            at machined all world own
+            (given_environment others now text path machine extras env_asked.answer env_asked.gives (sym ended ∙ env_asked.prints.0) env_asked.prints.1);
+      };
     }
 
 -- ---- `verify`
@@ -125,10 +134,17 @@ verified_are_right law words m bytes project folder path q is =
       sound = law project folder path m p.resolution p.lock p.gave p.read p.accepts;
     }
 
-pub verified_environments_are_right : EnvironmentsOfVerifiedFiles → VerifiedEnvironmentsAreRight
-verified_environments_are_right law words others m bytes text project folder path machine extras r l x comparisons q v is prints gave read machined all world own =
+pub verified_environments_are_right : EnvironmentsOfVerifiedFiles → StatusesOfVerifiedFiles → VerifiedEnvironmentsAreRight
+verified_environments_are_right lines statuses words others m bytes text project folder path machine status extras r l x comparisons
+    q v is prints gave read machined all own =
     let asked = asked_answer words m 0 bytes (verify project folder path) q is in
     let p = accepted_file project folder path m asked.answer asked.gives asked.prints.0 in
-    let env_asked = asked_answer others m 0 text (env path machine extras) v prints in
-    law project folder path machine extras m r l x text comparisons gave read machined p.accepts all world own
-    (given_environment others m text path machine extras env_asked.answer env_asked.gives env_asked.prints.0 env_asked.prints.1)
+    let env_asked = asked_answer others m status text (env path machine extras) v prints in
+    record {
+      ends =
+          subst (EndsRightly r.project (world_of x comparisons) extras) (sym env_asked.prints.0)
+          (statuses project folder path machine extras m r l x env_asked.answer comparisons gave read machined p.accepts all own env_asked.gives);
+      lists = λ ended world.
+          lines project folder path machine extras m r l x text comparisons gave read machined p.accepts all world own
+          (given_environment others m text path machine extras env_asked.answer env_asked.gives (sym ended ∙ env_asked.prints.0) env_asked.prints.1);
+    }

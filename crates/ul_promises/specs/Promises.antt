@@ -2,9 +2,10 @@
 -- bytes` says that a status and bytes are an answer to the words on the files; by its headline `run` gives no others.
 use Rattle.std.specs.Prelude.{◌≡◌, ◌≤◌, ◌↔◌, ℕ, List, ◌++◌, Bool, codes, length, Option, Some, None, Ok}
 use Rattle.ul_base.specs.Files.{FileMap, content}
+use Rattle.ul_version.specs.Fields.{Fields}
 use Rattle.ul_comparison.specs.Atoms.{AtomFields}
 use Rattle.ul_comparison.specs.Machines.{MachineFields, world_of}
-use Rattle.ul_comparison.specs.Worlds.{IsWorld}
+use Rattle.ul_comparison.specs.Worlds.{IsWorld, WorldFields}
 use Rattle.ul_nodes.specs.Plain.{Plain}
 use Rattle.ul_lock.specs.declared.parts.Lock.{Lock}
 use Rattle.ul_lock_write.specs.Texts.{lock_text}
@@ -22,6 +23,7 @@ use Rattle.ul_commands.specs.Laws.{IsUnserved}
 use Rattle.ul_commands.specs.Locking.{AreCoreLines}
 use Rattle.ul_command_laws.specs.Environments.{IsRequired, IsSpelled, ListsExactly}
 use Rattle.ul_command_laws.specs.Reasons.{reason_text}
+use Rattle.ul_command_laws.specs.Statuses.{EndsRightly}
 use Rattle.ul_command_laws.specs.Workers.{with_workers}
 use Rattle.ul_program.specs.Answer.{IsAnswer}
 use Rattle.ul_program.specs.Words.{question}
@@ -51,24 +53,33 @@ PrintedAreVerified = (words others : List (List ℕ)) (m : FileMap) (bytes proje
     → question words ≡ lock project folder workers old → question others ≡ verify project folder path
     → IsAnswer words m 0 bytes → content m path ≡ Some bytes → IsAnswer others m 0 (codes "verified\n")
 
--- the bytes of a lock, and the lines of what is required in a machine's world with the extras of words
-pub record ListsRequired (r : ResolutionFields) (x : MachineFields) (words : List (List ℕ)) (bytes text : List ℕ) : Type 0 where
+-- What is right to answer of a lock in a world, with words for extras of the project: status 0 exactly where the project
+-- supports the world and each word is a name; and with it the lines of exactly what is required there.
+pub record AnswersRightly (CanBeChosen : List ℕ → Fields → Type 0) (r : ResolutionFields) (l : Lock) (w : WorldFields)
+    (words : List (List ℕ)) (status : ℕ) (text : List ℕ) : Type 0 where
+  pub ends : EndsRightly r.project w words status
+  pub lists : status ≡ 0 → IsWorld w → ListsExactly CanBeChosen (IsRequired r l w (names_of words)) text
+
+-- The bytes of a lock, and what is right to answer of it in the world of a machine, where the truth of the lock's
+-- comparisons or of more of them is known, such as of all that the project and the index ask for.
+pub record IsRightEnvironment (r : ResolutionFields) (x : MachineFields) (words : List (List ℕ)) (bytes : List ℕ) (status : ℕ)
+    (text : List ℕ) : Type 0 where
   pub lock : Lock
   pub is : bytes ≡ lock_text lock
-  pub lists : (comparisons : List AtomFields) → HasAll comparisons (lock_atoms lock) → IsWorld (world_of x comparisons)
+  pub right : (comparisons : List AtomFields) → HasAll comparisons (lock_atoms lock)
       → AreProjectExtras r.project (names_of words)
-      → ListsExactly (IsSpelled r.catalog) (IsRequired r lock (world_of x comparisons) (names_of words)) text
+      → AnswersRightly (IsSpelled r.catalog) r lock (world_of x comparisons) words status text
 
--- what `env` prints with status 0 of a file into which `lock` printed lists exactly what the project requires in the
--- machine's world
+-- of a file into which `lock` printed, `env` with names of the project's extras ends with status 0 exactly where the
+-- project supports the machine's world, and then lists exactly what it requires there
 abbrev pub EnvironmentsAreRight : Type 0
 EnvironmentsAreRight = (words others : List (List ℕ)) (before now : FileMap) (bytes text project folder : List ℕ)
-    (workers : ℕ) (old : Option (List ℕ)) (path machine : List ℕ) (extras : List (List ℕ)) (r : ResolutionFields)
+    (status workers : ℕ) (old : Option (List ℕ)) (path machine : List ℕ) (extras : List (List ℕ)) (r : ResolutionFields)
     (x : MachineFields)
     → question words ≡ lock project folder workers old → question others ≡ env path machine extras
-    → IsAnswer words before 0 bytes → content now path ≡ Some bytes → IsAnswer others now 0 text
+    → IsAnswer words before 0 bytes → content now path ≡ Some bytes → IsAnswer others now status text
     → (resolution_in project folder old before).gives (Ok r) → (machine_at machine now).gives (Ok x)
-    → ListsRequired r x extras bytes text
+    → IsRightEnvironment r x extras bytes status text
 
 -- ---- `lock` and `why` with status 1
 
@@ -130,16 +141,18 @@ abbrev pub VerifiedAreRight : Type 0
 VerifiedAreRight = (words : List (List ℕ)) (m : FileMap) (bytes project folder path : List ℕ)
     → question words ≡ verify project folder path → IsAnswer words m 0 bytes → IsSoundFile project folder path m
 
--- and what `env` prints of it with status 0 lists exactly what the project requires in the machine's world
+-- and `env` of it, with names of the project's extras, ends with status 0 exactly where the project supports the
+-- machine's world, and then lists exactly what it requires there
 abbrev pub VerifiedEnvironmentsAreRight : Type 0
 VerifiedEnvironmentsAreRight = (words others : List (List ℕ)) (m : FileMap) (bytes text project folder path machine : List ℕ)
-    (extras : List (List ℕ)) (r : ResolutionFields) (l : Lock) (x : MachineFields) (comparisons : List AtomFields)
+    (status : ℕ) (extras : List (List ℕ)) (r : ResolutionFields) (l : Lock) (x : MachineFields)
+    (comparisons : List AtomFields)
     → question words ≡ verify project folder path → question others ≡ env path machine extras
-    → IsAnswer words m 0 bytes → IsAnswer others m 0 text
+    → IsAnswer words m 0 bytes → IsAnswer others m status text
     → (resolution_in project folder None m).gives (Ok r) → (lock_at path m).gives (Ok l)
     → (machine_at machine m).gives (Ok x)
-    → HasAll comparisons (lock_atoms l) → IsWorld (world_of x comparisons) → AreProjectExtras r.project (names_of extras)
-    → ListsExactly (IsEligible r.catalog) (IsRequired r l (world_of x comparisons) (names_of extras)) text
+    → HasAll comparisons (lock_atoms l) → AreProjectExtras r.project (names_of extras)
+    → AnswersRightly (IsEligible r.catalog) r l (world_of x comparisons) extras status text
 
 -- ---- workers
 

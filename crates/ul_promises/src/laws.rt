@@ -23,12 +23,14 @@ pub fn printed_are_verified()
     ul_command_laws::laws::locks_are_verified();
 }
 
-/// What `env` prints of it with status 0 lists exactly what is required in the machine's world.
+/// With names of the project's extras `env` of it ends with status 0 exactly where the project supports the machine's
+/// world, and then lists exactly what is required there.
 pub fn environments_are_right()
     ensures { EnvironmentsAreRight }
 {
     ul_command_laws::laws::locks_within_limits();
     ul_command_laws::laws::environments_of_files();
+    ul_command_laws::laws::statuses_of_files();
 }
 
 /// What `lock` prints with status 1 is a fork that no selection serves, with its core.
@@ -53,12 +55,13 @@ pub fn printed_are_accepted()
     ul_command_laws::laws::reasons_are_accepted();
 }
 
-/// A lock that `verify` accepts is right in every world, and `env` lists exactly what is required there.
+/// A lock that `verify` accepts is right in every world, and what `env` answers of it is right too.
 pub fn verified_are_right()
     ensures locks { VerifiedAreRight }
     ensures environments { VerifiedEnvironmentsAreRight }
 {
     ul_command_laws::laws::verified_files();
+    ul_command_laws::laws::statuses_of_files();
 }
 
 /// Another number of workers changes neither the status nor the bytes.
