@@ -47,11 +47,9 @@ BUILDING = [
     "ul_middle lib",
     "ul_high lib",
     "unilock check",
-    "ul_law lib",
-    "ul_promises check",
     "unilock run",
 ]
-BUILDING_MANY = ["unilock all", "ul_law lib", "ul_promises check", "unilock run"]
+BUILDING_MANY = ["unilock all", "unilock run"]
 VARIABLES = [
     "os_name",
     "sys_platform",
@@ -159,9 +157,9 @@ class Script(Folder):
             status, printed, said = self.build()
             self.assertEqual((status, printed), (0, "built a b\n"))
             self.assertEqual(self.asked_of_rt(), asked)
-            self.assertIn("proving 6 crates", said)
-            for count in range(1, 7):
-                self.assertIn(f"unilock: {count} of 6 crates are proved\n", said)
+            self.assertIn("proving 4 crates", said)
+            for count in range(1, 5):
+                self.assertIn(f"unilock: {count} of 4 crates are proved\n", said)
 
     def test_the_program_is_built_again_where_a_source_is_newer(self) -> None:
         self.stand_in()
