@@ -14,6 +14,13 @@ all_at P (y ∷ ys) x h at = by_cases (contains_cases y ys x at) (all_at P ys x 
     by_cases (inr later) on = on later
 
 -- elements that are such behind others that are
-pub more : {A : Type 0} (P : A → Type 0) (xs ys : List A) → AllByRecursion P xs → AllByRecursion P ys → AllByRecursion P (xs ++ ys)
+pub more : {A : Type 0} (P : A → Type 0) (xs ys : List A) → AllByRecursion P xs → AllByRecursion P ys
+    → AllByRecursion P (xs ++ ys)
 more P [] ys h k = k
 more P (x ∷ xs) ys h k = (h.0, more P xs ys h.1 k)
+
+-- each element of a list is such, where it is as soon as another thing is true of it
+pub all_as : {A : Type 0} (P Q : A → Type 0) → ((x : A) → P x → Q x) → (xs : List A) → AllByRecursion P xs
+    → AllByRecursion Q xs
+all_as P Q weaker [] h = tt
+all_as P Q weaker (x ∷ xs) h = (weaker x h.0, all_as P Q weaker xs h.1)

@@ -1,0 +1,84 @@
+-- A requirement that is read is one of a front, with a name and extras, and of the specifiers and the marker behind it.
+use Rattle.std.proofs.Common.{◌≡◌, ℕ, List, [], ◌∷◌, Bool, true, false, cond, Option, Some, None, refl, subst}
+use Rattle.std.specs.Prelude.{◌==◌}
+use Rattle.ul_base.specs.Names.{IsNormalName, name_of}
+use Rattle.ul_base.proofs.ForCallers.{name_reads_itself}
+use Rattle.ul_version.specs.Ascii.{after_all, is_blank, is_white, left_bracket, right_bracket, text_between}
+use Rattle.ul_version.specs.Reading.{◌>>=◌}
+use Rattle.ul_version.proofs.ForCallers.{bind_some, inside}
+use Rattle.ul_specifier.specs.Clauses.{ClauseFields}
+use Rattle.ul_comparison.specs.Formulas.{Formula}
+use Rattle.ul_requirement.specs.Fields.{RequirementFields}
+use Rattle.ul_requirement.specs.Reading.{Front, after_name, by_url, cut_at, extras_front, extras_in, front_of, is_address, name_text, reading_behind, reading_of, reading_with, requirement, tail_of}
+
+-- each requirement that is read is such
+abbrev pub AreRead : (RequirementFields → Type 0) → Type 0
+AreRead P = (text : List ℕ) (q : RequirementFields) → reading_of text ≡ requirement q → P q
+
+-- ---- fronts
+
+-- what is true of no extras, and of those between brackets, is true of the extras in front
+module _ (P : List (List ℕ) → Type 0) (none : P [])
+    (each : (text : List ℕ) (xs : List (List ℕ)) → extras_in text ≡ Some xs → P xs) where
+  extras_have : (text : List ℕ) (e : List (List ℕ) × List ℕ) → extras_front text ≡ Some e → P e.0
+  unfolding extras_front
+  extras_have [] e h = subst (λ (x : List (List ℕ) × List ℕ). P x.0) (inside ([], []) e h) none
+  extras_have (b ∷ text) e h = by_test (b == left_bracket) h
+    where
+      by_test : (c : Bool)
+          → cond c (cut_at right_bracket text >>= λ p. extras_in p.0 >>= λ extras. Some (extras, p.1))
+          (Some ([], b ∷ text)) ≡ Some e → P e.0
+      by_test true h =
+          let p = bind_some (cut_at right_bracket text) _ e h in
+          let x = bind_some (extras_in p.0.0) _ e p.2 in
+          subst (λ (y : List (List ℕ) × List ℕ). P y.0) (inside (x.0, p.0.1) e x.2) (each p.0.0 x.0 x.1)
+      by_test false h = subst (λ (x : List (List ℕ) × List ℕ). P x.0) (inside ([], b ∷ text) e h) none
+
+  pub front_has : (text : List ℕ) (f : Front) → front_of text ≡ Some f → IsNormalName f.name × P f.extras
+  unfolding front_of
+  front_has text f e =
+      let name = bind_some (name_of (name_text text)) _ f e in
+      let extras = bind_some (extras_front (after_all is_blank (after_name text))) _ f name.2 in
+      let made : Front = record { name = name.0; extras = extras.0.0; rest = after_all is_blank extras.0.1 } in
+      subst (λ (x : Front). IsNormalName x.name × P x.extras) {x = made} (inside made f extras.2) (
+        name_reads_itself (name_text text) name.0 name.1,
+        extras_have (after_all is_blank (after_name text)) extras.0 extras.1,
+      )
+
+-- ---- the whole text
+
+-- what stands behind a name and its extras
+abbrev pub Tail : Type 0
+Tail = List ClauseFields × Option Formula
+
+-- the requirement of a front and of what stands behind it
+abbrev pub requirement_with : Front → Tail → RequirementFields
+requirement_with f t = record { name = f.name; extras = f.extras; specifiers = t.0; marker = t.1 }
+
+-- the requirement of a text
+pub record IsReadFrom (text : List ℕ) (q : RequirementFields) : Type 0 where
+  pub front : Front
+  pub in_front : front_of (text_between is_white text) ≡ Some front
+  pub tail : Tail
+  pub behind : tail_of front.rest ≡ Some tail
+  pub is : requirement_with front tail ≡ q
+
+by_tail : (text : List ℕ) (f : Front) → front_of (text_between is_white text) ≡ Some f → (t : Option Tail)
+    → tail_of f.rest ≡ t → (q : RequirementFields) → reading_with f t ≡ requirement q → IsReadFrom text q
+by_tail text f in_front None behind q e = absurd (cc e)
+by_tail text f in_front (Some t) behind q e =
+    record { front = f; in_front = in_front; tail = t; behind = behind; is = cc }
+
+by_front : (text : List ℕ) (o : Option Front) → front_of (text_between is_white text) ≡ o → (q : RequirementFields)
+    → reading_behind o ≡ requirement q → IsReadFrom text q
+by_front text None in_front q e = absurd (cc e)
+by_front text (Some f) in_front q e = by_address (is_address f.rest) e
+  where
+    by_address : (b : Bool) → cond b by_url (reading_with f (tail_of f.rest)) ≡ requirement q → IsReadFrom text q
+    by_address true e = absurd (cc e)
+    by_address false e = by_tail text f in_front (tail_of f.rest) refl q e
+
+-- a requirement that is read is its text's
+pub read_from : (text : List ℕ) (q : RequirementFields) → reading_of text ≡ requirement q → IsReadFrom text q
+unfolding reading_of
+read_from text q e = by_front text (front_of (text_between is_white text)) refl q e
