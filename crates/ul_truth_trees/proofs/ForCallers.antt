@@ -1,0 +1,24 @@
+-- The lemmas that crates above may cite.
+
+-- what is decided of truths, of statements made of others, of the elements of a list, and of the numbers below one
+pub use Rattle.ul_truth_trees.proofs.Deciding.{truth_decided, both_decided, either_decided, not_decided, decided_as}
+pub use Rattle.ul_truth_trees.proofs.Deciding.{each_of, each_member, some_member, member_decided, each_below, all_below}
+-- whether texts, options, lists, versions, nodes and nodes at versions are equal
+pub use Rattle.ul_truth_trees.proofs.Sameness.{text_decided, option_decided, list_decided, version_decided}
+pub use Rattle.ul_truth_trees.proofs.Sameness.{node_decided, place_decided}
+-- a list in order, and tests of its elements as flags
+pub use Rattle.ul_truth_trees.proofs.Ordered.{AreOrdered, ordered_exist}
+pub use Rattle.ul_truth_trees.proofs.Flags.{flag_at}
+-- the versions of each name's releases differ
+pub use Rattle.ul_truth_trees.proofs.Catalogs.{releases_differ}
+-- what is known of statements made of others, and of what is reached
+pub use Rattle.ul_truth_trees.proofs.Known.{IsKept, some_known, reached_known, decisions_kept}
+pub use Rattle.ul_truth_trees.proofs.Reaching.{By, by_all}
+-- trees of markers at each extra, and of joined truths of worlds
+pub use Rattle.ul_truth_trees.proofs.MarkerTrees.{TreeOf, marker_tree, clause_tree}
+pub use Rattle.ul_truth_trees.proofs.Truths.{always_has, both_have, negated_has, one_has, truth_trees}
+-- what holds somewhere in a region, or throughout it
+pub use Rattle.ul_truth_trees.proofs.Regions.{somewhere, throughout}
+-- statements at worlds that have a tree
+pub use Rattle.ul_truth_trees.proofs.StatementTrees.{IsTreeOf, HasTreeOf, tree_by, truth_tree, region_by, decided_tree}
+pub use Rattle.ul_truth_trees.proofs.StatementTrees.{trees_kept, same_tree, given_tree, somewhere_decided}
