@@ -1,0 +1,7 @@
+mod Sources
+mod Walked
+mod Reaches
+mod Lists
+mod Picked
+mod Rows
+mod Few
