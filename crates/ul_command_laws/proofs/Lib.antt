@@ -1,3 +1,4 @@
+pub mod ForCallers
 mod Ones
 mod SheetTexts
 mod LockTexts

@@ -103,7 +103,9 @@ nodes_have r texts region p is =
 
 -- ---- the region of a refused fork
 
-pub split_goes : (q : Question) (t a b : Plain) → IsOutcome q t (Split a b) → IsRegionTree t → IsRegionTree a × IsRegionTree b
+-- both regions of a split have trees
+pub split_goes : (q : Question) (t a b : Plain) → IsOutcome q t (Split a b) → IsRegionTree t
+    → IsRegionTree a × IsRegionTree b
 split_goes q t a b split h = (
   record { reduced = split.true_in.reduced; truth = λ w x is. split.true_in.truth w x is ∙ sym (split.true_in.truth w [] is) },
   record { reduced = split.false_in.reduced; truth = λ w x is. split.false_in.truth w x is ∙ sym (split.false_in.truth w [] is) },

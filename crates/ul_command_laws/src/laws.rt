@@ -181,33 +181,24 @@ pub fn environments_of_verified()
     ul_filter::laws::more_comparisons();
 }
 
-/// So it is of the lock of a lock file.
+/// So it is of the lock of a lock file; and with extras of the project `env` of it ends with status 0 exactly where the
+/// project supports the machine's world and each word is a name.
 pub fn verified_files()
     ensures sound { VerifiedFilesAreSound }
     ensures environments { EnvironmentsOfVerifiedFiles }
+    ensures statuses { StatusesOfVerifiedFiles }
 {
     inputs_are_answered();
     verified_are_sound();
     environments_of_verified();
+    ul_filter::laws::more_comparisons();
 }
 
-/// `verify` accepts what `lock` printed, put into a file beside the same ones.
+/// `verify` accepts what `lock` printed, put into a file beside the same ones; and with extras of the project `env` of it
+/// ends with status 0 exactly where the project supports the machine's world and each word is a name.
 pub fn locks_are_verified()
-    ensures { LocksAreVerified }
-{
-    ul_given::laws::given_is_resolution();
-    ul_given::laws::given_has_texts();
-    locks_are_well_formed();
-    ul_commands::laws::locks_are_sound();
-    ul_verified::laws::verified_laws();
-    ul_lock_read::laws::text_laws();
-}
-
-/// With extras of the project, `env` of a lock file into which `lock` printed, or that `verify` accepts, ends with
-/// status 0 exactly where the project supports the machine's world and each word is a name.
-pub fn statuses_of_files()
-    ensures printed { StatusesOfFiles }
-    ensures verified { StatusesOfVerifiedFiles }
+    ensures verified { LocksAreVerified }
+    ensures statuses { StatusesOfFiles }
 {
     inputs_are_answered();
     ul_filter::laws::more_comparisons();

@@ -2,3 +2,4 @@ mod OfAnswers
 mod OfLocks
 mod OfReasons
 mod OfFiles
+mod OfRegions

@@ -11,9 +11,10 @@ use Rattle.ul_answers.specs.Printed.{lock_output, printed, refusal_output, refus
 use Rattle.ul_commands.specs.Asked.{Asked}
 use Rattle.ul_commands.specs.Commands.{command}
 use Rattle.ul_command_laws.specs.Workers.{WorkersDontMatter, with_workers}
+use Rattle.ul_existence.specs.Answers.{AnswersExist}
 use Rattle.ul_program.specs.Answer.{IsAnswer, IsAskedAnswer}
 use Rattle.ul_program.specs.Words.{question}
-use Rattle.ul_promises.specs.Promises.{WorkersChangeNothing}
+use Rattle.ul_promises.specs.Promises.{QuestionsAreAnswered, WorkersChangeNothing}
 
 -- the answer to what the words ask
 pub asked_answer : (words : List (List ℕ)) (m : FileMap) (status : ℕ) (bytes : List ℕ) (asked : Asked) → question words ≡ asked
@@ -27,6 +28,12 @@ pub is_answer : (words : List (List ℕ)) (m : FileMap) (asked : Asked) (a : Res
 unfolding IsAnswer
 is_answer words m asked a q gives =
     subst (λ (x : Asked). IsAskedAnswer m x (printed a).0 (printed a).1) (sym q) (record { answer = a; gives = gives; prints = (refl, refl) })
+
+-- each question has an answer, and so a status and bytes
+pub questions_are_answered : AnswersExist → QuestionsAreAnswered
+questions_are_answered exist words m =
+    let a = exist (question words) m in
+    ((printed a.0).0, (printed a.0).1, is_answer words m (question words) a.0 refl a.1)
 
 -- ---- statuses
 

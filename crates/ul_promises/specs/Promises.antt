@@ -7,6 +7,11 @@ use Rattle.ul_comparison.specs.Atoms.{AtomFields}
 use Rattle.ul_comparison.specs.Machines.{MachineFields, world_of}
 use Rattle.ul_comparison.specs.Worlds.{IsWorld, WorldFields}
 use Rattle.ul_nodes.specs.Plain.{Plain}
+use Rattle.ul_tree.specs.Regions.{IsRegionTree, region_of}
+use Rattle.ul_index.specs.Serves.{Selection, Serves}
+use Rattle.ul_region.specs.Best.{IsBest}
+use Rattle.ul_forks.specs.Headline.{IsAnswer as IsForkAnswer, TreeAnswer}
+use Rattle.ul_forks.specs.Outcome.{IsOutcome, TreeOutcome, starts_of}
 use Rattle.ul_lock.specs.declared.parts.Lock.{Lock}
 use Rattle.ul_lock_write.specs.Texts.{lock_text}
 use Rattle.ul_lock.specs.WellFormed.{IsWellFormed}
@@ -21,6 +26,7 @@ use Rattle.ul_lock_commands.specs.Words.{names_of}
 use Rattle.ul_commands.specs.Asked.{check, env, lock, verify, why}
 use Rattle.ul_commands.specs.Laws.{IsUnserved}
 use Rattle.ul_commands.specs.Locking.{AreCoreLines}
+use Rattle.ul_commands.specs.Questions.{question_of}
 use Rattle.ul_command_laws.specs.Environments.{IsRequired, IsSpelled, ListsExactly}
 use Rattle.ul_command_laws.specs.Reasons.{reason_text}
 use Rattle.ul_command_laws.specs.Statuses.{EndsRightly}
@@ -160,3 +166,22 @@ VerifiedEnvironmentsAreRight = (words others : List (List ℕ)) (m : FileMap) (b
 abbrev pub WorkersChangeNothing : Type 0
 WorkersChangeNothing = (words others : List (List ℕ)) (workers : ℕ) (m : FileMap) (status : ℕ) (bytes : List ℕ)
     → question others ≡ with_workers workers (question words) → IsAnswer words m status bytes ↔ IsAnswer others m status bytes
+
+-- ---- that there is an answer
+
+-- some status and bytes are an answer to each list of words, on every map of files
+abbrev pub QuestionsAreAnswered : Type 0
+QuestionsAreAnswered = (words : List (List ℕ)) (m : FileMap) → (status : ℕ) × (bytes : List ℕ) × IsAnswer words m status bytes
+
+-- What is resolved is decided for a region: it has a best selection exactly where some selection serves it, one of the
+-- outcomes, and a fork answer.
+pub record IsDecided (r : ResolutionFields) (t : Plain) : Type 0 where
+  pub best : ((s : Selection) × IsBest r.catalog (starts_of (question_of r)) r.wish (region_of t) s)
+      ↔ ((s : Selection) × Serves r.wish.strategy r.catalog (starts_of (question_of r)) (region_of t) s)
+  pub outcome : (o : TreeOutcome) × IsOutcome (question_of r) t o
+  pub forks : (counts : List ℕ) × (a : TreeAnswer) × IsForkAnswer (question_of r) t counts a
+
+-- of what files give each region is decided
+abbrev pub RegionsAreDecided : Type 0
+RegionsAreDecided = (project folder : List ℕ) (old : Option (List ℕ)) (m : FileMap) (r : ResolutionFields) (t : Plain)
+    → (resolution_in project folder old m).gives (Ok r) → IsRegionTree t → IsDecided r t

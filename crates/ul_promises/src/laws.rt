@@ -1,8 +1,8 @@
 //! The promises of `lock`, `why`, `check`, `verify` and `env`, as they end with a status and print bytes. None of these
 //! functions does anything but name the laws that it rests on.
 ghost use Rattle.ul_promises.specs.Promises.{EnvironmentsAreRight, LocksAreRight, PrintedAreAccepted};
-ghost use Rattle.ul_promises.specs.Promises.{PrintedAreVerified, ReasonsAreRight, RefusalsAreRight};
-ghost use Rattle.ul_promises.specs.Promises.{VerifiedAreRight, VerifiedEnvironmentsAreRight, WorkersChangeNothing};
+ghost use Rattle.ul_promises.specs.Promises.{PrintedAreVerified, QuestionsAreAnswered, ReasonsAreRight, RefusalsAreRight};
+ghost use Rattle.ul_promises.specs.Promises.{RegionsAreDecided, VerifiedAreRight, VerifiedEnvironmentsAreRight, WorkersChangeNothing};
 
 /// What `lock` prints with status 0 is the text of a lock that is right in every world.
 pub fn locks_are_right()
@@ -30,7 +30,7 @@ pub fn environments_are_right()
 {
     ul_command_laws::laws::locks_within_limits();
     ul_command_laws::laws::environments_of_files();
-    ul_command_laws::laws::statuses_of_files();
+    ul_command_laws::laws::locks_are_verified();
 }
 
 /// What `lock` prints with status 1 is a fork that no selection serves, with its core.
@@ -61,7 +61,6 @@ pub fn verified_are_right()
     ensures environments { VerifiedEnvironmentsAreRight }
 {
     ul_command_laws::laws::verified_files();
-    ul_command_laws::laws::statuses_of_files();
 }
 
 /// Another number of workers changes neither the status nor the bytes.
@@ -69,4 +68,22 @@ pub fn workers_change_nothing()
     ensures { WorkersChangeNothing }
 {
     ul_command_laws::laws::workers_dont_matter();
+}
+
+/// Each list of words has an answer on every map of files.
+pub fn questions_are_answered()
+    ensures { QuestionsAreAnswered }
+{
+    ul_existence::laws::answers_exist();
+}
+
+/// Of what files give each region is decided: it has a best selection exactly where some selection serves it, an outcome, and
+/// a fork answer.
+pub fn regions_are_decided()
+    ensures { RegionsAreDecided }
+{
+    ul_existence::laws::given_is_askable();
+    ul_fork_answers::laws::best_where_served();
+    ul_fork_answers::laws::outcome_exists();
+    ul_fork_answers::laws::fork_answer_exists();
 }

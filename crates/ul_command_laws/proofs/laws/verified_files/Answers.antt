@@ -1,3 +1,4 @@
+use Rattle.ul_command_laws.proofs.Statuses.{statuses_of_verified_files}
 use Rattle.ul_command_laws.proofs.VerifiedFiles.{environments_of_verified_files, verified_files_are_sound}
 use Rattle.ul_command_laws.proofs.laws.verified_files.Goals as goal
 
@@ -6,3 +7,6 @@ returns-clause-sound c = verified_files_are_sound c.inputs_are_answered.ensures 
 
 pub returns-clause-environments : goal.returns-clause-environments
 returns-clause-environments c = environments_of_verified_files c.inputs_are_answered.ensures c.environments_of_verified.ensures
+
+pub returns-clause-statuses : goal.returns-clause-statuses
+returns-clause-statuses c = statuses_of_verified_files c.inputs_are_answered.ensures c.more_comparisons.ensures

@@ -5,4 +5,4 @@ pub returns-clause-locks : goal.returns-clause-locks
 returns-clause-locks c = verified_are_right c.verified_files.ensures.sound
 
 pub returns-clause-environments : goal.returns-clause-environments
-returns-clause-environments c = verified_environments_are_right c.verified_files.ensures.environments c.statuses_of_files.ensures.verified
+returns-clause-environments c = verified_environments_are_right c.verified_files.ensures.environments c.verified_files.ensures.statuses
