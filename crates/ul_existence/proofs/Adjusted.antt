@@ -10,7 +10,7 @@ use Rattle.ul_groups.specs.Adjusted.{ByName, adjusted_catalog, adjusted_package,
 use Rattle.ul_given.proofs.ForCallers.{IsOfBounds, releases_adjusted}
 use Rattle.ul_existence.proofs.Loaded.{IsRightCatalog}
 use Rattle.ul_existence.proofs.Markers.{joined_formula}
-use Rattle.ul_existence.proofs.Right.{AreRequirements, HasRequirements, IsRightPackage, none_rise, of_requirements}
+use Rattle.ul_existence.proofs.Right.{AreSpelled, HasRequirements, IsRightPackage, none_rise, of_requirements}
 
 adjusted_is : IsOfBounds IsRequirement IsRequirement
 adjusted_is = record {
@@ -49,7 +49,7 @@ module _ (constraints overrides : ByName) where
   names_differ [] h = tt
   names_differ (p ∷ ps) h = (other_names p ps h.0, names_differ ps h.1)
 
-packages : (constraints overrides : List RequirementFields) → AreRequirements constraints → AreRequirements overrides
+packages : (constraints overrides : List RequirementFields) → AreSpelled constraints → AreSpelled overrides
     → (c : Packages) → AllByRecursion IsRightPackage c
     → AllByRecursion IsRightPackage (adjusted_catalog constraints overrides c)
 packages constraints overrides bounds others [] h = tt
@@ -63,8 +63,8 @@ packages constraints overrides bounds others (p ∷ ps) h = (
 )
 
 -- an adjusted catalog is such
-pub adjusted_right : (constraints overrides : List RequirementFields) (c : Packages) → AreRequirements constraints
-    → AreRequirements overrides → IsRightCatalog c → IsRightCatalog (adjusted_catalog constraints overrides c)
+pub adjusted_right : (constraints overrides : List RequirementFields) (c : Packages) → AreSpelled constraints
+    → AreSpelled overrides → IsRightCatalog c → IsRightCatalog (adjusted_catalog constraints overrides c)
 adjusted_right constraints overrides c bounds others h = record {
   differ = names_differ (all_on constraints) (all_on overrides) c h.differ;
   packages = packages constraints overrides bounds others c h.packages;

@@ -77,9 +77,9 @@ lock_given laws project folder old m =
     (laws.given.inputs.resolution project folder old m)
     (λ r gave. lock_answered laws.locks r (known laws.given project folder old m r gave))
 
-why_given : AnswerLaws → (project folder : List ℕ) (old : Option (List ℕ)) (m : FileMap)
-    → (a : Result Answer Refused) × (command (why project folder 0 old) m).gives a
-why_given laws project folder old m =
+why_given : AnswerLaws → (project folder : List ℕ) (workers : ℕ) (old : Option (List ℕ)) (m : FileMap)
+    → (a : Result Answer Refused) × (command (why project folder workers old) m).gives a
+why_given laws project folder workers old m =
     given_then (resolution_in project folder old) (λ r. answer (IsWhyAnswer r)) m
     (laws.given.inputs.resolution project folder old m)
     (λ r gave. why_answered laws.reasons r (known laws.given project folder old m r gave))
@@ -144,7 +144,7 @@ verify_given laws project folder path m =
 pub answers_exist : AnswerLaws → AnswersExist
 answers_exist laws usage m = given_just (Ok answers.usage) m
 answers_exist laws (lock project folder workers old) m = lock_given laws project folder old m
-answers_exist laws (why project folder workers old) m = why_given laws project folder old m
+answers_exist laws (why project folder workers old) m = why_given laws project folder workers old m
 answers_exist laws (gen seed size workers) m = gen_given laws seed size m
 answers_exist laws (env path machine words) m = env_given laws path machine words m
 answers_exist laws (export path words) m = export_given laws path words m

@@ -22,15 +22,15 @@ use Rattle.ul_existence.proofs.Files.{file_right}
 use Rattle.ul_existence.proofs.Loaded.{IsRightCatalog, loaded_right}
 use Rattle.ul_existence.proofs.Markers.{of_extra_is}
 use Rattle.ul_existence.proofs.Requirements.{read_requirement_is}
-use Rattle.ul_existence.proofs.Right.{AreRequirements, HasRequirements, IsRightPackage, of_requirements}
+use Rattle.ul_existence.proofs.Right.{AreSpelled, HasRequirements, IsRightPackage, of_requirements}
 
 -- ---- the project
 
 -- a project whose requirements, constraints and overrides are such
 record IsRightProject (p : ProjectFields) : Type 0 where
   listed : IsProjectWith IsRequirement HasRequirements p
-  constraints : AreRequirements p.constraints
-  overrides : AreRequirements p.overrides
+  constraints : AreSpelled p.constraints
+  overrides : AreSpelled p.overrides
 
 said_right : ReadIsFormula → (bytes : List ℕ) (p : ProjectFields) → IsSaid bytes p → IsRightProject p
 said_right reads bytes p said =

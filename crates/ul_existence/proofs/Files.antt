@@ -17,7 +17,7 @@ use Rattle.ul_project.specs.declared.path.ProjectPath.TheVariants.{Whole, Entry}
 use Rattle.ul_given.proofs.ForCallers.{AreRead, IsFileWith, each_all, file_formulas, file_from, file_has, requirement_has, same_ok, went_on}
 use Rattle.ul_existence.proofs.Markers.{of_extra_is}
 use Rattle.ul_existence.proofs.Requirements.{read_requirement_is}
-use Rattle.ul_existence.proofs.Right.{AreRequirements}
+use Rattle.ul_existence.proofs.Right.{AreSpelled}
 
 -- ---- constraints and overrides
 
@@ -37,7 +37,7 @@ bound_is law place i d q e =
     (requirement_has IsRequirement law place i d read.0 read.1)
 
 bounds_are : AreRead IsRequirement → (place : Place) (value : Option Data) (qs : List RequirementFields)
-    → bounds_at place value ≡ Ok qs → AreRequirements qs
+    → bounds_at place value ≡ Ok qs → AreSpelled qs
 unfolding bounds_at
 bounds_are law place value qs e =
     let items = went_on (optional_items_at (Whole place) value) (each_from (bound_at place) 0) qs e in
@@ -49,8 +49,8 @@ bounds_are law place value qs e =
 pub record IsRightFile (f : FileFields) : Type 0 where
   pub listed : IsFileWith IsRequirement f
   pub environments : AreFormulas (formulas_of f.settings.environments)
-  pub constraints : AreRequirements f.settings.constraints
-  pub overrides : AreRequirements f.settings.overrides
+  pub constraints : AreSpelled f.settings.constraints
+  pub overrides : AreSpelled f.settings.overrides
 
 -- a project file that is read is such
 pub file_right : ReadIsFormula → (bytes : List ℕ) (f : FileFields) → file_of bytes ≡ Ok f → IsRightFile f

@@ -1,10 +1,10 @@
 -- A catalog that is loaded has packages of different names, each with different versions and with requirements that a
 -- text can spell.
-use Rattle.std.proofs.Common.{◌≡◌, ◌∙◌, ◌<◌, ◌||◌, ℕ, List, [], ◌∷◌, ◌++◌, map, length, get_or, cond, Bool, true, false, Ok, refl, ap, sym, subst, arith, append_assoc, inl, inr}
+use Rattle.std.proofs.Common.{◌≡◌, ◌∙◌, ◌<◌, ℕ, List, [], ◌∷◌, ◌++◌, map, length, get_or, cond, Bool, true, false, Ok, refl, ap, sym, subst, arith, append_assoc, inl, inr}
 use Rattle.std.specs.Prelude.{All}
 use Rattle.std.specs.List.{AllByRecursion, IsDistinct, list_any}
 use Rattle.std.specs.Str.{bytes_eq}
-use Rattle.std.proofs.lemmas.Bool.{cases_Bool}
+use Rattle.std.proofs.lemmas.Bool.{cases_Bool, or_parts}
 use Rattle.std.proofs.lemmas.List.{append-nil}
 use Rattle.std.proofs.lemmas.List.Elements.{All-cons, All-nil}
 use Rattle.std.proofs.lemmas.Slice.Eq.{bytes_eq-Decides}
@@ -47,10 +47,6 @@ flipped a b apart = by_test (bytes_eq a b) refl
         let back : bytes_eq b a ≡ true = (bytes_eq-Decides b a).1 (sym ((bytes_eq-Decides a b).0 is)) in
         let clash : true ≡ false = sym back ∙ apart in absurd (cc)
 
-none_is : (b a : Bool) → (b || a) ≡ false → (b ≡ false) × (a ≡ false)
-none_is true a e = absurd (cc e)
-none_is false a e = (refl, e)
-
 all_apart : (name other : List ℕ) (names : List (List ℕ)) → AllByRecursion (λ y. bytes_eq other y ≡ false) names
     → bytes_eq name other ≡ false
     → AllByRecursion (λ y. bytes_eq other y ≡ false) (names ++ name ∷ [])
@@ -63,7 +59,7 @@ apart_last : (names : List (List ℕ)) (name : List ℕ) → IsDistinct bytes_eq
 unfolding IsDistinct
 apart_last [] name h new = (tt, tt)
 apart_last (n ∷ names) name h new =
-    let both = none_is (bytes_eq name n) (list_any (bytes_eq name) names) new in
+    let both = or_parts (bytes_eq name n) (list_any (bytes_eq name) names) new in
     (all_apart name n names h.0 both.0, apart_last names name h.1 both.1)
 
 apart_one : (names : List (List ℕ)) (name : List ℕ) → IsDistinct bytes_eq names

@@ -1,5 +1,6 @@
 -- The project of a project file is given.
-use Rattle.std.proofs.Common.{◌≡◌, ℕ, List, Bool, true, false, Result, Ok, Err, refl, inl, inr}
+use Rattle.std.proofs.Common.{◌≡◌, ℕ, List, true, Result, Ok, Err, refl, inl, inr}
+use Rattle.std.proofs.lemmas.Bool.{false_from_ne_true}
 use Rattle.std.specs.Prelude.{codes}
 use Rattle.ul_base.specs.Files.{FileMap}
 use Rattle.ul_marker.specs.ReadingLaws.{ReadIsFormula}
@@ -33,10 +34,6 @@ pub record ProjectLaws : Type 0 where
 abbrev Says : (path bytes : List ℕ) → Type 0
 Says path bytes = (r : Result ProjectFields Refused) × IsProjectOf path bytes r
 
-not_true : (b : Bool) → (b ≡ true → ⊥) → b ≡ false
-not_true true h = absurd (h refl)
-not_true false h = refl
-
 by_region : (path bytes : List ℕ) (file : FileFields) → file_of bytes ≡ Ok file → (t : Plain)
     → HasTruth t (supported_by file) → Decided (Somewhere (supported_by file) (λ w. true)) → Says path bytes
 by_region path bytes file said t has (inl at) = (
@@ -53,7 +50,7 @@ by_region path bytes file said t has (inr none) = (
     nowhere = record {
       file = file;
       said = said;
-      nowhere = λ w is. not_true (supported_by file w) (λ e. none (w, is, e, refl));
+      nowhere = λ w is. false_from_ne_true (supported_by file w) (λ e. none (w, is, e, refl));
     };
     is = refl;
   }),

@@ -7,12 +7,12 @@ use Rattle.ul_requirement.specs.Fields.{IsRequirement, PackageFields, ReleaseFie
 use Rattle.ul_given.proofs.ForCallers.{IsOfRequirements}
 
 -- each of the requirements is one
-abbrev pub AreRequirements : List RequirementFields → Type 0
-AreRequirements qs = AllByRecursion IsRequirement qs
+abbrev pub AreSpelled : List RequirementFields → Type 0
+AreSpelled qs = AllByRecursion IsRequirement qs
 
 -- each requirement of the release is one
 abbrev pub HasRequirements : ReleaseFields → Type 0
-HasRequirements r = AreRequirements r.requirements
+HasRequirements r = AreSpelled r.requirements
 
 -- a package whose versions differ, each of whose requirements is one
 pub record IsRightPackage (p : PackageFields) : Type 0 where

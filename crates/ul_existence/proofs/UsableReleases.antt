@@ -1,6 +1,7 @@
 -- The usable releases of a document have different versions.
 use Rattle.std.proofs.Common.{◌≡◌, ◌++◌, ◌||◌, ◌∙◌, List, [], ◌∷◌, Option, Some, None, Bool, true, false, cond, true≢false, refl, ap, sym}
 use Rattle.std.specs.Prelude.{All, not}
+use Rattle.std.proofs.lemmas.Bool.{or_parts}
 use Rattle.std.proofs.lemmas.List.Elements.{All-nil, All-cons, All-weaker}
 use Rattle.std.specs.Ordering.{is_eq}
 use Rattle.ul_version.specs.Fields.{Fields}
@@ -19,14 +20,6 @@ among_push (x ∷ xs) v u =
     swapped true true c e = refl
     swapped true false c e = refl
     swapped false b c e = e
-
-or_left : (a b : Bool) → (a || b) ≡ false → a ≡ false
-or_left true b e = e
-or_left false b e = refl
-
-or_right : (a b : Bool) → (a || b) ≡ false → b ≡ false
-or_right true b e = absurd (true≢false e)
-or_right false b e = e
 
 -- the release of an entry with these readings
 abbrev release_with : EntryFields → Fields → List ClauseFields → List RequirementFields → ReleaseFields
@@ -51,11 +44,17 @@ version_of_release e v r is h = version_here e v e.python e.requirements r (rw i
 abbrev IsNew : List Fields → ReleaseFields → Type 0
 IsNew earlier s = is_among earlier s.version ≡ false
 
+-- with a version more: the release differs from it, and is new behind those before it
+new_parts : (earlier : List Fields) (v : Fields) (s : ReleaseFields) → IsNew (versions_with earlier (Some v)) s
+    → (is_eq (version_cmp v s.version) ≡ false) × IsNew earlier s
+new_parts earlier v s h =
+    or_parts (is_eq (version_cmp v s.version)) (is_among earlier s.version) (sym (among_push earlier v s.version) ∙ h)
+
 front_new : (earlier : List Fields) (o : Option Fields) (s : ReleaseFields) → IsNew (versions_with earlier o) s
     → IsNew earlier s
 front_new earlier None s h = h
 front_new earlier (Some v) s h =
-    or_right (is_eq (version_cmp v s.version)) (is_among earlier s.version) (sym (among_push earlier v s.version) ∙ h)
+    (new_parts earlier v s h).1
 
 new_from : (earlier : List Fields) (v : Fields) (e : EntryFields) (r : ReleaseFields) (b : Bool) → e.version ≡ Some v
     → is_among earlier v ≡ b → cond (not b) (release_of_entry e) None ≡ Some r → IsNew earlier r × (r.version ≡ v)
@@ -66,8 +65,7 @@ apart_from : (earlier : List Fields) (v : Fields) (r s : ReleaseFields) → r.ve
     → IsNew (versions_with earlier (Some v)) s
     → IsOtherVersion r s
 apart_from earlier v r s same n tie =
-    true≢false (sym (ap is_eq (ap (λ u. version_cmp u s.version) (sym same) ∙ tie))
-    ∙ or_left (is_eq (version_cmp v s.version)) (is_among earlier s.version) (sym (among_push earlier v s.version) ∙ n))
+    true≢false (sym (ap is_eq (ap (λ u. version_cmp u s.version) (sym same) ∙ tie)) ∙ (new_parts earlier v s n).0)
 
 new_here : (earlier : List Fields) (o : Option Fields) (e : EntryFields) (r : ReleaseFields) → e.version ≡ o
     → cond (is_new earlier o) (release_of_entry e) None ≡ Some r

@@ -14,6 +14,7 @@ use Rattle.ul_blame.specs.declared.needs.CoreNeed.{CoreNeed}
 use Rattle.ul_deep.specs.CoreSplit.{CoreSplit, HoldsThroughout, IsAskedBy, IsFailing}
 use Rattle.ul_truth_trees.specs.Decided.{Decided, RegionsDecide}
 use Rattle.ul_truth_trees.specs.Trees.{AreRequirements, HasTree, TruthTrees}
+use Rattle.ul_truth_trees.proofs.ForCallers.{decided_as}
 use Rattle.ul_region_problems.proofs.ForCallers.{firm_decided}
 use Rattle.ul_fork_answers.proofs.Firsts.{FirstOrNone, first_or_none}
 use Rattle.ul_fork_answers.proofs.Origins.{OriginOf, asked_listed, origin_of}
@@ -35,13 +36,13 @@ module _ (trees : TruthTrees) (decide : RegionsDecide) (c : Packages) (spelled :
   -- the requirement that a need comes from fails somewhere, or it comes from none that does
   failing_from : (k : CoreNeed) → OriginOf c R p k → Decided (IsFailing c R p k)
   failing_from k (inr none) = inr (λ f. none f.node f.requirement f.asked)
-  failing_from k (inl o) = at_one (decide.somewhere R (λ w. not (applies_at o.requirement o.node w)) has
+  failing_from k (inl o) =
+      decided_as
+      (decide.somewhere R (λ w. not (applies_at o.requirement o.node w)) has
       (trees.negated (applies_at o.requirement o.node) (asked_tree k o.node o.requirement o.asked)))
-    where
-      at_one : Decided (Somewhere R (λ w. not (applies_at o.requirement o.node w))) → Decided (IsFailing c R p k)
-      at_one (inl s) = inl (record { node = o.node; requirement = o.requirement; asked = o.asked; fails = s })
-      at_one (inr n) = inr (λ f. n (subst (λ (t : WorldFields → Bool). Somewhere R (λ w. not (t w)))
-          (o.only f.node f.requirement f.asked) f.fails))
+      (λ s. record { node = o.node; requirement = o.requirement; asked = o.asked; fails = s })
+      (λ f. subst (λ (t : WorldFields → Bool). Somewhere R (λ w. not (t w))) (o.only f.node f.requirement f.asked)
+      f.fails)
 
   failing_decided : (k : CoreNeed) → Decided (IsFailing c R p k)
   failing_decided k = failing_from k (origin_of c R p k (firm_decided c R decide spelled has))

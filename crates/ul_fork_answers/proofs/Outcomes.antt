@@ -27,6 +27,7 @@ use Rattle.ul_deep.specs.CoreSplit.{HoldsThroughout}
 use Rattle.ul_forks.specs.Outcome.{IsOutcome, IsRefused, IsSplitBy, Question, TreeOutcome, starts_of}
 use Rattle.ul_truth_trees.specs.Decided.{Decided, RegionsDecide}
 use Rattle.ul_truth_trees.specs.Trees.{HasTree, TruthTrees}
+use Rattle.ul_truth_trees.proofs.ForCallers.{decided_as}
 use Rattle.ul_region_problems.specs.Exists.{ProblemExists}
 use Rattle.ul_fork_answers.specs.Exists.{BestWhereServed, ForkAnswerExists, IsAskable, OutcomeExists}
 use Rattle.ul_fork_answers.proofs.Cores.{IsCoreSplitWith, core_splits_or_holds}
@@ -56,10 +57,9 @@ deep_or_not Deep = inl refl
 
 -- whether some places serve a problem: those that do serve it with all its needs
 places_decided : CorePromises → (p : Problem) → Decided ((σ : Places) × PlacesServe p σ)
-places_decided cores p = elim (served_decided p (all_needs p)) [
-  | inl s ↦ inl (s.0, (cores.whole p s.0).0 s.1)
-  | inr n ↦ inr (λ s. n (s.0, (cores.whole p s.0).1 s.1))
-]
+places_decided cores p =
+    decided_as (served_decided p (all_needs p)) (λ s. (s.0, (cores.whole p s.0).0 s.1))
+    (λ s. (s.0, (cores.whole p s.0).1 s.1))
 
 module _ (laws : OutcomeLaws) (q : Question) (t : Plain) (asked : IsAskable q) (is : IsRegionTree t) where
   -- a truth that splits the region gives a tree for each of its parts

@@ -16,14 +16,8 @@ use Rattle.ul_region.specs.Groups.{FailsIn, InSplit, IsParting}
 use Rattle.ul_split.specs.Split.{Decided, HasSplit, IsUnfit, IsUnsplit, SplitsBy}
 use Rattle.ul_truth_trees.specs.Decided.{Decided as Known, EachIsRequirement, RegionsDecide}
 use Rattle.ul_truth_trees.specs.Trees.{HasTree, TruthTrees}
-use Rattle.ul_truth_trees.proofs.ForCallers.{both_decided, text_decided}
+use Rattle.ul_truth_trees.proofs.ForCallers.{both_decided, decided_as, text_decided}
 use Rattle.ul_fork_answers.proofs.Firsts.{FirstOrNone, first_or_none}
-
--- what is decided of two statements, of which both make a third
-two_make : {A B C : Type 0} → (A → B → C) → (C → A) → (C → B) → Known A → Known B → Known C
-two_make make one other (inl a) (inl b) = inl (make a b)
-two_make make one other (inr n) d = inr (λ c. n (one c))
-two_make make one other (inl a) (inr n) = inr (λ c. n (other c))
 
 -- a truth that splits a region, with its tree
 pub record IsSplitWith (R : Region) (ds : List Decided) : Type 0 where
@@ -44,10 +38,11 @@ module _ (trees : TruthTrees) (decide : RegionsDecide) (R : Region) (has : HasTr
         (trees.negated (applies_at q n) (trees.applied q n (spelled q m)))
 
     fails_in_decided : (name : List ℕ) (q : RequirementFields) → Contains qs q → Known (FailsIn qs R n name q)
-    fails_in_decided name q m = two_make
-        (λ a f. record { applied = a.0; named = a.1; fails = f })
-        (λ f. (f.applied, f.named)) (λ f. f.fails)
-        (both_decided (decide.applied qs R n q has spelled m) (text_decided q.name name)) (fails_decided q m)
+    fails_in_decided name q m =
+        decided_as
+        (both_decided (decide.applied qs R n q has spelled m)
+        (both_decided (text_decided q.name name) (fails_decided q m)))
+        (λ h. record { applied = h.0; named = h.1.0; fails = h.1.1 }) (λ f. (f.applied, (f.named, f.fails)))
 
     -- a split group has a requirement that fails somewhere: where the one is true and the other isn't
     group_fails : (name : List ℕ) (g : IsSplitGroup qs R n name) → FailsIn qs R n name g.other

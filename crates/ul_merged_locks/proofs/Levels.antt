@@ -9,6 +9,7 @@ use Rattle.std.specs.declared.cmp.Ordering.{Ordering}
 use Rattle.ul_base.specs.Names.{name_cmp}
 use Rattle.ul_base.specs.declared.node.Node.{Node}
 use Rattle.ul_base.proofs.ForCallers.{contains_cases, node_cmp_same, none_in}
+use Rattle.ul_nodes.proofs.ForCallers.{cmp_equal}
 use Rattle.ul_version.specs.Fields.{Fields}
 use Rattle.ul_version.specs.Order.{version_cmp}
 use Rattle.ul_version.proofs.ForCallers.{version_total}
@@ -47,10 +48,7 @@ then_second Greater p e = cc
 
 -- names that are level are equal
 pub names_same : (a b : List ℕ) → name_cmp a b ≡ Equal → a ≡ b
-names_same a b e =
-    let level : ordering_then (name_cmp a b) Equal ≡ Equal = ap (λ (o : Ordering). ordering_then o Equal) e in
-    ap (λ (n : Node). n.name)
-    (node_cmp_same (record { name = a; extra = None }) (record { name = b; extra = None }) level)
+names_same a b e = cmp_equal a b e
 
 -- versions that rise behind one are greater
 risen : (v : Fields) (vs : List Fields) (u : Fields) → VersionsRise (Some v) vs → Contains vs u → version_cmp v u ≡ Less

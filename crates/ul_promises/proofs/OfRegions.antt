@@ -1,6 +1,4 @@
 -- Regions of what files give.
-use Rattle.std.proofs.Common.{List, Option}
-use Rattle.ul_base.specs.Files.{FileMap}
 use Rattle.ul_tree.specs.Regions.{region_of}
 use Rattle.ul_commands.specs.Questions.{question_of}
 use Rattle.ul_existence.specs.Inputs.{GivenIsAskable}

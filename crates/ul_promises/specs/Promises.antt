@@ -175,7 +175,7 @@ QuestionsAreAnswered = (words : List (List ℕ)) (m : FileMap) → (status : ℕ
 
 -- What is resolved is decided for a region: it has a best selection exactly where some selection serves it, one of the
 -- outcomes, and a fork answer.
-pub record IsDecided (r : ResolutionFields) (t : Plain) : Type 0 where
+pub record IsRegionDecided (r : ResolutionFields) (t : Plain) : Type 0 where
   pub best : ((s : Selection) × IsBest r.catalog (starts_of (question_of r)) r.wish (region_of t) s)
       ↔ ((s : Selection) × Serves r.wish.strategy r.catalog (starts_of (question_of r)) (region_of t) s)
   pub outcome : (o : TreeOutcome) × IsOutcome (question_of r) t o
@@ -184,4 +184,4 @@ pub record IsDecided (r : ResolutionFields) (t : Plain) : Type 0 where
 -- of what files give each region is decided
 abbrev pub RegionsAreDecided : Type 0
 RegionsAreDecided = (project folder : List ℕ) (old : Option (List ℕ)) (m : FileMap) (r : ResolutionFields) (t : Plain)
-    → (resolution_in project folder old m).gives (Ok r) → IsRegionTree t → IsDecided r t
+    → (resolution_in project folder old m).gives (Ok r) → IsRegionTree t → IsRegionDecided r t

@@ -1,6 +1,6 @@
 -- The nodes of a region's problem are listed: which node leads to which is decided, and each that is led to is a target
 -- of a requirement of the catalog.
-use Rattle.std.proofs.Common.{◌≡◌, ℕ, List, flat_map, find, Option, Some, None, bytes_eq, refl, inl, inr}
+use Rattle.std.proofs.Common.{◌≡◌, ℕ, List, flat_map, find, Option, Some, None, bytes_eq, refl}
 use Rattle.std.specs.Prelude.{Contains}
 use Rattle.std.specs.Ordering.{is_eq}
 use Rattle.ul_base.specs.Nodes.{node_cmp, node_cmp-total}
@@ -19,7 +19,7 @@ use Rattle.ul_index.specs.Regions.{Region}
 use Rattle.ul_region.specs.Problem.{Leads}
 use Rattle.ul_truth_trees.specs.Trees.{AreRequirements, HasTree}
 use Rattle.ul_truth_trees.specs.Decided.{Decided, RegionsDecide}
-use Rattle.ul_truth_trees.proofs.ForCallers.{both_decided, member_decided, node_decided, some_member}
+use Rattle.ul_truth_trees.proofs.ForCallers.{both_decided, decided_as, member_decided, node_decided, some_member}
 use Rattle.ul_placing.proofs.Rising.{IsNodeLess}
 use Rattle.ul_region_problems.proofs.Deciding.{HasSome}
 use Rattle.ul_region_problems.proofs.Closure.{closure}
@@ -84,15 +84,13 @@ module _ (c : Packages) (R : Region) (decide : RegionsDecide) (spelled : AreRequ
   IsAimedBy n m v = HasSome (IsAimed n m v) (requirements c n.name v)
 
   leads_decided : (n m : Node) → Decided (Leads c R n m)
-  leads_decided n m = step
+  leads_decided n m =
+      decided_as
       (some_member (IsAimedBy n m) (eligible c n.name)
       (λ v h. some_member (IsAimed n m v) (requirements c n.name v)
       (λ q k. both_decided (firm_decided n v q k) (member_decided (targets q) m (λ t. node_decided t m)))))
-    where
-      step : Decided (HasSome (IsAimedBy n m) (eligible c n.name)) → Decided (Leads c R n m)
-      step (inl h) =
-          inl (record { version = h.0; is_eligible = h.1; requirement = h.2.0; firm = h.2.2.0; aimed = h.2.2.1 })
-      step (inr z) = inr (λ l. z (l.version, l.is_eligible, (l.requirement, l.firm.applied.listed, (l.firm, l.aimed))))
+      (λ h. record { version = h.0; is_eligible = h.1; requirement = h.2.0; firm = h.2.2.0; aimed = h.2.2.1 })
+      (λ l. (l.version, l.is_eligible, (l.requirement, l.firm.applied.listed, (l.firm, l.aimed))))
 
 -- the nodes that are reached, in order, each once
 pub record AreNodes (c : Packages) (starts : List Node) (R : Region) (nodes : List Node) : Type 0 where

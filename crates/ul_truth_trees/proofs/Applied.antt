@@ -1,5 +1,5 @@
 -- Which requirements are applied, split or firm in a region is decided: all pairs of requirements are tried.
-use Rattle.std.proofs.Common.{◌≡◌, inl, inr, ℕ, List}
+use Rattle.std.proofs.Common.{◌≡◌, ℕ, List}
 use Rattle.std.specs.Prelude.{Contains, not, ◌&&◌}
 use Rattle.ul_base.specs.declared.node.Node.{Node}
 use Rattle.ul_requirement.specs.Fields.{RequirementFields}
@@ -8,16 +8,15 @@ use Rattle.ul_index.specs.Applied.{IsApplied, IsFirm, IsSplitGroup}
 use Rattle.ul_index.specs.Regions.{Region, Somewhere}
 use Rattle.ul_truth_trees.specs.Decided.{Decided, EachIsRequirement, RegionsDecide}
 use Rattle.ul_truth_trees.specs.Trees.{HasTree, TruthTrees}
-use Rattle.ul_truth_trees.proofs.Deciding.{both_decided, not_decided, some_member}
+use Rattle.ul_truth_trees.proofs.Deciding.{both_decided, decided_as, not_decided, some_member}
 use Rattle.ul_truth_trees.proofs.Regions.{somewhere, suits, throughout}
 use Rattle.ul_truth_trees.proofs.Sameness.{text_decided}
 
 applied : TruthTrees → (qs : List RequirementFields) (R : Region) (n : Node) (q : RequirementFields) → HasTree R
     → EachIsRequirement qs → Contains qs q → Decided (IsApplied qs R n q)
-applied trees qs R n q region each i = elim (somewhere R (applies_at q n) region (trees.applied q n (each q i))) [
-  | inl h ↦ inl (record { listed = i; somewhere = h })
-  | inr z ↦ inr (λ a. z a.somewhere)
-]
+applied trees qs R n q region each i =
+    decided_as (somewhere R (applies_at q n) region (trees.applied q n (each q i)))
+    (λ h. record { listed = i; somewhere = h }) (λ a. a.somewhere)
 
 -- an applied requirement on the name
 abbrev IsNamed : List RequirementFields → Region → Node → List ℕ → RequirementFields → Type 0
@@ -64,32 +63,29 @@ pair_decided trees qs R n name region each =
 
 split : TruthTrees → (qs : List RequirementFields) (R : Region) (n : Node) (name : List ℕ) → HasTree R
     → EachIsRequirement qs → Decided (IsSplitGroup qs R n name)
-split trees qs R n name region each = elim (pair_decided trees qs R n name region each) [
-  | inl h ↦ (
-      let one = h.2.0 in
-      let other = h.2.1 in
-      inl (record {
-        one = h.0;
-        other = other.0;
-        one_applied = one.0;
-        other_applied = other.2.0.0;
-        one_named = one.1;
-        other_named = other.2.0.1;
-        apart = other.2.1;
-      }))
-  | inr z ↦ inr (λ s.
-      (let other : HasOther qs R n name s.one =
-      (s.other, s.other_applied.listed, ((s.other_applied, s.other_named), s.apart)) in
-      z (s.one, s.one_applied.listed, ((s.one_applied, s.one_named), other))))
-]
+split trees qs R n name region each =
+    decided_as (pair_decided trees qs R n name region each)
+    (λ h. (let one = h.2.0 in
+    let other = h.2.1 in
+    record {
+      one = h.0;
+      other = other.0;
+      one_applied = one.0;
+      other_applied = other.2.0.0;
+      one_named = one.1;
+      other_named = other.2.0.1;
+      apart = other.2.1;
+    }))
+    (λ s. (let other : HasOther qs R n name s.one =
+    (s.other, s.other_applied.listed, ((s.other_applied, s.other_named), s.apart)) in
+    (s.one, s.one_applied.listed, ((s.one_applied, s.one_named), other))))
 
 firm : TruthTrees → (qs : List RequirementFields) (R : Region) (n : Node) (q : RequirementFields) → HasTree R
     → EachIsRequirement qs → Contains qs q → Decided (IsFirm qs R n q)
 firm trees qs R n q region each i =
-    elim (both_decided (applied trees qs R n q region each i) (not_decided (split trees qs R n q.name region each))) [
-      | inl h ↦ inl (record { applied = h.0; outside = h.1 })
-      | inr z ↦ inr (λ f. z (f.applied, f.outside))
-    ]
+    decided_as
+    (both_decided (applied trees qs R n q region each i) (not_decided (split trees qs R n q.name region each)))
+    (λ h. record { applied = h.0; outside = h.1 }) (λ f. (f.applied, f.outside))
 
 pub regions_decide : TruthTrees → RegionsDecide
 regions_decide trees = record {

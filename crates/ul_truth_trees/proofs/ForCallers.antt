@@ -14,11 +14,10 @@ pub use Rattle.ul_truth_trees.proofs.Catalogs.{releases_differ}
 -- what is known of statements made of others, and of what is reached
 pub use Rattle.ul_truth_trees.proofs.Known.{IsKept, some_known, reached_known, decisions_kept}
 pub use Rattle.ul_truth_trees.proofs.Reaching.{By, by_all}
--- trees of markers at each extra, and of joined truths of worlds
-pub use Rattle.ul_truth_trees.proofs.MarkerTrees.{TreeOf, marker_tree, clause_tree}
-pub use Rattle.ul_truth_trees.proofs.Truths.{always_has, both_have, negated_has, one_has, truth_trees}
--- what holds somewhere in a region, or throughout it
-pub use Rattle.ul_truth_trees.proofs.Regions.{somewhere, throughout}
+-- trees of joined truths of worlds
+pub use Rattle.ul_truth_trees.proofs.Truths.{always_has, negated_has, one_has}
+-- what holds throughout a region
+pub use Rattle.ul_truth_trees.proofs.Regions.{throughout}
 -- statements at worlds that have a tree
 pub use Rattle.ul_truth_trees.proofs.StatementTrees.{IsTreeOf, HasTreeOf, tree_by, truth_tree, region_by, decided_tree}
 pub use Rattle.ul_truth_trees.proofs.StatementTrees.{trees_kept, same_tree, given_tree, somewhere_decided}

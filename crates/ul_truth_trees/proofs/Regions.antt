@@ -1,7 +1,7 @@
 -- What holds somewhere in a region, or throughout it, is decided: the tree of both truths is false, or holds somewhere.
 use Rattle.std.proofs.Common.{◌≡◌, ◌⊎◌, inl, inr, [], Bool, true, false, refl, ap, sym, ◌∙◌}
 use Rattle.std.specs.Prelude.{not, ◌&&◌}
-use Rattle.std.proofs.lemmas.Bool.{and_from, and_parts, not-true, true≢false}
+use Rattle.std.proofs.lemmas.Bool.{and_from, and_parts, not-true, true_from_ne_false, true≢false}
 use Rattle.ul_comparison.specs.Worlds.{WorldFields, IsWorld}
 use Rattle.ul_nodes.specs.Plain.{Plain, truth, node}
 use Rattle.ul_requirement.specs.declared.wish.Strategy.{Strategy}
@@ -42,14 +42,10 @@ somewhere R p region tree = go (both_have R p region tree)
     go : HasTree (λ w. R w && p w) → Decided (Somewhere R p)
     go (s, h) = elim (false_or_not s) [ inl e ↦ inr (nowhere s R p h e) | inr n ↦ inl (found s R p h n) ]
 
-no_failure : (b : Bool) → (not b ≡ true → ⊥) → b ≡ true
-no_failure true z = refl
-no_failure false z = absurd (z refl)
-
 pub throughout : (R p : WorldFields → Bool) → HasTree R → HasTree p → Throughout R p ⊎ Somewhere R (λ w. not (p w))
 throughout R p region tree = elim (somewhere R (λ w. not (p w)) region (negated_has p tree)) [
   | inl h ↦ inr h
-  | inr z ↦ inl (λ w is r. no_failure (p w) (λ e. z (w, is, r, e)))
+  | inr z ↦ inl (λ w is r. true_from_ne_false (p w) (λ e. z (w, is, r, ap not e)))
 ]
 
 pub suits : (strategy : Strategy) (R p : WorldFields → Bool) → HasTree R → HasTree p → Decided (Suits strategy R p)
