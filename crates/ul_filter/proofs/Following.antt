@@ -9,7 +9,7 @@ use Rattle.ul_lock_nodes.specs.Flags.{is_flagged, LeadsTo}
 use Rattle.ul_lock_nodes.specs.Places.{StandsAt}
 use Rattle.ul_filter.specs.Met.{IsFollowed, IsMet, IsMore}
 use Rattle.ul_lock_nodes.specs.Routes.{Route}
-use Rattle.ul_filter.specs.declared.walking.Met.{Met}
+use Rattle.ul_filter.specs.declared.met.Met.{Met}
 use Rattle.ul_lock_nodes.proofs.ForCallers.{clash, contains_at, in_more, last_in, stands_in, still_in}
 
 -- ---- what was met

@@ -12,7 +12,7 @@ use Rattle.ul_lock_nodes.specs.Places.{StandsAt}
 use Rattle.ul_lock_nodes.specs.Routes.{Route, routes_of}
 use Rattle.ul_filter.specs.Met.{edges_in, IsFollowed, IsMet, IsMetSomewhere, IsMore}
 use Rattle.ul_filter.specs.Walked.{IsBegunTo, IsWalked, IsWalkTo}
-use Rattle.ul_filter.specs.declared.walking.Met.{Met}
+use Rattle.ul_filter.specs.declared.met.Met.{Met}
 use Rattle.ul_lock_nodes.proofs.ForCallers.{below_or_at, contains_at, root_begins, stands_in, walked_on}
 use Rattle.ul_filter.proofs.Following.{front_in}
 

@@ -126,7 +126,8 @@ pub fn fork_all<R: Threads + Wait + Sync, L: Label, J: Judge<L>, G: Gate + Sync>
 {
     let mut rows = first_rows(alloc, region)?;
     let mut rounds = Vec::new(alloc);
-    'generations: loop {
+    // Each generation that isn't the last one has a row more than the one before it.
+    for generation in 0..MOST_FORKS + 1 {
         if rows.len() > MOST_FORKS {
             return Err(ForkFault::TooManyForks {
                 count: rows.len() as u64,
@@ -164,4 +165,5 @@ pub fn fork_all<R: Threads + Wait + Sync, L: Label, J: Judge<L>, G: Gate + Sync>
             return Ok((Forked::Leaves(leaves), rounds));
         }
     }
+    unreachable!()
 }

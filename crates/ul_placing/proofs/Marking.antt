@@ -1,11 +1,12 @@
 -- Places that are marks, one after another.
 use Rattle.std.specs.Prelude.{Contains, slice_get}
-use Rattle.std.proofs.Common.{◌≡◌, ◌<◌, ◌⊎◌, ℕ, zero, suc, List, [], ◌∷◌, ◌++◌, length, set, Bool, true, false, Some, refl, sym, ap, subst, ◌∙◌, inl, inr, ⊎_elim}
-use Rattle.std.proofs.lemmas.List.{length-set, get_or-set_same}
+use Rattle.std.proofs.Common.{◌≡◌, ◌<◌, ◌+◌, ◌⊎◌, arith, cond, ℕ, zero, suc, List, [], ◌∷◌, ◌++◌, length, set, Bool, true, false, Some, refl, sym, ap, subst, ◌∙◌, inl, inr, ⊎_elim}
+use Rattle.std.proofs.lemmas.List.{length-append, length-set, get_or-set_same}
+use Rattle.std.proofs.lemmas.List.Sums.{sum_by-set}
 use Rattle.std.proofs.lemmas.List.Elements.{Contains-append_left, Contains-append_right, Contains-append_cases}
 use Rattle.ul_base.proofs.ForCallers.{contains_first, only_one, none_in}
 use Rattle.ul_ranges.specs.Flags.{has}
-use Rattle.ul_placing.specs.Reach.{MarksPlaces}
+use Rattle.ul_placing.specs.Reach.{MarksPlaces, mark_count}
 use Rattle.ul_placing.proofs.Lists.{kept_at, listed_at, place_of}
 
 set_keeps : (marks : List Bool) (place k : ℕ) → has k marks ≡ true → has k (set marks place true) ≡ true
@@ -22,9 +23,19 @@ set_new (b ∷ bs) zero (suc k) e = inl e
 set_new (b ∷ bs) (suc p) zero e = inl e
 set_new (b ∷ bs) (suc p) (suc k) e = ⊎_elim (λ h. inl h) (λ s. inr (ap suc s)) (set_new bs p k e)
 
+abbrev one_if : Bool → ℕ
+one_if marked = cond marked 1 0
+
+-- a place that wasn't marked counts once
+count_one : (marks : List Bool) (queue : List ℕ) (place : ℕ) → place < length marks → has place marks ≡ false → length (queue ++ place ∷ []) + mark_count marks ≡ length queue + mark_count (set marks place true)
+count_one marks queue place l new =
+    let counts = sum_by-set one_if marks place true false l in
+    let before : one_if (has place marks) ≡ 0 = ap one_if new in
+    omega (arith, counts, before, length-append queue (place ∷ []))
+
 -- a place is marks
-pub marked_one : (marks : List Bool) (queue : List ℕ) (place : ℕ) → place < length marks → MarksPlaces (place ∷ []) marks queue (set marks place true) (queue ++ place ∷ [])
-marked_one marks queue place l =
+pub marked_one : (marks : List Bool) (queue : List ℕ) (place : ℕ) → place < length marks → has place marks ≡ false → MarksPlaces (place ∷ []) marks queue (set marks place true) (queue ++ place ∷ [])
+marked_one marks queue place l new =
     let here : has place (set marks place true) ≡ true = get_or-set_same marks place true false l in
     let last : Contains (queue ++ place ∷ []) place = Contains-append_right queue (place ∷ []) place (contains_first place []) in
     record {
@@ -34,6 +45,7 @@ marked_one marks queue place l =
       listed = λ k e. ⊎_elim (λ h. inl h) (λ s. inr (subst (λ m. Contains (place ∷ []) m) (sym s) (contains_first place []), subst (λ m. Contains (queue ++ place ∷ []) m) (sym s) last)) (set_new marks place k e);
       marked = λ k h. ⊎_elim (λ c. inl c) (λ c. inr (subst (λ m. has m (set marks place true) ≡ true) (sym (only_one place k c)) here)) (Contains-append_cases queue (place ∷ []) k h);
       all = λ k h m. subst (λ n. has n (set marks place true) ≡ true) (sym (only_one place k h)) here;
+      once = count_one marks queue place l new;
     }
 
 -- nothing is marks
@@ -45,6 +57,7 @@ marked_none marks queue = record {
   listed = λ k e. inl e;
   marked = λ k h. inl h;
   all = λ k h l. absurd (none_in k h);
+  once = refl;
 }
 
 -- what stands in the queue stands there when more was marks
@@ -61,6 +74,7 @@ marked_after ps qs a b c q r s one two = record {
       (λ g. inr (Contains-append_right ps qs k g.0, g.1)) (two.listed k e);
   marked = λ k h. ⊎_elim (λ g. ⊎_elim (λ i. inl i) (λ m. inr (two.keeps k m)) (one.marked k g)) (λ m. inr m) (two.marked k h);
   all = λ k h l. ⊎_elim (λ g. two.keeps k (one.all k g l)) (λ g. two.all k g (subst (λ n. k < n) (sym one.long) l)) (Contains-append_cases ps qs k h);
+  once = omega (arith, one.once, two.once);
 }
 
 -- places are marked, and then others

@@ -2,6 +2,7 @@
 use Rattle.std.specs.Prelude.{Contains, slice_get, flat_map}
 use Rattle.std.proofs.Common.{◌≡◌, ◌<◌, ◌≤◌, ◌+◌, ◌⊎◌, ℕ, zero, suc, List, [], ◌∷◌, length, set, replicate, Bool, true, false, Option, Some, None, refl, sym, ap, subst, ◌∙◌, inl, inr, ⊎_elim, arith}
 use Rattle.std.proofs.lemmas.List.{length-set, length-replicate}
+use Rattle.std.proofs.lemmas.List.Sums.{count_by-le-length}
 use Rattle.std.proofs.lemmas.Option.{none-some, same_Some, slice_get_within}
 use Rattle.ul_base.specs.Reached.{begun}
 use Rattle.ul_base.specs.declared.node.Node.{Node}
@@ -13,7 +14,7 @@ use Rattle.ul_prepared.specs.Prepared.{IsPrepared, AreNodesAt}
 use Rattle.ul_prepared.specs.declared.prepared.Planned.{Planned}
 use Rattle.ul_prepared.specs.declared.prepared.Prepared.{Prepared}
 use Rattle.ul_placing.specs.Aims.{AreAimsOf}
-use Rattle.ul_placing.specs.Reach.{MarksPlaces, IsReachTo, IsReached, IsLookedAt, IsAimedRight, targets_of}
+use Rattle.ul_placing.specs.Reach.{MarksPlaces, mark_count, IsReachTo, IsReached, IsLookedAt, IsAimedRight, targets_of}
 use Rattle.ul_placing.specs.Runs.{versions_in}
 use Rattle.ul_placing.specs.declared.aims.NodeAims.{NodeAims}
 use Rattle.ul_placing.specs.declared.reach.Reach.{Reach}
@@ -38,6 +39,10 @@ never zero k e = cc
 never (suc n) zero e = cc
 never (suc n) (suc k) e = never n k e
 
+none_marked : (n : ℕ) → mark_count (replicate n false) ≡ 0
+none_marked zero = refl
+none_marked (suc n) = none_marked n
+
 no_look : (n k : ℕ) (a : NodeAims) → IsLookedAt (replicate n None) k a → ⊥
 no_look zero k a e = none-some (Some a) e
 no_look (suc n) zero a e = none-some a (same_Some None (Some a) e)
@@ -54,6 +59,8 @@ reach_begun h R p r n marks queue all size e d m aims =
     record {
       long = is.long ∙ (length-replicate n false ∙ size);
       size = ap length aims ∙ (length-replicate n None ∙ size);
+      once = omega (arith, is.once, none_marked n);
+      within = omega arith;
       marked = λ k c. ⊎_elim (λ f. absurd (none_in k f)) (λ f. f) (is.marked k c);
       listed = λ k f. ⊎_elim (λ g. absurd (never n k g)) (λ g. g.1) (is.listed k f);
       rooted = λ k c. let at = root_at p.nodes.items p.roots.items p.starts.now k all.roots c in
@@ -126,6 +133,8 @@ module _ (h : PassView) (R : Region) (p : Prepared) (step at : ℕ) (r s : Reach
   reach_next = record {
     long = marks.long ∙ is.long;
     size = ap length aims ∙ (length-set r.aims.items at (Some own) ∙ is.size);
+    once = omega (arith, is.once, marks.once);
+    within = omega (arith, slice_get_within s.queue.items step at (marks.front step at next));
     marked = λ k c. ⊎_elim (λ q. marks.keeps k (is.marked k q)) (λ m. m) (marks.marked k c);
     listed = λ k e. ⊎_elim (λ g. stays r.queue.items s.queue.items k marks.front (is.listed k g)) (λ c. c.1) (marks.listed k e);
     rooted = λ k c. marks.keeps k (is.rooted k c);
@@ -151,6 +160,10 @@ reach_done R p step r l is =
       right = is.right;
       closed = λ k m a e c. look m (is.closed k m a e c);
     }
+
+-- the queue is no longer than the nodes are many
+pub queue_within : (R : Region) (p : Prepared) (step : ℕ) (r : Reach) → IsReachTo R p step r → length r.queue.items ≤ length p.nodes.items
+queue_within R p step r is = omega (arith, is.once, is.long, count_by-le-length (λ (mark : Bool). mark) r.marks.items)
 
 -- ---- the node at a place of the queue
 

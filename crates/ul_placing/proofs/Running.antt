@@ -114,6 +114,7 @@ marked_same ps qs a b q r to from m = record {
   listed = λ k e. ⊎_elim (λ h. inl h) (λ h. inr (to k h.0, h.1)) (m.listed k e);
   marked = m.marked;
   all = λ k c l. m.all k (from k c) l;
+  once = m.once;
 }
 
 copies_aim : (needs : List Need) (n k : ℕ) → Contains (flat_map targets_of (replicate n needs)) k → Contains (targets_of needs) k

@@ -1,5 +1,5 @@
 -- Which nodes of those that all regions share a region reaches, by their places.
-use Rattle.std.specs.Prelude.{◌≡◌, ◌⊎◌, ◌<◌, ℕ, List, Bool, true, Option, Some, map, flat_map, length, slice_get, Contains}
+use Rattle.std.specs.Prelude.{◌≡◌, ◌⊎◌, ◌<◌, ◌≤◌, ◌+◌, ℕ, List, Bool, true, Option, Some, count_by, map, flat_map, length, slice_get, Contains}
 use Rattle.ul_base.specs.Reached.{Reached}
 use Rattle.ul_ranges.specs.Flags.{has}
 use Rattle.ul_problem.specs.declared.problem.Need.{Need}
@@ -20,7 +20,11 @@ node_of need = need.node
 abbrev pub targets_of : List Need → List ℕ
 targets_of needs = map node_of needs
 
--- Places were marks: those of nodes are marked, and what wasn't marked before stands at the end of the queue.
+-- how many places are marked
+abbrev pub mark_count : List Bool → ℕ
+mark_count marks = count_by (λ mark. mark) marks
+
+-- Places were marks: those of nodes are marked, and what wasn't marked before stands at the end of the queue, once.
 pub record MarksPlaces (places : List ℕ) (before : List Bool) (first : List ℕ) (after : List Bool) (queue : List ℕ) : Type 0 where
   pub long : length after ≡ length before
   pub keeps : (k : ℕ) → has k before ≡ true → has k after ≡ true
@@ -28,6 +32,7 @@ pub record MarksPlaces (places : List ℕ) (before : List Bool) (first : List �
   pub listed : (k : ℕ) → has k after ≡ true → (has k before ≡ true) ⊎ (Contains places k × Contains queue k)
   pub marked : (k : ℕ) → Contains queue k → Contains first k ⊎ (has k after ≡ true)
   pub all : (k : ℕ) → Contains places k → k < length before → has k after ≡ true
+  pub once : length queue + mark_count before ≡ length first + mark_count after
 
 -- the node at a place was looked at, and aims so
 abbrev pub IsLookedAt : List (Option NodeAims) → ℕ → NodeAims → Type 0
@@ -47,6 +52,8 @@ IsAimedRight R p k a = (planned : Planned) → slice_get p.nodes.items k ≡ Som
 pub record IsReachTo (R : Region) (p : Prepared) (step : ℕ) (r : Reach) : Type 0 where
   pub long : length r.marks.items ≡ length p.nodes.items
   pub size : length r.aims.items ≡ length p.nodes.items
+  pub once : length r.queue.items ≡ mark_count r.marks.items
+  pub within : step ≤ length r.queue.items
   pub marked : (k : ℕ) → Contains r.queue.items k → has k r.marks.items ≡ true
   pub listed : (k : ℕ) → has k r.marks.items ≡ true → Contains r.queue.items k
   pub rooted : (k : ℕ) → Contains p.roots.items k → has k r.marks.items ≡ true

@@ -147,11 +147,11 @@ pub(crate) fn reach_of<'p, 'r>(
     ensures { IfOk result (λ r. IsReached (region_at place.now.region.now) prepared.now r.aims.items) }
 {
     let mut reach = reach_from(alloc, algebra, prepared, place)?;
-    for step in 0..usize::MAX {
+    for step in 0..prepared.nodes.len() + 1 {
         if step >= reach.queue.len() {
             return Ok(reach);
         }
         look_at(alloc, algebra, prepared, place, step, &mut reach)?;
     }
-    Err(AllocError)
+    unreachable!()
 }

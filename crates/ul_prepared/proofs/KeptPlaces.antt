@@ -96,6 +96,15 @@ named : (kept : Kept) (n : List ℕ) (i : ℕ) → i ≤ length kept → HasName
 named kept n zero l = tt
 named kept n (suc i) l = named_by kept n i (is_there_on n (slice_get kept i)) (omega (arith, l)) refl (named kept n i (omega (arith, l)))
 
+past_by : (kept : Kept) (n : List ℕ) (i : ℕ) (b : Bool) → past (last_on kept n i) ≤ i → past (cond b (Some i) (last_on kept n i)) ≤ suc i
+past_by kept n i true l = omega arith
+past_by kept n i false l = omega (arith, l)
+
+-- the last place below a place stands below it
+past_within : (kept : Kept) (n : List ℕ) (i : ℕ) → past (last_on kept n i) ≤ i
+past_within kept n zero = omega arith
+past_within kept n (suc i) = past_by kept n i (is_there_on n (slice_get kept i)) (past_within kept n i)
+
 -- what a walk knows: what is found, and what is left
 pub record IsWalk (kept : Kept) (n : List ℕ) (done : List Fields) (at : Option ℕ) : Type 0 where
   pub named : HasNameAt kept n at
@@ -135,6 +144,18 @@ before_within kept own n lasts befores places done i at e x b is w =
     let size : length places ≡ length own = ap (λ (z : List (Option ℕ)). length z) (b ∙ x.before) ∙ (length-map (places_below (length own)) (last_before own) ∙ length-range_with_len 0 (length own)) in
     let same : length kept ≡ length own = ap (λ (z : Kept). length z) e in
     omega (arith, h.0)
+
+-- what stands before a place stands below it
+pub walk_falls : {S : Type 0} (kept own : Kept) (n : List ℕ) (lasts : HashMap (List ℕ) ℕ S) (befores places : List (Option ℕ)) (done : List Fields) (i : ℕ) (at : Option ℕ) → kept ≡ own → IsIndexed own lasts befores → places ≡ befores → at ≡ Some i → IsWalk kept n done at
+    → past (get_or places i None) < past at
+walk_falls kept own n lasts befores places done i at e x b is w =
+    let h : HasNameAt kept n (Some i) = subst (HasNameAt kept n) is w.named in
+    let within : i < length own = subst (λ (z : Kept). i < length z) e h.0 in
+    let next : get_or places i None ≡ last_before own i = ap (λ (z : List (Option ℕ)). get_or z i None) b ∙ before_at own i befores x.before within in
+    let below = past_within own (name_in (slice_get own i)) i in
+    let here : past at ≡ i + 1 = ap past is in
+    let there : past (get_or places i None) ≡ past (last_before own i) = ap past next in
+    omega (arith, below, here, there)
 
 -- one step of it
 pub walk_next : {S : Type 0} (kept own : Kept) (n : List ℕ) (lasts : HashMap (List ℕ) ℕ S) (befores places : List (Option ℕ)) (done now : List Fields) (i : ℕ) (old : List ℕ × Fields) (at : Option ℕ) → kept ≡ own → IsIndexed own lasts befores → places ≡ befores

@@ -72,13 +72,10 @@ impl<'a> WishIndex<'a> {
         let before: &[Option<usize>] = self.before.as_slice();
         let mut found = Vec::new(alloc);
         let mut at = self.last.get(name).copied();
-        for _step in 0..usize::MAX {
-            let Some(place) = at else {
-                return Ok(found);
-            };
+        while let Some(place) = at {
             found.push(&kept[place].1)?;
             at = before[place];
         }
-        Err(AllocError)
+        Ok(found)
     }
 }

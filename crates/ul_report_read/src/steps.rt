@@ -68,7 +68,8 @@ fn all_terms(alloc: Global, bytes: &[u8]) -> Result<Option<Vec<TextTerm>>, Alloc
     let mut terms = Vec::new(alloc);
     let mut first = true;
     let mut rest = bytes;
-    for _ in 0..usize::MAX {
+    // Each turn takes a byte at least.
+    for turn in 0..bytes.len() + 1 {
         if rest.is_empty() {
             return Ok(Some(terms));
         }
@@ -83,7 +84,7 @@ fn all_terms(alloc: Global, bytes: &[u8]) -> Result<Option<Vec<TextTerm>>, Alloc
         first = false;
         rest = after(rest, count);
     }
-    Err(AllocError)
+    unreachable!()
 }
 
 fn node_in(term: &TextTerm) -> &Node

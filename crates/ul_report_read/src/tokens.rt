@@ -70,7 +70,8 @@ fn joined_versions(alloc: Global, bytes: &[u8]) -> Result<Option<Vec<Version>>, 
     let comma = Only { byte: b',' };
     let mut versions = Vec::new(alloc);
     let mut rest = bytes;
-    for _ in 0..usize::MAX {
+    // Each turn takes a byte at least.
+    for turn in 0..bytes.len() + 1 {
         let count = piece_len(&comma, rest);
         match version(alloc, &rest[..count])? {
             None => return Ok(None),
@@ -81,7 +82,7 @@ fn joined_versions(alloc: Global, bytes: &[u8]) -> Result<Option<Vec<Version>>, 
         }
         rest = after(rest, count);
     }
-    Err(AllocError)
+    unreachable!()
 }
 
 // Whether the versions increase, from this one on.
