@@ -2,3 +2,4 @@ pub mod Answer
 pub mod Printed
 pub mod Views
 pub mod Refusals
+pub mod Limits

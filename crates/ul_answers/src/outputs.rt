@@ -2,9 +2,10 @@
 //!
 //! What was printed is left to the end of the process by `mem::forget`: that comes soon, and the system takes large
 //! values back at once, where letting go of them goes through them piece by piece.
-ghost use Rattle.std.specs.Prelude.{◌≡◌, ◌++◌, IfOk, codes, length};
+ghost use Rattle.std.specs.Prelude.{◌≡◌, ◌++◌, IfOk, Some, codes, length, option_map};
 ghost use Rattle.std.specs.Fmt.{decimal};
 ghost use Rattle.ul_report.specs.Texts.{refusal_text};
+ghost use Rattle.ul_answers.specs.Limits as limits;
 ghost use Rattle.ul_answers.specs.Printed as spec;
 ghost use Rattle.ul_answers.specs.Views.{output_view, view};
 
@@ -44,15 +45,45 @@ fn too_many_paths(alloc: Global) -> Result<Output, AllocError>
     limit_output(alloc, "marker-paths", MOST_PATHS as u64)
 }
 
+// The limit of which a fault of writing a lock tells; none where memory ran out.
+fn lock_limit(fault: &WriteFault) -> Option<(&'static str, u64)>
+    ensures { option_map (λ l. (l.0.now, l.1)) result ≡ limits.of_lock fault.now }
+{
+    match fault {
+        WriteFault::TooManyPaths { paths: _ } => Some(("marker-paths", MOST_PATHS as u64)),
+        WriteFault::TooLong => Some(("text-bytes", TEXT_BYTES)),
+        WriteFault::NoMemory => None,
+    }
+}
+
+// The limit of which a fault of writing rows tells; none where memory ran out.
+fn export_limit(fault: &ExportFault) -> Option<(&'static str, u64)>
+    ensures { option_map (λ l. (l.0.now, l.1)) result ≡ limits.of_rows fault.now }
+{
+    match fault {
+        ExportFault::TooManyPaths { paths: _ } => Some(("marker-paths", MOST_PATHS as u64)),
+        ExportFault::TooLong => Some(("text-bytes", TEXT_BYTES)),
+        ExportFault::NoMemory => None,
+    }
+}
+
+// The line of a limit that is passed, if it is one, and not want of memory.
+fn passed_output(alloc: Global, limit: Option<(&'static str, u64)>) -> Result<Output, AllocError>
+    ensures { IfOk result (λ o. limits.line_of (option_map (λ l. (l.0.now, l.1)) limit.entry) ≡ Some (output_view o)) }
+{
+    match limit {
+        Some((name, number)) => limit_output(alloc, name, number),
+        None => Err(AllocError),
+    }
+}
+
 // The text of a lock, or the limit that it passes.
 fn lock_output(alloc: Global, lock: &Lock) -> Result<Output, AllocError>
     ensures { IfOk result (λ o. output_view o ≡ spec.written lock.now) }
 {
     match write(alloc, lock) {
         Ok(text) => Ok(Output { status: 0, text }),
-        Err(WriteFault::TooManyPaths { paths: _ }) => too_many_paths(alloc),
-        Err(WriteFault::TooLong) => limit_output(alloc, "text-bytes", TEXT_BYTES),
-        Err(WriteFault::NoMemory) => Err(AllocError),
+        Err(fault) => passed_output(alloc, lock_limit(&fault)),
     }
 }
 
@@ -62,9 +93,7 @@ fn export_output(alloc: Global, rows: &[Reached]) -> Result<Output, AllocError>
 {
     match export_text(alloc, rows) {
         Ok(text) => Ok(Output { status: 0, text }),
-        Err(ExportFault::TooManyPaths { paths: _ }) => too_many_paths(alloc),
-        Err(ExportFault::TooLong) => limit_output(alloc, "text-bytes", TEXT_BYTES),
-        Err(ExportFault::NoMemory) => Err(AllocError),
+        Err(fault) => passed_output(alloc, export_limit(&fault)),
     }
 }
 

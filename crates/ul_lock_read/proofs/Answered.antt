@@ -96,7 +96,7 @@ by_sheet text x (Ok l) e j = subst (λ z. ReadsLock text (Ok z)) (sym j.1) (by_l
 by_sheet text x (Err (LineAt n)) e j = absurd j
 by_sheet text x (Err Root) e j = by_root text x e j
 by_sheet text x (Err (Target n)) e j = by_target text x n e j
-by_sheet text x (Err NoMemory) e j = by_memory text
+by_sheet text x (Err NoMemory) e j = absurd j
 
 -- ---- laws
 

@@ -29,10 +29,10 @@ pub record LacksTarget (x : Sheet) (k : ℕ) : Type 0 where
   pub root : has_one_root x.head.root x.packages ≡ true
   pub target : first_without_target x.packages ≡ Some k
 
--- a shaped text: first the root, then the targets
+-- a shaped text: first the root, then the targets; no memory is taken
 abbrev pub Judged : Result Lock LockFault → Sheet → Type 0
 Judged (Ok l) x = IsWell x × (l ≡ lock_of x)
 Judged (Err (LineAt n)) x = ⊥
 Judged (Err Root) x = has_one_root x.head.root x.packages ≡ false
 Judged (Err (Target k)) x = LacksTarget x k
-Judged (Err NoMemory) x = Unit {0}
+Judged (Err NoMemory) x = ⊥

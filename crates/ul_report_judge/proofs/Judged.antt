@@ -9,13 +9,15 @@ use Rattle.ul_problem.specs.declared.step.Step.{Step}
 use Rattle.ul_derivation.specs.Faults as lower
 use Rattle.ul_report.specs.declared.text_steps.TextStep.{TextStep}
 use Rattle.ul_report_judge.specs.Names.{HaveSteps, step_of_names}
-use Rattle.std.proofs.Common.{Ok, Err}
+use Rattle.std.proofs.Common.{Result, Ok, Err}
 use Rattle.ul_derivation.specs.Headline.{IsJudged}
 use Rattle.ul_derivation.specs.declared.accept.AcceptFault.{AcceptFault}
 use Rattle.ul_derivation.specs.declared.accept.AcceptFault.TheVariants.{StepFault, NoMemory}
 use Rattle.ul_report_judge.specs.Faults.{AcceptsNames, IsBad, IsBadNext, IsFault, IsFirstBad}
 use Rattle.ul_report_judge.specs.Headline.{IsJudgedByNames}
-use Rattle.ul_report_judge.specs.Front.{IsFrontOf, IsUnknownNext}
+use Rattle.ul_report_judge.specs.Front.{IsFrontOf, IsUnknownNext, answer_of}
+use Rattle.std.proofs.Common.{Bool, true, false, cond, eqb, eq-eqb}
+use borrow.Author.Tests.{eqb-true}
 
 head_is : {A : Type 0} (x y : A) (xs ys : List A) → x ∷ xs ≡ y ∷ ys → x ≡ y
 head_is x y xs ys e = cc
@@ -215,3 +217,14 @@ fault_is p texts all steps named NoMemory e f front b = tt
 -- those in front have a fault
 pub judged_fault : (p : Plain) (texts all : List TextStep) (steps named : List Step) (fault : AcceptFault) → texts ≡ all → named ≡ steps → IsFrontOf p texts steps → IsJudged p named (Err fault) → IsJudgedByNames p all (Err fault)
 judged_fault p texts all steps named fault e f front j = record { accepted = tt; none = tt; fault = fault_is p texts all steps named fault e f front j.fault }
+
+-- all of it
+pub judged_all : (p : Plain) (texts all : List TextStep) (steps named : List Step) (count : ℕ) (judged answer : Result (Unit {0}) AcceptFault) → texts ≡ all → named ≡ steps → IsFrontOf p texts steps → IsJudged p named judged
+    → count ≡ length steps → answer ≡ answer_of count texts judged → IsJudgedByNames p all answer
+judged_all p texts all steps named count (Err fault) answer e f front j c is = subst (IsJudgedByNames p all) (sym is) (judged_fault p texts all steps named fault e f front j)
+judged_all p texts all steps named count (Ok x) answer e f front j c is = subst (IsJudgedByNames p all) (sym is) (whole (eqb count (length texts)) refl)
+  where
+    whole : (b : Bool) → eqb count (length texts) ≡ b → IsJudgedByNames p all (cond b (Ok tt) (Err (StepFault (count + 1))))
+    whole true q = judged_ok p texts all steps named e f front j (sym c ∙ eqb-true count (length texts) q)
+    whole false q = judged_next p texts all steps named (count + 1) e f front j
+        (λ same. let h : eqb count (length texts) ≡ true = eq-eqb count (length texts) (c ∙ same) in let k : true ≡ false = sym h ∙ q in cc) (ap (λ (n : ℕ). n + 1) c)

@@ -1,4 +1,6 @@
 //! Whether the steps of a text are accepted.
+ghost use Rattle.std.specs.Prelude.{◌≡◌, ◌≤◌, length};
+ghost use Rattle.ul_report_judge.specs.Front as spec;
 ghost use Rattle.ul_report_judge.specs.Front.{IsFrontOf};
 ghost use Rattle.ul_report_judge.specs.Headline.{IsJudgedByNames};
 
@@ -8,8 +10,30 @@ use ul_derivation::{AcceptFault, accepts};
 use ul_problem::{Derivation, Problem, Step};
 use ul_report::{Steps, TextStep};
 
+// What is said of all texts, where so many in front are named and these are judged so. It takes no memory.
+fn answer_of(
+    named: usize,
+    texts: &[TextStep],
+    front: Result<(), AcceptFault>,
+) -> Result<(), AcceptFault>
+    requires { named ≤ length texts.now }
+    ensures { result ≡ spec.answer_of named texts.now front }
+{
+    match front {
+        Ok(()) => {
+            if named == texts.len() {
+                Ok(())
+            } else {
+                Err(AcceptFault::StepFault {
+                    step: named as u64 + 1,
+                })
+            }
+        }
+        Err(fault) => Err(fault),
+    }
+}
+
 // Whether all are named, and those that are named are accepted.
-#[tactic(auto, using(crate::proofs::Judged::judged_ok, crate::proofs::Judged::judged_next, crate::proofs::Judged::judged_fault))]
 fn judged(
     alloc: Global,
     problem: &Problem,
@@ -21,18 +45,8 @@ fn judged(
 {
     let count = named.len();
     let derivation = Derivation::of(named);
-    match accepts(alloc, problem, &derivation) {
-        Ok(()) => {
-            if count == texts.len() {
-                Ok(())
-            } else {
-                Err(AcceptFault::StepFault {
-                    step: count as u64 + 1,
-                })
-            }
-        }
-        Err(fault) => Err(fault),
-    }
+    let front = accepts(alloc, problem, &derivation);
+    answer_of(count, texts, front)
 }
 
 /// Whether steps by names and versions are accepted on a problem: each names nodes and versions of the problem, and

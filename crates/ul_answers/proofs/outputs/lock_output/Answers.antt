@@ -1,0 +1,7 @@
+use Rattle.std.proofs.lemmas.Result.{IfOk-weaker}
+use Rattle.ul_answers.proofs.Limits.{lock_passed}
+use Rattle.ul_answers.specs.Views.{output_view}
+use Rattle.ul_answers.proofs.outputs.lock_output.Goals as goal
+
+pub returns-in-Err : goal.returns-in-Err
+returns-in-Err c = IfOk-weaker c.passed_output.result _ _ (λ o is. lock_passed c.args.lock.now c.in-Err.fault _ (output_view o) c.in-Err.ensures c.lock_limit.ensures is) c.passed_output.ensures
