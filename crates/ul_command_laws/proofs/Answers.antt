@@ -29,24 +29,26 @@ use Rattle.ul_report_read.specs.declared.proof.Proof.{Proof}
 use Rattle.ul_report_judge.specs.Faults.{AcceptsNames, IsFirstBad}
 use Rattle.ul_inputs.specs.Inputs.{Said, answer, large_file, said_on, text_bytes}
 use Rattle.ul_inputs.specs.Refused.{Refused, malformed}
-use Rattle.ul_inputs.specs.Locks.{lock_at}
+use Rattle.ul_inputs.specs.Locks.{kept_of, lock_at}
 use Rattle.ul_inputs.specs.Machines.{machine_at}
 use Rattle.ul_inputs.specs.Projects.{project_at}
 use Rattle.ul_inputs.specs.Resolutions.{ResolutionFields, resolution_in, resolution_with}
 use Rattle.ul_answers.specs.Answer as answers
 use Rattle.ul_answers.specs.Answer.{Answer, rejected}
+use Rattle.ul_answers.specs.Printed.{printed}
 use Rattle.ul_lock_commands.specs.Environments.{GivesFor, GivesWhere, IsEnvAnswer}
 use Rattle.ul_lock_commands.specs.Exports.{GivesRows, IsExportAnswer}
 use Rattle.ul_lock_commands.specs.Words.{first_other, names_of}
-use Rattle.ul_commands.specs.Asked.{usage, lock, why, gen, env, export, check, verify}
+use Rattle.ul_commands.specs.Asked.{usage, lock, why, relock, gen, env, export, check, verify}
 use Rattle.ul_commands.specs.Checking.{IsAccepted, IsCheckAnswer, IsProofOf, IsRejected, proof_at, proof_said}
 use Rattle.ul_commands.specs.Commands.{command}
 use Rattle.ul_commands.specs.Generating.{IsCounted, counted_for, generated_files, index_folder, project_path}
 use Rattle.ul_commands.specs.Locking.{AreCoreLines, IsLockAnswer, LocksFor, RefusedWhere, answer_of, answer_where, leaf_fields, lock_of}
 use Rattle.ul_commands.specs.Questions.{question_of}
 use Rattle.ul_commands.specs.Reasons.{DerivedWhere, GivesReason, IsWhyAnswer}
+use Rattle.ul_commands.specs.Relocking.{IsRelockAnswer, unkept}
 use Rattle.ul_commands.specs.Verifying.{IsVerifyAnswer}
-use Rattle.ul_command_laws.specs.Answers.{AnswersAreOne, SameAnswer, WhyFollowsLock, reason_of, without_steps}
+use Rattle.ul_command_laws.specs.Answers.{AnswersAreEqual, AnswersAreOne, SameAnswer, WhyFollowsLock, reason_of, without_steps}
 use Rattle.ul_command_laws.specs.Lower.{LowerLaws}
 use Rattle.ul_command_laws.proofs.Inputs.{one_lock_at, one_machine_at, one_project_at, one_resolution_in, one_resolution_with}
 use Rattle.ul_command_laws.proofs.Verified.{verify_once}
@@ -124,6 +126,20 @@ one_lock_of : LowerLaws → (project folder : List ℕ) (old : Option (List ℕ)
 one_lock_of laws project folder old m =
     one_on (resolution_in project folder old m) (λ r. answer (IsLockAnswer r) m) (one_resolution laws project folder old m)
     (λ r. lock_once laws r)
+
+-- where the old lock stays, `lock` isn't asked; and `lock` with its versions has one status
+relock_once : LowerLaws → (r : ResolutionFields) (l : Lock) (a b : Result Answer Refused) → IsRelockAnswer r l a → IsRelockAnswer r l b → a ≡ b
+relock_once laws r l a b (inl g) (inl h) = g.is ∙ sym h.is
+relock_once laws r l a b (inl g) (inr (inl h)) = absurd (h.other g.kept)
+relock_once laws r l a b (inl g) (inr (inr h)) = absurd (h.other g.kept)
+relock_once laws r l a b (inr (inl g)) (inl h) = absurd (g.other h.kept)
+relock_once laws r l a b (inr (inl g)) (inr (inl h)) = lock_once laws r a b g.answers h.answers
+relock_once laws r l a b (inr (inl g)) (inr (inr h)) =
+    absurd (h.status (ap (λ x. (printed x).0) (lock_once laws r h.again a h.answers g.answers) ∙ g.status))
+relock_once laws r l a b (inr (inr g)) (inl h) = absurd (g.other h.kept)
+relock_once laws r l a b (inr (inr g)) (inr (inl h)) =
+    absurd (g.status (ap (λ x. (printed x).0) (lock_once laws r g.again b g.answers h.answers) ∙ h.status))
+relock_once laws r l a b (inr (inr g)) (inr (inr h)) = lock_once laws (unkept r) a b g.anew h.anew
 
 fork_reason : (r : ResolutionFields) (told : Bool) (fork : TreeRefusal) (a b : Result Answer Refused) → DerivedWhere told r fork a → DerivedWhere told r fork b → SameAnswer a b
 fork_reason r true fork a b g h = ap without_steps g.is ∙ sym (ap without_steps h.is)
@@ -234,6 +250,18 @@ why_follows_lock projects turns locks faults forks project folder old j k m a b 
 
 -- ---- each command
 
+one_relock : LowerLaws → (project folder : List ℕ) (workers : ℕ) (old : List ℕ) (m : FileMap) → IsOne (command (relock project folder workers old) m)
+one_relock laws project folder workers old m =
+    one_on (project_at project m)
+    (λ p. said_on (lock_at old m) (λ l. said_on (resolution_with folder p (kept_of l) m) (λ r. answer (IsRelockAnswer r l) m)))
+    (one_project_at laws.projects project m)
+    (λ p.
+    one_on (lock_at old m) (λ l. said_on (resolution_with folder p (kept_of l) m) (λ r. answer (IsRelockAnswer r l) m))
+    (one_lock_at laws.locks laws.lock_faults old m)
+    (λ l.
+    one_on (resolution_with folder p (kept_of l) m) (λ r. answer (IsRelockAnswer r l) m) (one_resolution_with laws.turns folder p (kept_of l) m)
+    (λ r. relock_once laws r l)))
+
 one_env : LowerLaws → (path machine : List ℕ) (words : List (List ℕ)) (m : FileMap) → IsOne (command (env path machine words) m)
 one_env laws path machine words m =
     one_on (lock_at path m) (λ l. said_on (machine_at machine m) (λ x. answer (IsEnvAnswer l x words) m)) (one_lock_at laws.locks laws.lock_faults path m)
@@ -268,17 +296,32 @@ one_verify laws project folder path m =
 
 -- ---- all of them
 
+pub answers_are_equal : LowerLaws → AnswersAreEqual
+answers_are_equal laws usage m a b other g h = g ∙ sym h
+answers_are_equal laws (lock project folder workers old) m a b other g h = one_lock_of laws project folder old m a b g h
+answers_are_equal laws (why project folder workers old) m a b other g h = absurd other
+answers_are_equal laws (relock project folder workers old) m a b other g h = one_relock laws project folder workers old m a b g h
+answers_are_equal laws (gen seed size workers) m a b other g h =
+    let files = generated_files seed size in
+    counts_once (lock_of project_path index_folder None files) (one_lock_of laws project_path index_folder None files) a b g h
+answers_are_equal laws (env path machine words) m a b other g h = one_env laws path machine words m a b g h
+answers_are_equal laws (export path words) m a b other g h = one_export laws path words m a b g h
+answers_are_equal laws (check project folder derivation) m a b other g h = one_check laws project folder derivation m a b g h
+answers_are_equal laws (verify project folder path) m a b other g h = one_verify laws project folder path m a b g h
+
 pub answers_are_one : LowerLaws → AnswersAreOne
-answers_are_one laws usage m a b g h = ap without_steps (g ∙ sym h)
-answers_are_one laws (lock project folder workers old) m a b g h = ap without_steps (one_lock_of laws project folder old m a b g h)
 answers_are_one laws (why project folder workers old) m a b g h =
     alike_on SameAnswer (λ e. refl) (resolution_in project folder old m) (λ r. answer (IsWhyAnswer r) m) (one_resolution laws project folder old m)
     (λ r. why_alike laws r) a b g h
-answers_are_one laws (gen seed size workers) m a b g h =
-    let files = generated_files seed size in
-    ap without_steps
-    (counts_once (lock_of project_path index_folder None files) (one_lock_of laws project_path index_folder None files) a b g h)
-answers_are_one laws (env path machine words) m a b g h = ap without_steps (one_env laws path machine words m a b g h)
-answers_are_one laws (export path words) m a b g h = ap without_steps (one_export laws path words m a b g h)
-answers_are_one laws (check project folder derivation) m a b g h = ap without_steps (one_check laws project folder derivation m a b g h)
-answers_are_one laws (verify project folder path) m a b g h = ap without_steps (one_verify laws project folder path m a b g h)
+answers_are_one laws usage m a b g h = ap without_steps (answers_are_equal laws usage m a b tt g h)
+answers_are_one laws (lock project folder workers old) m a b g h =
+    ap without_steps (answers_are_equal laws (lock project folder workers old) m a b tt g h)
+answers_are_one laws (relock project folder workers old) m a b g h =
+    ap without_steps (answers_are_equal laws (relock project folder workers old) m a b tt g h)
+answers_are_one laws (gen seed size workers) m a b g h = ap without_steps (answers_are_equal laws (gen seed size workers) m a b tt g h)
+answers_are_one laws (env path machine words) m a b g h = ap without_steps (answers_are_equal laws (env path machine words) m a b tt g h)
+answers_are_one laws (export path words) m a b g h = ap without_steps (answers_are_equal laws (export path words) m a b tt g h)
+answers_are_one laws (check project folder derivation) m a b g h =
+    ap without_steps (answers_are_equal laws (check project folder derivation) m a b tt g h)
+answers_are_one laws (verify project folder path) m a b g h =
+    ap without_steps (answers_are_equal laws (verify project folder path) m a b tt g h)

@@ -1,6 +1,7 @@
 -- Inputs that are read are answered, and by which status.
-use Rattle.std.proofs.Common.{◌≡◌, ◌∙◌, ◌≤◌, ℕ, List, [], ◌++◌, Bool, true, false, length, Option, Some, None, Result, Ok, refl, sym, ap, arith}
+use Rattle.std.proofs.Common.{◌≡◌, ◌∙◌, ◌≤◌, ℕ, List, [], ◌++◌, Bool, true, false, length, Option, Some, None, Result, Ok, refl, sym, ap, arith, inl, inr}
 use Rattle.std.specs.Prelude.{nat_le}
+use Rattle.ul_base.specs.Files.{FileMap}
 use Rattle.ul_tree.specs.Paths.{is_printable}
 use Rattle.ul_nodes.specs.Plain.{Plain}
 use Rattle.ul_generations.specs.Generations.{leaves_are, refused_at, too_many}
@@ -10,7 +11,7 @@ use Rattle.ul_lock_write.specs.Markers.{first_over, markers_of}
 use Rattle.ul_lock_write.specs.Texts.{lock_text}
 use Rattle.ul_report.specs.Texts.{refusal_text}
 use Rattle.ul_inputs.specs.Inputs.{answer, text_bytes}
-use Rattle.ul_inputs.specs.Locks.{lock_at}
+use Rattle.ul_inputs.specs.Locks.{kept_of, lock_at, old_lock}
 use Rattle.ul_inputs.specs.Machines.{machine_at}
 use Rattle.ul_inputs.specs.Projects.{project_at}
 use Rattle.ul_inputs.specs.Refused.{Refused}
@@ -19,18 +20,36 @@ use Rattle.ul_answers.specs.Answer.{Answer, locked}
 use Rattle.ul_answers.specs.Printed.{lock_output, output_of, printed, refusal_output, text_output, written}
 use Rattle.ul_lock_commands.specs.Environments.{IsEnvAnswer, env_on}
 use Rattle.ul_lock_commands.specs.Exports.{IsExportAnswer}
+use Rattle.ul_commands.specs.Asked.{relock}
 use Rattle.ul_commands.specs.Checking.{IsCheckAnswer, check_on, check_with, proof_at}
+use Rattle.ul_commands.specs.Commands.{command}
 use Rattle.ul_commands.specs.Locking.{IsLockAnswer, IsLocked, LocksFor, RefusedWhere, answer_of, answer_where}
 use Rattle.ul_commands.specs.Questions.{IsForked}
 use Rattle.ul_commands.specs.Reasons.{IsWhyAnswer}
+use Rattle.ul_commands.specs.Relocking.{IsRelockAnswer, relock_on, relock_with}
 use Rattle.ul_commands.specs.Verifying.{IsVerifyAnswer, verify_on, verify_with}
 use Rattle.ul_command_laws.specs.Complete.{InputsAreAnswered, IsWithinLimits, LocksWithinLimits}
 use Rattle.ul_command_laws.specs.Lower.{LowerLaws}
 use Rattle.ul_command_laws.proofs.Answers.{one_proof_at, one_resolution}
-use Rattle.ul_command_laws.proofs.Inputs.{one_lock_at, one_machine_at, one_project_at, one_resolution_with}
+use Rattle.ul_command_laws.proofs.Inputs.{one_lock_at, one_old_lock, one_machine_at, one_project_at, one_resolution_with}
 use Rattle.ul_command_laws.proofs.Ones.{given_on}
 
 -- ---- inputs that are read
+
+-- `relock` reads what `lock` with its old lock reads
+relocked : LowerLaws → (project folder : List ℕ) (workers : ℕ) (old : List ℕ) (m : FileMap) (l : Lock) (r : ResolutionFields) (a : Result Answer Refused)
+    → (lock_at old m).gives (Ok l) → (resolution_in project folder (Some old) m).gives (Ok r)
+    → (command (relock project folder workers old) m).gives a → IsRelockAnswer r l a
+relocked laws project folder workers old m l r a has_lock (inl none) gives = absurd none
+relocked laws project folder workers old m l r a has_lock (inr on) gives =
+    let p = on.value in
+    let kept : (old_lock (Some old) m).gives (Ok (kept_of l)) = inr (record { value = l; gave = has_lock; answers = refl }) in
+    let read : (resolution_with folder p (kept_of l) m).gives (Ok r) =
+    given_on (old_lock (Some old) m) (λ k. resolution_with folder p k m) (one_old_lock laws.locks laws.lock_faults (Some old) m) (kept_of l) kept
+    (Ok r) on.answers in
+    given_on (resolution_with folder p (kept_of l) m) (λ s. answer (IsRelockAnswer s l) m) (one_resolution_with laws.turns folder p (kept_of l) m) r read a
+    (given_on (lock_at old m) (λ k. relock_with folder p k m) (one_lock_at laws.locks laws.lock_faults old m) l has_lock a
+    (given_on (project_at project m) (λ q. relock_on folder old q m) (one_project_at laws.projects project m) p on.gave a gives))
 
 pub inputs_are_answered : LowerLaws → InputsAreAnswered
 inputs_are_answered laws = record {
@@ -38,6 +57,7 @@ inputs_are_answered laws = record {
       given_on (resolution_in project folder old m) (λ s. answer (IsLockAnswer s) m) (one_resolution laws project folder old m) r read a gives;
   why = λ project folder workers old m r a read gives.
       given_on (resolution_in project folder old m) (λ s. answer (IsWhyAnswer s) m) (one_resolution laws project folder old m) r read a gives;
+  relock = relocked laws;
   env = λ path machine words m l x a has_lock has_machine gives.
       given_on (machine_at machine m) (λ y. answer (IsEnvAnswer l y words) m) (one_machine_at machine m) x has_machine a
       (given_on (lock_at path m) (λ k. env_on machine words k m) (one_lock_at laws.locks laws.lock_faults path m) l has_lock a gives);

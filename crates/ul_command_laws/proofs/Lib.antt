@@ -6,6 +6,7 @@ mod Inputs
 mod Verified
 mod Answers
 mod Workers
+mod ReadAlone
 mod Complete
 mod ReadFiles
 mod AlikeProblems
@@ -19,3 +20,4 @@ mod Environments
 mod LockFiles
 mod VerifiedFiles
 mod Statuses
+mod Exports

@@ -19,7 +19,8 @@ ok_same A x y e = cc
 err_same : (A : Type 0) (e f : Refused) → (let r : Result A Refused = Err e in r) ≡ Err f → e ≡ f
 err_same A e f h = cc
 
-not_both : (A : Type 0) (x : A) (e : Refused) → (let r : Result A Refused = Ok x in r) ≡ Err e → ⊥
+-- and no value is a refusal
+pub not_both : (A : Type 0) (x : A) (e : Refused) → (let r : Result A Refused = Ok x in r) ≡ Err e → ⊥
 not_both A x e h = cc
 
 -- where the first gives at most one result, and what two ways to go on give on each value is related, so is what both give

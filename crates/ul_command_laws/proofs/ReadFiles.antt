@@ -8,12 +8,13 @@ use Rattle.ul_inputs.specs.Inputs.{bounded, large_file, said_on, text_bytes}
 use Rattle.ul_inputs.specs.Locks.{Kept, old_lock}
 use Rattle.ul_inputs.specs.Projects.{project_at}
 use Rattle.ul_inputs.specs.Resolutions.{ResolutionFields, resolution_in, resolution_of, resolution_with}
+use Rattle.laws_frames.specs.Frames.{AgreeOn, InputsByWhatIsRead}
 use Rattle.ul_command_laws.proofs.Ones.{ok_same}
 
 -- ---- the text of a file
 
 -- a length within the limit, as the test answers
-fits : (n : ℕ) → n ≤ text_bytes → nat_le n text_bytes ≡ true
+pub fits : (n : ℕ) → n ≤ text_bytes → nat_le n text_bytes ≡ true
 fits n h = grind arith
 
 -- the text of a file that isn't too long
@@ -77,3 +78,22 @@ made_itself project folder m r read =
     let none = ok_same (List Kept) read.kept [] read.keeps in
     subst (λ s. (resolution_with folder read.fields [] m).gives (Ok s))
     (sym (read.is ∙ ap (λ kept. resolution_of read.fields kept read.catalog) none)) read.made
+
+-- ---- other files
+
+-- the project is said too where what is read for it is the same
+pub said_now : InputsByWhatIsRead → (project folder : List ℕ) (before now : FileMap) (p : ProjectFields)
+    → AgreeOn (resolution_in project folder None before).reads before now
+    → (project_at project before).gives (Ok p) → (project_at project now).gives (Ok p)
+said_now inputs project folder before now p agree said =
+    ((inputs.project project before now (λ path read. agree path (inl read))).gives (Ok p)).0 said
+
+-- and so is what it makes with the index folder
+pub made_now : InputsByWhatIsRead → (project folder : List ℕ) (before now : FileMap) (p : ProjectFields) (r : ResolutionFields)
+    → AgreeOn (resolution_in project folder None before).reads before now
+    → (project_at project before).gives (Ok p) → (resolution_with folder p [] before).gives (Ok r)
+    → (resolution_with folder p [] now).gives (Ok r)
+made_now inputs project folder before now p r agree said made =
+    let read_too : AgreeOn (resolution_with folder p [] before).reads before now =
+    λ path read. agree path (inr (record { value = p; gave = said; read = inr (record { value = []; gave = refl; read = read }) })) in
+    ((inputs.catalog folder p [] before now read_too).gives (Ok r)).0 made

@@ -48,7 +48,8 @@ use Rattle.ul_commands.specs.Laws.{ForksAreUnserved}
 use Rattle.ul_commands.specs.Questions.{question_of}
 use Rattle.ul_commands.specs.Reasons.{AreStepsOf, DerivedWhere, GivesReason}
 use Rattle.ul_command_laws.specs.Reasons.{AcceptedAreUnserved, FilesAreAccepted, HasAcceptedProof, ReasonsAreAccepted, reason_text}
-use Rattle.ul_command_laws.proofs.ReadFiles.{file_text, read_of}
+use Rattle.laws_frames.specs.Frames.{InputsByWhatIsRead}
+use Rattle.ul_command_laws.proofs.ReadFiles.{file_text, made_now, read_of, said_now}
 use Rattle.ul_command_laws.proofs.Unkept.{accepted_unkept}
 
 -- the laws of lower crates on which this rests
@@ -231,17 +232,20 @@ checked project folder derivation text m p r x said file is_text made answer = i
   });
 })
 
-pub files_are_accepted : ReasonLaws → GivenIsResolution → GivenHasTexts → FilesAreAccepted
-files_are_accepted laws given texts project folder derivation old workers m path region steps (inl h) at few = absurd h
-files_are_accepted laws given texts project folder derivation old workers m path region steps (inr h) at few =
+pub files_are_accepted : InputsByWhatIsRead → ReasonLaws → GivenIsResolution → GivenHasTexts → FilesAreAccepted
+files_are_accepted inputs laws given texts project folder derivation old workers before now path region steps (inl h) agree at few = absurd h
+files_are_accepted inputs laws given texts project folder derivation old workers before now path region steps (inr h) agree at few =
     let text = reason_text path region steps in
-    let is = given project folder old m h.value h.gave in
-    let had = texts project folder old m h.value h.gave in
+    let is = given project folder old before h.value h.gave in
+    let had = texts project folder old before h.value h.gave in
     let found = reasons_are_accepted laws h.value path region steps is had h.answers few in
-    let read = read_of project folder old m h.value h.gave in
+    let read = read_of project folder old before h.value h.gave in
     let kept = subst (λ r. IsCheckAnswer r found.proof (Ok accepted)) read.is found.answer in
-    checked project folder derivation text m read.fields (resolution_of read.fields [] read.catalog) found.proof read.said
-    (file_text m derivation text at few) found.is_text read.made
+    let bare = resolution_of read.fields [] read.catalog in
+    checked project folder derivation text now read.fields bare found.proof
+    (said_now inputs project folder before now read.fields agree read.said)
+    (file_text now derivation text at few) found.is_text
+    (made_now inputs project folder before now read.fields bare agree read.said read.made)
     (accepted_unkept read.fields read.catalog read.kept found.proof kept)
 
 -- ---- what an accepted derivation says

@@ -25,7 +25,8 @@ use Rattle.ul_commands.specs.Verifying.{IsVerifyAnswer}
 use Rattle.ul_command_laws.specs.Complete.{InputsAreAnswered}
 use Rattle.ul_command_laws.specs.Verified.{EnvironmentsOfVerified, EnvironmentsOfVerifiedFiles, LocksAreVerified, VerifiedAreSound, VerifiedFilesAreSound}
 use Rattle.ul_command_laws.specs.WellFormed.{LocksAreWellFormed}
-use Rattle.ul_command_laws.proofs.ReadFiles.{file_text, made_itself, read_of}
+use Rattle.laws_frames.specs.Frames.{InputsByWhatIsRead}
+use Rattle.ul_command_laws.proofs.ReadFiles.{file_text, made_itself, made_now, read_of, said_now}
 
 -- a lock that is read is well formed
 pub read_well : (path : List ℕ) (m : FileMap) (l : Lock) → (lock_at path m).gives (Ok l) → IsWellFormed l
@@ -103,13 +104,17 @@ accepted project folder path text m p r l said file is_text made answer = inr (r
   });
 })
 
-pub locks_are_verified : PrintedLaws → LocksAreVerified
-locks_are_verified laws project folder path old workers m l forks (inl h) at few = absurd h
-locks_are_verified laws project folder path old workers m l forks (inr h) at few =
-    let well = laws.formed h.value l forks (laws.resolution project folder old m h.value h.gave) (laws.had project folder old m h.value h.gave) h.answers in
-    let read = read_of project folder old m h.value h.gave in
-    let is = answered_verified laws project folder old m h.value l forks h.gave h.answers in
+pub locks_are_verified : InputsByWhatIsRead → PrintedLaws → LocksAreVerified
+locks_are_verified inputs laws project folder path old workers before now l forks (inl h) agree at few = absurd h
+locks_are_verified inputs laws project folder path old workers before now l forks (inr h) agree at few =
+    let well = laws.formed h.value l forks (laws.resolution project folder old before h.value h.gave)
+    (laws.had project folder old before h.value h.gave) h.answers in
+    let read = read_of project folder old before h.value h.gave in
+    let is = answered_verified laws project folder old before h.value l forks h.gave h.answers in
+    let bare = resolution_of read.fields [] read.catalog in
     let here : IsVerified read.catalog read.fields l =
     subst (λ (r : ResolutionFields). IsVerified r.catalog r.project l) read.is is in
-    accepted project folder path (lock_text l) m read.fields (resolution_of read.fields [] read.catalog) l read.said
-    (file_text m path (lock_text l) at few) (laws.texts l well (laws.printable h.value l forks h.answers)) read.made (inl (record { verified = here; is = refl }))
+    accepted project folder path (lock_text l) now read.fields bare l
+    (said_now inputs project folder before now read.fields agree read.said)
+    (file_text now path (lock_text l) at few) (laws.texts l well (laws.printable h.value l forks h.answers))
+    (made_now inputs project folder before now read.fields bare agree read.said read.made) (inl (record { verified = here; is = refl }))

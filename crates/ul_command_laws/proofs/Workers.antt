@@ -1,10 +1,11 @@
 -- The number of workers doesn't matter.
 use Rattle.ul_inputs.specs.Inputs.{Said}
 use Rattle.ul_answers.specs.Answer.{Answer}
-use Rattle.ul_commands.specs.Asked.{usage, lock, why, gen, env, export, check, verify}
+use Rattle.ul_commands.specs.Asked.{usage, lock, why, relock, gen, env, export, check, verify}
 use Rattle.ul_commands.specs.Commands.{command}
 use Rattle.ul_command_laws.specs.Answers.{AnswersAreOne}
-use Rattle.ul_command_laws.specs.Workers.{OneAnswerForAll, SayTheSame, WorkersDontMatter, with_workers}
+use Rattle.laws_frames.specs.Frames.{SayTheSame}
+use Rattle.ul_command_laws.specs.Workers.{OneAnswerForAll, WorkersDontMatter, with_workers}
 
 itself : (said : Said Answer) → SayTheSame said said
 itself said = record { gives = λ a. ((λ h. h), (λ h. h)); reads = λ path. ((λ h. h), (λ h. h)) }
@@ -13,6 +14,7 @@ pub workers_dont_matter : WorkersDontMatter
 workers_dont_matter usage n m = itself (command usage m)
 workers_dont_matter (lock project folder workers old) n m = itself (command (lock project folder n old) m)
 workers_dont_matter (why project folder workers old) n m = itself (command (why project folder n old) m)
+workers_dont_matter (relock project folder workers old) n m = itself (command (relock project folder n old) m)
 workers_dont_matter (gen seed size workers) n m = itself (command (gen seed size n) m)
 workers_dont_matter (env path machine words) n m = itself (command (env path machine words) m)
 workers_dont_matter (export path words) n m = itself (command (export path words) m)

@@ -21,6 +21,16 @@ abbrev pub AnswersAreOne : Type 0
 AnswersAreOne = (asked : Asked) (m : FileMap) (a b : Result Answer Refused)
     → (command asked m).gives a → (command asked m).gives b → SameAnswer a b
 
+-- something else is asked than why there is no lock
+abbrev pub AsksNoReason : Asked → Type 0
+AsksNoReason (why project folder workers old) = ⊥
+AsksNoReason _ = Unit {0}
+
+-- and unless that is asked, the answers are equal
+abbrev pub AnswersAreEqual : Type 0
+AnswersAreEqual = (asked : Asked) (m : FileMap) (a b : Result Answer Refused) → AsksNoReason asked
+    → (command asked m).gives a → (command asked m).gives b → a ≡ b
+
 -- what `why` answers where `lock` answers this, without the lines of steps: that no fork is refused, whether or not the lock
 -- is written, or the refused fork, if that is told; a refusal is a refusal
 abbrev pub reason_of : Result Answer Refused → Result Answer Refused

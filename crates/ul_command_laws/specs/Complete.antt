@@ -1,5 +1,5 @@
 -- Inputs that are read are answered, and by which status.
-use Rattle.std.specs.Prelude.{◌≡◌, ◌≤◌, ◌↔◌, ℕ, List, [], length, Option, None, Result, Ok}
+use Rattle.std.specs.Prelude.{◌≡◌, ◌≤◌, ◌↔◌, ℕ, List, [], length, Option, Some, None, Result, Ok}
 use Rattle.ul_base.specs.Files.{FileMap}
 use Rattle.ul_comparison.specs.Machines.{MachineFields}
 use Rattle.ul_project.specs.Fields.{ProjectFields}
@@ -20,12 +20,13 @@ use Rattle.ul_answers.specs.Answer.{Answer}
 use Rattle.ul_answers.specs.Printed.{printed}
 use Rattle.ul_lock_commands.specs.Environments.{IsEnvAnswer}
 use Rattle.ul_lock_commands.specs.Exports.{IsExportAnswer}
-use Rattle.ul_commands.specs.Asked.{check, env, export, lock, verify, why}
+use Rattle.ul_commands.specs.Asked.{check, env, export, lock, relock, verify, why}
 use Rattle.ul_commands.specs.Checking.{IsCheckAnswer, proof_at}
 use Rattle.ul_commands.specs.Commands.{command}
 use Rattle.ul_commands.specs.Locking.{IsLockAnswer, IsLocked}
 use Rattle.ul_commands.specs.Questions.{IsForked}
 use Rattle.ul_commands.specs.Reasons.{IsWhyAnswer}
+use Rattle.ul_commands.specs.Relocking.{IsRelockAnswer}
 use Rattle.ul_commands.specs.Verifying.{IsVerifyAnswer}
 
 -- where each input of a command is read, it answers what the inputs say, and none of them is refused
@@ -38,6 +39,10 @@ pub record InputsAreAnswered : Type 0 where
       (a : Result Answer Refused)
       → (resolution_in project folder old m).gives (Ok r)
       → (command (why project folder workers old) m).gives a → IsWhyAnswer r a
+  pub relock : (project folder : List ℕ) (workers : ℕ) (old : List ℕ) (m : FileMap) (l : Lock) (r : ResolutionFields)
+      (a : Result Answer Refused)
+      → (lock_at old m).gives (Ok l) → (resolution_in project folder (Some old) m).gives (Ok r)
+      → (command (relock project folder workers old) m).gives a → IsRelockAnswer r l a
   pub env : (path machine : List ℕ) (words : List (List ℕ)) (m : FileMap) (l : Lock) (x : MachineFields)
       (a : Result Answer Refused)
       → (lock_at path m).gives (Ok l) → (machine_at machine m).gives (Ok x)

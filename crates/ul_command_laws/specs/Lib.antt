@@ -1,10 +1,12 @@
 pub mod Lower
 pub mod Answers
 pub mod Workers
+pub mod Reads
 pub mod Reasons
 pub mod WellFormed
 pub mod Environments
 pub mod Verified
 pub mod Statuses
+pub mod Exports
 pub mod Refusals
 pub mod Complete

@@ -1,5 +1,5 @@
 -- What `why` prints of a refused fork is accepted by `check`.
-use Rattle.std.specs.Prelude.{◌≡◌, ◌≤◌, ℕ, List, ◌++◌, Bool, length, Option, Some, Ok}
+use Rattle.std.specs.Prelude.{◌≡◌, ◌≤◌, ℕ, List, ◌++◌, Bool, length, Option, None, Some, Ok}
 use Rattle.ul_base.specs.Files.{FileMap, content}
 use Rattle.ul_nodes.specs.Plain.{Plain}
 use Rattle.ul_tree.specs.Regions.{region_of}
@@ -9,7 +9,8 @@ use Rattle.ul_report.specs.Texts.{refusal_text}
 use Rattle.ul_report_read.specs.Proofs.{IsTextOf}
 use Rattle.ul_report_read.specs.declared.proof.Proof.{Proof}
 use Rattle.ul_inputs.specs.Inputs.{text_bytes}
-use Rattle.ul_inputs.specs.Resolutions.{IsResolution, ResolutionFields}
+use Rattle.ul_inputs.specs.Resolutions.{IsResolution, ResolutionFields, resolution_in}
+use Rattle.laws_frames.specs.Frames.{AgreeOn}
 use Rattle.ul_given.specs.Given.{HasTexts}
 use Rattle.ul_answers.specs.Answer.{accepted, derived}
 use Rattle.ul_commands.specs.Asked.{check, why}
@@ -36,14 +37,15 @@ ReasonsAreAccepted = (r : ResolutionFields) (path : List Bool) (region : Plain) 
     → IsWhyAnswer r (Ok (derived path region steps)) → length (reason_text path region steps) ≤ text_bytes
     → HasAcceptedProof r (reason_text path region steps)
 
--- so `check`, which reads no old lock, accepts what `why` printed with any old lock and any number of workers, put into a
--- file beside the same ones
+-- so `check`, which reads no old lock, accepts what `why` printed before, with any old lock and any number of workers, put
+-- into a file, where what is read for the project and the index folder is the same
 abbrev pub FilesAreAccepted : Type 0
-FilesAreAccepted = (project folder derivation : List ℕ) (old : Option (List ℕ)) (workers : ℕ) (m : FileMap)
+FilesAreAccepted = (project folder derivation : List ℕ) (old : Option (List ℕ)) (workers : ℕ) (before now : FileMap)
     (path : List Bool) (region : Plain) (steps : List ℕ)
-    → (command (why project folder workers old) m).gives (Ok (derived path region steps))
-    → content m derivation ≡ Some (reason_text path region steps) → length (reason_text path region steps) ≤ text_bytes
-    → (command (check project folder derivation) m).gives (Ok accepted)
+    → (command (why project folder workers old) before).gives (Ok (derived path region steps))
+    → AgreeOn (resolution_in project folder None before).reads before now
+    → content now derivation ≡ Some (reason_text path region steps) → length (reason_text path region steps) ≤ text_bytes
+    → (command (check project folder derivation) now).gives (Ok accepted)
 
 -- the region of a derivation that `check` accepts is served by no selection
 abbrev pub AcceptedAreUnserved : Type 0

@@ -13,6 +13,7 @@ use Rattle.ul_inputs.specs.Inputs.{text_bytes}
 use Rattle.ul_inputs.specs.Locks.{lock_at}
 use Rattle.ul_inputs.specs.Machines.{machine_at}
 use Rattle.ul_inputs.specs.Resolutions.{ResolutionFields, resolution_in}
+use Rattle.laws_frames.specs.Frames.{AgreeOn}
 use Rattle.ul_answers.specs.Answer.{environment, locked, verified}
 use Rattle.ul_lock_commands.specs.Environments.{IsEnvAnswer}
 use Rattle.ul_lock_commands.specs.Words.{names_of}
@@ -55,10 +56,12 @@ EnvironmentsOfVerifiedFiles = (project folder path machine : List ℕ) (words : 
     → (command (env path machine words) m).gives (Ok (environment text))
     → ListsExactly (IsEligible r.catalog) (IsRequired r l (world_of x comparisons) (names_of words)) text
 
--- `verify` accepts what `lock` printed, with any old lock and any number of workers, put into a file beside the same ones,
--- where a file may be so long
+-- `verify` accepts what `lock` printed before, with any old lock and any number of workers, put into a file, where a file
+-- may be so long and what is read for the project and the index folder is the same; the file may be that of the old lock
 abbrev pub LocksAreVerified : Type 0
-LocksAreVerified = (project folder path : List ℕ) (old : Option (List ℕ)) (workers : ℕ) (m : FileMap) (l : Lock) (forks : ℕ)
-    → (command (lock project folder workers old) m).gives (Ok (locked l forks))
-    → content m path ≡ Some (lock_text l) → length (lock_text l) ≤ text_bytes
-    → (command (verify project folder path) m).gives (Ok verified)
+LocksAreVerified = (project folder path : List ℕ) (old : Option (List ℕ)) (workers : ℕ) (before now : FileMap) (l : Lock)
+    (forks : ℕ)
+    → (command (lock project folder workers old) before).gives (Ok (locked l forks))
+    → AgreeOn (resolution_in project folder None before).reads before now
+    → content now path ≡ Some (lock_text l) → length (lock_text l) ≤ text_bytes
+    → (command (verify project folder path) now).gives (Ok verified)

@@ -1,10 +1,10 @@
 -- The number of workers doesn't matter.
-use Rattle.std.specs.Prelude.{◌↔◌, ℕ, List, Result}
+use Rattle.std.specs.Prelude.{ℕ, Result}
 use Rattle.ul_base.specs.Files.{FileMap}
-use Rattle.ul_inputs.specs.Inputs.{Said}
 use Rattle.ul_inputs.specs.Refused.{Refused}
+use Rattle.laws_frames.specs.Frames.{SayTheSame}
 use Rattle.ul_answers.specs.Answer.{Answer}
-use Rattle.ul_commands.specs.Asked.{Asked, lock, why, gen}
+use Rattle.ul_commands.specs.Asked.{Asked, lock, why, relock, gen}
 use Rattle.ul_commands.specs.Commands.{command}
 use Rattle.ul_command_laws.specs.Answers.{SameAnswer}
 
@@ -12,13 +12,9 @@ use Rattle.ul_command_laws.specs.Answers.{SameAnswer}
 abbrev pub with_workers : ℕ → Asked → Asked
 with_workers n (lock project folder workers old) = lock project folder n old
 with_workers n (why project folder workers old) = why project folder n old
+with_workers n (relock project folder workers old) = relock project folder n old
 with_workers n (gen seed size workers) = gen seed size n
 with_workers n asked = asked
-
--- the same results are given, and the same paths are read
-pub record SayTheSame (first second : Said Answer) : Type 0 where
-  pub gives : (a : Result Answer Refused) → first.gives a ↔ second.gives a
-  pub reads : (path : List ℕ) → first.reads path ↔ second.reads path
 
 -- a question and the one with another number of workers have the same answers and read the same paths
 abbrev pub WorkersDontMatter : Type 0

@@ -1,8 +1,10 @@
 //! What holds of the answers of the commands. None of these functions does anything but name the laws that it rests on.
-ghost use Rattle.ul_command_laws.specs.Answers.{AnswersAreOne, WhyFollowsLock};
+ghost use Rattle.ul_command_laws.specs.Answers.{AnswersAreEqual, AnswersAreOne, WhyFollowsLock};
 ghost use Rattle.ul_command_laws.specs.Complete.{InputsAreAnswered, LocksWithinLimits};
 ghost use Rattle.ul_command_laws.specs.Environments.{EnvironmentsOfFiles, EnvironmentsOfLocks};
+ghost use Rattle.ul_command_laws.specs.Exports.{ExportsOfFiles, ExportsOfVerifiedFiles};
 ghost use Rattle.ul_command_laws.specs.Lower.{LowerLaws};
+ghost use Rattle.ul_command_laws.specs.Reads.{AnswersByWhatIsRead};
 ghost use Rattle.ul_command_laws.specs.Reasons.{AcceptedAreUnserved, FilesAreAccepted, ReasonsAreAccepted};
 ghost use Rattle.ul_command_laws.specs.Refusals.{ReasonsOfFiles, RefusalsOfFiles};
 ghost use Rattle.ul_command_laws.specs.Statuses.{StatusesOfFiles, StatusesOfVerifiedFiles};
@@ -37,9 +39,16 @@ fn lower_laws()
     ul_report_judge::laws::faults();
 }
 
-/// Each question has at most one answer on the same files.
+/// Each question has at most one answer on the same files, but for the steps that `why` tells.
 pub fn answers_are_one()
     ensures { AnswersAreOne }
+{
+    lower_laws();
+}
+
+/// All answers to another question than why there is no lock are equal.
+pub fn answers_are_equal()
+    ensures { AnswersAreEqual }
 {
     lower_laws();
 }
@@ -72,6 +81,13 @@ pub fn workers_dont_matter()
     ensures { WorkersDontMatter }
 {}
 
+/// Of files that have the same at each path which is read for it, a question has the same answers, and the same paths are read.
+pub fn answers_by_what_is_read()
+    ensures { AnswersByWhatIsRead }
+{
+    laws_frames::laws::inputs_by_what_is_read();
+}
+
 /// So there is one answer for all numbers of workers.
 pub fn one_answer_for_all()
     ensures { OneAnswerForAll }
@@ -85,6 +101,7 @@ pub fn reasons_are_accepted()
     ensures texts { ReasonsAreAccepted }
     ensures files { FilesAreAccepted }
 {
+    laws_frames::laws::inputs_by_what_is_read();
     ul_commands::laws::refused_are_unserved();
     ul_tree::laws::no_extra();
     ul_report_read::laws::printed_is_read();
@@ -200,6 +217,7 @@ pub fn locks_are_verified()
     ensures verified { LocksAreVerified }
     ensures statuses { StatusesOfFiles }
 {
+    laws_frames::laws::inputs_by_what_is_read();
     inputs_are_answered();
     ul_filter::laws::more_comparisons();
     ul_given::laws::given_is_resolution();
@@ -208,4 +226,21 @@ pub fn locks_are_verified()
     ul_commands::laws::locks_are_sound();
     ul_verified::laws::verified_laws();
     ul_lock_read::laws::text_laws();
+}
+
+/// What `export` prints of a lock that `lock` printed or `verify` accepted is, in each world that the project supports, exactly
+/// what is required there.
+pub fn exports_are_right()
+    ensures printed { ExportsOfFiles }
+    ensures verified { ExportsOfVerifiedFiles }
+{
+    inputs_are_answered();
+    ul_lock_commands::laws::exports_are_exact();
+    ul_given::laws::given_is_resolution();
+    ul_given::laws::given_has_texts();
+    locks_are_well_formed();
+    ul_commands::laws::locks_are_sound();
+    ul_verified::laws::verified_laws();
+    ul_lock_read::laws::text_laws();
+    verified_files();
 }

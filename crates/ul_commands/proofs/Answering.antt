@@ -23,6 +23,7 @@ use Rattle.ul_lock_commands.specs.Exports.{GivesRows, IsExportAnswer}
 use Rattle.ul_lock_commands.specs.Words.{first_other}
 use Rattle.ul_commands.specs.Locking.{IsLockAnswer, LocksFor}
 use Rattle.ul_commands.specs.Reasons.{GivesReason, IsWhyAnswer}
+use Rattle.ul_commands.specs.Relocking.{IsRelockAnswer, unkept}
 use Rattle.ul_commands.specs.Verifying.{IsVerifyAnswer}
 use Rattle.ul_commands.specs.Views.{GivesAnswer, IsAnswering}
 use Rattle.ul_commands.specs.Wanted.{IsAnswerFor, asked_for}
@@ -94,6 +95,15 @@ by_verdict r l a (inr (inr (inr h))) = answering a _ h.is tt
 pub verify_answers : (r : ResolutionFields) (l : Lock) (result : Result Answer Refusal) → Answers view result (only (IsVerifyAnswer r l)) → GivesAnswer result
 verify_answers r l (Ok a) h = by_verdict r l (view a) h
 verify_answers r l (Err e) h = tt
+
+by_old_lock : (r : ResolutionFields) (l : Lock) (a : answer.Answer) → IsRelockAnswer r l (Ok a) → IsAnswering a
+by_old_lock r l a (inl h) = answering a _ h.is tt
+by_old_lock r l a (inr (inl h)) = by_fork r h.answers.forked a h.answers.locks
+by_old_lock r l a (inr (inr h)) = by_fork (unkept r) h.anew.forked a h.anew.locks
+
+pub relock_answers : (r : ResolutionFields) (l : Lock) (result : Result Answer Refusal) → Answers view result (only (IsRelockAnswer r l)) → GivesAnswer result
+relock_answers r l (Ok a) h = by_old_lock r l (view a) h
+relock_answers r l (Err e) h = tt
 
 -- what is asked for is answered on the resolution that is read
 pub asked_answers : (w : Wanted) (project folder : List ℕ) (workers : ℕ) (old : Option (List ℕ)) (m : FileMap) (result : Result Answer Refusal)

@@ -9,4 +9,6 @@ mod Counting
 mod Accepted
 mod ForkAnswers
 mod Verdicts
+mod RootExtras
+mod Relocked
 pub mod ForCallers

@@ -7,11 +7,12 @@ use Rattle.ul_inputs.specs.Resolutions.{resolution_in}
 use Rattle.ul_answers.specs.Answer as answers
 use Rattle.ul_lock_commands.specs.Environments.{env_on}
 use Rattle.ul_lock_commands.specs.Exports.{IsExportAnswer}
-use Rattle.ul_commands.specs.Asked.{Asked, usage, lock, why, gen, env, export, check, verify}
+use Rattle.ul_commands.specs.Asked.{Asked, usage, lock, why, relock, gen, env, export, check, verify}
 use Rattle.ul_commands.specs.Checking.{check_on}
 use Rattle.ul_commands.specs.Generating.{gen_said}
 use Rattle.ul_commands.specs.Locking.{lock_of}
 use Rattle.ul_commands.specs.Reasons.{IsWhyAnswer}
+use Rattle.ul_commands.specs.Relocking.{relock_of}
 use Rattle.ul_commands.specs.Verifying.{verify_on}
 
 -- the answer to what is asked; the number of workers isn't looked at
@@ -19,6 +20,7 @@ abbrev pub command : Asked → Input answers.Answer
 command usage = just (Ok answers.usage)
 command (lock project folder workers old) = lock_of project folder old
 command (why project folder workers old) = resolution_in project folder old >>= λ r. answer (IsWhyAnswer r)
+command (relock project folder workers old) = relock_of project folder old
 command (gen seed size workers) = gen_said seed size
 command (env path machine words) = lock_at path >>= env_on machine words
 command (export path words) = lock_at path >>= λ l. answer (IsExportAnswer l words)

@@ -5,8 +5,11 @@ pub mod Generating
 pub mod Reasons
 pub mod Checking
 pub mod Verifying
+pub mod Relocking
 pub mod Commands
 pub mod Wanted
 pub mod Views
 pub mod Forking
+pub mod RootExtras
+pub mod Keeping
 pub mod Laws

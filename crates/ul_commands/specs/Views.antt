@@ -11,13 +11,14 @@ use Rattle.ul_answers.specs.declared.answer.Answer.TheVariants.{Usage as AnswerU
 use Rattle.ul_commands.specs.Asked as asked
 use Rattle.ul_commands.specs.Generating.{gen_said}
 use Rattle.ul_commands.specs.declared.asked.Asked.{Asked}
-use Rattle.ul_commands.specs.declared.asked.Asked.TheVariants.{Usage, Lock, Why, Gen, Env, Export, Check, Verify}
+use Rattle.ul_commands.specs.declared.asked.Asked.TheVariants.{Usage, Lock, Why, Relock, Gen, Env, Export, Check, Verify}
 
 -- what is asked
 abbrev pub view : Asked → asked.Asked
 view Usage = asked.usage
 view (Lock project folder workers old) = asked.lock project.now folder.now workers (option_map (λ p. p.now) old)
 view (Why project folder workers old) = asked.why project.now folder.now workers (option_map (λ p. p.now) old)
+view (Relock project folder workers old) = asked.relock project.now folder.now workers old.now
 view (Gen seed size workers) = asked.gen seed size workers
 view (Env lock machine extras) = asked.env lock.now machine.now (map string_bytes extras.now)
 view (Export lock extras) = asked.export lock.now (map string_bytes extras.now)
@@ -28,6 +29,7 @@ view (Verify project folder lock) = asked.verify project.now folder.now lock.now
 abbrev pub HasWorkers : Asked → Type 0
 HasWorkers (Lock project folder workers old) = IsWorkerCount workers
 HasWorkers (Why project folder workers old) = IsWorkerCount workers
+HasWorkers (Relock project folder workers old) = IsWorkerCount workers
 HasWorkers (Gen seed size workers) = (1 ≤ size) × ((size ≤ 2000) × IsWorkerCount workers)
 HasWorkers _ = Unit {0}
 

@@ -19,6 +19,13 @@ pub enum Asked<'w> {
         workers: u64,
         old: Option<&'w str>,
     },
+    /// What becomes of an old lock, for a project file over an index folder, by so many workers.
+    Relock {
+        project: &'w str,
+        folder: &'w str,
+        workers: u64,
+        old: &'w str,
+    },
     /// How many packages and forks the lock of a generated project has: its seed and size, by so many workers.
     Gen {
         seed: u64,

@@ -21,6 +21,7 @@ ghost use Rattle.ul_commands.specs.Wanted.{asked_for};
 use crate::asked::Asked;
 use crate::checking::{check, proof_file};
 use crate::generating::{INDEX, PROJECT, counted, files};
+use crate::relocking::relock_files;
 use crate::resolving::answer;
 use crate::verifying::verify;
 use crate::wanted::Wanted;
@@ -340,6 +341,12 @@ pub fn command<R: Threads + Wait + Sync, F: Files, G: Gate + Sync>(
                 rt, alloc, files, gate, wanted, project, folder, *workers, *old,
             )
         }
+        Asked::Relock {
+            project,
+            folder,
+            workers,
+            old,
+        } => relock_files(rt, alloc, files, gate, project, folder, *workers, old),
         Asked::Gen {
             seed,
             size,

@@ -8,9 +8,12 @@ mod checking;
 mod commands;
 mod forking;
 mod generating;
+mod keeping;
 pub mod laws;
 mod locking;
+mod relocking;
 mod resolving;
+mod root_extras;
 mod verifying;
 mod wanted;
 

@@ -1,10 +1,10 @@
 -- Each question has an answer on every map of files.
-use Rattle.std.proofs.Common.{ℕ, List, [], Option, None, Result, Ok, refl, inr}
+use Rattle.std.proofs.Common.{ℕ, List, [], Option, Some, None, Result, Ok, refl, inr}
 use Rattle.ul_base.specs.Files.{FileMap}
 use Rattle.ul_load.specs.Laws.{LoadingEnds}
 use Rattle.ul_project.specs.Fields.{ProjectFields}
 use Rattle.ul_inputs.specs.Inputs.{answer, large_file}
-use Rattle.ul_inputs.specs.Locks.{lock_at}
+use Rattle.ul_inputs.specs.Locks.{kept_of, lock_at}
 use Rattle.ul_inputs.specs.Machines.{machine_at}
 use Rattle.ul_inputs.specs.Projects.{project_at}
 use Rattle.ul_inputs.specs.Refused.{Refused}
@@ -13,12 +13,13 @@ use Rattle.ul_answers.specs.Answer as answers
 use Rattle.ul_answers.specs.Answer.{Answer}
 use Rattle.ul_lock_commands.specs.Environments.{IsEnvAnswer, env_on}
 use Rattle.ul_lock_commands.specs.Exports.{IsExportAnswer}
-use Rattle.ul_commands.specs.Asked.{check, env, export, gen, lock, usage, verify, why}
+use Rattle.ul_commands.specs.Asked.{check, env, export, gen, lock, relock, usage, verify, why}
 use Rattle.ul_commands.specs.Checking.{IsCheckAnswer, check_on, check_with, proof_at, proof_said}
 use Rattle.ul_commands.specs.Commands.{command}
 use Rattle.ul_commands.specs.Generating.{counted_for, gen_said, generated_files, index_folder, project_path}
 use Rattle.ul_commands.specs.Locking.{IsLockAnswer, lock_of}
 use Rattle.ul_commands.specs.Reasons.{IsWhyAnswer}
+use Rattle.ul_commands.specs.Relocking.{IsRelockAnswer, relock_on, relock_with}
 use Rattle.ul_commands.specs.Verifying.{IsVerifyAnswer, verify_on, verify_with}
 use Rattle.ul_given.specs.Given.{GivenHasTexts, GivenIsResolution}
 use Rattle.ul_given.proofs.ForCallers.{on_ok}
@@ -35,6 +36,7 @@ use Rattle.ul_existence.proofs.LockAnswers.{WalkLaws, env_answered, export_answe
 use Rattle.ul_existence.proofs.LockTexts.{given_lock}
 use Rattle.ul_existence.proofs.Locks.{LockLaws, lock_answered}
 use Rattle.ul_existence.proofs.Reasons.{ReasonLaws, why_answered}
+use Rattle.ul_existence.proofs.Relocks.{relock_answered}
 use Rattle.ul_existence.proofs.Sequenced.{given_just, given_then}
 
 -- what is known of what files give
@@ -139,12 +141,46 @@ verify_given laws project folder path m =
     (λ p had. given_then (lock_at path) (verify_with folder p) m (laws.given.inputs.lock path m)
     (λ l said. verify_behind laws project folder m p had l (given_lock path m l said).is_text.well_formed))
 
+-- ---- `relock`
+
+-- what is said of a project and an old lock that are given is known
+known_of : GivenLaws → (project folder old : List ℕ) (m : FileMap) (p : ProjectFields) (l : Lock) (r : ResolutionFields)
+    → (project_at project m).gives (Ok p) → (lock_at old m).gives (Ok l)
+    → (resolution_with folder p (kept_of l) m).gives (Ok r) → IsKnown r
+known_of laws project folder old m p l r had said gave =
+    known laws project folder (Some old) m r
+    (inr (record {
+      value = p;
+      gave = had;
+      answers = inr (record {
+        value = kept_of l;
+        gave = inr (record { value = l; gave = said; answers = refl });
+        answers = gave;
+      });
+    }))
+
+relock_behind : AnswerLaws → (project folder old : List ℕ) (m : FileMap) (p : ProjectFields)
+    → (project_at project m).gives (Ok p) → (l : Lock) → (lock_at old m).gives (Ok l) → IsGiven (relock_with folder p l) m
+relock_behind laws project folder old m p had l said =
+    given_then (resolution_with folder p (kept_of l)) (λ r. answer (IsRelockAnswer r l)) m
+    (resolution_with_given laws.given.ends folder p (kept_of l) m)
+    (λ r gave. relock_answered laws.locks laws.checks.verdicts r l (known_of laws.given project folder old m p l r had said gave)
+    (given_lock old m l said).is_text.well_formed)
+
+relock_given : AnswerLaws → (project folder : List ℕ) (workers : ℕ) (old : List ℕ) (m : FileMap)
+    → (a : Result Answer Refused) × (command (relock project folder workers old) m).gives a
+relock_given laws project folder workers old m =
+    given_then (project_at project) (relock_on folder old) m (laws.given.inputs.project project m)
+    (λ p had. given_then (lock_at old) (relock_with folder p) m (laws.given.inputs.lock old m)
+    (λ l said. relock_behind laws project folder old m p had l said))
+
 -- ---- all of them
 
 pub answers_exist : AnswerLaws → AnswersExist
 answers_exist laws usage m = given_just (Ok answers.usage) m
 answers_exist laws (lock project folder workers old) m = lock_given laws project folder old m
 answers_exist laws (why project folder workers old) m = why_given laws project folder workers old m
+answers_exist laws (relock project folder workers old) m = relock_given laws project folder workers old m
 answers_exist laws (gen seed size workers) m = gen_given laws seed size m
 answers_exist laws (env path machine words) m = env_given laws path machine words m
 answers_exist laws (export path words) m = export_given laws path words m

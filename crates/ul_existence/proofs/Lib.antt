@@ -17,4 +17,5 @@ mod Locks
 mod Reasons
 mod LockAnswers
 mod Checks
+mod Relocks
 mod Answers

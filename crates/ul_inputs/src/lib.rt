@@ -10,7 +10,7 @@ mod refusal;
 mod resolutions;
 
 pub use files::{TEXT_BYTES, large_file, small_file};
-pub use locks::lock_file;
+pub use locks::{kept, lock_file};
 pub use machines::machine_file;
 pub use projects::project_file;
 pub use refusal::{Refusal, malformed};

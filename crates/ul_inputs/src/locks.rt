@@ -92,8 +92,12 @@ fn kept_in(
     Ok(kept)
 }
 
-// What a lock keeps.
-fn kept(alloc: Global, lock: &Lock) -> Result<Vec<(Name, Version)>, Refusal>
+/// What a lock keeps: the names and versions of its packages but the root.
+///
+/// # Errors
+///
+/// Only for want of memory.
+pub fn kept(alloc: Global, lock: &Lock) -> Result<Vec<(Name, Version)>, Refusal>
     ensures { Answers (λ k. k.items) result (only (λ r. r ≡ Ok (spec.kept_of lock.now))) }
 {
     let kept = kept_in(alloc, &lock.root, lock.packages.as_slice())?;

@@ -27,3 +27,4 @@ mod targets;
 mod truths;
 
 pub use merging::merge;
+pub use releases::files_at;

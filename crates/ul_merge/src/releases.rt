@@ -85,6 +85,24 @@ pub(crate) fn files_of(alloc: Global, release: Option<&Release>) -> Result<Files
     }
 }
 
+/// The files that a lock has of a name at a version: those of the catalog's release; none where there is no release.
+///
+/// # Errors
+///
+/// Only for want of memory.
+pub fn files_at(
+    alloc: Global,
+    catalog: &Catalog,
+    name: &Name,
+    version: &Version,
+) -> Result<Files, AllocError>
+    ensures { IfOk result (λ v. v ≡ files_in (release_of catalog.now name.now version.now)) }
+{
+    let release = release_at(catalog, name, version);
+    let files = files_of(alloc, release)?;
+    Ok(files)
+}
+
 // The versions of each package's releases differ.
 fn each_differs(packages: &[Package])
     ensures { All (λ p. VersionsDiffer p.releases) packages.now }

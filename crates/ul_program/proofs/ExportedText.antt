@@ -61,6 +61,7 @@ pub says_what_is_given : ExportsAreExact → (q : asked.Asked) (m : FileMap) (r 
 says_what_is_given law asked.usage m r t gives p = tt
 says_what_is_given law (asked.lock project folder workers old) m r t gives p = tt
 says_what_is_given law (asked.why project folder workers old) m r t gives p = tt
+says_what_is_given law (asked.relock project folder workers old) m r t gives p = tt
 says_what_is_given law (asked.gen seed size workers) m r t gives p = tt
 says_what_is_given law (asked.env path machine words) m r t gives p = tt
 says_what_is_given law (asked.export path words) m r t gives p = of_export law path words m r t gives p

@@ -25,7 +25,7 @@ use Rattle.ul_commands.specs.Asked.{usage}
 use Rattle.ul_commands.specs.Commands.{command}
 use Rattle.ul_commands.specs.Views.{IsAnswering, IsByWords, view}
 use Rattle.ul_commands.specs.declared.asked.Asked.{Asked}
-use Rattle.ul_commands.specs.declared.asked.Asked.TheVariants.{Usage, Lock, Why, Gen, Env, Export, Check, Verify}
+use Rattle.ul_commands.specs.declared.asked.Asked.TheVariants.{Usage, Lock, Why, Relock, Gen, Env, Export, Check, Verify}
 use Rattle.ul_program.specs.Answer.{IsAnswer, IsRead, NeedsNoFile, Prints}
 use Rattle.ul_program.specs.Exported.{SaysWhatIsGiven}
 use Rattle.ul_program.specs.Headline.{FilesSeen, IsOutput, IsOwn}
@@ -159,6 +159,8 @@ answer_output law words (Lock project folder workers old) before now a o same to
     command_output law words (Lock project folder workers old) before now a o same told still by (λ n. absurd n) is
 answer_output law words (Why project folder workers old) before now a o same told still by is =
     command_output law words (Why project folder workers old) before now a o same told still by (λ n. absurd n) is
+answer_output law words (Relock project folder workers old) before now a o same told still by is =
+    command_output law words (Relock project folder workers old) before now a o same told still by (λ n. absurd n) is
 answer_output law words (Gen seed size workers) before now a o same told still by is =
     command_output law words (Gen seed size workers) before now a o same told still by.0 (λ _. by.1.1) is
 answer_output law words (Env lock machine extras) before now a o same told still by is =
@@ -176,6 +178,7 @@ alone_refused : (q : Asked) (e : Refusal) (f : Refused) → refused_of e ≡ Som
 alone_refused Usage e f is by n = absurd (cc)
 alone_refused (Lock project folder workers old) e f is by n = absurd n
 alone_refused (Why project folder workers old) e f is by n = absurd n
+alone_refused (Relock project folder workers old) e f is by n = absurd n
 alone_refused (Gen seed size workers) e f is by n = if_some (refused_of e) f is _ by.1.1.0
 alone_refused (Env lock machine extras) e f is by n = absurd n
 alone_refused (Export lock extras) e f is by n = absurd n
@@ -198,6 +201,7 @@ alone_failed : (q : Asked) (path : String Global) → IsByWords q (Err (ReadFaul
 alone_failed Usage path by n = absurd (cc)
 alone_failed (Lock project folder workers old) path by n = n
 alone_failed (Why project folder workers old) path by n = n
+alone_failed (Relock project folder workers old) path by n = n
 alone_failed (Gen seed size workers) path by n = by.1.0
 alone_failed (Env lock machine extras) path by n = n
 alone_failed (Export lock extras) path by n = n

@@ -4,7 +4,7 @@ use Rattle.ul_base.specs.Files.{FileMap}
 use Rattle.ul_inputs.specs.Refused.{Refused}
 use Rattle.ul_answers.specs.Answer as answer
 use Rattle.ul_answers.specs.Printed.{Output, printed}
-use Rattle.ul_commands.specs.Asked.{Asked, usage, lock, why, gen, env, export, check, verify}
+use Rattle.ul_commands.specs.Asked.{Asked, usage, lock, why, relock, gen, env, export, check, verify}
 use Rattle.ul_commands.specs.Commands.{command}
 use Rattle.ul_program.specs.Words.{question}
 
@@ -32,6 +32,7 @@ abbrev pub NeedsNoFile : Asked → Type 0
 NeedsNoFile usage = Unit {0}
 NeedsNoFile (lock project folder workers old) = ⊥
 NeedsNoFile (why project folder workers old) = ⊥
+NeedsNoFile (relock project folder workers old) = ⊥
 NeedsNoFile (gen seed size workers) = Unit {0}
 NeedsNoFile (env path machine extras) = ⊥
 NeedsNoFile (export path extras) = ⊥

@@ -4,7 +4,7 @@ use Rattle.std.specs.Char.{is_ascii_digit}
 use Rattle.std.specs.List.{list_all}
 use Rattle.std.specs.Str.{bytes_eq}
 use Rattle.std.specs.Str.Parse.{digits_value}
-use Rattle.ul_commands.specs.Asked.{Asked, usage, lock, why, gen, env, export, check, verify}
+use Rattle.ul_commands.specs.Asked.{Asked, usage, lock, why, relock, gen, env, export, check, verify}
 
 -- there is a first digit, and it is no zero, unless it is the only one
 abbrev pub leads_well : List ℕ → Bool
@@ -53,6 +53,11 @@ asked_why (project ∷ folder ∷ workers ∷ []) = with_workers (λ n. why proj
 asked_why (project ∷ folder ∷ workers ∷ old ∷ []) = with_workers (λ n. why project folder n (Some old)) (workers_of workers)
 asked_why _ = usage
 
+-- relock PROJECT INDEXDIR WORKERS OLDLOCK
+abbrev pub asked_relock : List (List ℕ) → Asked
+asked_relock (project ∷ folder ∷ workers ∷ old ∷ []) = with_workers (λ n. relock project folder n old) (workers_of workers)
+asked_relock _ = usage
+
 -- env LOCK MACHINE [EXTRA] [EXTRA] and so on
 abbrev pub asked_env : List (List ℕ) → Asked
 asked_env (lock_file ∷ machine ∷ extras) = env lock_file machine extras
@@ -88,6 +93,7 @@ abbrev pub asked_command : List ℕ → List (List ℕ) → Asked
 asked_command verb rest =
     if bytes_eq verb (codes "lock") then asked_lock rest else
     if bytes_eq verb (codes "why") then asked_why rest else
+    if bytes_eq verb (codes "relock") then asked_relock rest else
     if bytes_eq verb (codes "env") then asked_env rest else
     if bytes_eq verb (codes "check") then asked_check rest else
     if bytes_eq verb (codes "gen") then asked_gen rest else

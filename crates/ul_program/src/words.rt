@@ -2,9 +2,9 @@
 ghost use Rattle.std.specs.Prelude.{◌≡◌, ◌≤◌, IfSome, Some, map, option_map, string_bytes};
 ghost use Rattle.std.specs.Char.{is_ascii_digit};
 ghost use Rattle.std.specs.List.{list_all};
-ghost use Rattle.ul_commands.specs.Asked.{lock, why};
+ghost use Rattle.ul_commands.specs.Asked.{lock, relock, why};
 ghost use Rattle.ul_commands.specs.Views.{HasWorkers, view};
-ghost use Rattle.ul_program.specs.Words.{question, asked_command, asked_lock, asked_why, asked_env, asked_check, asked_gen, asked_export, asked_verify, generated, leads_well, is_decimal, is_number_in, number_in, seed_of, size_of, with_workers, workers_of};
+ghost use Rattle.ul_program.specs.Words.{question, asked_command, asked_lock, asked_why, asked_relock, asked_env, asked_check, asked_gen, asked_export, asked_verify, generated, leads_well, is_decimal, is_number_in, number_in, seed_of, size_of, with_workers, workers_of};
 
 use ul_commands::Asked;
 
@@ -27,6 +27,7 @@ fn ask_command<'a>(verb: &str, rest: &'a [String]) -> Asked<'a>
     match verb {
         "lock" => ask_lock(rest),
         "why" => ask_why(rest),
+        "relock" => ask_relock(rest),
         "env" => ask_env(rest),
         "check" => ask_check(rest),
         "gen" => ask_gen(rest),
@@ -101,6 +102,38 @@ fn ask_why(rest: &[String]) -> Asked<'_>
             folder.as_str(),
             workers.as_str(),
             Some(old.as_str()),
+        ),
+        _ => Asked::Usage,
+    }
+}
+
+// What becomes of an old lock, by the workers of a word.
+fn relock_by<'a>(project: &'a str, folder: &'a str, workers: &str, old: &'a str) -> Asked<'a>
+    ensures asked { view result ≡ with_workers (λ n. relock project.now folder.now n old.now)
+        (workers_of workers.now) }
+    ensures workers { HasWorkers result }
+{
+    match workers_of(workers) {
+        Some(workers) => Asked::Relock {
+            project,
+            folder,
+            workers,
+            old,
+        },
+        None => Asked::Usage,
+    }
+}
+
+fn ask_relock(rest: &[String]) -> Asked<'_>
+    ensures asked { view result ≡ asked_relock (map string_bytes rest.now) }
+    ensures workers { HasWorkers result }
+{
+    match rest {
+        [project, folder, workers, old] => relock_by(
+            project.as_str(),
+            folder.as_str(),
+            workers.as_str(),
+            old.as_str(),
         ),
         _ => Asked::Usage,
     }

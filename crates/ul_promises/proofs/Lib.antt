@@ -2,4 +2,7 @@ mod OfAnswers
 mod OfLocks
 mod OfReasons
 mod OfFiles
+mod OfRepeated
+mod OfEndings
+mod OfExports
 mod OfRegions

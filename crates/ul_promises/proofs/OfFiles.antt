@@ -16,14 +16,17 @@ use Rattle.ul_answers.specs.Answer as answers
 use Rattle.ul_answers.specs.Printed.{printed}
 use Rattle.ul_lock_commands.specs.Environments.{GivesFor, GivesWhere, IsEnvAnswer, env_on}
 use Rattle.ul_lock_commands.specs.Words.{first_other}
-use Rattle.ul_commands.specs.Asked.{env, lock, verify}
+use Rattle.ul_report_read.specs.declared.proof.Proof.{Proof}
+use Rattle.ul_commands.specs.Asked.{check, env, lock, verify}
+use Rattle.ul_commands.specs.Checking.{IsCheckAnswer, check_on, check_with, proof_at}
 use Rattle.ul_commands.specs.Commands.{command}
 use Rattle.ul_commands.specs.Verifying.{IsVerifyAnswer, verify_on, verify_with}
 use Rattle.ul_command_laws.specs.Complete.{LocksWithinLimits}
 use Rattle.ul_command_laws.specs.Environments.{EnvironmentsOfFiles}
+use Rattle.ul_command_laws.specs.Reasons.{AcceptedAreUnserved}
 use Rattle.ul_command_laws.specs.Statuses.{EndsRightly, StatusesOfFiles, StatusesOfVerifiedFiles}
 use Rattle.ul_command_laws.specs.Verified.{EnvironmentsOfVerifiedFiles, VerifiedFilesAreSound}
-use Rattle.ul_promises.specs.Promises.{EnvironmentsAreRight, VerifiedAreRight, VerifiedEnvironmentsAreRight}
+use Rattle.ul_promises.specs.Promises.{AcceptedAreRight, EnvironmentsAreRight, VerifiedAreRight, VerifiedEnvironmentsAreRight}
 use Rattle.ul_promises.proofs.OfAnswers.{asked_answer, on_zero}
 use Rattle.ul_promises.proofs.OfLocks.{printed_lock}
 
@@ -94,12 +97,12 @@ verified_is r l a (inr (inr (inl h))) status = let bad : 0 ≡ 9 = status ∙ ap
 verified_is r l a (inr (inr (inr h))) status = let bad : 0 ≡ 9 = status ∙ ap (λ (b : Result answers.Answer Refused). (printed b).0) h.is in absurd (cc)
 
 -- what `verify` read, and that it accepted it
-record Accepts (project folder path : List ℕ) (m : FileMap) : Type 0 where
-  resolution : ResolutionFields
-  gave : (resolution_in project folder None m).gives (Ok resolution)
-  lock : Lock
-  read : (lock_at path m).gives (Ok lock)
-  accepts : (command (verify project folder path) m).gives (Ok answers.verified)
+pub record Accepts (project folder path : List ℕ) (m : FileMap) : Type 0 where
+  pub resolution : ResolutionFields
+  pub gave : (resolution_in project folder None m).gives (Ok resolution)
+  pub lock : Lock
+  pub read : (lock_at path m).gives (Ok lock)
+  pub accepts : (command (verify project folder path) m).gives (Ok answers.verified)
 
 -- a resolution without an old lock
 without_old : (project folder : List ℕ) (m : FileMap) (p : ProjectFields) (r : ResolutionFields) → (project_at project m).gives (Ok p)
@@ -107,7 +110,7 @@ without_old : (project folder : List ℕ) (m : FileMap) (p : ProjectFields) (r :
 without_old project folder m p r said made =
     inr (record { value = p; gave = said; answers = inr (record { value = []; gave = refl; answers = made }) })
 
-accepted_file : (project folder path : List ℕ) (m : FileMap) (a : Result answers.Answer Refused)
+pub accepted_file : (project folder path : List ℕ) (m : FileMap) (a : Result answers.Answer Refused)
     → (command (verify project folder path) m).gives a → 0 ≡ (printed a).0 → Accepts project folder path m
 accepted_file project folder path m a gives status =
     let said = on_zero (project_at project m) (λ p. verify_on folder path p m) a gives status in
@@ -147,4 +150,26 @@ verified_environments_are_right lines statuses words others m bytes text project
       lists = λ ended world.
           lines project folder path machine extras m r l x text comparisons gave read machined p.accepts all world own
           (given_environment others m text path machine extras env_asked.answer env_asked.gives (sym ended ∙ env_asked.prints.0) env_asked.prints.1);
+    }
+
+-- ---- `check`
+
+-- the answer with status 0 is that the derivation is accepted
+accepted_is : (r : ResolutionFields) (x : Proof) (a : Result answers.Answer Refused) → IsCheckAnswer r x a → 0 ≡ (printed a).0 → a ≡ Ok answers.accepted
+accepted_is r x a (inl h) status = h.is
+accepted_is r x a (inr h) status = let bad : 0 ≡ 9 = status ∙ ap (λ (b : Result answers.Answer Refused). (printed b).0) h.is in absurd (cc)
+
+pub accepted_are_right : AcceptedAreUnserved → AcceptedAreRight
+accepted_are_right law words m bytes project folder derivation q is =
+    let asked = asked_answer words m 0 bytes (check project folder derivation) q is in
+    let said = on_zero (project_at project m) (λ p. check_on folder derivation p m) asked.answer asked.gives asked.prints.0 in
+    let read = on_zero (proof_at derivation m) (λ x. check_with folder said.value x m) asked.answer said.answers asked.prints.0 in
+    let on = on_zero (resolution_with folder said.value [] m) (λ r. answer (IsCheckAnswer r read.value) m) asked.answer read.answers asked.prints.0 in
+    let is_accepted = accepted_is on.value read.value asked.answer on.answers asked.prints.0 in
+    record {
+      resolution = on.value;
+      given = without_old project folder m said.value on.value said.gave on.gave;
+      proof = read.value;
+      read = read.gave;
+      none = law on.value read.value (subst (IsCheckAnswer on.value read.value) is_accepted on.answers);
     }

@@ -1,12 +1,12 @@
 -- What `lock` prints.
-use Rattle.std.proofs.Common.{◌≡◌, ◌++◌, ◌∙◌, ◌≤◌, ℕ, List, Bool, true, false, length, Option, Some, None, Result, Ok, ap, sym, subst}
+use Rattle.std.proofs.Common.{◌≡◌, ◌++◌, ◌∙◌, ◌≤◌, ℕ, List, Bool, true, false, length, Option, Some, None, Result, Ok, refl, ap, sym, subst}
 use Rattle.ul_base.specs.Files.{FileMap}
 use Rattle.ul_tree.specs.Paths.{is_printable}
 use Rattle.ul_lock.specs.declared.parts.Lock.{Lock}
 use Rattle.ul_lock_write.specs.Markers.{first_over, markers_of}
 use Rattle.ul_lock_write.specs.Texts.{lock_text}
 use Rattle.ul_generations.specs.Generations.{leaves_are, refused_at, too_many}
-use Rattle.ul_forks.specs.Headline.{TreeAnswer, TreeRefusal}
+use Rattle.ul_forks.specs.Headline.{ForkLaws, TreeAnswer, TreeRefusal}
 use Rattle.ul_report.specs.Texts.{refusal_text}
 use Rattle.ul_inputs.specs.Inputs.{answer, text_bytes}
 use Rattle.ul_inputs.specs.Refused.{Refused}
@@ -18,11 +18,11 @@ use Rattle.ul_commands.specs.Asked.{lock, verify}
 use Rattle.ul_commands.specs.Commands.{command}
 use Rattle.ul_commands.specs.Laws.{LocksAreSound, RefusedAreUnserved}
 use Rattle.ul_commands.specs.Locking.{IsLockAnswer, LocksFor, RefusedWhere, answer_where, lock_of}
-use Rattle.ul_commands.specs.Questions.{too_many_forks}
+use Rattle.ul_commands.specs.Questions.{IsForked, question_of, too_many_forks}
 use Rattle.ul_command_laws.specs.Complete.{LocksWithinLimits}
 use Rattle.ul_command_laws.specs.Verified.{LocksAreVerified}
 use Rattle.ul_command_laws.specs.WellFormed.{LocksAreWellFormed}
-use Rattle.ul_promises.specs.Promises.{LocksAreRight, PrintedAreVerified, RefusalsAreRight, TellsCore}
+use Rattle.ul_promises.specs.Promises.{IsFirstRefused, LocksAreRight, PrintedAreVerified, RefusalsAreRight, TellsCore}
 use Rattle.ul_promises.proofs.OfAnswers.{asked_answer, is_answer, no_one, on_one, on_zero, refusal_is, written_is, written_not_one}
 
 -- ---- with status 0
@@ -75,25 +75,36 @@ locks_are_right limits given had formed sound words m bytes project folder worke
     }
 
 pub printed_are_verified : LocksWithinLimits → LocksAreVerified → PrintedAreVerified
-printed_are_verified limits law words others m bytes project folder path workers old q v is there =
-    let asked = asked_answer words m 0 bytes (lock project folder workers old) q is in
-    let p = printed_lock limits project folder old m asked.answer bytes asked.gives asked.prints.0 asked.prints.1 in
-    let gives = subst (λ (x : Result answers.Answer Refused). (command (lock project folder workers old) m).gives x) p.is asked.gives in
-    is_answer others m (verify project folder path) (Ok answers.verified) v
-    (law project folder path old workers m p.lock p.forks gives (there ∙ ap (λ (x : List ℕ). Some x) p.text) p.few)
+printed_are_verified limits law words others before now bytes project folder path workers old q v is agree there =
+    let asked = asked_answer words before 0 bytes (lock project folder workers old) q is in
+    let p = printed_lock limits project folder old before asked.answer bytes asked.gives asked.prints.0 asked.prints.1 in
+    let gives = subst (λ (x : Result answers.Answer Refused). (command (lock project folder workers old) before).gives x) p.is asked.gives in
+    is_answer others now (verify project folder path) (Ok answers.verified) v
+    (law project folder path old workers before now p.lock p.forks gives agree (there ∙ ap (λ (x : List ℕ). Some x) p.text) p.few)
 
 -- ---- with status 1
 
 -- a merged lock is answered with another status
-lock_not_one : (o : Option ℕ) (l : Lock) (forks : ℕ) → 1 ≡ (output_of (answer_where o l forks)).0 → ⊥
+pub lock_not_one : (o : Option ℕ) (l : Lock) (forks : ℕ) → 1 ≡ (output_of (answer_where o l forks)).0 → ⊥
 lock_not_one None l forks e = written_not_one (first_over (markers_of l)) (lock_text l) e
 lock_not_one (Some paths) l forks e = absurd (let four : 1 ≡ 4 = e in cc)
 
-by_region : GivenIsResolution → RefusedAreUnserved → (project folder : List ℕ) (old : Option (List ℕ)) (m : FileMap) (r : ResolutionFields)
+-- the refused fork of a fork answer
+pub first_refused : ForkLaws → (r : ResolutionFields) (fork : TreeRefusal) → IsForked r (refused_at fork)
+    → IsFirstRefused r fork.path fork.region
+first_refused laws r fork forked = record {
+  fork = fork;
+  at = refl;
+  of = refl;
+  first = forked;
+  inside = ((laws.forks (question_of r) r.project.region).refusal forked.counts fork forked.answer).inside;
+}
+
+by_region : ForkLaws → GivenIsResolution → RefusedAreUnserved → (project folder : List ℕ) (old : Option (List ℕ)) (m : FileMap) (r : ResolutionFields)
     (a : Result answers.Answer Refused) (bytes : List ℕ)
-    → (resolution_in project folder old m).gives (Ok r) → IsLockAnswer r a → (fork : TreeRefusal) (told : Bool) → RefusedWhere told r fork a
-    → 1 ≡ (printed a).0 → bytes ≡ (printed a).1 → TellsCore project folder old m bytes
-by_region given unserved project folder old m r a bytes gave all fork true h status e =
+    → (resolution_in project folder old m).gives (Ok r) → IsLockAnswer r a → (fork : TreeRefusal) → IsForked r (refused_at fork)
+    → (told : Bool) → RefusedWhere told r fork a → 1 ≡ (printed a).0 → bytes ≡ (printed a).1 → TellsCore project folder old m bytes
+by_region laws given unserved project folder old m r a bytes gave all fork forked true h status e =
     let text = refusal_text fork.path fork.region ++ h.lines in
     record {
       resolution = r;
@@ -103,25 +114,27 @@ by_region given unserved project folder old m r a bytes gave all fork true h sta
       core = h.lines;
       is = e ∙ (ap (λ x. (printed x).1) h.is ∙ refusal_is fork.region text (status ∙ ap (λ x. (printed x).0) h.is));
       lines = h.core;
+      first = first_refused laws r fork forked;
       unserved = unserved r fork.path fork.region h.lines (given project folder old m r gave) (subst (IsLockAnswer r) h.is all);
     }
-by_region given unserved project folder old m r a bytes gave all fork false h status e =
+by_region laws given unserved project folder old m r a bytes gave all fork forked false h status e =
     let bad : 1 ≡ 4 = status ∙ ap (λ (x : Result answers.Answer Refused). (printed x).0) h in absurd (cc)
 
-by_forks : GivenIsResolution → RefusedAreUnserved → (project folder : List ℕ) (old : Option (List ℕ)) (m : FileMap) (r : ResolutionFields)
+by_forks : ForkLaws → GivenIsResolution → RefusedAreUnserved → (project folder : List ℕ) (old : Option (List ℕ)) (m : FileMap) (r : ResolutionFields)
     (a : Result answers.Answer Refused) (bytes : List ℕ)
-    → (resolution_in project folder old m).gives (Ok r) → IsLockAnswer r a → (forked : TreeAnswer) → LocksFor r forked a
+    → (resolution_in project folder old m).gives (Ok r) → IsLockAnswer r a → (forked : TreeAnswer) → IsForked r forked → LocksFor r forked a
     → 1 ≡ (printed a).0 → bytes ≡ (printed a).1 → TellsCore project folder old m bytes
-by_forks given unserved project folder old m r a bytes gave all (leaves_are ls) h status e =
+by_forks laws given unserved project folder old m r a bytes gave all (leaves_are ls) forked h status e =
     absurd (lock_not_one (first_over (markers_of h.lock)) h.lock (length ls) (status ∙ ap (λ x. (printed x).0) h.is))
-by_forks given unserved project folder old m r a bytes gave all (refused_at fork) h status e =
-    by_region given unserved project folder old m r a bytes gave all fork (is_printable fork.region) h status e
-by_forks given unserved project folder old m r a bytes gave all (too_many n) h status e =
+by_forks laws given unserved project folder old m r a bytes gave all (refused_at fork) forked h status e =
+    by_region laws given unserved project folder old m r a bytes gave all fork forked (is_printable fork.region) h status e
+by_forks laws given unserved project folder old m r a bytes gave all (too_many n) forked h status e =
     absurd (no_one too_many_forks (status ∙ ap (λ x. (printed x).0) h))
 
-pub refusals_are_right : GivenIsResolution → RefusedAreUnserved → RefusalsAreRight
-refusals_are_right given unserved words m bytes project folder workers old q is =
+pub refusals_are_right : ForkLaws → GivenIsResolution → RefusedAreUnserved → RefusalsAreRight
+refusals_are_right laws given unserved words m bytes project folder workers old q is =
     let asked = asked_answer words m 1 bytes (lock project folder workers old) q is in
     let on = on_one (resolution_in project folder old m) (λ r. answer (IsLockAnswer r) m) asked.answer asked.gives asked.prints.0 in
-    by_forks given unserved project folder old m on.value asked.answer bytes on.gave on.answers on.answers.forked on.answers.locks
+    by_forks laws given unserved project folder old m on.value asked.answer bytes on.gave on.answers on.answers.forked
+    on.answers.are_forks on.answers.locks
     asked.prints.0 asked.prints.1

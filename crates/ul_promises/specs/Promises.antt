@@ -1,6 +1,6 @@
 -- What the program promises, over the words, the files, a status and the bytes that are printed. `IsAnswer words m status
 -- bytes` says that a status and bytes are an answer to the words on the files; by its headline `run` gives no others.
-use Rattle.std.specs.Prelude.{◌≡◌, ◌≤◌, ◌↔◌, ℕ, List, ◌++◌, Bool, codes, length, Option, Some, None, Ok}
+use Rattle.std.specs.Prelude.{◌≡◌, ◌≤◌, ◌↔◌, ℕ, List, ◌++◌, Bool, true, codes, length, Option, Some, None, Ok}
 use Rattle.ul_base.specs.Files.{FileMap, content}
 use Rattle.ul_version.specs.Fields.{Fields}
 use Rattle.ul_comparison.specs.Atoms.{AtomFields}
@@ -10,7 +10,8 @@ use Rattle.ul_nodes.specs.Plain.{Plain}
 use Rattle.ul_tree.specs.Regions.{IsRegionTree, region_of}
 use Rattle.ul_index.specs.Serves.{Selection, Serves}
 use Rattle.ul_region.specs.Best.{IsBest}
-use Rattle.ul_forks.specs.Headline.{IsAnswer as IsForkAnswer, TreeAnswer}
+use Rattle.ul_generations.specs.Generations.{refused_at}
+use Rattle.ul_forks.specs.Headline.{IsAnswer as IsForkAnswer, TreeAnswer, TreeRefusal}
 use Rattle.ul_forks.specs.Outcome.{IsOutcome, TreeOutcome, starts_of}
 use Rattle.ul_lock.specs.declared.parts.Lock.{Lock}
 use Rattle.ul_lock_write.specs.Texts.{lock_text}
@@ -18,15 +19,19 @@ use Rattle.ul_lock.specs.WellFormed.{IsWellFormed}
 use Rattle.ul_filter.specs.Comparisons.{HasAll, lock_atoms}
 use Rattle.ul_sound.specs.Sound.{AreProjectExtras, IsEligible, IsSound}
 use Rattle.ul_report.specs.Texts.{refusal_text}
+use Rattle.ul_report_read.specs.declared.proof.Proof.{Proof}
 use Rattle.ul_inputs.specs.Inputs.{text_bytes}
 use Rattle.ul_inputs.specs.Locks.{lock_at}
 use Rattle.ul_inputs.specs.Machines.{machine_at}
 use Rattle.ul_inputs.specs.Resolutions.{ResolutionFields, resolution_in}
+use Rattle.laws_frames.specs.Frames.{AgreeOn}
 use Rattle.ul_lock_commands.specs.Words.{names_of}
 use Rattle.ul_commands.specs.Asked.{check, env, lock, verify, why}
+use Rattle.ul_commands.specs.Checking.{proof_at}
 use Rattle.ul_commands.specs.Laws.{IsUnserved}
 use Rattle.ul_commands.specs.Locking.{AreCoreLines}
-use Rattle.ul_commands.specs.Questions.{question_of}
+use Rattle.ul_commands.specs.Questions.{IsForked, question_of}
+use Rattle.ul_commands.specs.Reasons.{AreStepsOf}
 use Rattle.ul_command_laws.specs.Environments.{IsRequired, IsSpelled, ListsExactly}
 use Rattle.ul_command_laws.specs.Reasons.{reason_text}
 use Rattle.ul_command_laws.specs.Statuses.{EndsRightly}
@@ -52,12 +57,14 @@ LocksAreRight = (words : List (List ℕ)) (m : FileMap) (bytes project folder : 
     → question words ≡ lock project folder workers old → IsAnswer words m 0 bytes
     → IsSoundText project folder old m bytes
 
--- put into a file beside the same ones, it is verified
+-- put into a file, where what is read for the project and the index folder stays, it is verified; the file may be the one
+-- that the old lock was read of
 abbrev pub PrintedAreVerified : Type 0
-PrintedAreVerified = (words others : List (List ℕ)) (m : FileMap) (bytes project folder path : List ℕ) (workers : ℕ)
+PrintedAreVerified = (words others : List (List ℕ)) (before now : FileMap) (bytes project folder path : List ℕ) (workers : ℕ)
     (old : Option (List ℕ))
     → question words ≡ lock project folder workers old → question others ≡ verify project folder path
-    → IsAnswer words m 0 bytes → content m path ≡ Some bytes → IsAnswer others m 0 (codes "verified\n")
+    → IsAnswer words before 0 bytes → AgreeOn (resolution_in project folder None before).reads before now
+    → content now path ≡ Some bytes → IsAnswer others now 0 (codes "verified\n")
 
 -- What is right to answer of a lock in a world, with words for extras of the project: status 0 exactly where the project
 -- supports the world and each word is a name; and with it the lines of exactly what is required there.
@@ -89,7 +96,16 @@ EnvironmentsAreRight = (words others : List (List ℕ)) (before now : FileMap) (
 
 -- ---- `lock` and `why` with status 1
 
--- the bytes are those of a fork with a world, which no selection serves, and under `deep` none at a single world of it; and
+-- the fork is the answer to what files give: of the first generation that has a fork which no selection serves, the first in
+-- path order; and its region lies in the one that the project supports
+pub record IsFirstRefused (r : ResolutionFields) (path : List Bool) (region : Plain) : Type 0 where
+  pub fork : TreeRefusal
+  pub at : fork.path ≡ path
+  pub of : fork.region ≡ region
+  pub first : IsForked r (refused_at fork)
+  pub inside : (w : WorldFields) → IsWorld w → region_of region w ≡ true → region_of r.project.region w ≡ true
+
+-- the bytes are those of the first fork with a world, which no selection serves, and under `deep` none at a single world of it; and
 -- behind it stand the lines of its core
 pub record TellsCore (project folder : List ℕ) (old : Option (List ℕ)) (m : FileMap) (bytes : List ℕ) : Type 0 where
   pub resolution : ResolutionFields
@@ -99,6 +115,7 @@ pub record TellsCore (project folder : List ℕ) (old : Option (List ℕ)) (m : 
   pub core : List ℕ
   pub is : bytes ≡ refusal_text path region ++ core
   pub lines : AreCoreLines resolution region core
+  pub first : IsFirstRefused resolution path region
   pub unserved : IsUnserved resolution region
 
 -- what `lock` prints with status 1 is such a text
@@ -108,7 +125,7 @@ RefusalsAreRight = (words : List (List ℕ)) (m : FileMap) (bytes project folder
     → question words ≡ lock project folder workers old → IsAnswer words m 1 bytes
     → TellsCore project folder old m bytes
 
--- the bytes are those of such a fork, and behind it stand the lines of a derivation
+-- the bytes are those of such a fork, and behind it stand the lines of a derivation, which the problem of its region accepts
 pub record TellsReason (project folder : List ℕ) (old : Option (List ℕ)) (m : FileMap) (bytes : List ℕ) : Type 0 where
   pub resolution : ResolutionFields
   pub given : (resolution_in project folder old m).gives (Ok resolution)
@@ -116,6 +133,8 @@ pub record TellsReason (project folder : List ℕ) (old : Option (List ℕ)) (m 
   pub region : Plain
   pub steps : List ℕ
   pub is : bytes ≡ reason_text path region steps
+  pub lines : AreStepsOf resolution region steps
+  pub first : IsFirstRefused resolution path region
   pub unserved : IsUnserved resolution region
 
 -- what `why` prints with status 1 is such a text
@@ -124,13 +143,30 @@ ReasonsAreRight = (words : List (List ℕ)) (m : FileMap) (bytes project folder 
     → question words ≡ why project folder workers old → IsAnswer words m 1 bytes
     → TellsReason project folder old m bytes
 
--- put into a file beside the same ones, it is accepted by `check`, where a file may be so long
+-- put into a file, where what is read for the project and the index folder stays, it is accepted by `check`, where a file may
+-- be so long
 abbrev pub PrintedAreAccepted : Type 0
-PrintedAreAccepted = (words others : List (List ℕ)) (m : FileMap) (bytes project folder derivation : List ℕ) (workers : ℕ)
-    (old : Option (List ℕ))
+PrintedAreAccepted = (words others : List (List ℕ)) (before now : FileMap) (bytes project folder derivation : List ℕ)
+    (workers : ℕ) (old : Option (List ℕ))
     → question words ≡ why project folder workers old → question others ≡ check project folder derivation
-    → IsAnswer words m 1 bytes → content m derivation ≡ Some bytes → length bytes ≤ text_bytes
-    → IsAnswer others m 0 (codes "accepted\n")
+    → IsAnswer words before 1 bytes → AgreeOn (resolution_in project folder None before).reads before now
+    → content now derivation ≡ Some bytes → length bytes ≤ text_bytes → IsAnswer others now 0 (codes "accepted\n")
+
+-- ---- `check` with status 0
+
+-- the file has a derivation, and no selection serves its region
+pub record RefutesFile (project folder derivation : List ℕ) (m : FileMap) : Type 0 where
+  pub resolution : ResolutionFields
+  pub given : (resolution_in project folder None m).gives (Ok resolution)
+  pub proof : Proof
+  pub read : (proof_at derivation m).gives (Ok proof)
+  pub none : (s : Selection)
+      → Serves resolution.wish.strategy resolution.catalog (starts_of (question_of resolution)) (region_of proof.region) s → ⊥
+
+-- where `check` ends with status 0, whoever wrote the derivation, that is so
+abbrev pub AcceptedAreRight : Type 0
+AcceptedAreRight = (words : List (List ℕ)) (m : FileMap) (bytes project folder derivation : List ℕ)
+    → question words ≡ check project folder derivation → IsAnswer words m 0 bytes → RefutesFile project folder derivation m
 
 -- ---- `verify` with status 0
 

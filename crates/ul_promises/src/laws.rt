@@ -1,6 +1,9 @@
 //! The promises of `lock`, `why`, `check`, `verify` and `env`, as they end with a status and print bytes. None of these
 //! functions does anything but name the laws that it rests on.
-ghost use Rattle.ul_promises.specs.Promises.{EnvironmentsAreRight, LocksAreRight, PrintedAreAccepted};
+ghost use Rattle.ul_promises.specs.Endings.{DeepRefusesNoFork, LocksEnd, ReasonsEnd};
+ghost use Rattle.ul_promises.specs.Exports.{ExportsAreRight, VerifiedExportsAreRight};
+ghost use Rattle.ul_promises.specs.Repeated.{ReasonsPrintTheSame, RunsPrintTheSame};
+ghost use Rattle.ul_promises.specs.Promises.{AcceptedAreRight, EnvironmentsAreRight, LocksAreRight, PrintedAreAccepted};
 ghost use Rattle.ul_promises.specs.Promises.{PrintedAreVerified, QuestionsAreAnswered, ReasonsAreRight, RefusalsAreRight};
 ghost use Rattle.ul_promises.specs.Promises.{RegionsAreDecided, VerifiedAreRight, VerifiedEnvironmentsAreRight, WorkersChangeNothing};
 
@@ -37,6 +40,7 @@ pub fn environments_are_right()
 pub fn refusals_are_right()
     ensures { RefusalsAreRight }
 {
+    ul_forks::laws::fork_laws();
     ul_given::laws::given_is_resolution();
     ul_commands::laws::refused_are_unserved();
 }
@@ -45,6 +49,7 @@ pub fn refusals_are_right()
 pub fn reasons_are_right()
     ensures { ReasonsAreRight }
 {
+    ul_forks::laws::fork_laws();
     ul_command_laws::laws::refusals_of_files();
 }
 
@@ -52,6 +57,7 @@ pub fn reasons_are_right()
 pub fn printed_are_accepted()
     ensures { PrintedAreAccepted }
 {
+    ul_forks::laws::fork_laws();
     ul_command_laws::laws::reasons_are_accepted();
 }
 
@@ -63,11 +69,56 @@ pub fn verified_are_right()
     ul_command_laws::laws::verified_files();
 }
 
+/// What `export` prints of a lock that `lock` printed or `verify` accepted is, in each world, exactly what is required.
+pub fn exports_are_right()
+    ensures printed { ExportsAreRight }
+    ensures verified { VerifiedExportsAreRight }
+{
+    ul_command_laws::laws::locks_within_limits();
+    ul_command_laws::laws::exports_are_right();
+}
+
+/// No selection serves the region of a derivation that `check` accepts.
+pub fn accepted_are_right()
+    ensures { AcceptedAreRight }
+{
+    ul_command_laws::laws::accepted_are_unserved();
+}
+
 /// Another number of workers changes neither the status nor the bytes.
 pub fn workers_change_nothing()
     ensures { WorkersChangeNothing }
 {
     ul_command_laws::laws::workers_dont_matter();
+}
+
+/// So two runs print the same, but for the steps that `why` tells.
+pub fn runs_print_the_same()
+    ensures runs { RunsPrintTheSame }
+    ensures reasons { ReasonsPrintTheSame }
+{
+    ul_forks::laws::fork_laws();
+    ul_command_laws::laws::answers_are_one();
+    ul_command_laws::laws::answers_are_equal();
+    workers_change_nothing();
+}
+
+/// Where their inputs are read, `lock` and `why` end with status 0, 1 or 4, and 4 tells one of three limits.
+pub fn endings()
+    ensures locks { LocksEnd }
+    ensures reasons { ReasonsEnd }
+{
+    ul_command_laws::laws::inputs_are_answered();
+}
+
+/// Under `deep` no fork is refused where each world that the project supports has a selection.
+pub fn deep_refuses_no_fork()
+    ensures { DeepRefusesNoFork }
+{
+    ul_command_laws::laws::inputs_are_answered();
+    ul_given::laws::given_is_resolution();
+    ul_forks::laws::fork_laws();
+    ul_commands::laws::refused_are_unserved();
 }
 
 /// Each list of words has an answer on every map of files.

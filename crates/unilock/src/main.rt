@@ -32,6 +32,8 @@ mod places;
 #[cfg(test)]
 mod refusal_rows;
 #[cfg(test)]
+mod relock_rows;
+#[cfg(test)]
 mod tests;
 #[cfg(test)]
 mod verify_rows;

@@ -4,6 +4,7 @@ use crate::deep_rows::DEEP_FORKS;
 use crate::export_rows::EXPORTS;
 use crate::fork_rows::FORKS;
 use crate::refusal_rows::REFUSALS;
+use crate::relock_rows::RELOCKED;
 use crate::verify_rows::VERIFIED;
 use crate::word_rows::WORDS;
 use std::alloc::{AllocError, Global};
@@ -265,6 +266,12 @@ fn exports_locks(rt: HostRuntime) {
 #[test]
 fn verifies_locks(rt: HostRuntime) {
     let wrong = wrong_case(&rt, rt.alloc(), VERIFIED);
+    assert!(rt; wrong.is_empty(), "{wrong}");
+}
+
+#[test]
+fn keeps_locks_that_are_right(rt: HostRuntime) {
+    let wrong = wrong_case(&rt, rt.alloc(), RELOCKED);
     assert!(rt; wrong.is_empty(), "{wrong}");
 }
 

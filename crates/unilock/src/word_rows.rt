@@ -31,6 +31,18 @@ lock p.toml ix 1 old x
 =2
 usage: unilock lock|why|env|check|gen|export|verify WORDS
 ~
+relock p.toml ix 1
+=2
+usage: unilock lock|why|env|check|gen|export|verify WORDS
+~
+relock p.toml ix 0 old
+=2
+usage: unilock lock|why|env|check|gen|export|verify WORDS
+~
+relock p.toml ix 1 old x
+=2
+usage: unilock lock|why|env|check|gen|export|verify WORDS
+~
 env l
 =2
 usage: unilock lock|why|env|check|gen|export|verify WORDS

@@ -4,7 +4,7 @@ use Rattle.ul_command_laws.proofs.laws.locks_are_verified.Goals as goal
 
 pub returns-clause-verified : goal.returns-clause-verified
 returns-clause-verified c =
-    law (record {
+    law c.inputs_by_what_is_read.ensures (record {
       resolution = c.given_is_resolution.ensures.resolution;
       begins = c.given_is_resolution.ensures.begins;
       leaves = c.locks_are_sound.ensures.leaves;

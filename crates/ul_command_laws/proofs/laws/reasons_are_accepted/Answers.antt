@@ -12,7 +12,7 @@ returns-clause-texts c =
 
 pub returns-clause-files : goal.returns-clause-files
 returns-clause-files c =
-    files_are_accepted (record {
+    files_are_accepted c.inputs_by_what_is_read.ensures (record {
       unserved = c.refused_are_unserved.ensures.forks;
       no_extra = c.no_extra.ensures;
       read = c.printed_is_read.ensures;

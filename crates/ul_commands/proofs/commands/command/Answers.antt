@@ -11,6 +11,9 @@ returns-in-Lock-clause-told g c m e = subst (λ q. Answers answer_view c.resolve
 pub returns-in-Why-clause-told : goal.returns-in-Why-clause-told
 returns-in-Why-clause-told g c m e = subst (λ q. Answers answer_view c.resolved_files-in-Why.result (command (view q) m)) (sym c.in-Why.is) (c.resolved_files-in-Why.ensures.told m e)
 
+pub returns-in-Relock-clause-told : goal.returns-in-Relock-clause-told
+returns-in-Relock-clause-told g c m e = subst (λ q. Answers answer_view c.relock_files.result (command (view q) m)) (sym c.in-Relock.is) (c.relock_files.ensures.told m e)
+
 pub returns-in-Env-clause-told : goal.returns-in-Env-clause-told
 returns-in-Env-clause-told g c m e = subst (λ q. Answers answer_view c.env_files.result (command (view q) m)) (sym c.in-Env.is) (c.env_files.ensures.told m e)
 

@@ -1,0 +1,3 @@
+pub mod ForCallers
+mod Loading
+mod Inputs

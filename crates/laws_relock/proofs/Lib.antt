@@ -1,0 +1,12 @@
+mod Needed
+mod Refreshed
+mod Answered
+mod OneLeaf
+mod Levels
+mod Again
+mod Settled
+mod Whole
+mod Harmless
+mod LockedAgain
+mod Texts
+mod PrintedAgain
