@@ -10,15 +10,17 @@ from __future__ import annotations
 import re
 import sys
 from pathlib import Path
+from typing import Iterator
 
 TOP = Path(__file__).resolve().parent.parent
 # The two tiers: what a lock is good for, and what every call of the program promises.
 TIERS = [("ul_sound", "Sound", "IsSound"), ("ul_program", "Headline", "Headline")]
-USE = re.compile(r"^use (Rattle\.[\w.+]+?)(?:\.\{([^}]*)\}| as (\w+))?\s*$", re.M)
-HEAD = re.compile(
-    r"^(?:(?:abbrev|unfoldable|record|data|type|pub|module)\s+)*(?:abbrev|unfoldable|record|data)\s+"
-    r"(?:pub\s+)?([^\s:(]+)"
-)
+USE = re.compile(r"^(?:unfoldable\s+)?(?:pub\s+)?use (Rattle\.[\w.+]+?)(?:\.\{([^}]*)\}| as (\w+))?\s*$", re.M)
+# The head of a definition: with a word for its kind, or in a block and for a lemma its name and its type alone.
+HEAD = re.compile(r"(?:(?:abbrev|unfoldable|record|data|type|pub)\s+)*(?:abbrev|unfoldable|record|data)\s+(?:pub\s+)?([^\s:(]+)")
+PLAIN_HEAD = re.compile(r"(?:pub\s+)?([^\s:(){}=]+)\s+:\s")
+# The head of a block: definitions that name each other, or that share parameters.
+BLOCK = re.compile(r"(?:abbrev\s+|unfoldable\s+)*mutual\s*$|(?:pub\s+)?module\s+\S+\s*(.*)\bwhere\s*$")
 WORD = re.compile(r"[^\s(){}\[\],;.λ∷]+")
 
 
@@ -31,12 +33,50 @@ def spec_file(module: str) -> str | None:
     return path if (TOP / path).is_file() else None
 
 
+class Block:
+    """A block of definitions: how far they are indented, and the parameters that they share."""
+
+    def __init__(self, indent: int, shared: list[str]) -> None:
+        self.indent = indent
+        self.shared = shared
+
+
+def definitions(text: str) -> Iterator[tuple[str, list[str]]]:
+    """Each definition and lemma of a file with its lines, those of blocks with the parameters that they share.
+
+    Lines as far in as a file's or a block's definitions begin one, or have an equation of one; lines further in go on
+    with the last.
+    """
+    blocks = [Block(0, [])]
+    name = ""
+    for line in text.splitlines():
+        plain = line.strip()
+        if not plain or plain.startswith("--") or USE.match(line):
+            continue
+        indent = len(line) - len(line.lstrip())
+        while indent < blocks[-1].indent:
+            blocks.pop()
+            name = ""
+        head = indent == blocks[-1].indent
+        block = BLOCK.match(plain) if head else None
+        if block:
+            blocks.append(Block(indent + 2, [*blocks[-1].shared, block[1] or ""]))
+            name = ""
+            continue
+        found = (HEAD.match(plain) or PLAIN_HEAD.match(plain)) if head else None
+        if found:
+            name = found[1]
+            yield name, blocks[-1].shared
+        if name:
+            yield name, [line]
+
+
 class SpecFile:
     """A file of specs/: its definitions with the words of their texts, and where its imported names come from."""
 
     def __init__(self, path: str) -> None:
-        text = (TOP / path).read_text(encoding="utf-8")
-        self.names: dict[str, str] = {}
+        self.text = text = (TOP / path).read_text(encoding="utf-8")
+        self.names: dict[str, tuple[str, str]] = {}
         self.modules: dict[str, str] = {}
         self.uses: list[str] = []
         for module, names, alias in USE.findall(text):
@@ -45,23 +85,21 @@ class SpecFile:
                 continue
             if file not in self.uses:
                 self.uses.append(file)
-            for name in filter(None, (it.strip() for it in names.split(","))):
-                self.names[name.split(" as ")[-1]] = file
+            for listed in names.split(","):
+                name, _, renamed = listed.strip().partition(" as ")
+                if name:
+                    self.names[renamed or name] = (file, name)
             if alias:
                 self.modules[alias] = file
         self.definitions: dict[str, set[str]] = {}
-        current: str | None = None
-        for line in text.splitlines():
-            if line.startswith("--") or line.startswith("use "):
-                continue
-            found = HEAD.match(line)
-            if found:
-                current = found[1]
-                self.definitions.setdefault(current, set())
-            if current is not None:
+        self.lines: dict[str, list[str]] = {}
+        for name, lines in definitions(text):
+            self.lines.setdefault(name, []).extend(lines)
+            found = self.definitions.setdefault(name, set())
+            for line in lines:
                 plain = line.split(" -- ")[0]
-                self.definitions[current].update(WORD.findall(plain))
-                self.definitions[current].update(re.findall(r"\w+\.\w+", plain))
+                found.update(WORD.findall(plain))
+                found.update(re.findall(r"\w+\.\w+", plain))
 
 
 class Cone:
@@ -76,19 +114,25 @@ class Cone:
             if path not in self.files:
                 self.files[path] = SpecFile(path)
             here = self.files[path]
-            if word not in here.definitions or word in self.reached.get(path, set()):
+            if word not in here.definitions:
+                # (it may be handed on from another file)
+                todo += [here.names[word]] if word in here.names else []
+                continue
+            if word in self.reached.get(path, set()):
                 continue
             self.reached.setdefault(path, set()).add(word)
             for used in here.definitions[word]:
-                base = used.split("◌")[-1] if used.startswith("◌") else used
+                module, _, part = used.partition(".")
                 if used in here.definitions:
                     todo.append((path, used))
                 elif used in here.names:
-                    todo.append((here.names[used], used))
-                elif "." in used and used.split(".")[0] in here.modules:
-                    todo.append((here.modules[used.split(".")[0]], used.split(".")[1]))
-                elif f"◌{base}◌" in here.names:
-                    todo.append((here.names[f"◌{base}◌"], f"◌{base}◌"))
+                    todo.append(here.names[used])
+                elif part and module in here.modules:
+                    todo.append((here.modules[module], part))
+                elif f"◌{used}◌" in here.definitions:
+                    todo.append((path, f"◌{used}◌"))
+                elif f"◌{used}◌" in here.names:
+                    todo.append(here.names[f"◌{used}◌"])
 
     def in_order(self) -> list[str]:
         """The files, each behind those that it uses."""
