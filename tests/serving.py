@@ -9,12 +9,23 @@ import re
 import threading
 from http.server import BaseHTTPRequestHandler, ThreadingHTTPServer
 from pathlib import Path
-from typing import Dict, List, Optional, Tuple
+from typing import Dict, List, Optional, Tuple, TypeVar
 
-import making  # noqa: F401  (it puts the package on the path)
+import making
 from unilock_tools.archives import file_metadata, sdist_body, wheel_body
-from unilock_tools.simple import HTML_FORM, JSON_FORM, version_in
+from unilock_tools.pages import DISTRIBUTION, HTML_FORM, JSON_FORM
 from unilock_tools.versions import normal_name
+
+# (`making` puts the package on the path)
+assert making.PYTHON.is_dir()
+
+
+Own = TypeVar("Own", bound="Server")
+
+
+def is_of(file: str, project: str) -> bool:
+    """Whether a file's name begins with the project's."""
+    return any(normal_name(file[: it.start()]) == project for it in re.finditer("-", file))
 
 
 class Server:
@@ -53,11 +64,11 @@ class Server:
         self.http = ThreadingHTTPServer(("127.0.0.1", 0), Handler)
         self.http.daemon_threads = True
         # A client that goes away is no fault of a test.
-        self.http.handle_error = lambda *_: None  # type: ignore[method-assign]
+        setattr(self.http, "handle_error", lambda *_: None)
         self.thread = threading.Thread(target=self.http.serve_forever, args=(0.05,), daemon=True)
         self.url = f"http://127.0.0.1:{self.http.server_address[1]}/simple/"
 
-    def __enter__(self) -> "Server":
+    def __enter__(self: Own) -> Own:
         self.thread.start()
         return self
 
@@ -123,8 +134,7 @@ class Server:
             return sdist_body(path, stream)
 
     def page(self, name: str, known: Optional[str]) -> Tuple[int, Dict[str, str], bytes]:
-        own = normal_name(name)
-        files = sorted(it for it in self.folder.iterdir() if version_in(it.name, own) or it.name.startswith(f"{name}-"))
+        files = sorted(it for it in self.folder.iterdir() if DISTRIBUTION.search(it.name) and is_of(it.name, normal_name(name)))
         if not files:
             return 404, {}, b"there is no such project"
         body = self.json_page(name, files) if self.form == "json" else self.html_page(files)

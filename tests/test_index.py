@@ -76,7 +76,7 @@ class Index(Indexed):
         self.assertIn("a-1-py3-none-any.whl", said)
 
     def test_spellings_of_names_and_versions(self) -> None:
-        for file, name, version in [
+        for file, name, number in [
             ("Zope.Interface-5.0-1build-py3-none-any.whl", "zope_interface", "5.0"),
             ("a_b-1!2.0-py3-none-any.whl", "A--b", "1!2.0"),
             ("c-1.0+ubuntu.1-py3-none-any.whl", "c", "1.0+ubuntu.1"),
@@ -84,9 +84,9 @@ class Index(Indexed):
             ("e-1.0.0-py3-none-any.whl", "e", "1.0"),
         ]:
             with self.subTest(file):
-                path = wheel(self.wheels, file, {"x.dist-info/METADATA": metadata_text(name, version)})
+                path = wheel(self.wheels, file, {"x.dist-info/METADATA": metadata_text(name, number)})
                 self.assertEqual(self.run_index(path, self.out), (0, ""))
-                self.assertEqual(self.document(normal_name(name))["versions"][0]["version"], version)
+                self.assertEqual(self.document(normal_name(name))["versions"][0]["version"], number)
 
     def test_yanked_releases(self) -> None:
         plain_wheel(self.wheels, "a", "1")
@@ -156,11 +156,11 @@ class Index(Indexed):
         plain_wheel(self.wheels, "b", "1")
         (self.wheels / "c-1-py3-none-any.whl").write_bytes(b"")
         self.assertEqual(self.run_index(self.wheels, self.out)[0], 1)
-        self.assertEqual([it.name for it in self.out.iterdir()], ["a.json"])
+        self.assertEqual([it.name for it in self.out.glob("*.json")], ["a.json"])
         (self.wheels / "c-1-py3-none-any.whl").unlink()
         (self.wheels / "a-1-py3-none-any.whl").unlink()
         self.assertEqual(self.run_index(self.wheels, self.out)[0], 0)
-        self.assertEqual([it.name for it in self.out.iterdir()], ["b.json"])
+        self.assertEqual([it.name for it in self.out.glob("*.json")], ["b.json"])
         self.assertEqual(sorted(it.name for it in self.top.iterdir()), ["ix", "wheels"])
 
     def test_a_folder_with_other_files_is_kept(self) -> None:
@@ -206,7 +206,7 @@ class WhatTheResolverCannotUse(Indexed):
         self.assertEqual(self.run_index(self.wheels, self.out)[0], 1)
         status, said = self.run_index("--skip", self.wheels, self.out)
         self.assertEqual(status, 0)
-        self.assertEqual([it.name for it in self.out.iterdir()], ["a.json"])
+        self.assertEqual([it.name for it in self.out.glob("*.json")], ["a.json"])
         for text in ["b-2004d-py3-none-any.whl", "is no version", "c-1.tar.gz", "older than 2.2", "passed over"]:
             self.assertIn(text, said)
         self.assertEqual(self.run_index("--skip", "--quiet", self.wheels, self.out), (0, ""))

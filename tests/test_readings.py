@@ -31,6 +31,8 @@ NOT_READ = [
     "a; python_version in '3.8 x'", "a; (os_name == 'a'", "a; os_name == 'a')", "a; os_name == 'a' or",
     "a; os_name not == 'a'", "a; os_name === 'a'", "a; os_name == \"a'", "a>=18446744073709551616",
     "a; os_name == 'a' os_name == 'b'", "a; OS_NAME == 'x'", "a; os_name == 'a' AND os_name == 'b'",
+    # Literals are of printable ASCII without the backslash.
+    "a; os_name == 'é'", "a; os_name == 'a\x7f'", "a; os_name == 'a\tb'", "a; os_name == 'a\\b'",
 ]  # fmt: skip
 BOUNDS = [">=3.5", ">=3.5.*", "!=3.0.*,>=2.7", "", ">=3.5,", "~=3.8"]
 BAD_BOUNDS = [">=3.5<4", "3.5", ">=3.5;", "~=3", ">=3.x", "===3.8", ","]

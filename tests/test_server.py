@@ -17,6 +17,7 @@ from typing import List
 
 from making import TOP, Folder, metadata_text, plain_wheel, sdist, sha256, wheel
 from serving import Server
+from unilock_tools import folders
 
 PROJECT = """[project]
 name = "served"
@@ -55,7 +56,7 @@ class Served(Folder):
         return done.stderr
 
     def found(self) -> dict:
-        read = {it.stem: json.loads(it.read_text()) for it in sorted(self.out.iterdir())}
+        read = {it.stem: json.loads(it.read_text()) for it in sorted(self.out.glob("*.json"))}
         return {name: [one["version"] for one in found["versions"]] for name, found in read.items()}
 
     def document(self, name: str) -> List[dict]:
@@ -83,7 +84,7 @@ class Forms(Served):
                     asked = [len(server.paths(it)) > 0 for it in ("metadata", "range", "whole")]
                     self.assertEqual(asked, [metadata is not None, metadata is None and ranges, not ranges])
                     self.assertNotIn("warning", said)
-                    text = "".join(it.read_text() for it in sorted(self.out.iterdir()))
+                    text = "".join(it.read_text() for it in sorted(self.out.glob("*.json")))
                     if form == "html":
                         # An HTML page tells no sizes.
                         text = text.replace(server.url, "")
@@ -222,8 +223,7 @@ class Faults(Served):
         self.assertEqual(self.found(), {"kept": []})
 
     def index_before(self) -> None:
-        self.out.mkdir()
-        (self.out / "kept.json").write_text('{"name": "kept", "versions": []}')
+        folders.replace_folder(self.out, {"kept": {"name": "kept", "versions": []}})
 
     def test_no_server(self) -> None:
         # A port that is taken and that nobody listens on.
@@ -249,9 +249,10 @@ class Faults(Served):
                 "--index-url",
                 server.url.replace("simple", "files"),
                 *NO_RETRIES,
-                status=0,
+                status=5,
             ).stderr
-            self.assertIn("the server has no project alpha, which served requires", said)
+            self.assertIn("the server has no project alpha, which served requires, nor any other", said)
+            self.assertFalse(self.out.exists())
             server.json_page = lambda *_: b"[]"  # type: ignore[method-assign]
             self.assertIn("isn't as PEP 691 has it", self.index(server, status=5))
 

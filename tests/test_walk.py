@@ -107,7 +107,7 @@ class Walk(Folder):
         (self.wheels / "delta-1.0-py3-none-any.whl").unlink()
         plain_wheel(self.wheels, "delta", "1.0", ["evil"])
         done = self.ran(*words, "dev", status=1, python=python)
-        self.assertIn("pip install failed", done.stderr)
+        self.assertIn("pip wheel failed", done.stderr)
         self.assertIn("DO NOT MATCH THE HASHES", done.stderr)
         self.assertEqual(self.installed(), WANTED)
 

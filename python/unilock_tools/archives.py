@@ -10,28 +10,46 @@ import email.message
 import email.parser
 import email.policy
 import hashlib
+import io
 import re
+import struct
 import tarfile
 import zipfile
 import zlib
 from pathlib import Path
-from typing import IO, NamedTuple, Optional, Tuple
+from typing import IO, NamedTuple, Optional, Tuple, cast
 
 from . import console
 from .versions import NAME, normal_name, version
 
 MOST_METADATA = 16 * 1024 * 1024
 MOST_ARCHIVE = 512 * 1024 * 1024
+MOST_MEMBERS = 200_000
+MOST_REQUIREMENTS = 10_000
+# What a wheel's list of members and a tar archive's header of one member may have.
+MOST_DIRECTORY = 8 * 1024 * 1024
+MOST_HEADER = 16 * 1024
+CHUNK = 64 * 1024
 FILE_NAME = re.compile(r"[\x21\x23-\x5b\x5d-\x7e]+\Z")
-BROKEN = (zipfile.BadZipFile, zlib.error, EOFError, NotImplementedError, RuntimeError)
+# A field that would be lost behind a line that ends the fields and isn't empty.
+LOST = re.compile(r"^(Requires-Dist|Requires-Python|Dynamic)[ \t]*:", re.IGNORECASE | re.MULTILINE)
+# What the readers of archives raise on bytes that are none: they test little of what they read.
+BROKEN = (
+    zipfile.BadZipFile, tarfile.TarError, zlib.error, struct.error, EOFError, NotImplementedError, RuntimeError,
+    OSError, ValueError, LookupError, OverflowError, TypeError, AttributeError,
+)  # fmt: skip
 
 
 class Refused(console.Refused):
-    """A file that can't be taken, with the file and what is wrong with it."""
+    """A file that can't be taken, with the file and what is wrong with it, in one line."""
 
     def __init__(self, path: object, fault: str) -> None:
-        super().__init__(f"{path}: {fault}")
-        self.fault = fault
+        self.fault = console.escaped(fault)
+        super().__init__(f"{console.escaped(str(path))}: {self.fault}")
+
+
+class TooMuch(Exception):
+    """A reader of an archive asks for more than such an archive has."""
 
 
 class Metadata(NamedTuple):
@@ -67,7 +85,11 @@ def metadata_in(path: object, text: str) -> Tuple[Metadata, email.message.Messag
         raise Refused(path, f"the metadata's Name is no name: {name!r}")
     if spelled is None or version(spelled) is None:
         raise Refused(path, f"the metadata's Version is no version: {spelled!r}")
+    if message.defects and LOST.search(str(message.get_payload())):
+        raise Refused(path, "the metadata's fields are cut by a line that is none, with requirements behind it")
     required = tuple(re.sub(r"\s+", " ", str(it)).strip() for it in message.get_all("Requires-Dist") or [])
+    if len(required) > MOST_REQUIREMENTS:
+        raise Refused(path, f"the metadata have more than {MOST_REQUIREMENTS} requirements")
     return Metadata(normal_name(name), spelled, one_of(path, message, "Requires-Python") or None, required), message
 
 
@@ -106,36 +128,148 @@ def safe_member(path: object, name: str) -> None:
         raise Refused(path, f"a member leads out of the archive: {name!r}")
 
 
+class Window(io.RawIOBase):
+    """A file of which no single read may ask for more than `most` bytes, as an archive's own numbers may say."""
+
+    def __init__(self, stream: IO[bytes], most: int) -> None:
+        super().__init__()
+        self.stream, self.most = stream, most
+
+    def readable(self) -> bool:
+        return True
+
+    def seekable(self) -> bool:
+        return True
+
+    def tell(self) -> int:
+        return self.stream.tell()
+
+    def seek(self, offset: int, whence: int = 0) -> int:
+        return self.stream.seek(offset, whence)
+
+    def read(self, count: int = -1) -> bytes:
+        if count > self.most:
+            raise TooMuch(f"a part of it has more than {self.most} bytes")
+        found = self.stream.read(self.most + 1 if count < 0 else count)
+        if len(found) > self.most:
+            raise TooMuch(f"a part of it has more than {self.most} bytes")
+        return found
+
+
+class Inflated(io.RawIOBase):
+    """The bytes that a gzip stream holds, read forwards; a seek back is refused."""
+
+    def __init__(self, stream: IO[bytes]) -> None:
+        super().__init__()
+        self.stream = stream
+        self.reader = zlib.decompressobj(zlib.MAX_WBITS | 16)
+        self.held, self.used = b"", 0
+        self.at = 0
+
+    def readable(self) -> bool:
+        return True
+
+    def seekable(self) -> bool:
+        return True
+
+    def tell(self) -> int:
+        return self.at
+
+    def seek(self, offset: int, whence: int = 0) -> int:
+        if whence != 0 or offset < self.at:
+            raise tarfile.ReadError("a member stands before the one that was read last")
+        while self.at < offset and self.read(min(CHUNK, offset - self.at)):
+            pass
+        return self.at
+
+    def read(self, count: int = -1) -> bytes:
+        if self.at > MOST_ARCHIVE:
+            raise TooMuch(f"no PKG-INFO in its first {MOST_ARCHIVE} bytes")
+        while len(self.held) - self.used < count and self.more():
+            pass
+        found = self.held[self.used : self.used + max(count, 0)]
+        self.used += len(found)
+        self.at += len(found)
+        return found
+
+    def more(self) -> bool:
+        """Whether more was read; a stream may have several parts, each a stream of its own."""
+        fresh = self.reader.unconsumed_tail or self.reader.unused_data or self.stream.read(CHUNK)
+        if self.reader.eof:
+            if not fresh.strip(b"\0"):
+                return False
+            self.reader = zlib.decompressobj(zlib.MAX_WBITS | 16)
+        found = self.reader.decompress(fresh, CHUNK)
+        if not fresh and not found and not self.reader.eof:
+            raise EOFError("it is cut off")
+        self.held, self.used = self.held[self.used :] + found, 0
+        return True
+
+
 def wheel_body(path: object, stream: "IO[bytes] | Path") -> bytes:
     """The bytes of a wheel's METADATA, read from its archive."""
     try:
-        with zipfile.ZipFile(stream) as archive:
-            names = archive.namelist()
-            for name in names:
-                safe_member(path, name)
-            found = [it for it in names if re.fullmatch(r"[^/]+\.dist-info/METADATA", it)]
-            if len(found) != 1:
-                raise Refused(path, f"it has {len(found) or 'no'} METADATA" + (" files" if found else ""))
-            with archive.open(found[0]) as member:
-                return member.read(MOST_METADATA + 1)
+        if isinstance(stream, Path):
+            with stream.open("rb") as opened:
+                return metadata_member(path, opened)
+        return metadata_member(path, stream)
+    except TooMuch as fault:
+        raise Refused(path, str(fault)) from None
     except BROKEN as fault:
-        raise Refused(path, f"it is no archive that can be read: {fault}") from None
+        raise Refused(path, f"it is no archive that can be read: {fault or type(fault).__name__}") from None
+
+
+def metadata_member(path: object, stream: IO[bytes]) -> bytes:
+    window = Window(stream, MOST_DIRECTORY)
+    with zipfile.ZipFile(cast(IO[bytes], window)) as archive:
+        members = archive.infolist()
+        for member in members:
+            safe_member(path, member.filename)
+        found = [it for it in members if re.fullmatch(r"[^/]+\.dist-info/METADATA", it.filename)]
+        if len(found) != 1:
+            raise Refused(path, f"it has {len(found) or 'no'} METADATA" + (" files" if found else ""))
+        if found[0].compress_type not in (zipfile.ZIP_STORED, zipfile.ZIP_DEFLATED):
+            raise Refused(path, "its METADATA are compressed in a way that wheels aren't")
+        if found[0].file_size > MOST_METADATA:
+            raise Refused(path, f"METADATA is longer than {MOST_METADATA} bytes")
+        window.most = 2 * MOST_METADATA
+        with archive.open(found[0]) as opened:
+            body = opened.read(MOST_METADATA + 1)
+    if len(body) != found[0].file_size:
+        raise Refused(path, "its METADATA are cut off")
+    return body
 
 
 def sdist_body(path: object, stream: IO[bytes]) -> bytes:
     """The bytes of a source distribution's PKG-INFO."""
     try:
-        with tarfile.open(fileobj=stream, mode="r|gz") as archive:
-            for member in archive:
-                safe_member(path, member.name)
-                if member.offset > MOST_ARCHIVE:
-                    raise Refused(path, f"no PKG-INFO in its first {MOST_ARCHIVE} bytes")
-                if re.fullmatch(r"(?:\./)?[^/]+/PKG-INFO", member.name) and member.isfile():
-                    held = archive.extractfile(member)
-                    return held.read(MOST_METADATA + 1) if held else b""
-    except (tarfile.TarError, zlib.error, EOFError, OSError) as fault:
-        raise Refused(path, f"it is no archive that can be read: {fault}") from None
-    raise Refused(path, "it has no PKG-INFO")
+        return package_member(path, stream)
+    except TooMuch as fault:
+        raise Refused(path, str(fault)) from None
+    except BROKEN as fault:
+        raise Refused(path, f"it is no archive that can be read: {fault or type(fault).__name__}") from None
+
+
+def package_member(path: object, stream: IO[bytes]) -> bytes:
+    inflated = Inflated(stream)
+    window = Window(cast(IO[bytes], inflated), MOST_HEADER)
+    with tarfile.open(fileobj=cast(IO[bytes], window), mode="r:") as archive:
+        for _ in range(MOST_MEMBERS):
+            member = archive.next()
+            if member is None:
+                raise Refused(path, "it has no PKG-INFO")
+            # Members that were passed over aren't remembered.
+            archive.members = []  # type: ignore[attr-defined]
+            safe_member(path, member.name)
+            if re.fullmatch(r"(?:\./)?[^/]+/PKG-INFO", member.name) and member.isfile():
+                if member.size > MOST_METADATA or member.issparse():
+                    raise Refused(path, f"PKG-INFO is longer than {MOST_METADATA} bytes, or has holes")
+                inflated.seek(member.offset_data)
+                body = inflated.read(member.size)
+                if len(body) != member.size:
+                    raise Refused(path, "its PKG-INFO is cut off")
+                return body
+    raise Refused(path, f"no PKG-INFO among its first {MOST_MEMBERS} members")
 
 
 def wheel_metadata(path: object, file: str, body: bytes) -> Metadata:
@@ -148,7 +282,7 @@ def wheel_metadata(path: object, file: str, body: bytes) -> Metadata:
 def sdist_metadata(path: object, file: str, body: bytes) -> Metadata:
     """The metadata of a source distribution, where they are the same in whatever is built of it."""
     metadata, message = metadata_in(path, decoded(path, body, "PKG-INFO"))
-    edition = re.fullmatch(r"([0-9]+)\.([0-9]+)", one_of(path, message, "Metadata-Version") or "")
+    edition = re.fullmatch(r"([0-9]{1,4})\.([0-9]{1,4})", one_of(path, message, "Metadata-Version") or "")
     if edition is None or (int(edition[1]), int(edition[2])) < (2, 2):
         raise Refused(path, "its metadata are older than 2.2, so a build may change its requirements")
     dynamic = {str(it).strip().lower() for it in message.get_all("Dynamic") or []}
@@ -171,6 +305,8 @@ def file_metadata(path: Path) -> Metadata:
     except Refused as fault:
         # The parts of a file name are refused by the name alone; the path says where it stands.
         raise Refused(path, fault.fault) from None
+    except OSError as fault:
+        raise Refused(path, str(fault.strerror or fault)) from None
 
 
 def sha256_of(path: Path) -> str:

@@ -4,14 +4,18 @@ This module runs on Python 3.6, since `machine` does.
 """
 
 import argparse
+import json
 import os
 import sys
 import tempfile
-from typing import Callable, List, NoReturn, Optional
+import unicodedata
+from typing import Any, Callable, Dict, List, NoReturn, Optional
 
 from . import __version__
 
 INTERRUPTED = 130
+# Characters that a terminal obeys in place of showing them: controls, marks of direction, halves of pairs, line ends.
+OBEYED = ("Cc", "Cf", "Cs", "Zl", "Zp")
 
 
 class Refused(Exception):
@@ -35,12 +39,45 @@ class Parser(argparse.ArgumentParser):
         return getattr(self, "parse_intermixed_args", self.parse_args)(given)
 
     def error(self, message: str) -> NoReturn:
-        self.exit(2, f"{self.prog}: {message} (--help says more)\n")
+        self.exit(2, escaped(f"{self.prog}: {message} (--help says more)") + "\n")
+
+
+def add_json(made: argparse.ArgumentParser) -> None:
+    made.add_argument("--json", action="store_true", help="print one object as JSON, as docs/MANUAL.md says")
+
+
+def print_object(found: Dict[str, Any]) -> None:
+    """Prints an object as JSON, in letters that every terminal shows."""
+    print(json.dumps(found, indent=1))
+
+
+def escaped(text: str, kept: str = "") -> str:
+    """A text of which a terminal shows each character: others than those of `kept` are written as Python writes
+    them."""
+    if max(text, default="") <= "~" and text.isprintable():
+        return text
+    obeyed = {it for it in set(text) - set(kept) if unicodedata.category(it) in OBEYED}
+    return text.translate({ord(it): it.encode("unicode_escape").decode("ascii") for it in obeyed}) if obeyed else text
+
+
+class Escaping:
+    """Standard output whose texts, which may come from outside, are escaped; else it is the stream that it stands
+    for."""
+
+    def __init__(self, stream: Any) -> None:
+        self.stream = stream
+
+    def write(self, text: str) -> int:
+        self.stream.write(escaped(text, "\n\t"))
+        return len(text)
+
+    def __getattr__(self, name: str) -> Any:
+        return getattr(self.stream, name)
 
 
 def say(text: str) -> None:
-    """Writes a line to standard error."""
-    print(text, file=sys.stderr, flush=True)
+    """Writes a line to standard error, or several where the text has line ends of its own."""
+    print(escaped(text, "\n"), file=sys.stderr, flush=True)
 
 
 def counted(number: int, what: str) -> str:
@@ -55,6 +92,15 @@ def is_terminal() -> bool:
 
 def ended(command: str, body: Callable[[], int]) -> int:
     """Runs the body of a command and turns what it raises into one line on standard error and an exit status."""
+    plain = sys.stdout
+    sys.stdout = Escaping(plain)  # type: ignore[assignment]
+    try:
+        return ended_plainly(command, body)
+    finally:
+        sys.stdout = plain
+
+
+def ended_plainly(command: str, body: Callable[[], int]) -> int:
     try:
         status = body()
         sys.stdout.flush()
@@ -70,7 +116,7 @@ def ended(command: str, body: Callable[[], int]) -> int:
         os.dup2(os.open(os.devnull, os.O_WRONLY), sys.stdout.fileno())
         return 0
     except OSError as fault:
-        say(f"{command}: {fault.filename or 'standard output'}: {fault.strerror or fault}")
+        say(f"{command}: {escaped(str(fault.filename or 'standard output'))}: {fault.strerror or fault}")
         return 1
 
 
@@ -107,6 +153,10 @@ def write_beside(path: str, body: bytes) -> None:
             os.fsync(it.fileno())
         os.chmod(fresh, permissions(path))
         os.replace(fresh, path)
+    except OSError as fault:
+        os.unlink(fresh)
+        # A full disk is told without the file that it was met at.
+        raise OSError(fault.errno, fault.strerror, path) from None
     except BaseException:
         os.unlink(fresh)
         raise

@@ -8,7 +8,7 @@ Needs the standard library alone. Status: 0 the locks are the same in all this; 
 from __future__ import annotations
 
 import argparse
-from typing import Dict, Iterator, List, Optional, Tuple
+from typing import Any, Dict, Iterator, List, Optional, Tuple
 
 from . import console, locks
 from .locks import Lock, Package
@@ -19,6 +19,7 @@ def parser() -> console.Parser:
     made.add_argument("old", metavar="OLD", help="the older lock")
     made.add_argument("new", metavar="NEW", help="the newer lock")
     made.add_argument("--versions", action="store_true", help="say only which packages and versions differ")
+    console.add_json(made)
     return made
 
 
@@ -78,10 +79,22 @@ def difference(old: Lock, new: Lock, versions_alone: bool) -> List[str]:
     return lines
 
 
+def as_object(old: Lock, new: Lock, lines: List[str]) -> Dict[str, Any]:
+    versions = [{name: [it.version for it in found] for name, found in lock.by_name().items()} for lock in (old, new)]
+    before, after = versions
+    names = sorted(it for it in set(before) | set(after) if before.get(it) != after.get(it))
+    packages = [{"name": it, "old": before.get(it, []), "new": after.get(it, [])} for it in names]
+    return {"packages": packages, "lines": lines}
+
+
 def run(asked: argparse.Namespace) -> int:
-    lines = difference(locks.load(asked.old), locks.load(asked.new), asked.versions)
-    for line in lines:
-        print(line)
+    old, new = locks.load(asked.old), locks.load(asked.new)
+    lines = difference(old, new, asked.versions)
+    if asked.json:
+        console.print_object(as_object(old, new, lines))
+    else:
+        for line in lines:
+            print(line)
     return 1 if lines else 0
 
 

@@ -8,16 +8,19 @@ from __future__ import annotations
 
 import json
 import os
-import shutil
-import tempfile
 from dataclasses import dataclass, field
 from pathlib import Path
 from typing import Any, Dict, Iterable, Iterator, List, NamedTuple, Optional, Tuple
 
-from . import archives, console
+from . import archives, console, places
 from .archives import Metadata, Refused, sha256_of
 from .readings import requirement_fault
-from .versions import NAME, normal_name, specifiers_fault, version
+from .versions import NAME, Key, normal_name, specifiers_fault, version
+
+# What the program reads of all documents together.
+MOST_RELEASES = 200_000
+MOST_TEXT = 256 * 1024 * 1024
+Document = Dict[str, Any]
 
 
 class File(NamedTuple):
@@ -43,23 +46,40 @@ class Projects:
     """Projects in normal form, each with its releases by the key of their version."""
 
     def __init__(self) -> None:
-        self.releases: Dict[str, Dict[tuple, Release]] = {}
+        self.releases: Dict[str, Dict[Key, Release]] = {}
+        self.count = 0
+        self.size = 0
 
     def add(self, path: object, metadata: Metadata) -> Release:
         """The release of these metadata, new or as it was."""
         found = version(metadata.version)
         assert found is not None, "metadata are read with a version"
-        release = self.releases.setdefault(metadata.name, {}).setdefault(found.key, Release(metadata, path))
+        fresh = Release(metadata, path)
+        release = self.releases.setdefault(metadata.name, {}).setdefault(found.key, fresh)
+        if release is fresh:
+            self.weigh(metadata)
         one, other = release.metadata, metadata
         if (one.requires_python, sorted(one.requires_dist)) != (other.requires_python, sorted(other.requires_dist)):
             raise Refused(path, f"its requirements or its bound on Python differ from those of {release.first}")
         return release
 
+    def weigh(self, metadata: Metadata) -> None:
+        """Counts a release, of which there may be as many as the program reads."""
+        self.count += 1
+        self.size += sum(map(len, metadata.requires_dist))
+        for what, has, most in [("releases", self.count, MOST_RELEASES), ("characters", self.size, MOST_TEXT)]:
+            if has > most:
+                raise console.Refused(f"there are more than {most:,} {what}; `--newest N` takes fewer releases", 4)
+
     def add_file(self, path: Path) -> None:
         if not archives.FILE_NAME.match(path.name):
             raise Refused(path, "its name has a byte that no lock can hold")
-        release = self.add(path, archives.file_metadata(path))
-        summed = sha256_of(path)
+        metadata = archives.file_metadata(path)
+        try:
+            summed = sha256_of(path)
+        except OSError as fault:
+            raise Refused(path, str(fault.strerror or fault)) from None
+        release = self.add(path, metadata)
         if release.files.setdefault(path.name, File(path.name, summed)).sha256 != summed:
             raise Refused(path, "another file of this name has other bytes")
 
@@ -73,7 +93,7 @@ class Projects:
             raise Refused("--yanked", f"no file of {mark} was given")
         releases[found.key].yanked = True
 
-    def documents(self) -> Dict[str, dict]:
+    def documents(self) -> Dict[str, Document]:
         return {name: document_of(name, self.releases[name]) for name in sorted(self.releases)}
 
     def warnings(self) -> Iterator[str]:
@@ -103,7 +123,7 @@ def unusable(spelled: str, requires_python: Optional[str], requires_dist: Iterab
     return None
 
 
-def document_of(name: str, releases: Dict[tuple, Release]) -> dict:
+def document_of(name: str, releases: Dict[Key, Release]) -> Document:
     listed = []
     for _, release in sorted(releases.items()):
         entry: Dict[str, Any] = {"version": release.metadata.version}
@@ -119,7 +139,7 @@ def document_of(name: str, releases: Dict[tuple, Release]) -> dict:
     return {"name": name, "versions": listed}
 
 
-def file_entry(file: File) -> dict:
+def file_entry(file: File) -> Document:
     entry: Dict[str, Any] = {"file": file.name, "sha256": file.sha256}
     if file.url is not None:
         entry["url"] = file.url
@@ -144,47 +164,53 @@ def files_in(paths: Iterable[Path]) -> Iterator[Path]:
             raise Refused(path, "it is neither a wheel nor a source distribution")
 
 
-def is_index(out: Path) -> bool:
-    """Whether a folder holds nothing but documents, so that it may be replaced."""
-    return all(it.name.endswith(".json") and it.is_file() for it in out.iterdir())
-
-
-def replace_folder(out: Path, documents: Dict[str, dict]) -> None:
-    """Writes the documents into a fresh folder, which then takes the place of `out`."""
-    if out.exists() and not (out.is_dir() and is_index(out)):
-        raise Refused(out, "it holds more than .json files, so it isn't replaced")
-    out.parent.mkdir(parents=True, exist_ok=True)
-    fresh = Path(tempfile.mkdtemp(prefix=f".{out.name}.", dir=out.parent))
-    try:
-        for name, document in documents.items():
-            (fresh / f"{name}.json").write_text(json.dumps(document, indent=1) + "\n", encoding="utf-8")
-        fresh.chmod(0o755)
-        if out.exists():
-            old = fresh.with_name(fresh.name + ".old")
-            os.replace(out, old)
-            os.replace(fresh, out)
-            shutil.rmtree(old)
-        else:
-            os.replace(fresh, out)
-    finally:
-        shutil.rmtree(fresh, ignore_errors=True)
-
-
-def load(folder: str, name: str) -> Optional[dict]:
-    """The document of a package in an index folder, or None where there is none."""
+def load(folder: str, name: str) -> Optional[Document]:
+    """The document of a package in an index folder, or None where there is none; each place has its shape."""
     path = os.path.join(folder, f"{name}.json")
     if not os.path.exists(path):
         return None
     try:
         found = json.loads(console.text_of(path))
-    except ValueError as fault:
+    except (ValueError, RecursionError) as fault:
         raise console.Refused(f"{path}: not JSON: {fault}", 3) from None
     if not isinstance(found, dict) or not isinstance(found.get("versions"), list):
         raise console.Refused(f"{path}: it is no document of a package", 3)
+    for number, entry in enumerate(found["versions"]):
+        wrong = wrong_place(entry)
+        if wrong is not None:
+            place = f"versions[{number}]" + (f".{wrong}" if wrong else "")
+            value = entry.get(wrong.partition("[")[0]) if isinstance(entry, dict) else entry
+            raise console.Refused(f"{path}: {place}: {places.wrong_shape(place, value)}", 3)
     return found
 
 
-def releases_of(document: Optional[dict]) -> List[Tuple[str, dict]]:
+def wrong_place(entry: Any) -> Optional[str]:
+    """The first place of an entry whose shape the program refuses, or None. The entry's own is the empty text."""
+    if not isinstance(entry, dict):
+        return ""
+    if not isinstance(entry.get("version"), str):
+        return "version"
+    if not isinstance(entry.get("requires_python"), (str, type(None))):
+        return "requires_python"
+    required = entry.get("requires_dist") or []
+    if not isinstance(entry.get("requires_dist"), (list, type(None))):
+        return "requires_dist"
+    if not all(isinstance(it, str) for it in required):
+        return "requires_dist"
+    if not isinstance(entry.get("yanked"), (bool, str, type(None))):
+        return "yanked"
+    files = entry.get("files")
+    if not isinstance(files, (list, type(None))):
+        return "files"
+    wrong = [number for number, it in enumerate(files or []) if not is_file(it)]
+    return f"files[{wrong[0]}]" if wrong else None
+
+
+def is_file(entry: Any) -> bool:
+    return isinstance(entry, dict) and isinstance(entry.get("file"), str) and isinstance(entry.get("sha256"), str)
+
+
+def releases_of(document: Optional[Document]) -> List[Tuple[str, Document]]:
     """The entries of a document that the program can use, each with its version as it stands."""
     found, seen = [], set()
     for entry in [] if document is None else document["versions"]:

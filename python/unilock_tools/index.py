@@ -16,11 +16,15 @@ in JSON (PEP 691) or HTML (PEP 503).
 
 A release that unilock will not be able to use is kept and warned of, with the entry that it can't read.
 
-OUT is written anew as a whole: into a fresh folder beside it, which then takes its place. A folder OUT that holds
-anything else than .json files is refused.
+OUT is written anew as a whole: into a fresh folder beside it, which then takes its place. Only a folder that this
+command made (a file .unilock-index in it says so), or an empty one, is replaced.
 
-Needs the library `requests` (or pip's copy of it) to ask a server. Status: 0 written; 1 a file is refused; 2 the
-words aren't right; 3 the project file can't be read; 5 a server fails; 130 interrupted.
+A user and a password of --index-url, or of the server's line in .netrc, are sent to that server alone and written
+nowhere. An answer that is cut off, or that doesn't say that it is a page of the Simple API, is refused.
+
+Needs the library `requests` to ask a server. Status: 0 written; 1 a file is refused; 2 the words aren't right; 3 the
+project file can't be read; 4 more packages, releases or text than the program reads; 5 a server fails; 130
+interrupted.
 """
 
 from __future__ import annotations
@@ -30,7 +34,7 @@ import os
 from pathlib import Path
 from typing import List, Optional
 
-from . import console, documents, project, walk
+from . import console, documents, folders, project, walk
 from .archives import Refused
 from .cache import Cache, usual_folder
 from .documents import Projects
@@ -66,7 +70,7 @@ def parser() -> console.Parser:
     server.add_argument(
         "--before",
         metavar="DATE",
-        help="only files uploaded before this date (PEP 700): 2024-05-01, or with a time in UTC",
+        help="only files uploaded before this instant (PEP 700): 2024-05-01, or 2024-05-01T12:00:00+02:00",
     )
     server.add_argument("--jobs", metavar="N", type=int, default=16, help="requests side by side (%(default)s)")
     server.add_argument("--cache", metavar="DIR", type=Path, help=f"the cache ({usual_folder()})")
@@ -75,14 +79,20 @@ def parser() -> console.Parser:
     server.add_argument(
         "--timeout", metavar="SECONDS", type=float, default=30, help="how long a server may be silent (%(default)s)"
     )
+    server.add_argument(
+        "--deadline", metavar="SECONDS", type=float, default=300, help="how long one request may take (%(default)s)"
+    )
     return made
 
 
 def judged(asked: argparse.Namespace) -> None:
-    for name, least in [("newest", 1), ("jobs", 1), ("tries", 1)]:
+    for name, least in [("newest", 1), ("jobs", 1), ("tries", 1), ("timeout", 0.001), ("deadline", 0.001)]:
         value = getattr(asked, name)
-        if value is not None and value < least:
+        if value is not None and not value >= least:
             raise console.Refused(f"--{name} {value}: at least {least}", 2)
+    for name, most in [("jobs", 256), ("timeout", 1e6), ("deadline", 1e6)]:
+        if not getattr(asked, name) <= most:
+            raise console.Refused(f"--{name} {getattr(asked, name)}: at most {most:g}", 2)
 
 
 def from_files(paths: List[Path], skip: bool) -> "tuple[Projects, List[str]]":
@@ -101,13 +111,14 @@ def from_server(asked: argparse.Namespace, path: Path, gathered: Projects) -> Li
     read = project.load(str(path))
     cache = Cache(None if asked.no_cache else asked.cache or usual_folder())
     url = asked.index_url or os.environ.get("UNILOCK_INDEX_URL") or SERVER
-    client = Client(url, cache, asked.tries, asked.timeout)
+    client = Client(url, cache, asked.tries, asked.timeout, deadline=asked.deadline)
     choice = walk.Choice(asked.newest, None if asked.before is None else walk.instant(asked.before))
     walking = walk.Walk(client, read, choice, gathered, asked.jobs)
     walking.run(it.requirement for it in read.requirements)
     if not asked.quiet:
-        console.say(f"index: {console.counted(client.asked, 'request')}, {client.bytes / 1e6:.1f} MB")
-    return walking.warnings()
+        fetcher = client.fetcher
+        console.say(f"index: {console.counted(fetcher.asked, 'request')}, {fetcher.bytes / 1e6:.1f} MB")
+    return [*walking.warnings(), *([cache.fault] if cache.fault else [])]
 
 
 def run(asked: argparse.Namespace) -> int:
@@ -115,15 +126,16 @@ def run(asked: argparse.Namespace) -> int:
     projects = [it for it in asked.sources if it.suffix == ".toml"]
     if len(projects) > 1:
         raise console.Refused("two project files: one folder is made for one project", 2)
+    folders.prepared(asked.out)
     gathered, warned = from_files([it for it in asked.sources if it.suffix != ".toml"], asked.skip)
     for mark in asked.yanked:
         gathered.mark_yanked(mark)
     for path in projects:
         warned += from_server(asked, path, gathered)
-    documents.replace_folder(asked.out, gathered.documents())
+    folders.replace_folder(asked.out, gathered.documents())
     if not asked.quiet:
         for text in [*warned, *gathered.warnings()]:
-            console.say(f"index: warning: {text}")
+            console.say(f"index: warning: {console.escaped(text)}")
         if projects:
             releases = sum(len(it) for it in gathered.releases.values())
             packages = console.counted(len(gathered.releases), "package")

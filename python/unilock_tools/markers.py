@@ -7,8 +7,9 @@ membership in a list of versions. Standard library alone.
 
 from __future__ import annotations
 
+import operator
 import re
-from typing import Callable, Dict, Iterator, List, Mapping, NamedTuple, Optional, Tuple, Union
+from typing import Any, Callable, Dict, Iterator, List, Mapping, NamedTuple, Optional, Tuple, Union
 
 from . import versions
 
@@ -28,10 +29,12 @@ OLD_SPELLINGS = {
 VARIABLES = [*TEXTS, *PYTHONS, "implementation_version", "extra"]
 TOKEN = re.compile(
     r"[ \t]*(?:(?P<mark>[()])|(?P<op>===|==|!=|<=|>=|~=|<|>)|(?P<word>[A-Za-z0-9_.]+)"
-    r"|'(?P<single>[^'\\]*)'|\"(?P<double>[^\"\\]*)\")"
+    r"|'(?P<single>[ -&(-\[\]-~]*)'|\"(?P<double>[ !#-\[\]-~]*)\")"
 )
 MIRRORED = {"<": ">", "<=": ">=", ">": "<", ">=": "<=", "==": "==", "!=": "!="}
 DEEPEST = 64
+# A marker of so many comparisons at so many interpreters counts as one that can hold, without being asked.
+MOST_ASKED = 1 << 20
 
 
 class NoMarker(Exception):
@@ -64,26 +67,37 @@ def tokens(text: str) -> List[Token]:
     while at < len(text):
         piece = TOKEN.match(text, at)
         if piece is None:
-            raise NoMarker(f"the marker isn't read from `{text[at:].strip()}` on")
+            raise NoMarker(f"the marker isn't read from `{shortened(text[at:].strip())}` on")
         kind = piece.lastgroup or ""
         found.append(("literal" if kind in ("single", "double") else kind, piece[kind]))
         at = piece.end()
     return found
 
 
+def shortened(text: str) -> str:
+    """The first of a long text, as a message has it."""
+    return text if len(text) <= 80 else text[:78] + ".."
+
+
 class _Reader:
     def __init__(self, text: str) -> None:
-        self.left = tokens(text)
+        self.tokens = tokens(text)
+        self.at = 0
+
+    def next(self) -> Optional[Token]:
+        return self.tokens[self.at] if self.at < len(self.tokens) else None
 
     def take(self) -> Token:
-        if not self.left:
+        found = self.next()
+        if found is None:
             raise NoMarker("the marker ends too early")
-        return self.left.pop(0)
+        self.at += 1
+        return found
 
     def joined(self, word: str, part: Callable[[int], Marker], depth: int) -> Marker:
         parts = [part(depth)]
-        while self.left and self.left[0] == ("word", word):
-            self.left.pop(0)
+        while self.next() == ("word", word):
+            self.at += 1
             parts.append(part(depth))
         return parts[0] if len(parts) == 1 else Join(word, parts)
 
@@ -94,10 +108,10 @@ class _Reader:
         return self.joined("and", self.atom, depth)
 
     def atom(self, depth: int) -> Marker:
-        if self.left[:1] == [("mark", "(")]:
+        if self.next() == ("mark", "("):
             if depth == DEEPEST:
                 raise NoMarker("the marker's parentheses nest too deep")
-            self.left.pop(0)
+            self.at += 1
             inside = self.either(depth + 1)
             if self.take() != ("mark", ")"):
                 raise NoMarker("a `(` has no `)`")
@@ -158,8 +172,9 @@ def pieces(literal: str) -> List[str]:
 def read(text: str) -> Marker:
     reader = _Reader(text)
     found = reader.either(0)
-    if reader.left:
-        raise NoMarker(f"the marker isn't read from `{reader.left[0][1]}` on")
+    left = reader.next()
+    if left is not None:
+        raise NoMarker(f"the marker isn't read from `{shortened(left[1])}` on")
     return found
 
 
@@ -198,8 +213,8 @@ def holds(atom: Atom, value: str) -> bool:
         return python_holds(op, literal, value)
     if op in ("in", "not in"):
         return (value in literal) == (op == "in")
-    left: object = value.encode()
-    right: object = literal.encode()
+    left: Any = value.encode()
+    right: Any = literal.encode()
     if atom.variable == "implementation_version":
         one, other = versions.version(value), versions.version(literal)
         if one is not None and other is not None:
@@ -214,25 +229,20 @@ def python_holds(op: str, literal: str, value: str) -> bool:
     return versions.clause_of(op + literal).meets(found)
 
 
-def ordered(op: str, left: "object", right: "object") -> bool:
-    compared: Dict[str, Callable[[], bool]] = {
-        "==": lambda: left == right,
-        "!=": lambda: left != right,
-        "<": lambda: left < right,  # type: ignore[operator]
-        "<=": lambda: left <= right,  # type: ignore[operator]
-        ">": lambda: left > right,  # type: ignore[operator]
-        ">=": lambda: left >= right,  # type: ignore[operator]
-    }
-    return compared[op]()
+def ordered(op: str, left: Any, right: Any) -> bool:
+    compared: Dict[str, Callable[[Any, Any], bool]] = {
+        "==": operator.eq, "!=": operator.ne, "<": operator.lt, "<=": operator.le, ">": operator.gt, ">=": operator.ge,
+    }  # fmt: skip
+    return compared[op](left, right)
 
 
 def python_points(marker: Optional[Marker], bound: str) -> List[str]:
     """Interpreters of which each piece that the marker's and the bound's literals cut has one."""
     found = {(0, 0, 0)}
     literals = [it.literal for it in atoms(marker) if it.variable in PYTHONS]
-    for text in [*literals, bound]:
+    for text in {*literals, bound}:
         for spelled in re.findall(r"[0-9]+(?:\.[0-9]+)*", text):
-            numbers = ([int(it) for it in spelled.split(".")] + [0, 0])[:3]
+            numbers = ([versions.number_of(it) for it in spelled.split(".")] + [0, 0])[:3]
             major, minor, micro = numbers
             found |= {(major, minor, micro), (major, minor, micro + 1), (major, minor + 1, 0), (major + 1, 0, 0)}
             if micro:
@@ -241,7 +251,7 @@ def python_points(marker: Optional[Marker], bound: str) -> List[str]:
                 found.add((major, minor - 1, 99))
             elif major:
                 found.add((major - 1, 99, 99))
-    return [".".join(map(str, it)) for it in sorted(found)]
+    return [".".join(map(str, it)) for it in sorted(found) if max(it) <= versions.LARGEST]
 
 
 def possible(marker: Optional[Marker], bound: str, extras: List[str]) -> bool:
@@ -249,7 +259,10 @@ def possible(marker: Optional[Marker], bound: str, extras: List[str]) -> bool:
     if marker is None:
         return True
     clauses = versions.specifiers_of(bound)
-    for point in python_points(marker, bound):
+    points = python_points(marker, bound)
+    if len(points) * sum(1 for _ in atoms(marker)) * (1 + len(extras)) > MOST_ASKED:
+        return True
+    for point in points:
         if not versions.meets(clauses, versions.version_of(point)):
             continue
         short = ".".join(point.split(".")[:2])

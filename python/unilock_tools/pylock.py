@@ -13,10 +13,9 @@ from __future__ import annotations
 import argparse
 import json
 import os
-from typing import Dict, List, NamedTuple, Optional
-from urllib.parse import quote
+from typing import Dict, List, NamedTuple, Optional, Union
 
-from . import __version__, chosen, console, documents
+from . import __version__, chosen, console, documents, pages
 from .chosen import Pick
 from .console import Refused
 from .locks import Lock
@@ -53,8 +52,26 @@ def parser() -> console.Parser:
     return made
 
 
+Value = Union[str, int, List[str], Dict[str, "Value"]]
+
+
+def toml_value(value: Value) -> str:
+    """A value as TOML writes it on one line: a text, a number, a list of texts, or an inline table."""
+    if isinstance(value, str):
+        return toml_text(value)
+    if isinstance(value, int) and not isinstance(value, bool):
+        return str(value)
+    if isinstance(value, list):
+        return f"[{', '.join(toml_value(it) for it in value)}]"
+    if isinstance(value, dict):
+        return "{ " + ", ".join(f"{key} = {toml_value(it)}" for key, it in value.items()) + " }"
+    raise Refused(f"{value!r} has no place in a pylock.toml")
+
+
 def toml_text(text: str) -> str:
     """A text as a basic string of TOML."""
+    if any("\ud800" <= it <= "\udfff" for it in text):
+        raise Refused(f"{text!r} is no text that a pylock.toml can have")
     return json.dumps(text, ensure_ascii=False).replace("\x7f", "\\u007F")
 
 
@@ -64,9 +81,9 @@ class Places:
     def __init__(self, index: Optional[str], folders: List[str], out: str) -> None:
         self.index, self.folders = index, folders
         self.beside = os.path.dirname(os.path.abspath(out)) if out != "-" else os.getcwd()
-        self.documents: Dict[str, Dict[str, dict]] = {}
+        self.documents: Dict[str, Dict[str, documents.Document]] = {}
 
-    def told(self, package: str, file: str, sha256: str) -> Optional[dict]:
+    def told(self, package: str, file: str, sha256: str) -> Optional[documents.Document]:
         """What the index folder tells of a file, where the hash is the lock's."""
         if self.index is None:
             return None
@@ -87,39 +104,58 @@ class Places:
         if entry is None or "url" not in entry:
             hint = "--index names an index folder made from a server, --files a folder that has it"
             raise Refused(f"no place is known of {file}; {hint}")
-        return Placed(file, sha256, quote(entry["url"], safe="%/:=&?~#+!$,;'@()*[]"), None, entry.get("size"))
+        return Placed(file, sha256, address_in(entry, file), None, size_in(entry, file))
 
 
-def file_text(file: Placed) -> str:
-    parts = [f"name = {toml_text(file.name)}"]
-    parts.append(f"url = {toml_text(file.url)}" if file.url is not None else f"path = {toml_text(file.path or '')}")
+def address_in(entry: documents.Document, file: str) -> str:
+    """The address that a document tells of a file; a user and a password in it aren't taken along."""
+    found = entry["url"]
+    try:
+        return pages.address_of(found if isinstance(found, str) else "")
+    except ValueError:
+        raise Refused(f"the index folder's `url` of {file} is no address of a server: {str(found)[:200]!r}") from None
+
+
+def size_in(entry: documents.Document, file: str) -> Optional[int]:
+    found = entry.get("size")
+    if found is not None and (not isinstance(found, int) or isinstance(found, bool) or found < 0):
+        raise Refused(f"the index folder's `size` of {file} is no number of bytes: {str(found)[:200]!r}")
+    return found
+
+
+def file_value(file: Placed) -> Dict[str, Value]:
+    found: Dict[str, Value] = {"name": file.name}
+    if file.url is not None:
+        found["url"] = file.url
+    else:
+        found["path"] = file.path or ""
     if file.size is not None:
-        parts.append(f"size = {file.size}")
-    parts.append(f'hashes = {{ sha256 = "{file.sha256}" }}')
-    return "{ " + ", ".join(parts) + " }"
+        found["size"] = file.size
+    found["hashes"] = {"sha256": file.sha256}
+    return found
 
 
 def package_text(lock: Lock, pick: Pick, places: Places) -> str:
-    lines = ["", "[[packages]]", f"name = {toml_text(pick.name)}", f"version = {toml_text(pick.version)}"]
+    lines = ["", "[[packages]]", f"name = {toml_value(pick.name)}", f"version = {toml_value(pick.version)}"]
     if pick.marker:
-        lines.append(f"marker = {toml_text(pick.marker)}")
+        lines.append(f"marker = {toml_value(pick.marker)}")
     placed = [places.place(pick.name, file, summed) for file, summed in lock.package(pick.name, pick.version).files]
     if not placed:
         raise Refused(f"the lock has no files of {pick.name} {pick.version}, since its index has none")
     wheels = [it for it in placed if it.name.endswith(".whl")]
     sources = [it for it in placed if not it.name.endswith(".whl")]
     if sources:
-        lines.append(f"sdist = {file_text(sources[0])}")
+        lines.append(f"sdist = {toml_value(file_value(sources[0]))}")
     if wheels:
-        lines += ["wheels = [", *(f"    {file_text(it)}," for it in wheels), "]"]
+        lines += ["wheels = [", *(f"    {toml_value(file_value(it))}," for it in wheels), "]"]
     return "\n".join(lines) + "\n"
 
 
 def pylock_text(lock: Lock, picks: List[Pick], places: Places) -> str:
     lines = ['lock-version = "1.0"']
     if lock.supported:
-        lines.append(f"environments = [{toml_text(lock.supported)}]")
-    lines.append(f"created-by = {toml_text('unilock ' + __version__)}")
+        lines.append(f"environments = {toml_value([lock.supported])}")
+    lines.append(f"created-by = {toml_value('unilock ' + __version__)}")
     return "\n".join(lines) + "\n" + "".join(package_text(lock, it, places) for it in picks)
 
 

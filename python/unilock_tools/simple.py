@@ -1,159 +1,52 @@
-"""A package index's Simple API: the files of a project, and their metadata.
+"""A package index's Simple API: the page of a project, and the metadata of its releases.
 
-A project's page is read in JSON (PEP 691) or HTML (PEP 503). A file's metadata are the metadata file beside it where
-the page tells of one (PEP 658 and 714); else a wheel's METADATA by HTTP ranges, or from the whole file where the
-server gives no ranges. What has a hash is checked by it. Pages are asked for anew each time, but sent again only
-where they changed.
+    client = Client(url, Cache(folder))
+    page = client.page("alpha")                     # a ProjectPage, or None where the server doesn't know the project
+    metadata = client.metadata(page.releases[0])    # archives.Refused where the release says too little
+
+A release's metadata are the metadata file beside the file that speaks for it, where the page tells of one (PEP 658
+and 714); else a wheel's METADATA by HTTP ranges, or from the whole file where the server gives no ranges. What has a
+hash is checked by it. What was checked by a hash is kept under that hash; all else that has a reading is kept under its
+address and is asked for anew each time, but sent again only where it changed.
 """
 
 from __future__ import annotations
 
 import hashlib
 import io
-import json
 import re
 import tempfile
-import threading
-import time
-from html.parser import HTMLParser
-from typing import IO, Any, Dict, List, NamedTuple, Optional, Tuple, cast
-from urllib.parse import unquote, urldefrag, urljoin, urlsplit, urlunsplit
+from typing import IO, List, NamedTuple, Optional, Tuple, Union, cast
+from urllib.parse import urljoin
 
-from . import __version__, archives
-from .archives import Metadata
-from .cache import Cache
-from .console import Refused
-from .vendored import library
-from .versions import normal_name, version
+from . import archives, pages
+from .archives import MOST_METADATA, Metadata
+from .cache import Cache, Entry
+from .fetching import Answer, Fetcher, File, Headers
+from .pages import Listed, ListedRelease, ProjectPage, fault_of, shown
 
-JSON_FORM = "application/vnd.pypi.simple.v1+json"
-HTML_FORM = "application/vnd.pypi.simple.v1+html"
-ACCEPTED = f"{JSON_FORM}, {HTML_FORM};q=0.2, text/html;q=0.01"
 TAIL = 64 * 1024
 PIECE = 16 * 1024
-AGAIN = (429, 500, 502, 503, 504)
-MOST_PAGE = 256 * 1024 * 1024
+MOST_PAGE = 64 * 1024 * 1024
+MOST_PIECES = 64 * 1024 * 1024
+MOST_FILE = 1024 * 1024 * 1024
 
 
-class Listed(NamedTuple):
-    """A file as a page lists it. `metadata` is None without a metadata file, else its SHA-256 or the empty text."""
+class Tail(NamedTuple):
+    """The end of a file on a server, and the size of the whole."""
 
-    name: str
-    url: str
-    sha256: Optional[str]
-    requires_python: Optional[str]
-    yanked: bool
-    metadata: Optional[str]
-    uploaded: Optional[str]
-    size: Optional[int]
-
-
-def shown(url: str) -> str:
-    """A URL without a user and a password in it."""
-    parts = urlsplit(url)
-    host = parts.netloc.rpartition("@")[2]
-    return urlunsplit((parts.scheme, host, parts.path, parts.query, ""))
-
-
-class Page(HTMLParser):
-    """The anchors of an HTML page."""
-
-    def __init__(self, url: str) -> None:
-        super().__init__()
-        self.base = url
-        self.files: List[Listed] = []
-        self.open: Optional[Dict[str, Optional[str]]] = None
-        self.text = ""
-
-    def handle_starttag(self, tag: str, attrs: List[Tuple[str, Optional[str]]]) -> None:
-        found = dict(attrs)
-        if tag == "base" and found.get("href"):
-            self.base = urljoin(self.base, found["href"] or "")
-        elif tag == "a":
-            self.open, self.text = found, ""
-
-    def handle_data(self, data: str) -> None:
-        self.text += data
-
-    def handle_endtag(self, tag: str) -> None:
-        if tag != "a" or self.open is None:
-            return
-        found, self.open = self.open, None
-        url, fragment = urldefrag(urljoin(self.base, found.get("href") or ""))
-        summed = re.search(r"sha256=([0-9a-fA-F]{64})", fragment)
-        stated = found.get("data-core-metadata", found.get("data-dist-info-metadata", ""))
-        told = "data-core-metadata" in found or "data-dist-info-metadata" in found
-        self.files.append(
-            Listed(
-                name=unquote(urlsplit(url).path.rpartition("/")[2]) or self.text.strip(),
-                url=url,
-                sha256=summed[1].lower() if summed else None,
-                requires_python=found.get("data-requires-python") or None,
-                yanked="data-yanked" in found,
-                metadata=hash_in(stated) if told and stated != "false" else None,
-                uploaded=None,
-                size=None,
-            )
-        )
-
-
-def hash_in(text: Optional[str]) -> str:
-    found = re.fullmatch(r"sha256=([0-9a-fA-F]{64})", text or "")
-    return found[1].lower() if found else ""
-
-
-def json_files(url: str, body: bytes) -> List[Listed]:
-    """The files of a page in JSON."""
-    try:
-        page = json.loads(body)
-        return [json_file(url, it) for it in page["files"]]
-    except (ValueError, KeyError, TypeError, AttributeError) as fault:
-        raise Refused(f"{shown(url)}: the page isn't as PEP 691 has it: {fault!r}", 5) from None
-
-
-def json_file(url: str, entry: Dict[str, Any]) -> Listed:
-    stated = entry.get("core-metadata", entry.get("dist-info-metadata", False))
-    told = None
-    if stated:
-        told = str(stated.get("sha256", "")).lower() if isinstance(stated, dict) else ""
-    summed = entry.get("hashes", {}).get("sha256")
-    return Listed(
-        name=str(entry["filename"]),
-        url=urldefrag(urljoin(url, entry["url"]))[0],
-        sha256=str(summed).lower() if summed else None,
-        requires_python=entry.get("requires-python") or None,
-        yanked=entry.get("yanked", False) is not False,
-        metadata=told,
-        uploaded=entry.get("upload-time"),
-        size=entry.get("size"),
-    )
-
-
-def version_in(file: str, project: str) -> Optional[str]:
-    """The version in a file's name, or None where it is no wheel or source distribution of the project."""
-    if file.endswith(".whl"):
-        try:
-            name, spelled = archives.wheel_parts(file)
-        except Refused:
-            return None
-        return spelled if normal_name(name) == project and version(spelled) is not None else None
-    if not file.endswith(".tar.gz"):
-        return None
-    stem = file[: -len(".tar.gz")]
-    for cut in [it.start() for it in re.finditer("-", stem)]:
-        if normal_name(stem[:cut]) == project and version(stem[cut + 1 :]) is not None:
-            return stem[cut + 1 :]
-    return None
+    size: int
+    body: bytes
 
 
 class RangeFile(io.RawIOBase):
     """A file on a server, read in pieces where they are wanted, as a zip archive is: its end first."""
 
-    def __init__(self, client: "Client", url: str, size: int, tail: bytes) -> None:
+    def __init__(self, client: "Client", url: str, tail: Tail) -> None:
         super().__init__()
-        self.client, self.url, self.size = client, url, size
+        self.client, self.url, self.size = client, url, tail.size
         self.at = 0
-        self.pieces: List[Tuple[int, bytes]] = [(size - len(tail), tail)]
+        self.pieces: List[Tuple[int, bytes]] = [(tail.size - len(tail.body), tail.body)]
 
     def readable(self) -> bool:
         return True
@@ -165,177 +58,212 @@ class RangeFile(io.RawIOBase):
         return self.at
 
     def seek(self, offset: int, whence: int = 0) -> int:
-        self.at = offset + (0, self.at, self.size)[whence]
+        found = offset + (0, self.at, self.size)[whence]
+        if found < 0:
+            raise ValueError("it leads before its beginning")
+        self.at = found
         return self.at
 
     def read(self, count: int = -1) -> bytes:
-        if count < 0:
-            count = self.size - self.at
-        count = max(0, min(count, self.size - self.at))
+        left = max(0, self.size - self.at)
+        count = left if count < 0 else min(count, left)
         for start, piece in self.pieces:
             if start <= self.at and self.at + count <= start + len(piece):
                 found = piece[self.at - start : self.at - start + count]
                 self.at += count
                 return found
         last = min(self.size, self.at + max(count, PIECE)) - 1
-        self.pieces.append((self.at, self.client.range_of(self.url, self.at, last)))
-        if len(self.pieces[-1][1]) < count:
-            raise Refused(f"{shown(self.url)}: the server gave fewer bytes than it was asked for", 5)
+        if last - self.at >= MOST_PIECES - sum(len(it) for _, it in self.pieces):
+            raise archives.TooMuch(f"its METADATA aren't found in {MOST_PIECES} bytes")
+        self.pieces.append((self.at, self.client.range_of(self.url, self.at, last, self.size)))
         return self.read(count)
 
 
 class Client:
-    """Asks a server, with a cache, some tries for each request, and one connection for each thread."""
+    """Asks a server by a fetcher, and keeps in a cache what it was told."""
 
-    def __init__(self, url: str, cache: Cache, tries: int = 4, timeout: float = 30, wait: float = 0.5) -> None:
-        self.url = url.rstrip("/") + "/"
-        self.cache, self.tries, self.timeout, self.wait = cache, tries, timeout, wait
-        self.requests = library("requests")
-        self.own = threading.local()
-        self.lock = threading.Lock()
-        self.asked = 0
-        self.bytes = 0
-        self.stopped = False
+    def __init__(
+        self,
+        url: str,
+        cache: Cache,
+        tries: int = 4,
+        timeout: float = 30,
+        wait: float = 0.5,
+        deadline: float = 300,
+    ) -> None:
+        self.fetcher = Fetcher(url, tries, timeout, wait, deadline)
+        self.url = self.fetcher.url
+        self.cache = cache
 
-    def session(self) -> Any:
-        if not hasattr(self.own, "session"):
-            self.own.session = self.requests.Session()
-            self.own.session.headers["User-Agent"] = f"unilock-tools/{__version__}"
-        return self.own.session
+    def page(self, name: str) -> Optional[ProjectPage]:
+        """What the server has of a project, by its normal name; None where it doesn't know the project.
 
-    def ask(self, url: str, headers: Dict[str, str], stream: bool = False) -> Any:
-        """A response to a request that is tried again where the server or the way to it fails for a while."""
-        fault = ""
-        for turn in range(self.tries):
-            if self.stopped:
-                raise KeyboardInterrupt
-            if turn:
-                time.sleep(min(10.0, self.wait * 2 ** (turn - 1)))
-            try:
-                found = self.session().get(url, headers=headers, timeout=self.timeout, stream=stream)
-                if not stream:
-                    self.count(len(found.content))
-            except (self.requests.exceptions.InvalidURL, self.requests.exceptions.InvalidSchema) as invalid:
-                raise Refused(f"{shown(url)}: no URL of a server: {invalid}", 5) from None
-            except self.requests.exceptions.RequestException as failed:
-                fault = cause_of(failed)
-                continue
-            if found.status_code not in AGAIN:
-                return found
-            fault = f"{found.status_code} {found.reason}"
-        raise Refused(f"{shown(url)}: {fault} ({self.tries} tries)", 5)
-
-    def count(self, size: int) -> None:
-        with self.lock:
-            self.asked += 1
-            self.bytes += size
-
-    def files(self, name: str) -> Optional[List[Listed]]:
-        """The files that the server has of a project, or None where it doesn't know the project."""
+        The page is kept with the server's mark of it, and sent again only where it changed.
+        """
         url = urljoin(self.url, name + "/")
         kept = self.cache.get("pages", url)
-        headers = {"Accept": ACCEPTED}
-        if kept is not None and kept.facts.get("etag"):
-            headers["If-None-Match"] = kept.facts["etag"]
-        found = self.ask(url, headers)
-        if found.status_code == 304 and kept is not None:
-            return parsed(kept.facts["url"], kept.facts["form"], kept.body)
-        if found.status_code == 404:
+        try:
+            found = self.kept_or_answered(kept, url, {"Accept": pages.ACCEPTED}, MOST_PAGE)
+        except archives.Refused as fault:
+            raise fault_of(url, fault.fault) from None
+        if isinstance(found, Entry):
+            return pages.read_page(name, found.fact("url"), found.fact("form"), found.body)
+        if found.status == 404:
             return None
-        if found.status_code != 200:
-            raise Refused(f"{shown(url)}: {found.status_code} {found.reason}", 5)
-        form = found.headers.get("Content-Type", "").partition(";")[0].strip().lower()
-        files = parsed(found.url, form, found.content)
-        if found.headers.get("ETag"):
-            self.cache.put("pages", url, found.content, etag=found.headers["ETag"], form=form, url=found.url)
-        return files
+        if found.status != 200:
+            raise fault_of(url, f"{found.status} {found.reason}")
+        page = pages.read_page(name, found.url, found.form, found.body)
+        self.keep("pages", url, found)
+        return page
 
-    def metadata(self, file: Listed) -> Metadata:
-        """The metadata of a file; they are kept by the file's hash, which says all that is in it."""
-        kept = self.cache.get("metadata", file.sha256) if file.sha256 else None
-        body = kept.body if kept is not None else self.metadata_body(file)
-        read = archives.wheel_metadata if file.name.endswith(".whl") else archives.sdist_metadata
-        metadata = read(shown(file.url), file.name, body)
-        if kept is None and file.sha256:
-            self.cache.put("metadata", file.sha256, body)
-        return metadata
+    def keep(self, kind: str, key: str, found: Answer, body: Optional[bytes] = None) -> None:
+        """Keeps a whole answer under its address, where the server marks it."""
+        if found.tag:
+            self.cache.put(
+                kind, key, found.body if body is None else body, etag=found.tag, form=found.form, url=found.url
+            )
+
+    def kept_or_answered(
+        self, kept: Optional[Entry], url: str, headers: Headers, most: int, into: Optional[File] = None
+    ) -> Union[Entry, Answer]:
+        """What is kept, where the server says that it hasn't changed, else the answer.
+
+        A mark is that of the address that gave it: where a redirect led to another one than it leads to now, all is
+        asked for anew.
+        """
+        mark = unless_changed(kept)
+        found = self.fetcher.ask(url, {**headers, **mark}, most, into)
+        if found.status != 304 or kept is None or not mark:
+            return found
+        return kept if found.url == kept.fact("url") else self.fetcher.ask(url, headers, most, into)
+
+    def metadata(self, release: ListedRelease) -> Metadata:
+        """The metadata of a release, as the file that speaks for it has them.
+
+        archives.Refused where the file can't be taken, so that the release is passed over; console.Refused with
+        status 5 where the server fails.
+        """
+        return self.file_metadata(release.speaker)
+
+    def file_metadata(self, file: Listed) -> Metadata:
+        return metadata_in(file, self.metadata_body(file))
 
     def metadata_body(self, file: Listed) -> bytes:
+        """The bytes of a file's metadata: those of the metadata file where there is one, else those inside it."""
         if file.metadata is not None:
-            found = self.ask(file.url + ".metadata", {})
-            if found.status_code == 200:
-                checked(file.url + ".metadata", found.content, file.metadata)
-                return bytes(found.content)
-            if found.status_code != 404:
-                raise Refused(f"{shown(file.url)}.metadata: {found.status_code} {found.reason}", 5)
+            body = self.told_body(file, file.metadata)
+            if body is not None:
+                return body
+        kept = None if file.sha256 is None else self.cache.get("files", file.sha256)
+        if kept is not None:
+            return kept.body
         if file.name.endswith(".whl"):
             return self.wheel_body(file)
-        with self.whole(file) as held:
-            return archives.sdist_body(shown(file.url), held)
+        with self.whole(file, self.fetcher.ask(file.url, {}, MOST_FILE, tempfile.TemporaryFile)) as held:
+            return self.kept_of_file(file, archives.sdist_body(shown(file.url), held))
+
+    def kept_of_file(self, file: Listed, body: bytes) -> bytes:
+        """Keeps what stands in a file of which the whole was checked by its hash."""
+        if file.sha256 is not None:
+            self.cache.put("files", file.sha256, body)
+        return body
+
+    def told_body(self, file: Listed, wanted: str) -> Optional[bytes]:
+        """A metadata file, checked by the hash that the page tells, or None where there is none. Without a hash it is
+        kept where it has a reading, and counts as none where its last line has no end: the server has a part of it."""
+        url, kept = file.url + ".metadata", None
+        if wanted:
+            by_hash = self.cache.by_hash("metadata", wanted)
+            if by_hash is not None:
+                return by_hash
+        else:
+            kept = self.cache.get("told", f"{self.url} {url}")
+        found = self.kept_or_answered(kept, url, {}, MOST_METADATA)
+        if isinstance(found, Entry):
+            return found.body
+        if found.status == 404:
+            return None
+        if found.status != 200:
+            raise fault_of(url, f"{found.status} {found.reason}")
+        if wanted:
+            checked(url, hashlib.sha256(found.body).hexdigest(), wanted)
+            self.cache.put_by_hash("metadata", found.body)
+        elif not found.measured:
+            raise fault_of(url, "the server tells neither its hash nor its length, so it may be cut off")
+        elif not is_ended(found.body):
+            return None
+        else:
+            metadata_in(file, found.body)
+            self.keep("told", f"{self.url} {url}", found)
+        return found.body
 
     def wheel_body(self, file: Listed) -> bytes:
-        found = self.ask(file.url, {"Range": f"bytes=-{TAIL}", "Accept-Encoding": "identity"}, stream=True)
-        told = re.fullmatch(r"bytes ([0-9]+)-([0-9]+)/([0-9]+)", found.headers.get("Content-Range", ""))
-        if found.status_code == 206 and told is not None:
-            tail = found.content
-            self.count(len(tail))
-            if int(told[2]) + 1 == int(told[3]) and len(tail) == int(told[3]) - int(told[1]):
-                stream = RangeFile(self, file.url, int(told[3]), tail)
-                return archives.wheel_body(shown(file.url), cast(IO[bytes], stream))
-        with self.held(file, found) if found.status_code == 200 else self.whole(file) as held:
-            return archives.wheel_body(shown(file.url), held)
+        """A wheel's METADATA, by ranges where the server gives them."""
+        key = f"{self.url} {file.url} {file.sha256}"
+        kept = self.cache.get("ranges", key)
+        headers = {"Range": f"bytes=-{TAIL}"}
+        found = self.kept_or_answered(kept, file.url, headers, MOST_FILE, tempfile.TemporaryFile)
+        if isinstance(found, Entry):
+            return found.body
+        tail = tail_of(found)
+        if tail is not None:
+            body = archives.wheel_body(shown(file.url), cast(IO[bytes], RangeFile(self, file.url, tail)))
+            metadata_in(file, body)
+            self.keep("ranges", key, found, body)
+            return body
+        if found.status != 200:
+            found = self.fetcher.ask(file.url, {}, MOST_FILE, tempfile.TemporaryFile)
+        with self.whole(file, found) as held:
+            return self.kept_of_file(file, archives.wheel_body(shown(file.url), held))
 
-    def range_of(self, url: str, first: int, last: int) -> bytes:
-        found = self.ask(url, {"Range": f"bytes={first}-{last}", "Accept-Encoding": "identity"})
-        if found.status_code != 206:
-            raise Refused(f"{shown(url)}: {found.status_code} in place of a range", 5)
-        return bytes(found.content)
+    def range_of(self, url: str, first: int, last: int, size: int) -> bytes:
+        found = self.fetcher.ask(url, {"Range": f"bytes={first}-{last}"}, last - first + 1)
+        if found.status != 206:
+            raise fault_of(url, f"{found.status} in place of a range")
+        if found.range != (first, last, size) or len(found.body) != last - first + 1:
+            raise fault_of(url, "the server gave another range than it was asked for")
+        return found.body
 
-    def whole(self, file: Listed) -> IO[bytes]:
-        return self.held(file, self.ask(file.url, {"Accept-Encoding": "identity"}, stream=True))
-
-    def held(self, file: Listed, found: Any) -> IO[bytes]:
+    def whole(self, file: Listed, found: Answer) -> IO[bytes]:
         """A whole file on disk, which goes when it is closed, checked by its hash."""
-        if found.status_code != 200:
-            raise Refused(f"{shown(file.url)}: {found.status_code} {found.reason}", 5)
-        held = tempfile.TemporaryFile()
-        summed, size = hashlib.sha256(), 0
-        try:
-            for chunk in found.iter_content(1 << 16):
-                held.write(chunk)
-                summed.update(chunk)
-                size += len(chunk)
-        except self.requests.exceptions.RequestException as failed:
-            raise Refused(f"{shown(file.url)}: {cause_of(failed)}", 5) from None
-        self.count(size)
-        if file.sha256 and summed.hexdigest() != file.sha256:
-            raise Refused(f"{shown(file.url)}: its hash isn't the one that the index tells", 5)
-        held.seek(0)
-        return held
+        if found.status != 200 or found.file is None:
+            raise fault_of(file.url, f"{found.status} {found.reason}")
+        if file.sha256 is not None:
+            checked(file.url, found.sha256, file.sha256)
+        elif not found.measured:
+            raise fault_of(file.url, "the server tells neither its hash nor its length, so it may be cut off")
+        found.file.seek(0)
+        return found.file
 
 
-def parsed(url: str, form: str, body: bytes) -> List[Listed]:
-    if len(body) > MOST_PAGE:
-        raise Refused(f"{shown(url)}: the page is longer than {MOST_PAGE} bytes", 5)
-    if form == JSON_FORM:
-        return json_files(url, body)
-    if form in (HTML_FORM, "text/html", "application/xhtml+xml"):
-        page = Page(url)
-        page.feed(body.decode("utf-8", "replace"))
-        return page.files
-    raise Refused(f"{shown(url)}: the page is {form or 'of no stated form'}, which is no form of the Simple API", 5)
+def metadata_in(file: Listed, body: bytes) -> Metadata:
+    """The reading of a file's metadata; archives.Refused where there is none."""
+    read = archives.wheel_metadata if file.name.endswith(".whl") else archives.sdist_metadata
+    return read(shown(file.url), file.name, body)
 
 
-def checked(url: str, body: bytes, wanted: str) -> None:
-    if wanted and hashlib.sha256(body).hexdigest() != wanted:
-        raise Refused(f"{shown(url)}: its hash isn't the one that the index tells", 5)
+def is_ended(body: bytes) -> bool:
+    """Whether metadata's fields end: by a blank line, or by that of their last line."""
+    return body.endswith((b"\n", b"\r")) or re.search(rb"\n\r?\n|\r\r", body) is not None
 
 
-def cause_of(failed: Exception) -> str:
-    """The innermost cause of a failure, in one line."""
-    text = str(getattr(failed, "args", [failed])[0] if failed.args else failed)
-    found = re.search(
-        r"(timed out|Connection refused|Name or service not known|CERTIFICATE_VERIFY_FAILED|Remote end closed[^')]*)",
-        text,
-    )
-    return found[1] if found else f"{type(failed).__name__}: {text[:160]}"
+def unless_changed(kept: Optional[Entry]) -> "dict[str, str]":
+    tag = "" if kept is None else kept.fact("etag")
+    return {"If-None-Match": tag} if re.fullmatch(r'(?:W/)?"[\x21\x23-\x7e]*"', tag) else {}
+
+
+def tail_of(found: Answer) -> Optional[Tail]:
+    """The end of a file, where the answer is that."""
+    if found.status != 206 or found.range is None or found.file is None:
+        return None
+    first, last, size = found.range
+    if last + 1 != size or found.length != size - first or found.length > TAIL:
+        return None
+    found.file.seek(0)
+    with found.file as held:
+        return Tail(size, held.read(TAIL))
+
+
+def checked(url: str, summed: str, wanted: str) -> None:
+    if summed != wanted:
+        raise fault_of(url, "its hash isn't the one that the index tells")

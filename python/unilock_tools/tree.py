@@ -17,7 +17,8 @@ import argparse
 import os
 import shutil
 import subprocess
-from typing import Dict, Iterator, List, NamedTuple, Optional, Set, Tuple
+import sys
+from typing import Any, Dict, Iterator, List, NamedTuple, Optional, Set, Tuple
 
 from . import chosen, console, locks, markers
 from .console import Refused
@@ -50,6 +51,7 @@ def parser() -> console.Parser:
     made.add_argument("--depth", metavar="N", type=int, help="at most so many levels below the first")
     made.add_argument("--dot", action="store_true", help="print the graph in Graphviz's text form")
     made.add_argument("--picture", metavar="FILE", help="have Graphviz draw the graph")
+    console.add_json(made)
     return made
 
 
@@ -124,6 +126,25 @@ def lines_below(tops: List[Node], arrows: Dict[Node, List[Arrow]], depth: Option
             left.append((arrow.to, rest + branch, rest + beside, arrow.marker, level + 1))
 
 
+def as_object(tops: List[Node], arrows: Dict[Node, List[Arrow]]) -> Dict[str, Any]:
+    """The tops of a tree, and each node that is met below them, once, with what stands below it."""
+    met, left = set(tops), list(tops)
+    for node in left:
+        for arrow in arrows.get(node, []):
+            if arrow.to not in met:
+                met.add(arrow.to)
+                left.append(arrow.to)
+    nodes = [
+        {**named(it), "below": [{**named(arrow.to), "marker": arrow.marker} for arrow in arrows.get(it, [])]}
+        for it in left
+    ]
+    return {"tops": [named(it) for it in tops], "nodes": nodes}
+
+
+def named(node: Node) -> Dict[str, Any]:
+    return dict(zip(("name", "version", "extra"), node))
+
+
 def dot_text(graph: Graph) -> str:
     """The graph in Graphviz's text form: boxes of packages, arrows with their markers."""
 
@@ -164,11 +185,11 @@ def tops_of(graph: Graph, name: str) -> List[Node]:
 
 def printed(text: str) -> None:
     """Prints lines, with plain letters where standard output can't show the others."""
-    encoding = console.sys.stdout.encoding or "ascii"
+    encoding = sys.stdout.encoding or "ascii"
     try:
         text.encode(encoding)
     except UnicodeEncodeError:
-        text = text.translate(str.maketrans({"└": "`", "├": "|", "─": "-", "│": "|"}))
+        text = text.translate({ord("└"): "`", ord("├"): "|", ord("─"): "-", ord("│"): "|"})
     print(text)
 
 
@@ -190,6 +211,9 @@ def run(asked: argparse.Namespace) -> int:
         tops, arrows = tops_of(graph, asked.invert), graph.above()
     else:
         tops, arrows = graph.roots, {it: graph.opened(it) for it in graph.reached}
+    if asked.json:
+        console.print_object(as_object(tops, arrows))
+        return 0
     for line in lines_below(tops, arrows, asked.depth):
         printed(line)
     return 0

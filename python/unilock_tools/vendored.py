@@ -1,7 +1,7 @@
-"""Libraries that some commands need: `packaging`, `requests` and a reader of TOML.
+"""Libraries that some commands need: `requests` for servers, and a reader of TOML where Python has none.
 
-Each is taken where it is installed, or else pip's own copy of it, so that the tools run from a clone without
-installing.
+Both are declared in pyproject.toml. Where one isn't installed it is named, with the command that installs it; no copy
+inside another package is taken.
 """
 
 from __future__ import annotations
@@ -14,18 +14,16 @@ from .console import Refused, text_of
 
 
 def library(name: str) -> ModuleType:
-    """A module of an installed library, or of pip's copy: `library("packaging.tags")`."""
-    for place in ["", "pip._vendor."]:
-        try:
-            return importlib.import_module(place + name)
-        except ImportError:
-            continue
-    top = name.partition(".")[0]
-    raise Refused(f"the library {top} isn't installed; `pip install {top}` installs it", 3)
+    """A module of an installed library."""
+    try:
+        return importlib.import_module(name)
+    except ImportError:
+        top = name.partition(".")[0]
+        raise Refused(f"the library {top} isn't installed; `pip install {top}` installs it", 3) from None
 
 
 def toml_reader() -> ModuleType:
-    for name in ["tomllib", "tomli", "pip._vendor.tomli"]:
+    for name in ["tomllib", "tomli"]:
         try:
             return importlib.import_module(name)
         except ImportError:
@@ -39,6 +37,9 @@ def toml_of(path: str) -> Dict[str, Any]:
     reader = toml_reader()
     try:
         found: Dict[str, Any] = reader.loads(text)
-    except reader.TOMLDecodeError as fault:
+    except RecursionError:
+        raise Refused(f"{path}: not TOML: it nests too deep", 3) from None
+    except ValueError as fault:
+        # The reader's own fault is one; so is a number of thousands of digits.
         raise Refused(f"{path}: not TOML: {fault}", 3) from None
     return found

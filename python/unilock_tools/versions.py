@@ -8,8 +8,11 @@ readers say it exactly, and say what is wrong. Standard library alone.
 from __future__ import annotations
 
 import re
-from typing import List, NamedTuple, Optional, Tuple
+from typing import Any, List, NamedTuple, Optional, Tuple
 
+# The order of a version: equal versions have equal keys, and an older one has a smaller key.
+Key = Tuple[Any, ...]
+LARGEST = (1 << 64) - 1
 NAME = re.compile(r"[A-Za-z0-9](?:[A-Za-z0-9._-]*[A-Za-z0-9])?\Z", re.ASCII)
 # PEP 440, appendix B
 VERSION = re.compile(
@@ -35,6 +38,11 @@ def normal_name(name: str) -> str:
     return re.sub(r"[-_.]+", "-", name).lower()
 
 
+def number_of(text: str) -> int:
+    """The value of digits, or of those that are left where it is far beyond what a version may have."""
+    return int(text.lstrip("0")[:24] or "0")
+
+
 def name_of(text: str) -> str:
     """A name in normal form."""
     if not NAME.match(text):
@@ -46,14 +54,14 @@ class Version:
     """A version of PEP 440; `key` is its order, and equal versions have equal keys."""
 
     def __init__(self, found: "re.Match[str]") -> None:
-        self.epoch = int(found["epoch"] or 0)
-        self.release = [int(it) for it in found["release"].split(".")]
+        self.epoch = number_of(found["epoch"] or "0")
+        self.release = [number_of(it) for it in found["release"].split(".")]
         kind = (found["pre_kind"] or "").lower()
-        self.pre = (PRE_KINDS.get(kind, kind), int(found["pre_number"] or 0)) if found["pre"] else None
-        self.post = int(found["post_short"] or found["post_number"] or 0) if found["post"] else None
-        self.dev = int(found["dev_number"] or 0) if found["dev"] else None
+        self.pre = (PRE_KINDS.get(kind, kind), number_of(found["pre_number"] or "0")) if found["pre"] else None
+        self.post = number_of(found["post_short"] or found["post_number"] or "0") if found["post"] else None
+        self.dev = number_of(found["dev_number"] or "0") if found["dev"] else None
         parts = re.split(r"[-_.]", found["local"].lower()) if found["local"] else []
-        self.local = tuple((1, int(it), "") if it.isdigit() else (0, 0, it) for it in parts)
+        self.local = tuple((1, number_of(it), "") if it.isdigit() else (0, 0, it) for it in parts)
 
     @property
     def is_pre(self) -> bool:
@@ -66,8 +74,8 @@ class Version:
         return tuple(release)
 
     @property
-    def public_key(self) -> tuple:
-        pre: tuple = (1,)
+    def public_key(self) -> Key:
+        pre: Key = (1,)
         if self.pre is not None:
             pre = (0, *self.pre)
         elif self.dev is not None and self.post is None:
@@ -76,7 +84,7 @@ class Version:
         return (self.epoch, self.trimmed(), pre, -1 if self.post is None else self.post, dev)
 
     @property
-    def key(self) -> tuple:
+    def key(self) -> Key:
         return (*self.public_key, self.local)
 
     def of_release(self, other: "Version") -> bool:
@@ -96,7 +104,7 @@ def version_of(text: str) -> Version:
     found = VERSION.match(text.strip(WHITE))
     if found is None:
         raise NoReading(f"`{text.strip()}` is no version of PEP 440")
-    if any(int(it) >= 1 << 64 for it in re.findall("[0-9]+", found.group())):
+    if any(number_of(it) > LARGEST for it in re.findall("[0-9]+", found.group())):
         raise NoReading(f"`{text.strip()}` has a number that is too large")
     return Version(found)
 

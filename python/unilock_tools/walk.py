@@ -8,37 +8,35 @@ Pages and metadata are asked for side by side; what is gathered doesn't depend o
 from __future__ import annotations
 
 import re
+import sys
 import time
 from concurrent.futures import FIRST_COMPLETED, Future, ThreadPoolExecutor, wait
 from dataclasses import dataclass, field
+from datetime import datetime, timedelta
 from typing import Callable, Dict, Iterable, List, NamedTuple, Optional, Set, Tuple
 
 from . import archives, console, markers
 from .archives import Metadata
 from .documents import File, Projects, release_fault
+from .pages import Listed, ListedRelease, Passed, ProjectPage
 from .project import Project
-from .readings import NoReading, Requirement, requirement_of
-from .simple import Client, Listed, version_in
-from .versions import Version, meets, version
+from .readings import Requirement, requirement_of
+from .simple import Client
+from .versions import NoReading, Version, meets, version
+
+# The names that the program meets at most.
+MOST_PACKAGES = 20_000
+# What is told of a release without a file that a lock can have.
+NO_HASH = "the server tells no SHA-256 of its files, so the lock has none"
+# A time in UTC, whole seconds and the digits behind them.
+Instant = Tuple[datetime, str]
 
 
 class Choice(NamedTuple):
     """Which releases are taken: at most `newest` of each package, and files that were uploaded before a time."""
 
     newest: Optional[int] = None
-    before: Optional[str] = None
-
-
-@dataclass
-class Candidate:
-    """A version of a package with its files on the server."""
-
-    version: Version
-    files: List[Listed] = field(default_factory=list)
-
-    @property
-    def yanked(self) -> bool:
-        return all(it.yanked for it in self.files)
+    before: Optional[Instant] = None
 
 
 @dataclass
@@ -47,74 +45,85 @@ class Reached:
 
     by: str
     extras: Set[str] = field(default_factory=set)
-    required: List[Tuple[str, Tuple[str, ...]]] = field(default_factory=list)
-    later: List[Candidate] = field(default_factory=list)
+    required: List[Tuple[str, Tuple[Requirement, ...]]] = field(default_factory=list)
+    finals: List[ListedRelease] = field(default_factory=list)
+    later: List[ListedRelease] = field(default_factory=list)
+    tried: int = 1
     open: int = 0
     usable: int = 0
 
 
-def instant(text: str) -> str:
-    """A date or a time as the text that sorts with upload times: `2024-05-01` is its first moment in UTC."""
-    found = re.fullmatch(r"(\d{4}-\d\d-\d\d)(?:T(\d\d:\d\d:\d\d)(\.\d+)?Z)?", text, re.ASCII)
+def instant_of(text: str) -> Optional[Instant]:
+    """The instant of a date, which is its first moment in UTC, or of a time with its distance from UTC."""
+    found = re.fullmatch(
+        r"(\d{4}-\d\d-\d\d)(?:[Tt ](\d\d:\d\d:\d\d)(?:\.(\d{1,30}))?(?:[Zz]|([+-])(\d\d):?(\d\d)))?", text, re.ASCII
+    )
+    if found is None:
+        return None
+    try:
+        moment = datetime.strptime(f"{found[1]} {found[2] or '00:00:00'}", "%Y-%m-%d %H:%M:%S")
+        distance = timedelta(hours=int(found[5] or 0), minutes=int(found[6] or 0))
+        return moment - distance * (-1 if found[4] == "-" else 1), (found[3] or "").rstrip("0")
+    except (ValueError, OverflowError):
+        return None
+
+
+def instant(text: str) -> Instant:
+    """The instant that --before names."""
+    found = instant_of(text)
     if found is None:
         raise console.Refused(f"--before {text}: it isn't of the form 2024-05-01 or 2024-05-01T12:00:00Z", 2)
-    return f"{found[1]}T{found[2] or '00:00:00'}"
+    return found
 
 
-def candidates(name: str, files: Iterable[Listed], before: Optional[str]) -> List[Candidate]:
-    """The versions of a page, the newest first."""
-    found: Dict[tuple, Candidate] = {}
-    for file in files:
-        spelled = version_in(file.name, name)
-        read = None if spelled is None else version(spelled)
-        if read is None:
-            continue
-        if before is not None:
-            if file.uploaded is None:
-                raise console.Refused(
-                    f"{name}: the server tells no upload time of {file.name}, so --before can't be kept", 5
-                )
-            if file.uploaded[:19] >= before:
-                continue
-        found.setdefault(read.key, Candidate(read)).files.append(file)
-    return [found[key] for key in sorted(found, reverse=True)]
+def uploaded_before(name: str, releases: List[ListedRelease], before: Instant) -> List[ListedRelease]:
+    """The releases with those of their files that were uploaded before an instant."""
+    found = []
+    for release in releases:
+        kept = [it for it in release.files if upload(name, it) < before]
+        if kept:
+            found.append(ListedRelease(release.version, kept))
+    return found
 
 
-def allowed(found: List[Candidate], bounds: List[Requirement], direct: List[Requirement], choice: Choice) -> Tuple[
-    List[Candidate], List[Candidate]
-]:
-    """The candidates to take, and the pre-releases that count where none of those can be used.
+def upload(name: str, file: Listed) -> Instant:
+    found = None if file.uploaded is None else instant_of(file.uploaded)
+    if found is None:
+        raise console.Refused(f"{name}: the server tells no upload time of {file.name}, so --before can't be kept", 5)
+    return found
+
+
+class Allowed(NamedTuple):
+    """Releases in the order in which they are looked at: those to take, then final ones until one can be used, then
+    pre-releases, which count where no final release can be used."""
+
+    taken: List[ListedRelease]
+    finals: List[ListedRelease]
+    later: List[ListedRelease]
+
+
+def allowed(
+    found: List[ListedRelease], bounds: List[Requirement], direct: List[Requirement], choice: Choice
+) -> Allowed:
+    """The releases that a project can use.
 
     The program passes a pre-release over unless a direct requirement names one or all usable releases are such. So
-    they are left aside, and one final release is kept even where the bounds refuse all.
+    they are left aside, and one final release that can be used is kept even where the bounds refuse all.
     """
     named = any(it.op != "!=" and it.version.is_pre for one in direct for it in one.clauses)
     within = [it for it in found if all(meets(one.clauses, it.version) for one in bounds)]
     final = [it for it in within if named or not it.version.is_pre]
     if choice.newest is not None:
         kept = [it for it in final if not it.yanked][: choice.newest]
-        pinned = [it for it in final if it.yanked and any(pins(one, it.version) for one in direct)]
-        final = kept + [it for it in pinned if it not in kept]
+        final = kept + [it for it in final if it.yanked and any(pins(one, it.version) for one in direct)]
     later = [] if named else [it for it in within if it.version.is_pre][: choice.newest]
-    return final or [it for it in found if not it.version.is_pre][:1], later
+    taken = {it.version.key for it in final}
+    others = [it for it in found if not it.version.is_pre and it.version.key not in taken]
+    return Allowed(final, others, later)
 
 
 def pins(requirement: Requirement, found: Version) -> bool:
     return any(it.op == "==" and not it.prefix and it.version.key == found.key for it in requirement.clauses)
-
-
-def best_file(files: List[Listed]) -> Listed:
-    """The file whose metadata speak for the release: a wheel for every machine, else any wheel, else a source
-    distribution.
-
-    Among equals one with a metadata file beside it comes first.
-    """
-
-    def rank(file: Listed) -> Tuple[bool, bool, bool, str]:
-        wheel = file.name.endswith(".whl")
-        return (not wheel, file.metadata is None, not file.name.endswith("-none-any.whl"), file.name)
-
-    return min(files, key=rank)
 
 
 Job = Callable[[], object]
@@ -128,7 +137,10 @@ class Walk:
         self.local = set(known.releases)
         self.reached: Dict[str, Reached] = {}
         self.passed: Dict[Tuple[str, str], List[str]] = {}
+        self.files: Dict[Tuple[str, str], List[str]] = {}
         self.absent: List[str] = []
+        self.known = 0
+        self.fresh: Dict[str, None] = {}
         self.pool = ThreadPoolExecutor(max_workers=jobs)
         self.open: Dict["Future[object]", Callable[[object], None]] = {}
         self.begun = time.monotonic()
@@ -139,115 +151,141 @@ class Walk:
         try:
             for root in roots:
                 self.follow(self.project.name, root)
+            self.settle()
             while self.open:
                 done, _ = wait(self.open, timeout=0.2, return_when=FIRST_COMPLETED)
                 for job in done:
                     self.open.pop(job)(job.result())
+                self.settle()
                 self.progress()
         finally:
-            self.client.stopped = bool(self.open)
+            self.client.fetcher.stopped = bool(self.open)
             for job in self.open:
                 job.cancel()
             self.pool.shutdown(wait=not self.open)
             self.clear()
+        if self.absent and not self.known and not self.gathered.releases:
+            raise console.Refused(f"{sorted(self.absent)[0]}, nor any other that is asked for", 5)
 
     def start(self, job: Job, then: Callable[[object], None]) -> None:
         self.open[self.pool.submit(job)] = then
 
     def follow(self, by: str, requirement: Requirement) -> None:
-        """Takes a requirement that can apply: its name is reached, with its extras."""
+        """Takes a requirement that can apply: its name is reached, with its extras, whose requirements come next."""
         name = requirement.name
         if name == self.project.name:
             return
         one = self.reached.get(name)
         if one is None:
-            one = self.reached[name] = Reached(by)
-            if name in self.local:
-                for release in self.gathered.releases[name].values():
-                    one.required.append((f"{name} {release.metadata.version}", release.metadata.requires_dist))
-            else:
-                self.start(lambda: self.client.files(name), lambda found: self.paged(name, found))
-            fresh = {"", *requirement.extras}
-        else:
-            fresh = set(requirement.extras) - one.extras
+            one = self.reach(by, name)
+        fresh = {"", *requirement.extras} - one.extras
         one.extras |= fresh
         if fresh:
+            self.fresh[name] = None
+
+    def reach(self, by: str, name: str) -> Reached:
+        """A name that wasn't met before: its releases are given, or its page is asked for."""
+        if len(self.reached) == MOST_PACKAGES:
+            raise console.Refused(f"more than {MOST_PACKAGES:,} packages are reached; `--newest N` reaches fewer", 4)
+        one = self.reached[name] = Reached(by)
+        if name in self.local:
+            for release in self.gathered.releases[name].values():
+                one.required.append((f"{name} {release.metadata.version}", requirements_in(release.metadata)))
+        else:
+            self.start(lambda: self.client.page(name), lambda found: self.paged(name, found))
+        return one
+
+    def settle(self) -> None:
+        """Follows the requirements of what is asked for with more extras, until nothing is."""
+        while self.fresh:
+            name = next(iter(self.fresh))
+            del self.fresh[name]
+            one = self.reached[name]
             for text, required in one.required:
                 self.spread(text, required, sorted(one.extras))
 
-    def spread(self, by: str, required: Iterable[str], extras: List[str]) -> None:
-        for text in required:
-            try:
-                read = requirement_of(text)
-            except NoReading:
-                return
+    def spread(self, by: str, required: Iterable[Requirement], extras: List[str]) -> None:
+        for read in required:
             if markers.possible(read.marker, self.project.requires_python, extras):
                 self.follow(by, read)
 
     def paged(self, name: str, found: object) -> None:
+        one = self.reached[name]
         if found is None:
-            self.absent.append(f"the server has no project {name}, which {self.reached[name].by} requires")
+            self.absent.append(f"the server has no project {name}, which {one.by} requires")
             return
-        assert isinstance(found, list)
-        listed = candidates(name, found, self.choice.before)
-        taken, later = allowed(listed, self.project.bounds(name), self.project.direct(name), self.choice)
-        self.reached[name].later = later
+        assert isinstance(found, ProjectPage)
+        self.known += 1
+        for file in found.passed:
+            self.files.setdefault((name, file.fault), []).append(file.file)
+        listed = found.releases
+        if self.choice.before is not None:
+            listed = uploaded_before(name, listed, self.choice.before)
+        if not listed:
+            self.absent.append(f"{no_release(name, found)}; {one.by} requires it")
+        taken, one.finals, one.later = allowed(
+            listed, self.project.bounds(name), self.project.direct(name), self.choice
+        )
         self.take(name, taken)
 
-    def take(self, name: str, taken: List[Candidate]) -> None:
+    def take(self, name: str, taken: List[ListedRelease]) -> None:
         one = self.reached[name]
         one.open += len(taken)
-        for candidate in taken:
-            self.start(self.reader(candidate), self.keeper(name, candidate))
+        for release in taken:
+            self.start(self.reader(release), self.keeper(name, release))
         if not taken:
             self.ended(name)
 
-    def reader(self, candidate: Candidate) -> Job:
+    def reader(self, release: ListedRelease) -> Job:
         def read() -> object:
-            file = best_file(candidate.files)
             try:
-                return self.client.metadata(file)
+                return self.client.metadata(release)
             except archives.Refused as fault:
                 # A file that says too little passes its release over; a server that fails ends the walk.
                 return fault
 
         return read
 
-    def keeper(self, name: str, candidate: Candidate) -> Callable[[object], None]:
+    def keeper(self, name: str, release: ListedRelease) -> Callable[[object], None]:
         def keep(found: object) -> None:
             one = self.reached[name]
             if isinstance(found, Metadata) and found.name == name:
-                self.keep(name, candidate, found)
+                self.keep(name, release, found)
             else:
                 fault = found.fault if isinstance(found, archives.Refused) else "its metadata are another project's"
-                self.passed.setdefault((name, fault), []).append(candidate.version.text())
+                self.passed.setdefault((name, fault), []).append(release.version.text())
             one.open -= 1
             if one.open == 0:
                 self.ended(name)
 
         return keep
 
-    def keep(self, name: str, candidate: Candidate, metadata: Metadata) -> None:
+    def keep(self, name: str, listed: ListedRelease, metadata: Metadata) -> None:
         one = self.reached[name]
-        release = self.gathered.add(candidate.files[0].name, metadata)
-        release.yanked = candidate.yanked
-        for file in candidate.files:
-            if file.sha256 and archives.FILE_NAME.match(file.name):
-                release.files[file.name] = File(file.name, file.sha256, file.url, file.size)
+        release = self.gathered.add(listed.files[0].name, metadata)
+        release.yanked = listed.yanked
+        release.files = files_of(listed)
+        for file in left_out(listed):
+            self.files.setdefault((name, file.fault), []).append(file.file)
         if not release.files:
-            self.passed.setdefault(
-                (name, "the server tells no SHA-256 of its files, so the lock has none"), []
-            ).append(metadata.version)
+            self.passed.setdefault((name, NO_HASH), []).append(metadata.version)
         if release_fault(metadata) is None:
             one.usable += 1
             text = f"{name} {metadata.version}"
-            one.required.append((text, metadata.requires_dist))
-            self.spread(text, metadata.requires_dist, sorted(one.extras))
+            one.required.append((text, requirements_in(metadata)))
+            self.spread(text, one.required[-1][1], sorted(one.extras))
 
     def ended(self, name: str) -> None:
-        """Where no final release of a package can be used, its pre-releases count."""
+        """Where no release of a package can be used, others are looked at: final ones, ever more of them at a time,
+        then pre-releases, which count where no final release can be used."""
         one = self.reached[name]
-        if one.usable == 0 and one.later:
+        if one.usable:
+            return
+        if one.finals:
+            taken, one.finals = one.finals[: one.tried], one.finals[one.tried :]
+            one.tried *= 2
+            self.take(name, taken)
+        elif one.later:
             later, one.later = one.later, []
             self.take(name, later)
 
@@ -256,22 +294,59 @@ class Walk:
         if console.is_terminal() and now - self.shown > 0.1:
             self.shown = now
             releases = sum(len(it) for it in self.gathered.releases.values())
-            megabytes = self.client.bytes / 1e6
+            megabytes = self.client.fetcher.bytes / 1e6
             text = f"{len(self.reached)} packages, {releases} releases, {len(self.open)} open, {megabytes:.1f} MB"
-            console.sys.stderr.write(f"\r\x1b[Kindex: {text}")
-            console.sys.stderr.flush()
+            sys.stderr.write(f"\r\x1b[Kindex: {text}")
+            sys.stderr.flush()
 
     def clear(self) -> None:
         if self.shown:
-            console.sys.stderr.write("\r\x1b[K")
-            console.sys.stderr.flush()
+            sys.stderr.write("\r\x1b[K")
+            sys.stderr.flush()
 
     def warnings(self) -> List[str]:
         """What was passed over, one line for each package and cause."""
         lines = sorted(self.absent)
+        lines += [passed_over(name, fault, files) for (name, fault), files in sorted(self.files.items())]
         for (name, fault), versions in sorted(self.passed.items()):
             told = sorted(versions, key=lambda it: version(it).key)  # type: ignore[union-attr]
-            many = f"{told[0]}, {told[1]}, .. {told[-1]} ({len(told)} releases)" if len(told) > 4 else ""
-            listed = many or ", ".join(told)
-            lines.append(f"{name} {listed}: {fault}")
+            lines.append(f"{name} {listed_shortly(told, 'releases')}: {fault}")
         return lines
+
+
+def files_of(release: ListedRelease) -> Dict[str, File]:
+    """The files of a release that are locked with it."""
+    return {it.name: File(it.name, it.sha256, it.url, it.size) for it in release.counted if it.sha256 is not None}
+
+
+def left_out(release: ListedRelease) -> List[Passed]:
+    """The files of a release that aren't locked with it, where others are or may be."""
+    counted, found = {it.name for it in release.counted}, []
+    for file in release.files:
+        if file.name not in counted and file.yanked != release.yanked:
+            found.append(Passed(file.name, "it is yanked, and other files of its release aren't"))
+        elif file.name not in counted:
+            found.append(Passed(file.name, "the server tells no SHA-256 of it, so the lock doesn't have it"))
+    return found
+
+
+def no_release(name: str, page: ProjectPage) -> str:
+    """What is told of a page of which nothing is taken."""
+    why = "" if page.releases else f", of {console.counted(len(page.passed), 'file')} that it lists"
+    return f"the server has no release of {name}{why} that can be taken"
+
+
+def passed_over(name: str, fault: str, files: List[str]) -> str:
+    return f"{name}: {listed_shortly(sorted(files), 'files')}: {fault}; passed over"
+
+
+def listed_shortly(texts: List[str], what: str) -> str:
+    return f"{texts[0]}, {texts[1]}, .. {texts[-1]} ({len(texts)} {what})" if len(texts) > 4 else ", ".join(texts)
+
+
+def requirements_in(metadata: Metadata) -> Tuple[Requirement, ...]:
+    """The requirements of a release; none of one that has a requirement without a reading, which isn't used."""
+    try:
+        return tuple(requirement_of(it) for it in metadata.requires_dist)
+    except NoReading:
+        return ()
