@@ -3,6 +3,7 @@ error."""
 
 from __future__ import annotations
 
+import json
 import subprocess
 import unittest
 from typing import List
@@ -54,6 +55,12 @@ class Doctor(Folder):
     def found(self, text: str, *words: str, status: int = 1) -> List[str]:
         self.write("pyproject.toml", text)
         return self.printed("doctor", *words, status=status)
+
+    def test_as_json(self) -> None:
+        text = ERRORS[0][0]
+        said = self.found(text)
+        found = json.loads(self.ran("doctor", "--json", status=1).stdout)["findings"]
+        self.assertEqual([f"{it['kind']}: {it['text']}" for it in found], said)
 
     def test_errors(self) -> None:
         for text, said in ERRORS:
@@ -153,7 +160,7 @@ class Doctor(Folder):
         ))  # fmt: skip
 
     def test_what_is_not_there(self) -> None:
-        self.assertIn("absent.toml", self.ran("doctor", "absent.toml", status=1).stderr)
+        self.assertIn("absent.toml", self.ran("doctor", "absent.toml", status=3).stderr)
         self.write("pyproject.toml", "[project\n")
         self.assertIn("not TOML", self.ran("doctor", status=3).stderr)
         self.write("pyproject.toml", START)

@@ -3,6 +3,7 @@ where it is there."""
 
 from __future__ import annotations
 
+import json
 import unittest
 from typing import List
 
@@ -28,12 +29,22 @@ class Explained(Folder):
         for name, versions in documents.items():
             self.write(f"ix/{name}.json", document(name, *versions))
 
-    def told(self) -> str:
+    def told(self, *words: str) -> str:
         want_program(self)
-        return self.ran("explain").stdout
+        return self.ran("explain", *(words or ("--no-hints",))).stdout
 
     def told_of(self, text: str) -> List[str]:
         return self.ran("explain", "--from", "-", into=text).stdout.splitlines()
+
+
+class AsJson(Explained):
+    def test_the_sentences_of_the_example(self) -> None:
+        text = (EXAMPLE / "lock.txt").read_text(encoding="utf-8")
+        words = ["explain", EXAMPLE / "pyproject.toml", EXAMPLE / "ix", "--from", "-"]
+        found = json.loads(self.ran(*words, "--json", into=text).stdout)
+        self.assertEqual(found["sentences"][0], "No choice of versions serves the project where sys_platform == 'win32'.")
+        shown = " ".join(self.ran(*words, into=text).stdout.split())
+        self.assertEqual(" ".join(" ".join(found["sentences"]).split()), shown)
 
 
 class Sentences(Explained):
@@ -48,7 +59,6 @@ class Sentences(Explained):
             "2. q 1 needs z (`z`), and the index has no document of z.",
             "3. from 2 and 1: the project can't be chosen.",
             "So the project can't be served there.",
-            f"Hint: no document of z stands in {EXAMPLE / 'ix'}; `tools/doctor` looks for names like it.",
         ])  # fmt: skip
 
     def test_no_version_meets_a_bound(self) -> None:
@@ -59,9 +69,10 @@ class Sentences(Explained):
     def test_an_interpreter_that_is_too_new(self) -> None:
         self.project("a")
         self.index(a=[{"version": "1", "requires_python": ">=3.8"}])
-        said = self.told()
+        said = self.told("--workers", "1")
         self.assertIn("a 1 needs Python `>=3.8`, and the project supports all, since it has no requires-python.", said)
-        self.assertIn('Hint: say in the project which interpreters it supports: requires-python = ">=3.9", say.', said)
+        way = '- say which interpreters are supported; in [project]:\n    requires-python = ">=3.8"\n'
+        self.assertTrue(said.endswith(way), said)
         self.project("a", python=">=3.7")
         self.assertIn("and the project supports `>=3.7`.", self.told())
 
@@ -95,7 +106,7 @@ class Sentences(Explained):
         self.assertIn("a 1 needs c at 1 (`c<2`).", said)
         self.assertIn("b 1 needs c at 2 (`c>=2`).", said)
         self.assertIn("the project needs a at 1 (project.dependencies[0]: `a`).", said)
-        self.assertTrue(said.endswith("So the project can't be served there.\n"))
+        self.assertIn("So the project can't be served there.\n", said)
 
     def test_extras_groups_and_settings(self) -> None:
         self.project(
@@ -136,9 +147,9 @@ class Sentences(Explained):
         self.assertEqual(said[0], "No choice of versions serves the project.")
         if not said[1].startswith("These requirements alone"):
             skip(self, "the program tells no core")
-        self.assertEqual([it[:2] for it in said[2:-1]], ["- "] * 4)
+        self.assertEqual([it[:2] for it in said[2:7]], ["- "] * 4 + ["So"])
         self.assertTrue(said[2].startswith("- the project needs a"), said)
-        self.assertIn("\n5. ", self.ran("explain", "--steps").stdout)
+        self.assertIn("\n5. ", self.ran("explain", "--steps", "--no-hints").stdout)
 
     def test_each_form_of_a_step(self) -> None:
         self.project("q[x]")

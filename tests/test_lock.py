@@ -100,7 +100,8 @@ class SafeLock(StandIn):
     def test_an_old_lock_is_kept_to_and_what_changed_is_said(self) -> None:
         self.lock.write_text(OLD)
         self.assertEqual(self.printed("lock", "--workers", "1"), [*SAID, "unilock.lock is written: 3 packages"])
-        self.assertEqual(self.asked(), ["lock pyproject.toml ix 1 unilock.lock"])
+        said = ["relock pyproject.toml ix 1 unilock.lock", "verify pyproject.toml ix unilock.lock"]
+        self.assertEqual(self.asked(), said)
         self.assertEqual(self.lock.read_text(), NEW)
         before = self.lock.stat()
         self.assertEqual(self.printed("lock"), ["unilock.lock is current: 3 packages"])
@@ -108,11 +109,7 @@ class SafeLock(StandIn):
 
     def test_all_other_answers_leave_the_lock_as_it_was(self) -> None:
         for status, text, said in [
-            (
-                1,
-                REFUSED,
-                "no selection serves this fork (fork: -; region: *); `tools/explain pyproject.toml ix` says why",
-            ),
+            (1, REFUSED, "serves this fork (fork: -; region: *)\nNo choice of versions serves the project.\n"),
             (3, "malformed: pyproject.toml: not TOML\n", "malformed: pyproject.toml: not TOML"),
             (3, "malformed: unilock.lock: line 6\n", "--upgrade makes a new lock without the old one"),
             (4, "limit: forks 2048\n", "limit: forks 2048"),
@@ -123,16 +120,21 @@ class SafeLock(StandIn):
                 self.lock.write_text(OLD)
                 self.answers(text, status)
                 done = self.ran("lock", status=status)
-                self.assertEqual((done.stdout, len(done.stderr.splitlines())), ("", 1))
+                self.assertEqual(done.stdout, "")
                 self.assertIn(said, done.stderr)
                 self.assertEqual(self.lock.read_text(), OLD)
                 self.assertEqual(self.files(), ["ix", "pyproject.toml", "unilock.lock"])
 
-    def test_the_core_of_a_refusal_is_shown(self) -> None:
+    def test_the_core_of_a_refusal_is_said(self) -> None:
+        self.write("pyproject.toml", "[project]\nname = 'demo'\ndependencies = ['q']\n")
+        self.write("ix/q.json", document("q", {"version": "1", "requires_dist": ["z"]}))
         self.answers(REFUSED + "core: 2\ndemo 0.1 needs q {1}\nq 1 needs z {}\n", 1)
-        self.assertEqual(
-            self.ran("lock", status=1).stderr.splitlines()[1:], ["  demo 0.1 needs q {1}", "  q 1 needs z {}"]
-        )
+        said = self.ran("lock", status=1).stderr.splitlines()
+        self.assertEqual(said[3:5], [
+            "- the project needs q at 1 (project.dependencies[0]: `q`).",
+            "- q 1 needs z (`z`), and the index has no document of z.",
+        ])  # fmt: skip
+        self.assertRegex(said[-1], r"None of \d+ changes of the project file that were tried leads to a lock\.")
 
     def test_an_answer_that_is_no_lock_is_not_written(self) -> None:
         self.lock.write_text(OLD)
@@ -247,8 +249,11 @@ class WithTheProgram(Folder):
         self.assertEqual(self.lock.read_text(), OLD)
 
     def test_an_old_lock_that_has_no_reading(self) -> None:
-        self.lock.write_text("")
-        self.assertIn("malformed: unilock.lock: line 1; --upgrade", self.ran("lock", status=3).stderr)
+        self.lock.write_text(OLD.replace('version = "1"', "version = 1", 1))
+        said = self.ran("lock", status=3).stderr
+        self.assertIn("malformed: unilock.lock: line 6\n", said)
+        self.assertIn("expected: name, version, files", said)
+        self.assertIn("--upgrade makes a new lock without the old one", said)
         self.ran("lock", "--upgrade")
         self.assertEqual(len(locks.load(str(self.lock)).packages), 4)
 
@@ -264,6 +269,7 @@ class WithTheProgram(Folder):
     def test_the_mode_lowest_with_an_old_lock_takes_the_newest_that_the_lock_has(self) -> None:
         text = '[project]\nname = "demo"\nversion = "0.1"\ndependencies = ["a"]\n[tool.uv]\nresolution = "lowest"\n'
         self.write("pyproject.toml", text)
+        self.write("ix/a.json", document("a", {"version": "1"}, {"version": "2"}))
         self.ran("lock", "--upgrade")
         self.assertEqual([it.version for it in locks.load(str(self.lock)).by_name()["a"]], ["1"])
         both = OLD.replace('name = "b"\nversion = "1"', 'name = "a"\nversion = "2"').replace(

@@ -2,6 +2,7 @@
 
 from __future__ import annotations
 
+import json
 import os
 import shutil
 import unittest
@@ -152,6 +153,21 @@ class Tree(Folder):
                 self.assertEqual(len(done.stderr.splitlines()), 1)
 
 
+class TreeAsJson(Folder):
+    def test_tops_and_each_node_once(self) -> None:
+        found = json.loads(self.ran("tree", LOCK, "--json").stdout)
+        self.assertEqual([(it["name"], it["extra"]) for it in found["tops"]], [("web-app", None), ("web-app", "dev")])
+        names = [(it["name"], it["version"], it["extra"]) for it in found["nodes"]]
+        self.assertEqual(len(names), len(set(names)))
+        below = {it["name"]: it["below"] for it in found["nodes"] if it["extra"] is None}
+        windows = {"name": "colorama", "version": "0.4.6", "extra": None, "marker": "sys_platform == 'win32'"}
+        self.assertEqual(below["pytest"][0], windows)
+        self.assertEqual(below["colorama"], [])
+        users = json.loads(self.ran("tree", LOCK, "--json", "--invert", "starlette").stdout)
+        self.assertEqual([it["name"] for it in users["tops"]], ["starlette"])
+        self.assertEqual([it["name"] for it in users["nodes"]], ["starlette", "fastapi", "web-app"])
+
+
 class Diff(Folder):
     def test_what_differs(self) -> None:
         text = LOCK.read_text()
@@ -185,6 +201,17 @@ class Diff(Folder):
             self.printed("diff", "1.lock", "2.lock", status=1), ["a 1: file a.whl removed", "a 1: file b.whl added"]
         )
 
+    def test_as_json(self) -> None:
+        blocks = {it: f'[[package]]\nname = "{it}"\nversion = "1"\n' for it in ("a", "b", "demo")}
+        head = 'version = 2\nroot = "demo"\n'
+        self.write("old.lock", "\n".join([head, blocks["a"], blocks["demo"]]))
+        self.write("new.lock", "\n".join([head, blocks["a"].replace('"1"', '"2"'), blocks["b"], blocks["demo"]]))
+        found = json.loads(self.ran("diff", "old.lock", "new.lock", "--json", status=1).stdout)
+        changed = [{"name": "a", "old": ["1"], "new": ["2"]}, {"name": "b", "old": [], "new": ["1"]}]
+        self.assertEqual(found, {"packages": changed, "lines": self.printed("diff", "old.lock", "new.lock", status=1)})
+        same = json.loads(self.ran("diff", "old.lock", "old.lock", "--json").stdout)
+        self.assertEqual(same, {"packages": [], "lines": []})
+
     def test_a_lock_that_is_not_there(self) -> None:
         self.assertEqual(
             self.ran("diff", LOCK, "absent.lock", status=1).stderr, "diff: absent.lock: No such file or directory\n"
@@ -193,10 +220,18 @@ class Diff(Folder):
 
 class Outdated(Folder):
     def test_what_is_newer_and_what_holds_it_back(self) -> None:
-        self.assertEqual(self.printed("outdated", LOCK), [
-            "numpy 1.26.4 -> 2.1.0  (the project asks for `numpy<2; python_version < '3.11'`)",
+        self.assertEqual(self.printed("outdated", LOCK, status=1), [
+            "numpy 1.26.4 -> 2.1.0  "
+            "(the project asks for `numpy<2; python_version < '3.11'`; it needs Python `>=3.10`)",
             "starlette 0.36.3 -> 0.37.2  (fastapi 0.110.0 asks for `starlette>=0.36.3,<0.37.0`)",
         ])  # fmt: skip
+
+    def test_as_json(self) -> None:
+        found = json.loads(self.ran("outdated", LOCK, "--json", status=1).stdout)["packages"]
+        self.assertEqual([(it["name"], it["version"], it["newest"]) for it in found], [
+            ("numpy", "1.26.4", "2.1.0"), ("starlette", "0.36.3", "0.37.2"),
+        ])  # fmt: skip
+        self.assertEqual(found[1]["held_by"], ["fastapi 0.110.0 asks for `starlette>=0.36.3,<0.37.0`"])
 
     def test_which_versions_count(self) -> None:
         blocks = [f'[[package]]\nname = "{name}"\nversion = "{it}"\n' for name, it in (("a", "1"), ("demo", "0"))]
@@ -209,8 +244,16 @@ class Outdated(Folder):
             ([{"version": "1.dev0"}, {"version": "2rc1"}], ["a 1 -> 2rc1"]),
         ]:
             self.write("ix/a.json", document("a", *versions))
-            self.assertEqual(self.printed("outdated", lock, "ix"), said)
-        self.assertIn("absent: there is no such folder", self.ran("outdated", lock, "absent", status=1).stderr)
+            self.assertEqual(self.printed("outdated", lock, "ix", status=int(bool(said))), said)
+        self.assertIn("absent: there is no such folder", self.ran("outdated", lock, "absent", status=3).stderr)
+
+    def test_a_bound_on_python_that_the_lock_does_not_keep(self) -> None:
+        head = 'version = 2\nroot = "demo"\nsupported-markers = "python_full_version >= \'3.9.0\'"\n'
+        blocks = [f'[[package]]\nname = "{name}"\nversion = "1"\n' for name in ("a", "demo")]
+        lock = self.write("x.lock", "\n".join([head, *blocks]))
+        for bound, said in [(">=3.10", "  (it needs Python `>=3.10`)"), (">=3.9", ""), (">=3.8,<3.12", "")]:
+            self.write("ix/a.json", document("a", {"version": "1"}, {"version": "2", "requires_python": bound}))
+            self.assertEqual(self.printed("outdated", lock, "ix", status=1), [f"a 1 -> 2{said}"])
 
 
 if __name__ == "__main__":

@@ -75,7 +75,8 @@ def on_machine(path: str, lock: Lock, extras: List[str], variables: Dict[str, st
         file = os.path.join(held, "machine.json")
         with open(file, "w", encoding="utf-8") as it:
             json.dump(variables, it)
-        answered = program.answer(["env", path, file, *extras])
+        with locks.program_form(path) as read:
+            answered = program.answer(["env", read, file, *extras])
     if answered.status != 0:
         raise fault_of(answered, lock, path)
     return picks_in(answered.text)
@@ -83,7 +84,8 @@ def on_machine(path: str, lock: Lock, extras: List[str], variables: Dict[str, st
 
 def everywhere(path: str, lock: Lock, extras: List[str]) -> List[Pick]:
     """What the lock gives on all machines, with the worlds that each package and each of its extras is wanted in."""
-    answered = program.answer(["export", path, *extras])
+    with locks.program_form(path) as read:
+        answered = program.answer(["export", read, *extras])
     if answered.status != 0:
         raise fault_of(answered, lock, path)
     return picks_in(answered.text)

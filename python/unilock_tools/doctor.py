@@ -8,8 +8,8 @@ documents that can't be read; releases that can't be used, with the entry that i
 A line begins with `error` (the program will refuse it), `warning` (likely a slip, or a release that will not count)
 or `note`.
 
-Needs a reader of TOML: Python 3.11, or the library `tomli` or pip's copy of it. Status: 0 no error and no warning; 1
-some; 2 the words aren't right; 3 the project file can't be read at all.
+Needs a reader of TOML: Python 3.11, or the library `tomli`. Status: 0 no error and no warning; 1 some; 2 the words
+aren't right; 3 the project file can't be read at all.
 """
 
 from __future__ import annotations
@@ -19,12 +19,13 @@ import difflib
 import os
 from typing import Any, Dict, Iterator, List, NamedTuple, Optional, Set, Tuple
 
-from . import console, documents, keys, markers, places
+from . import advice, console, documents, keys, markers, places, poetry, printing
+from .called import command
 from .console import Refused
 from .project import Project
 from .readings import Requirement, requirement_fault, requirement_of
 from .vendored import toml_of
-from .versions import NAME, NoReading, normal_name, specifiers_fault, specifiers_of, version
+from .versions import NAME, Clause, NoReading, normal_name, specifiers_fault, specifiers_of, version
 
 
 class Finding(NamedTuple):
@@ -40,6 +41,7 @@ def parser() -> console.Parser:
     made.add_argument(
         "index", metavar="INDEX", nargs="?", help="the index folder (`ix` beside the project, where it is there)"
     )
+    console.add_json(made)
     return made
 
 
@@ -47,11 +49,17 @@ def table(value: Any) -> Dict[str, Any]:
     return value if isinstance(value, dict) else {}
 
 
+def listed(value: Any) -> List[Any]:
+    return value if isinstance(value, list) else []
+
+
 class Doctor:
     """What is found in a project file and its index folder."""
 
     def __init__(self, path: str, index: Optional[str]) -> None:
         self.path, self.index = path, index
+        if not os.path.isfile(path):
+            raise Refused(f"{path}: there is no such file", 3)
         self.text = console.text_of(path)
         self.tables = toml_of(path)
         self.project = table(self.tables.get("project"))
@@ -72,6 +80,9 @@ class Doctor:
     def errors(self) -> Iterator[Finding]:
         if not isinstance(self.tables.get("project"), dict):
             yield Finding("error", "project: there is no table [project]")
+            lines = poetry.project_lines(self.tables)
+            if lines:
+                yield Finding("note", "this is a Poetry project; the same as it is read:\n    " + "\n    ".join(lines))
             return
         name = self.project.get("name")
         if not isinstance(name, str) or not NAME.match(name):
@@ -82,19 +93,40 @@ class Doctor:
         bound = self.project.get("requires-python")
         if bound is not None and (not isinstance(bound, str) or specifiers_fault(bound)):
             yield self.error("project.requires-python", places.wrong_shape("project.requires-python", bound))
-        for key in sorted(
-            set(self.project.get("dynamic", [])) & {"dependencies", "optional-dependencies", "requires-python"}
-        ):
+        yield from self.shapes()
+        dynamic = self.project.get("dynamic")
+        for key in [
+            it for it in ("dependencies", "optional-dependencies", "requires-python") if it in listed(dynamic)
+        ]:
             yield self.error("project.dynamic", f"it names {key}; {places.UNSUPPORTED['project.dynamic']}")
         for place, entry in self.entries():
             if isinstance(entry, str) and requirement_fault(entry):
-                yield self.error(place, str(requirement_fault(entry)))
+                yield self.error(place, places.wrong_requirement(entry))
             elif not isinstance(entry, (str, dict)):
                 yield self.error(place, "it isn't a text")
         for key in keys.REFUSED:
             if self.settings.get(key) not in (None, [], {}):
                 yield Finding("error", f"tool.uv.{key}: {places.UNSUPPORTED['tool.uv.' + key]}")
         yield from self.choices()
+
+    def shapes(self) -> Iterator[Finding]:
+        """Places that have another shape than their readers want: no list, or no table of lists."""
+        lists = [(f"project.{it}", self.project.get(it)) for it in ("dynamic", "dependencies")]
+        for place, found in [
+            ("project.optional-dependencies", self.project.get("optional-dependencies")),
+            ("dependency-groups", self.tables.get("dependency-groups")),
+        ]:
+            if found is not None and not isinstance(found, dict):
+                yield self.error(place, places.wrong_shape(place, found))
+            lists += [(f"{place}.{it}", entries) for it, entries in table(found).items()]
+        lists += [
+            (f"tool.uv.{it}", self.settings.get(it)) for it in ("constraint-dependencies", "override-dependencies")
+        ]
+        for place, found in lists:
+            if found is not None and not isinstance(found, list):
+                yield self.error(place, places.wrong_shape(place, found))
+        if any(not isinstance(it, str) for it in listed(self.project.get("dynamic"))):
+            yield self.error("project.dynamic", places.wrong_shape("project.dynamic", None))
 
     def choices(self) -> Iterator[Finding]:
         for key, known in [
@@ -106,10 +138,8 @@ class Doctor:
                 yield self.error(
                     f"tool.uv.{key}", f"it is {places.shown(self.settings[key])}; supported: {', '.join(known)}"
                 )
-        listed = self.settings.get("environments", [])
-        for number, entry in enumerate(
-            [listed] if isinstance(listed, str) else listed if isinstance(listed, list) else []
-        ):
+        regions = self.settings.get("environments", [])
+        for number, entry in enumerate([regions] if isinstance(regions, str) else listed(regions)):
             try:
                 markers.read(str(entry))
             except markers.NoMarker as fault:
@@ -127,7 +157,7 @@ class Doctor:
             (f"tool.uv.{it}", self.settings.get(it)) for it in ("constraint-dependencies", "override-dependencies")
         ]
         for place, found in lists:
-            for number, entry in enumerate(found if isinstance(found, list) else []):
+            for number, entry in enumerate(listed(found)):
                 yield f"{place}[{number}]", entry
 
     def misspelt(self) -> Iterator[Finding]:
@@ -160,9 +190,12 @@ class Doctor:
 
     def index_findings(self) -> Iterator[Finding]:
         project = Project(self.path, self.tables)
+        yield from (Finding("error", it) for it in advice.own_name(project))
+        yield from (Finding("warning", it) for it in advice.project_slips(project))
         if self.index is None:
-            yield Finding("note", "no index folder was looked at; `tools/index` makes one")
+            yield Finding("note", f"no index folder was looked at; `{command('index')}` makes one")
             return
+        yield from (Finding("warning", it) for it in advice.index_slips(project, self.index))
         names = sorted(it[:-5] for it in os.listdir(self.index) if it.endswith(".json"))
         walk = _Reach(self.index, project)
         for name in sorted(walk.absent):
@@ -182,7 +215,7 @@ class _Reach:
 
     def __init__(self, index: str, project: Project) -> None:
         self.index, self.project = index, project
-        self.found: Dict[str, dict] = {}
+        self.found: Dict[str, documents.Document] = {}
         self.absent: Dict[str, str] = {}
         self.faults: List[str] = []
         self.asked: Dict[str, Set[str]] = {}
@@ -218,7 +251,7 @@ class _Reach:
         self.found[name] = document
 
 
-def release_findings(name: str, document: dict) -> Iterator[Finding]:
+def release_findings(name: str, document: documents.Document) -> Iterator[Finding]:
     upper = []
     for entry in document["versions"]:
         spelled, bound = str(entry.get("version", "")), entry.get("requires_python")
@@ -233,7 +266,7 @@ def release_findings(name: str, document: dict) -> Iterator[Finding]:
         yield Finding("note", f"{name} {shown}: {nothing}")
 
 
-def specifiers(text: str) -> list:
+def specifiers(text: str) -> List[Clause]:
     try:
         return specifiers_of(text)
     except NoReading:
@@ -246,10 +279,17 @@ def run(asked: argparse.Namespace) -> int:
     if index is not None and not os.path.isdir(index):
         raise Refused(f"{index}: there is no such folder", 3)
     found = list(Doctor(asked.project, index).findings())
+    if asked.json:
+        console.print_object({"findings": [it._asdict() for it in found]})
+        return status_of(found)
     for finding in found:
-        print(f"{finding.kind}: {finding.text}")
+        print(printing.wrapped(f"{finding.kind}: {console.escaped(finding.text)}"))
     if not found:
         print(f"{asked.project}: nothing was found")
+    return status_of(found)
+
+
+def status_of(found: List[Finding]) -> int:
     return 1 if any(it.kind != "note" for it in found) else 0
 
 

@@ -1,7 +1,7 @@
 """The keys of a project file: which the program reads, which it refuses, and which it passes over though they matter
 to uv.
 
-All other keys are passed over. README.md has the same table.
+All other keys are passed over. docs/MANUAL.md has the same table.
 """
 
 from __future__ import annotations

@@ -1,25 +1,36 @@
 """Locks a project safely: the lock is replaced only by a good one, and what changed is said in words.
 
-PROJECT is a pyproject.toml, INDEX a folder of package documents as `tools/index` writes it. The lock stands beside
-the project as unilock.lock. Where there is one already its versions are kept, as far as the project still allows
-them. The new lock is written beside the old one and takes its name when it is whole; on any other answer the old lock
-stays as it was.
+PROJECT is a pyproject.toml, INDEX a folder of package documents as `tools/index` writes it. Without one a package index
+is asked for what is tried, and what it told is kept in .unilock/ix beside the project. The lock stands beside the
+project as unilock.lock. One that is there already and right stays as it is, but for files that the index has new; where
+it isn't right any more, as little as may be changes. The new lock is written beside the old one and takes its name when
+it is whole; on any other answer the old lock stays as it was. A file that isn't a lock is never written over.
 
-Needs the standard library alone. Status: 0 the lock is written, or is current; 1 no choice of versions serves the
-project, or --check found that the lock isn't current; 2 the words aren't right; 3 to 7 as the program's (a file is
-malformed, a limit, a read fault, memory); 70 the program can't be built; 130 interrupted.
+Where no choice of versions serves the project the requirements that clash are said, and changes of the project file
+that were tried and lead to a lock.
+
+Needs the standard library alone, and `requests` to ask a package index; to say why, and to change little, a reader of
+TOML (Python 3.11, or `tomli`). Status: 0 the lock is written, or is current; 1 no choice of versions serves the
+project, or --check found that the lock isn't current; 2 the words aren't right; 3 to 7 as the program's (3 a file is
+absent or malformed, 4 a limit, 5 a read fault, 7 memory); with --check 4 where no choice of versions serves the
+project; 70 the program can't be built; 130 interrupted.
 """
 
 from __future__ import annotations
 
 import argparse
 import os
-import re
 import tempfile
-from typing import List, Optional
+from pathlib import Path
+from typing import Callable, Dict, Iterator, List, NamedTuple, Optional
 
-from . import console, locks, program
+from . import advice, console, diff, explain, folders, locks, own_index, places, program, project, relocking, verdicts
+from .called import command, named
 from .console import Refused
+from .relocking import Change, Files, cores
+from .versions import normal_name, version
+
+NOT_CURRENT, NOTHING_SERVES = 1, 4
 
 
 def parser() -> console.Parser:
@@ -27,124 +38,205 @@ def parser() -> console.Parser:
     made.add_argument(
         "project", metavar="PROJECT", nargs="?", default="pyproject.toml", help="the project file (pyproject.toml)"
     )
-    made.add_argument("index", metavar="INDEX", nargs="?", help="the index folder (`ix` beside the project)")
+    made.add_argument(
+        "index",
+        metavar="INDEX",
+        nargs="?",
+        help="the index folder (`ix` beside the project; without one a package index is asked for what is tried)",
+    )
     made.add_argument("-o", "--lock", metavar="LOCK", help="the lock (`unilock.lock` beside the project)")
     made.add_argument("--upgrade", "-U", action="store_true", help="choose all versions anew, as if there were no lock")
     made.add_argument(
         "--upgrade-package",
         "-P",
-        metavar="NAME",
+        metavar="NAME[==VERSION]",
         action="append",
         default=[],
-        help="choose this package's versions anew; may be repeated",
+        help="choose this package's versions anew, or take this one; may be repeated",
     )
     made.add_argument(
-        "--check", action="store_true", help="write nothing, and end with status 1 where the lock isn't current"
+        "--check",
+        action="store_true",
+        help="write nothing; status 1 where the lock isn't current, 4 where nothing serves",
     )
     made.add_argument(
         "--workers", metavar="N", type=int, default=cores(), help="threads, 1 to 64 (the machine's cores: %(default)s)"
     )
     made.add_argument("--quiet", "-q", action="store_true", help="don't say what changed")
+    own_index.add_words(made)
     return made
 
 
-def cores() -> int:
-    """The cores that this process may use, as a number of workers."""
+class Old(NamedTuple):
+    """What stands at the lock's place: its bytes (None: nothing), and the lock where they have a reading."""
+
+    body: Optional[bytes]
+    lock: Optional[locks.Lock]
+
+
+def old_lock(path: str, anew: bool) -> Old:
+    """The old lock. A file that isn't one is refused, so that it isn't replaced; a conflict too, unless all is new."""
     try:
-        count = len(os.sched_getaffinity(0))
-    except AttributeError:
-        count = os.cpu_count() or 1
-    return max(1, min(64, count))
-
-
-def normal_name(name: str) -> str:
-    """The normal form of PEP 503."""
-    return re.sub(r"[-_.]+", "-", name).lower()
-
-
-def old_bytes(path: str) -> Optional[bytes]:
-    """The lock that stands there, or None where there is none."""
-    try:
-        with open(path, "rb") as it:
-            return it.read()
+        body = Path(path).read_bytes()
     except FileNotFoundError:
-        return None
-
-
-def old_lock(body: Optional[bytes], path: str) -> Optional[locks.Lock]:
-    """The old lock where it has a reading; what it fails at is the program's to say."""
-    if body is None:
-        return None
+        return Old(None, None)
+    text = body.decode("utf-8", "replace")
+    if not locks.is_lock(text):
+        first = places.shown(text.lstrip("\ufeff").partition("\n")[0][:60])
+        why = f"it begins with {first}, so it isn't replaced; -o names another file"
+        raise Refused(f"{path} isn't a lock of unilock: {why}", 3)
+    conflict = locks.conflict_line(text)
+    if conflict is not None and not anew:
+        sides = f"take one side (`git checkout --ours {path}` or `--theirs`), then lock again"
+        raise Refused(f"{path}: line {conflict}: a merge conflict stands there; {sides}", 3)
+    for done in locks.in_form(text)[1]:
+        console.say(f"lock: {path}: {done}")
     try:
-        return locks.read(body.decode("utf-8", "replace"), path)
+        return Old(body, locks.read(text, path))
     except Refused:
-        return None
+        return Old(body, None)
 
 
-def fault_of(answered: program.Answer, project: str, index: str, lock: str) -> Refused:
-    """What the program refused, with what to do about it."""
+def fault_of(answered: program.Answer, files: Files, lock: str) -> Refused:
+    """What the program refused for another cause than that nothing serves, with what to do about it."""
     text = program.fault_text(answered)
-    if answered.status == 1:
-        lines = answered.text.splitlines()
-        core = "".join(f"\n  {it}" for it in lines[5:])
-        text = f"{text} ({'; '.join(lines[1:3])}); `tools/explain {project} {index}` says why{core}"
-    elif answered.status == 3 and text.startswith(f"malformed: {lock}: "):
-        text += "; --upgrade makes a new lock without the old one"
-    elif answered.status == 3 and text.startswith("malformed: "):
-        text += f"; `tools/explain {project} {index}` says more"
+    if answered.status in (3, 4, 5):
+        text += "".join(f"\n  {named(line)}" for line in places.told(text) or [])
+    if text.startswith(f"malformed: {lock}: "):
+        text += "\n  --upgrade makes a new lock without the old one"
     return Refused(text, answered.status)
 
 
-def made_lock(words: List[str], old: Optional[str], anew: List[str], known: Optional[locks.Lock]) -> program.Answer:
-    """Runs `lock` with the old lock; where some packages are to be chosen anew, with one that lacks them."""
-    if old is None:
-        return program.answer(words)
-    if not anew or known is None:
-        return program.answer([*words, old])
+def stale(files: Files) -> List[str]:
+    """That the index folder lacks names that the project asks for, as one that is older than they are does."""
+    try:
+        names = verdicts.absent_names(project.load(files.project), files.folder)
+    except Refused:
+        return []
+    if not names:
+        return []
+    again = f"`{command('index')} {files.project} {files.folder}` makes it anew"
+    return [f"stale index: {files.folder} has no document of {', '.join(names)}; {again}"]
+
+
+def pins_of(asked: List[str]) -> Dict[str, Optional[str]]:
+    """The names that are to be chosen anew, each with the version that is wanted where one is named."""
+    found: Dict[str, Optional[str]] = {}
+    for word in asked:
+        name, equals, spelled = word.partition("==")
+        read = version(spelled) if equals else None
+        if equals and read is None:
+            raise Refused(f"--upgrade-package {word}: `{spelled}` is no version", 2)
+        found[normal_name(name.strip())] = None if read is None else read.text()
+    return found
+
+
+def upgraded(files: Files, known: locks.Lock, pins: Dict[str, Optional[str]]) -> program.Answer:
+    """Locks with an old lock that lacks some packages, or has them at the versions that are wanted."""
     with tempfile.TemporaryDirectory(prefix="unilock-") as held:
-        kept = os.path.join(held, "kept.lock")
-        with open(kept, "w", encoding="utf-8", newline="\n") as it:
-            it.write(locks.preferences(known, anew))
-        return program.answer([*words, kept])
+        kept = Path(held) / "kept.lock"
+        instead = {name: spelled for name, spelled in pins.items() if spelled is not None}
+        kept.write_bytes(locks.preferences(known, [*pins], instead).encode("utf-8"))
+        answered = files.locked(str(kept))
+    if answered.status == 0:
+        new = locks.read(answered.text, "the new lock").by_name()
+        for name, spelled in instead.items():
+            if not any(verdicts.same_version(it.version, spelled) for it in new.get(name, [])):
+                raise Refused(f"{name} {spelled} can't be taken with the versions that the project asks for", 1)
+    return answered
 
 
-def told(old: Optional[locks.Lock], new: locks.Lock) -> List[str]:
-    return locks.changes(old, new) or ["no version changed, but markers, files or extras did"]
+def answer(asked: argparse.Namespace, files: Files, path: str, old: Old) -> Change:
+    """The lock that the words ask for, with what was wrong with the old one."""
+    pins = pins_of(asked.upgrade_package)
+    for name in pins:
+        if old.lock is None or name not in old.lock.by_name():
+            console.say(f"lock: {path} has no package {name} to upgrade")
+    if asked.upgrade or old.body is None:
+        return Change(files.locked(), [])
+    if pins and old.lock is not None:
+        return Change(upgraded(files, old.lock, pins), [])
+    with locks.program_form(path) as kept:
+        change = relocking.kept(files, kept, old.lock)
+    text = change.answer.text if change.answer.status == 0 else change.answer.text.replace(f" {kept}: ", f" {path}: ")
+    return change._replace(answer=change.answer._replace(text=text))
 
 
-def run(asked: argparse.Namespace) -> int:
+def told(old: Optional[locks.Lock], new: locks.Lock, change: Change) -> Iterator[str]:
+    """What changed, one line a name, and what was wrong with the old lock where something was."""
+    reasons: Dict[str, verdicts.Fault] = {}
+    for fault in change.faults:
+        reasons.setdefault(fault.name, fault)
+    lines = locks.changes(old, new)
+    for line in lines:
+        name = line.split()[1] if line.startswith(("added ", "removed ")) else line.split()[0]
+        reason = reasons.pop(name, None)
+        yield line + (f"  ({reason.text})" if reason else "")
+    if not lines:
+        yield "no version changed, but markers, files or extras did"
+    if old is not None:
+        yield from diff.difference(old, new, False) if not lines else []
+        yield from (f"rejected: {it.name} {it.version}: {it.text}" for it in reasons.values())
+
+
+def lock_path(asked: argparse.Namespace) -> str:
+    found: str = asked.lock or os.path.join(os.path.dirname(asked.project), "unilock.lock")
+    return found
+
+
+def paths(asked: argparse.Namespace) -> Files:
+    """The files of the call, each of which is there."""
     if not 1 <= asked.workers <= 64:
         raise Refused(f"--workers {asked.workers}: 1 to 64", 2)
-    beside = os.path.dirname(asked.project)
-    index = asked.index or os.path.join(beside, "ix")
-    path = asked.lock or os.path.join(beside, "unilock.lock")
-    for wanted, what in [(asked.project, os.path.isfile), (index, os.path.isdir)]:
-        if not what(wanted):
-            hint = "" if wanted == asked.project else f"; `tools/index {asked.project} {index}` makes it"
-            raise Refused(f"{wanted}: there is no such {'file' if wanted == asked.project else 'folder'}{hint}", 3)
-    before = old_bytes(path)
-    known = old_lock(before, path)
-    anew = [normal_name(it) for it in asked.upgrade_package]
-    for name in anew:
-        if known is None or name not in known.by_name():
-            console.say(f"lock: {path} has no package {name} to upgrade")
-    kept = None if asked.upgrade or before is None else path
-    answered = made_lock(["lock", asked.project, index, str(asked.workers)], kept, anew, known)
-    if answered.status != 0:
-        raise fault_of(answered, asked.project, index, path)
-    new = locks.read(answered.text, path)
+    if not os.path.isfile(asked.project):
+        raise Refused(f"{asked.project}: there is no such file", 3)
+    if own_index.is_wanted(asked):
+        index = own_index.folder_for(asked, lock_path(asked), asked.workers, asked.quiet)
+    else:
+        index = asked.index or os.path.join(os.path.dirname(asked.project), "ix")
+    if not os.path.isdir(index):
+        makes = f"`{command('index')} {asked.project} {index}` makes it"
+        raise Refused(f"{index}: there is no such folder; {makes}", 3)
+    return Files(asked.project, index, asked.workers)
+
+
+def refuse(answered: program.Answer, asked: argparse.Namespace, files: Files, kept: bool) -> int:
+    """Says why nothing serves, and the ways out that were tried; or what else the program refused. `kept` where an old
+    lock's versions were kept."""
+    if answered.status != 1:
+        raise fault_of(answered, files, lock_path(asked))
+    console.say(f"lock: {program.fault_text(answered)} ({'; '.join(answered.text.splitlines()[1:3])})")
+    for line in [*explain.refusal_lines(answered.text, files, kept), *stale(files)]:
+        console.say(line)
+    return NOTHING_SERVES if asked.check else 1
+
+
+def run(asked: argparse.Namespace, ready: Callable[[], None] = lambda: None) -> int:
+    """Locks as the words ask for; `ready` is called when the lock is there, before it is written."""
+    files = paths(asked)
+    advice.refuse_own_name(asked.project)
+    path = lock_path(asked)
+    old = old_lock(path, asked.upgrade)
+    change = folders.read_whole(files.folder, lambda: answer(asked, files, path, old))
+    if change.answer.status != 0:
+        return refuse(change.answer, asked, files, bool(asked.upgrade_package and old.lock))
+    new = locks.read(change.answer.text, path)
     packages = console.counted(len(new.packages) - 1, "package")
-    if answered.body == before:
+    ready()
+    if change.answer.body == old.body:
         if not asked.quiet:
             print(f"{path} is current: {packages}")
         return 0
-    lines = told(known, new)
+    lines = list(told(old.lock, new, change))
     if not asked.check:
-        console.write_beside(path, answered.body)
+        console.write_beside(path, change.answer.body)
+        if not asked.quiet:
+            for warning in advice.warnings(files.project, files.folder, new):
+                console.say(f"warning: {warning}")
     if not asked.quiet:
         print("\n".join(lines))
         print(f"{path} {'is not current' if asked.check else 'is written'}: {packages}")
-    return 1 if asked.check else 0
+    return NOT_CURRENT if asked.check else 0
 
 
 def main(words: Optional[List[str]] = None) -> int:

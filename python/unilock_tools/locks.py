@@ -1,9 +1,19 @@
-"""Reading a lock, with the standard library alone: its head, its packages, their files and their edges."""
+"""Reading a lock, with the standard library alone: its head, its packages, their files and their edges.
 
+A lock that an editor or a checkout gave a byte order mark or other line ends is read in the program's form, and that is
+said; a merge conflict in it is named as one.
+"""
+
+from __future__ import annotations
+
+import contextlib
 import re
-from typing import Dict, Iterator, List, NamedTuple, Optional, Tuple
+import tempfile
+from pathlib import Path
+from typing import Dict, Iterator, List, Mapping, NamedTuple, Optional, Sequence, Tuple
 
-from .console import Refused, text_of
+from .console import Refused, say, text_of
+from .versions import version_of
 
 HEAD = re.compile(r'(root|supported-markers|name|version) = "((?:[^"\\]|\\.)*)"\Z')
 EDGE = re.compile(
@@ -11,6 +21,9 @@ EDGE = re.compile(
 )
 FILE = re.compile(r'    \{ file = "([^"]*)", hash = "sha256:([0-9a-f]{64})" \},\Z')
 LIST = re.compile(r"(files|dependencies|resolution-markers|[a-z0-9-]+) = \[(\])?\Z")
+CONFLICT = re.compile(r"(<{7}|>{7}|\|{7})( |\Z)|={7}\Z")
+FILE_FORM = '{ file = "FILE", hash = "sha256:HEX" },'
+EDGE_FORM = '{ name = "NAME", version = "VERSION" }, (before the end also extra = "NAME" and marker = "MARKER")'
 
 
 class Edge(NamedTuple):
@@ -140,15 +153,97 @@ class _Reader:
         return edge is not None
 
 
-def read(text: str, path: str) -> Lock:
-    """The lock that a text has; `path` stands in what is refused."""
+def in_form(text: str) -> Tuple[str, List[str]]:
+    """The text without a byte order mark and with the line ends of the program, and what was done to it."""
+    done = []
+    if text.startswith("\ufeff"):
+        text, done = text[1:], ["its byte order mark is passed over"]
+    if "\r\n" in text:
+        text = text.replace("\r\n", "\n")
+        done.append("its line ends CR LF are read as LF")
+    return text, done
+
+
+def conflict_line(text: str) -> Optional[int]:
+    """The first line of a merge conflict, where one stands in the text."""
+    lines = text.split("\n")
+    found = [number for number, line in enumerate(lines, 1) if CONFLICT.match(line)]
+    return found[0] if len(found) > 1 else None
+
+
+def is_lock(text: str) -> bool:
+    """Whether a text is a lock of unilock, though perhaps one with faults: what may be replaced by a new lock."""
+    lines = [it for it in in_form(text)[0].split("\n") if not CONFLICT.match(it)]
+    head = lines[: lines.index("[[package]]")] if "[[package]]" in lines else lines
+    if not text.strip():
+        return True
+    return head[0] in ("version = 1", "version = 2") and any(it.startswith("root = ") for it in head)
+
+
+@contextlib.contextmanager
+def program_form(path: str) -> Iterator[str]:
+    """A path by which the program reads the lock: its own, or that of a copy in the program's form."""
+    try:
+        text, done = in_form(Path(path).read_bytes().decode("utf-8"))
+    except (OSError, UnicodeDecodeError):
+        done = []
+    if not done:
+        yield path
+        return
+    with tempfile.TemporaryDirectory(prefix="unilock-") as held:
+        copy = Path(held) / Path(path).name
+        copy.write_bytes(text.encode("utf-8"))
+        yield str(copy)
+
+
+def begun(text: str) -> Tuple[_Reader, int]:
+    """A reader of the lines up to the first that is no line of a lock, and the number of that (0: there is none)."""
     reader = _Reader()
     lines = text.split("\n")
     if lines[0] not in ("version = 1", "version = 2"):
+        return reader, 1
+    return reader, next((number for number, line in enumerate(lines[1:], 2) if not reader.line(line)), 0)
+
+
+def expected_at(text: str, number: int) -> str:
+    """What may stand at a line that the program refuses."""
+    text = in_form(text)[0]
+    lines = text.split("\n")
+    if conflict_line(text) is not None:
+        return f"a merge conflict begins at line {conflict_line(text)}; take one side, then lock again"
+    if number > len(lines) or lines[number - 1 :] == [""]:
+        return "the text is cut off; it ends with whole blocks [[package]], each line with its LF"
+    if number == 1:
+        return "expected: version = 2"
+    reader, fault = begun("\n".join(lines[:number]))
+    if fault == 0:
+        return "such a line may stand there, but not in this order, not twice, or not with another spelling of it"
+    if reader.into == "files" and not reader.in_extras:
+        return f"expected: {FILE_FORM} or the end ]"
+    if reader.into == "resolution-markers" and not reader.lock.packages:
+        return 'expected: "MARKER", or the end ]'
+    if reader.into:
+        return f"expected: {EDGE_FORM} or the end ]"
+    if not reader.lock.packages:
+        return 'expected: root = "NAME", supported-markers, resolution-markers or [[package]]'
+    if reader.in_extras:
+        return "expected: NAME = [, NAME = [] or the next [[package]]"
+    return "expected: name, version, files, dependencies, [package.optional-dependencies] or the next [[package]]"
+
+
+def read(text: str, path: str) -> Lock:
+    """The lock that a text has; `path` stands in what is refused."""
+    text = in_form(text)[0]
+    conflict = conflict_line(text)
+    if conflict is not None:
+        raise Refused(f"{path}: line {conflict}: a merge conflict stands there; take one side, then lock again", 3)
+    reader, fault = begun(text)
+    lines = text.split("\n")
+    if fault == 1:
         raise Refused(f"{path}: line 1: it is no lock of unilock: it doesn't begin with `version = 2`")
-    for number, line in enumerate(lines[1:], 2):
-        if not reader.line(line):
-            raise Refused(f"{path}: line {number}: no line of a lock: {line[:60]}")
+    if fault:
+        wanted = expected_at(text, fault)
+        raise Refused(f"{path}: line {fault}: no line of a lock: {lines[fault - 1][:60]} ({wanted})")
     lock = reader.lock
     if reader.into or not any(it.name == lock.root for it in lock.packages):
         raise Refused(f"{path}: the lock is cut off")
@@ -164,19 +259,72 @@ def read(text: str, path: str) -> Lock:
 
 def load(path: str) -> Lock:
     """The lock of a file."""
-    return read(text_of(path), path)
+    text = text_of(path)
+    for done in in_form(text)[1]:
+        say(f"{path}: {done}")
+    return read(text, path)
 
 
-def preferences(lock: Lock, without: List[str]) -> str:
+def preferences(lock: Lock, without: Sequence[str], instead: Optional[Mapping[str, str]] = None) -> str:
     """A lock's text that has the versions of `lock` without edges, those of some names left out.
 
-    As an old lock it keeps all versions but those of the names left out.
+    As an old lock it keeps all versions but those of the names left out; a name in `instead` has the version there.
     """
+    instead = instead or {}
+    kept = [(it.name, it.version) for it in lock.packages if it.name not in (*without, *instead)]
+    root = lock.root_package()
+    named = {(root.name, root.version), *kept, *instead.items()}
     blocks = [f'version = 2\nroot = "{lock.root}"\n']
-    for package in lock.packages:
-        if package.name == lock.root or package.name not in without:
-            blocks.append(f'\n[[package]]\nname = "{package.name}"\nversion = "{package.version}"\n')
+    for name, spelled in sorted(named, key=lambda it: (it[0], version_of(it[1]).key)):
+        blocks.append(f'\n[[package]]\nname = "{name}"\nversion = "{spelled}"\n')
     return "".join(blocks)
+
+
+def blocks_of(text: str) -> List[str]:
+    """The head of a lock's text and its packages' blocks, which joined by an empty line are the text."""
+    head, *packages = text.split("\n\n[[package]]\n")
+    return [head, *(f"[[package]]\n{it}" for it in packages)]
+
+
+def block_key(block: str) -> Tuple[str, str]:
+    """The name and the version of a package's block."""
+    found = re.match(r'\[\[package\]\]\nname = "([^"]*)"\nversion = "([^"]*)"', block)
+    return (found[1], found[2]) if found else ("", "")
+
+
+def with_files(block: str, files: Sequence[Tuple[str, str]]) -> str:
+    """A package's block with these files in the place of its own."""
+    bare = re.sub(r"\nfiles = \[\n(?:    .*\n)+\]", "", block)
+    lines = "".join(f'    {{ file = "{name}", hash = "sha256:{summed}" }},\n' for name, summed in files)
+    head = bare.split("\n", 3)
+    first, rest = "\n".join(head[:3]), "".join(f"\n{it}" for it in head[3:])
+    return first + (f"\nfiles = [\n{lines}]" if lines else "") + rest
+
+
+def edge_order(edge: Edge) -> Tuple[str, Tuple[object, ...], str]:
+    """The order of edges in a lock: by name, version, then the package before its extras."""
+    return edge.name, version_of(edge.version).key, edge.extra or ""
+
+
+def edge_line(edge: Edge) -> str:
+    marker = edge.marker.replace('"', '\\"')
+    parts = [f'name = "{edge.name}"', f'version = "{edge.version}"']
+    parts += [f'extra = "{edge.extra}"'] if edge.extra else []
+    parts += [f'marker = "{marker}"'] if edge.marker else []
+    return f"    {{ {', '.join(parts)} }},\n"
+
+
+def root_block(root: Package) -> str:
+    """The block of a lock's root, which has no files."""
+    text = f'[[package]]\nname = "{root.name}"\nversion = "{root.version}"'
+    if root.edges:
+        text += "\ndependencies = [\n" + "".join(map(edge_line, root.edges)) + "]"
+    if root.extras:
+        text += "\n\n[package.optional-dependencies]"
+    for extra in sorted(root.extras):
+        lines = "".join(map(edge_line, root.extras[extra]))
+        text += f"\n{extra} = [\n{lines}]" if lines else f"\n{extra} = []"
+    return text
 
 
 def changes(old: Optional[Lock], new: Lock) -> List[str]:

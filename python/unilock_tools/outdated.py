@@ -1,24 +1,26 @@
 """Lists the packages of a lock of which the index folder has a newer version, with what holds each back.
 
 Newer is the newest release that can be used, isn't yanked and is no pre-release (but where all are, or the locked one
-is). Where the project file stands beside the lock, or --project names it, its own requirements count among what holds
-a package back.
+is). Where the project file stands beside the lock, or --project names it, its own requirements count among what holds a
+package back; so does its bound on Python, where an interpreter that the lock supports doesn't keep it.
 
-Needs the standard library; with a project file a reader of TOML. Status: 0 listed, or nothing is newer; 1 the lock or
-the index can't be read; 2 the words aren't right.
+Needs the standard library; with a project file a reader of TOML. Status: 0 nothing is newer; 1 something is; 2 the
+words aren't right; 3 the lock or the index can't be read.
 """
 
 from __future__ import annotations
 
 import argparse
 import os
-from typing import Iterator, List, Optional, Tuple
+from typing import Iterator, List, NamedTuple, Optional, Tuple
 
-from . import console, documents, locks, project
+from . import console, documents, locks, markers, project, worlds
 from .console import Refused
 from .locks import Lock, Package
+from .machine import PLATFORMS
 from .readings import Requirement, requirement_of
-from .versions import NoReading, Version, meets, version, version_of
+from .verdicts import bound_holds
+from .versions import NoReading, Version, meets, specifiers_of, version, version_of
 
 
 def parser() -> console.Parser:
@@ -28,6 +30,7 @@ def parser() -> console.Parser:
     made.add_argument(
         "--project", metavar="PROJECT", help="the project file (pyproject.toml beside the lock, where it is there)"
     )
+    console.add_json(made)
     return made
 
 
@@ -41,11 +44,11 @@ def newest(name: str, locked: Version, index: str) -> Optional[Tuple[str, Versio
             known.append((spelled, found))
     final = [it for it in known if not it[1].is_pre]
     counted = known if locked.is_pre or not final else final
-    return max(counted, key=lambda it: it[1].key, default=None)
+    return max(counted, key=lambda it: it[1].key) if counted else None
 
 
 class Holders:
-    """What holds a package back: the requirements on it of the packages that the lock gives with it."""
+    """What holds a package back: what the packages that the lock gives with it require, and its own bound on Python."""
 
     def __init__(self, lock: Lock, index: str, read: Optional[project.Project]) -> None:
         self.lock, self.index, self.project = lock, index, read
@@ -74,10 +77,38 @@ class Holders:
             for one in self.requirements(user):
                 if one.name == package.name and not meets(one.clauses, wanted):
                     found.append(f"{who} asks for `{one.text}`")
-        return sorted(set(found))
+        return [*sorted(set(found)), *self.bound(package, wanted)]
+
+    def bound(self, package: Package, wanted: Version) -> Iterator[str]:
+        """That an interpreter which the lock supports doesn't keep the newer release's bound."""
+        bound = next((
+            str(entry.get("requires_python") or "")
+            for spelled, entry in documents.releases_of(documents.load(self.index, package.name))
+            if version_of(spelled).key == wanted.key
+        ), "")  # fmt: skip
+        points = markers.python_points(worlds.marker_of(self.lock.supported), bound)
+        if not all(bound_holds(specifiers_of(bound), it) for it in points if self.supports(it)):
+            yield f"it needs Python `{bound}`"
+
+    def supports(self, python: str) -> bool:
+        """Whether the lock is made for an interpreter, on some machine."""
+        return any(worlds.holds(self.lock.supported, worlds.machine_of(it, python)) for it in PLATFORMS)
 
 
-def lines(lock: Lock, index: str, read: Optional[project.Project]) -> Iterator[str]:
+class Newer(NamedTuple):
+    """A package of the lock that has a newer version, and what holds it back."""
+
+    name: str
+    version: str
+    newest: str
+    held_by: List[str]
+
+    def line(self) -> str:
+        held = f"  ({'; '.join(self.held_by)})" if self.held_by else ""
+        return f"{self.name} {self.version} -> {self.newest}{held}"
+
+
+def newer(lock: Lock, index: str, read: Optional[project.Project]) -> Iterator[Newer]:
     holders = Holders(lock, index, read)
     for package in lock.packages:
         if package.name == lock.root:
@@ -85,24 +116,27 @@ def lines(lock: Lock, index: str, read: Optional[project.Project]) -> Iterator[s
         locked = version_of(package.version)
         found = newest(package.name, locked, index)
         if found is not None and found[1].key > locked.key:
-            held = holders.of(package, found[1])
-            yield f"{package.name} {package.version} -> {found[1].text()}" + (f"  ({'; '.join(held)})" if held else "")
+            yield Newer(package.name, package.version, found[1].text(), holders.of(package, found[1]))
 
 
 def run(asked: argparse.Namespace) -> int:
     beside = os.path.dirname(asked.lock)
     index = asked.index or os.path.join(beside, "ix")
     if not os.path.isdir(index):
-        raise Refused(f"{index}: there is no such folder")
+        raise Refused(f"{index}: there is no such folder", 3)
     usual = os.path.join(beside, "pyproject.toml")
     path = asked.project or (usual if os.path.isfile(usual) else None)
-    lock = locks.load(asked.lock)
     try:
-        for line in lines(lock, index, None if path is None else project.load(path)):
-            print(line)
-    except NoReading as fault:
-        raise Refused(f"{asked.lock}: {fault}") from None
-    return 0
+        lock = locks.load(asked.lock)
+        found = list(newer(lock, index, None if path is None else project.load(path)))
+    except (NoReading, Refused) as fault:
+        raise Refused(str(fault) if isinstance(fault, Refused) else f"{asked.lock}: {fault}", 3) from None
+    if asked.json:
+        console.print_object({"packages": [it._asdict() for it in found]})
+    else:
+        for one in found:
+            print(one.line())
+    return 1 if found else 0
 
 
 def main(words: Optional[List[str]] = None) -> int:

@@ -6,14 +6,16 @@ import json
 import re
 from typing import Any, Iterator, List, Optional, Tuple
 
-from . import console
+from . import advice, console, poetry
 from .console import Refused
+from .locks import expected_at
 from .markers import NoMarker
 from .markers import read as read_marker
 from .readings import requirement_fault
 from .vendored import toml_reader
 from .versions import normal_name, specifiers_fault, version
 
+LOCK_HEADS = ("version = ", "\ufeffversion = ", "<<<<<<<")
 LIMITS = {
     "file-bytes": "a project, machine or index file may have at most 16,777,216 bytes",
     "text-bytes": "a lock or a derivation may have at most 67,108,864 bytes",
@@ -88,7 +90,12 @@ def line_of(text: str, value: Any) -> Optional[int]:
 
 
 def wrong_requirement(value: str) -> str:
-    return requirement_fault(value) or "it asks for extras, or its marker does, which a constraint or an override can't"
+    """What keeps a requirement from being read, and what is likely meant."""
+    fault = requirement_fault(value)
+    if fault is None:
+        return "it asks for extras, or its marker does, which a constraint or an override can't"
+    likely = advice.meant(value)
+    return fault + (f"; is `{likely}` meant?" if likely else "")
 
 
 def wrong_shape(place: str, value: Any) -> str:
@@ -154,7 +161,11 @@ def quoted_line(text: str, number: int) -> str:
 
 
 def at_line(text: str, number: int) -> str:
-    return "the text isn't what the program writes" + (quoted_line(text, number) or f": it ends before line {number}")
+    """What is wrong at a line of a lock, or of another text that the program writes."""
+    told = f"the text isn't what the program writes; {expected_at(text, number)}" if text.startswith(LOCK_HEADS) else (
+        "the text isn't what the program writes"
+    )
+    return told + (quoted_line(text, number) or f": it ends before line {number}")
 
 
 def malformed(path: str, place: str) -> List[str]:
@@ -190,7 +201,9 @@ def malformed(path: str, place: str) -> List[str]:
         return [f"{where}: {reason}."]
     if word == "shape":
         has = "it isn't there" if value is None else f"it is {shown(value)}"
-        return [f"{where}: {has}; {wrong_shape(rest, value)}."]
+        lines = poetry.project_lines(tables) if rest == "project" and isinstance(tables, dict) else []
+        hint = ["This is a Poetry project; the same as it is read:", *(f"    {it}" for it in lines)] if lines else []
+        return [f"{where}: {has}; {wrong_shape(rest, value)}.", *hint]
     return [f"{path}: {place}."]
 
 

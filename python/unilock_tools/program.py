@@ -1,12 +1,14 @@
 """The program `unilock`: where it stands, how it is called, and what its statuses mean.
 
 It is looked for in this order: what the environment variable UNILOCK names; the script `unilock` of the clone that
-these tools stand in, which proves and builds the program where that wasn't done yet; `unilock` on the path.
+these tools stand in, which proves and builds the program where that wasn't done yet; the program that was installed
+beside the interpreter that runs these tools; `unilock` on the path.
 """
 
 import os
 import shutil
 import subprocess
+import sys
 from typing import List, NamedTuple, Optional
 
 from .console import Refused
@@ -32,7 +34,8 @@ def path() -> str:
     script = os.path.join(CLONE, "unilock")
     if os.path.isfile(script) and os.path.isdir(os.path.join(CLONE, "crates")):
         return script
-    found = shutil.which("unilock")
+    beside = os.path.join(os.path.dirname(sys.executable), "unilock")
+    found = shutil.which(beside) or shutil.which("unilock")
     if found is None:
         raise Refused("the program unilock isn't on the path; name it by the environment variable UNILOCK", 3)
     return found

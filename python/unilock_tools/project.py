@@ -50,6 +50,8 @@ class Project:
     def _requirements(self, project: Dict[str, Any]) -> Iterator[Placed]:
         yield from self._listed("project.dependencies", project.get("dependencies", []), None)
         extras = project.get("optional-dependencies", {})
+        if not isinstance(extras, dict):
+            raise Refused(f"{self.path}: project.optional-dependencies: it isn't a table", 3)
         for name in sorted(extras):
             place = f"project.optional-dependencies.{normal_name(name)}"
             yield from self._listed(place, extras[name], normal_name(name))
@@ -57,18 +59,20 @@ class Project:
         for group in sorted(groups):
             yield from self._group(group, group, groups, [], set())
 
-    def groups(self) -> Dict[str, list]:
+    def groups(self) -> Dict[str, List[Any]]:
         """The dependency groups (PEP 735) by their normal names."""
         found = self.tables.get("dependency-groups", {})
         return {normal_name(it): found[it] for it in found} if isinstance(found, dict) else {}
 
     def _group(
-        self, group: str, of: str, groups: Dict[str, list], open_: List[str], done: Set[str]
+        self, group: str, of: str, groups: Dict[str, List[Any]], open_: List[str], done: Set[str]
     ) -> Iterator[Placed]:
         """The requirements of a group with those of the groups that it includes, each group once."""
         if group in done:
             return
         done.add(group)
+        if not isinstance(groups[group], list):
+            raise Refused(f"{self.path}: dependency-groups.{group}: it isn't a list", 3)
         for number, entry in enumerate(groups[group]):
             place = f"dependency-groups.{group}[{number}]"
             if isinstance(entry, str):

@@ -98,7 +98,8 @@ def step_of(line: str) -> Optional[Step]:
         return Need(node_of(found[2]), set_of(found[3]), node_of(found[4]), set_of(found[5]))
     found = PYTHON.match(line)
     if found:
-        return (Python if found[2] == "python" else Base)(node_of(found[3]), set_of(found[4]))
+        node, versions = node_of(found[3]), set_of(found[4])
+        return Python(node, versions) if found[2] == "python" else Base(node, versions)
     found = CUT.match(line)
     if found:
         # A version has no comma, but a set has; a term ends where its set does.

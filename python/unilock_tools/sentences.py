@@ -2,13 +2,17 @@
 
 from __future__ import annotations
 
-from typing import Dict, Iterator, List, Optional, Tuple
+import difflib
+from pathlib import Path
+from typing import Any, Dict, Iterator, List, Optional, Tuple
 
 from . import documents, markers
 from .project import Project
 from .readings import Requirement, requirement_of
 from .refusal import Base, Cut, Need, Node, Python, Refusal, Step, Term, used
-from .versions import NoReading, Version, meets, version
+from .verdicts import bound_holds
+from .versions import NoReading, Version, meets, specifiers_of, version
+from .worlds import marker_of
 
 Named = Tuple[str, Requirement]
 
@@ -25,17 +29,17 @@ class Teller:
 
     def __init__(self, project: Project, index: str, refusal: Refusal) -> None:
         self.project, self.index, self.refusal = project, index, refusal
-        self.documents: Dict[str, Optional[dict]] = {}
+        self.documents: Dict[str, Optional[Dict[str, Any]]] = {}
 
-    def document(self, name: str) -> Optional[dict]:
+    def document(self, name: str) -> Optional[Dict[str, Any]]:
         if name not in self.documents:
             self.documents[name] = documents.load(self.index, name)
         return self.documents[name]
 
-    def usable(self, name: str) -> List[Tuple[str, dict]]:
+    def usable(self, name: str) -> List[Tuple[str, Dict[str, Any]]]:
         return documents.releases_of(self.document(name))
 
-    def release(self, name: str, text: str) -> dict:
+    def release(self, name: str, text: str) -> Dict[str, Any]:
         wanted = version(text)
         for spelled, entry in self.usable(name):
             found = version(spelled)
@@ -104,7 +108,7 @@ class Teller:
         name = need.target.name
         document = self.document(name)
         if document is None:
-            return f", and the index has no document of {name}"
+            return f", and the index has no document of {name}" + self.alike(name)
         known = self.usable(name)
         if not known:
             return f", and the index has no version of {name} that can be used" + self.unusable(name, document)
@@ -121,6 +125,12 @@ class Teller:
             ", and " + "; ".join(reasons) if reasons else ", and no version is permitted"
         ) + self.unusable(name, document)
 
+    def alike(self, name: str) -> str:
+        """Names of the index that are like one that it doesn't have."""
+        known = sorted(it.stem for it in Path(self.index).glob("*.json"))
+        near = difflib.get_close_matches(name, known, 2, 0.75)
+        return f" (is {' or '.join(near)} meant?)" if near else ""
+
     def passed_over(self, name: str, spelled: str) -> str:
         """Why a version that a requirement allows isn't chosen from."""
         entry = self.release(name, spelled)
@@ -132,7 +142,7 @@ class Teller:
             return f"{name} {spelled} is yanked, which counts only where the project asks for `=={spelled}`"
         return ""
 
-    def unusable(self, name: str, document: dict) -> str:
+    def unusable(self, name: str, document: Dict[str, Any]) -> str:
         told = []
         for entry in document["versions"]:
             spelled = str(entry.get("version", ""))
@@ -182,36 +192,54 @@ class Teller:
             if values:
                 yield f"Such a machine: {', '.join(values)}."
 
+    def bounds_behind(self) -> Iterator[Python]:
+        """Versions that the core permits, and says no more of, whose bound on Python some interpreter doesn't keep."""
+        permitted: Dict[str, List[str]] = {}
+        for need in self.refusal.core:
+            before = permitted.get(need.target.name, need.permitted)
+            permitted[need.target.name] = [it for it in before if it in need.permitted]
+        asking = {(need.node.name, it) for need in self.refusal.core for it in need.versions}
+        for name, versions in permitted.items():
+            left = [it for it in versions if (name, it) not in asking and not self.keeps_bound(name, it)]
+            if left:
+                yield Python(Node(name, None), left)
+
+    def keeps_bound(self, name: str, text: str) -> bool:
+        """Whether all interpreters of the project, in the refused region, keep a release's bound."""
+        bound = str(self.release(name, text).get("requires_python") or "")
+        clauses = specifiers_of(bound)
+        return all(bound_holds(clauses, point) for point in self.interpreters(bound))
+
+    def interpreters(self, bound: str) -> Iterator[str]:
+        """Interpreters of the refused region, one of each stretch that the bounds tell apart."""
+        region = marker_of(self.refusal.region)
+        clauses = specifiers_of(self.project.requires_python)
+        for point in markers.python_points(region, f"{bound} {self.project.requires_python}"):
+            known = {"python_full_version": point, "python_version": ".".join(point.split(".")[:2])}
+            if meets(clauses, read(point)) and markers.truth(region, known) is not False:
+                yield point
+
     def lines(self, with_steps: bool) -> Iterator[str]:
         """The whole refusal: where it is, the requirements that clash or the steps that show it, and what follows."""
         yield from self.head()
-        steps = used(self.refusal.steps)
         if self.refusal.core:
             yield "These requirements alone already clash; with any one of them left out the rest can be served:"
             # The project's own requirements come first.
             for need in sorted(self.refusal.core, key=lambda it: it.node.name != self.project.name):
                 yield f"- {self.need(need)}."
-            yield from (f"- {self.python(step)}." for _, step in steps if isinstance(step, Python))
+            yield from (f"- {self.python(step)}." for step in self.bounds_behind())
         if with_steps or not self.refusal.core:
-            numbers = {number: k for k, (number, _) in enumerate(steps, 1)}
-            for number, step in steps:
-                if isinstance(step, Cut):
-                    step = Cut(numbers.get(step.left, 0), numbers.get(step.right, 0), step.terms)
-                yield f"{numbers[number]}. {self.step(step)}."
+            yield from self.numbered()
         yield "So the project can't be served there."
-        yield from self.hints([step for _, step in steps])
 
-    def hints(self, steps: List[Step]) -> Iterator[str]:
-        if any(isinstance(it, Python) for it in steps):
-            if not self.project.requires_python:
-                yield "Hint: say in the project which interpreters it supports: requires-python = \">=3.9\", say."
-            elif self.project.settings.get("fork-strategy", "fewest") == "fewest":
-                yield 'Hint: fork-strategy = "requires-python" (tool.uv) splits where a release needs a newer one.'
-        wanted = {it.target.name for it in [*steps, *self.refusal.core] if isinstance(it, Need)}
-        absent = sorted(it for it in wanted if self.document(it) is None)
-        if absent:
-            names = ", ".join(absent)
-            yield f"Hint: no document of {names} stands in {self.index}; `tools/doctor` looks for names like it."
+    def numbered(self) -> Iterator[str]:
+        """The steps that the last one rests on, numbered anew."""
+        steps = used(self.refusal.steps)
+        numbers = {number: k for k, (number, _) in enumerate(steps, 1)}
+        for number, step in steps:
+            if isinstance(step, Cut):
+                step = Cut(numbers.get(step.left, 0), numbers.get(step.right, 0), step.terms)
+            yield f"{numbers[number]}. {self.step(step)}."
 
 
 def read(spelled: str) -> Version:

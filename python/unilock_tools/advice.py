@@ -1,0 +1,197 @@
+"""Common slips in a project file and its index folder, each with what is likely meant.
+
+`doctor` says all of them, and `lock` says them when it has written a lock.
+"""
+
+from __future__ import annotations
+
+import re
+from typing import Any, Dict, Iterator, List, Optional, Tuple
+
+from . import documents, markers, project, worlds
+from .console import Refused
+from .locks import Lock
+from .machine import PLATFORMS
+from .project import Placed, Project
+from .readings import requirement_fault, requirement_of
+from .versions import NAME, NoReading, Version, meets, normal_name, specifiers_of, version, version_of
+
+# Values that a variable never has, with the one that is meant.
+MEANT: Dict[str, Dict[str, str]] = {
+    "sys_platform": {
+        "windows": "win32", "win": "win32", "win64": "win32", "nt": "win32", "macos": "darwin", "osx": "darwin",
+        "mac": "darwin", "linux2": "linux", "posix": "linux",
+    },
+    "os_name": {"windows": "nt", "win32": "nt", "linux": "posix", "darwin": "posix", "macos": "posix", "unix": "posix"},
+    "platform_system": {
+        "win32": "Windows", "windows": "Windows", "nt": "Windows", "linux": "Linux", "darwin": "Darwin",
+        "macos": "Darwin", "macOS": "Darwin", "MacOS": "Darwin",
+    },
+    "platform_python_implementation": {"cpython": "CPython", "pypy": "PyPy", "graalpy": "GraalVM"},
+    "implementation_name": {"CPython": "cpython", "PyPy": "pypy"},
+}  # fmt: skip
+WHEEL_PLATFORMS = {"linux": ("linux", "manylinux", "musllinux"), "macos": ("macosx",), "windows": ("win",)}
+REQUIREMENT = re.compile(
+    r"\s*([A-Za-z0-9][A-Za-z0-9._-]*?)(\s*\[[^\]]*\])?\s*\(?\s*([~^=@<>!]*)\s*v?([0-9][^;\s)]*)\)?\s*(;.*)?\Z"
+)
+
+
+def meant(text: str) -> Optional[str]:
+    """The requirement that is likely meant by a text that has no reading: `flask=3.0`, `flask^3.0`, `flask 3.0`."""
+    found = REQUIREMENT.match(text)
+    if found is None or requirement_fault(text) is None:
+        return None
+    name, extras, operator, spelled, marker = found[1], (found[2] or "").strip(), found[3], found[4], found[5] or ""
+    read = version(spelled)
+    if read is None:
+        return None
+    bounds = {it: f"=={spelled}" for it in ("", "=", "@", "===")}
+    bounds.update({"=>": f">={spelled}", "=<": f"<={spelled}", "=!": f"!={spelled}"})
+    bounds.update({"^": caret(spelled, read), "~": tilde(spelled, read)})
+    made = f"{name}{extras}{bounds.get(operator, '')}" + (f"; {marker[1:].strip()}" if marker else "")
+    return made if operator in bounds and requirement_fault(made) is None else None
+
+
+def caret(spelled: str, read: Version) -> str:
+    """Poetry's `^1.2`: up to the next release that changes the first number which isn't 0."""
+    numbers = read.release
+    at = next((k for k, it in enumerate(numbers) if it), len(numbers) - 1)
+    return f">={spelled},<{'.'.join(map(str, [*numbers[:at], numbers[at] + 1]))}"
+
+
+def tilde(spelled: str, read: Version) -> str:
+    """Poetry's `~1.2`: up to the next second number."""
+    numbers = [*read.release, 0][:2] if len(read.release) == 1 else read.release[:2]
+    upper = [numbers[0] + 1] if len(read.release) == 1 else [numbers[0], numbers[1] + 1]
+    return f">={spelled},<{'.'.join(map(str, upper))}"
+
+
+def own_name(wanted: Project) -> Iterator[str]:
+    """Requirements of the project on itself that ask for no extra, as one that is named as a library that it wants."""
+    for placed in wanted.requirements:
+        one = placed.requirement
+        if one.name == wanted.name and not one.extras:
+            other = "where another package of this name is meant, give the project another one"
+            yield f"{placed.place}: `{one.text}` asks for the project itself; {other}"
+
+
+def refuse_own_name(path: str) -> None:
+    """Refuses a project that depends on its own name, as the program would meet that by the project itself."""
+    try:
+        wanted = project.load(path)
+    except Refused:
+        return
+    for fault in own_name(wanted):
+        raise Refused(f"{path}: {fault}", 3)
+
+
+def requirement_slips(placed: Placed) -> Iterator[str]:
+    """Markers of a requirement that never hold, or that hold by a value that no machine has."""
+    for atom in markers.atoms(placed.requirement.marker):
+        where = f"{placed.place}: `{placed.requirement.text}`"
+        value = MEANT.get(atom.variable, {}).get(atom.literal)
+        if value is not None and atom.op in ("==", "!="):
+            yield f"{where}: no machine has {atom.variable} '{atom.literal}'; is '{value}' meant?"
+        if atom.variable == "extra" and placed.extra is None:
+            yield f"{where}: no extra is asked for there; the list of an extra is project.optional-dependencies.NAME"
+        is_full = atom.op in ("==", "!=") and re.fullmatch(r"\d+\.\d+\.\d+", atom.literal)
+        if atom.variable == "python_version" and is_full:
+            yield f"{where}: python_version has two numbers; is python_full_version meant?"
+
+
+def python_slips(wanted: Project) -> Iterator[str]:
+    """A bound on the interpreter that none keeps."""
+    clauses = specifiers_of(wanted.requires_python)
+    points = markers.python_points(None, wanted.requires_python)
+    if clauses and not any(meets(clauses, found) for found in map(version, points) if found is not None):
+        yield f"project.requires-python: no interpreter keeps `{wanted.requires_python}`"
+
+
+def index_slips(wanted: Project, index: str) -> Iterator[str]:
+    """What the project's own requirements ask of the index that it doesn't have as they would have it."""
+    for placed in wanted.requirements:
+        one = placed.requirement
+        try:
+            found = documents.releases_of(documents.load(index, one.name))
+        except Refused:
+            # `doctor` says what is wrong with the document, and the program refuses it.
+            continue
+        if not found or one.name == wanted.name:
+            continue
+        known = [(version_of(spelled), entry) for spelled, entry in found]
+        yield from (f"{placed.place}: {text}" for text in release_slips(placed, known))
+
+
+def release_slips(placed: Placed, known: List[Tuple[Version, Dict[str, Any]]]) -> Iterator[str]:
+    one = placed.requirement
+    for extra in one.extras:
+        if not any(asks_for(text, extra) for _, entry in known for text in entry.get("requires_dist") or []):
+            yield f"no release of {one.name} in the index requires anything for the extra {extra}"
+    met = [(read, entry) for read, entry in known if meets(one.clauses, read)]
+    for read, entry in met:
+        yanked = entry.get("yanked")
+        pinned = any(it.op == "==" and not it.prefix and it.version.key == read.key for it in one.clauses)
+        if pinned and (yanked is True or isinstance(yanked, str)):
+            reason = f": {yanked}" if isinstance(yanked, str) and yanked else ""
+            yield f"{one.name} {read.text()}, which it pins, is yanked{reason}"
+    named = any(it.version.is_pre and it.op != "!=" for it in one.clauses)
+    if met and not named and all(read.is_pre for read, _ in met) and any(not read.is_pre for read, _ in known):
+        newest = max((read for read, _ in met), key=lambda it: it.key).text()
+        yield f"only pre-releases meet `{one.text}`; `{one.name}>={newest}` takes them"
+
+
+def asks_for(text: str, extra: str) -> bool:
+    """Whether a requirement's marker has to do with an extra."""
+    try:
+        read = requirement_of(text)
+    except NoReading:
+        return False
+    return any(it.variable == "extra" and normal_name(it.literal) == extra for it in markers.atoms(read.marker))
+
+
+def platforms_of(file: str) -> List[str]:
+    """The platforms that a file can be installed on: all, for a source distribution."""
+    if not file.endswith(".whl"):
+        return list(PLATFORMS)
+    tags = file[: -len(".whl")].rpartition("-")[2].split(".")
+    starts = {it: WHEEL_PLATFORMS[it] for it in PLATFORMS}
+    return [it for it, known in starts.items() if any(tag == "any" or tag.startswith(known) for tag in tags)]
+
+
+def platform_slips(lock: Lock) -> Iterator[str]:
+    """Packages that the lock gives on a platform for which it has none of their files."""
+    texts = worlds.marker_texts(lock)
+    walks = [(it, worlds.Walked(lock, it)) for it in worlds.machines(texts, "") if worlds.holds(lock.supported, it)]
+    for package in lock.packages:
+        served = {platform for name, _ in package.files for platform in platforms_of(name)}
+        lacking = []
+        for platform in PLATFORMS if package.files else []:
+            here = [walked for machine, walked in walks if machine["sys_platform"] == PLATFORMS[platform][1]]
+            if platform not in served and any(package.version in it.versions().get(package.name, ()) for it in here):
+                lacking.append(platform)
+        if lacking:
+            yield f"{package.name} {package.version} has no file for {' and '.join(lacking)}, where the lock gives it"
+
+
+def project_slips(wanted: Project) -> Iterator[str]:
+    """The slips that the project file alone shows."""
+    yield from python_slips(wanted)
+    for placed in wanted.requirements:
+        yield from requirement_slips(placed)
+
+
+def warnings(path: str, index: str, lock: Lock) -> Iterator[str]:
+    """The slips of a project that was locked."""
+    try:
+        wanted = project.load(path)
+        yield from project_slips(wanted)
+        yield from index_slips(wanted, index)
+    except Refused:
+        return
+    yield from platform_slips(lock)
+
+
+def name_of(text: str) -> str:
+    """The name with which a requirement's text begins."""
+    found = re.match(r"\s*([A-Za-z0-9._-]+)", text)
+    return found[1] if found and NAME.match(found[1]) else ""

@@ -1,0 +1,27 @@
+"""Lines as a terminal shows them: wrapped at its width, the rest of a line set in below its beginning."""
+
+from __future__ import annotations
+
+import re
+import shutil
+import sys
+import textwrap
+
+from .called import named
+
+
+LEAD = re.compile(r"- |\d+\. |")
+
+
+def wrapped(line: str) -> str:
+    """A sentence wrapped by the width of the terminal that standard output is; as it stands where it is none.
+
+    A line that is set in is one to be copied, and stays whole.
+    """
+    line = named(line)
+    if not sys.stdout.isatty() or line.startswith("    ") or "\n" in line:
+        return line
+    lead = LEAD.match(line)
+    inset = " " * (len(lead[0]) if lead and lead[0] else 2)
+    width = max(40, shutil.get_terminal_size().columns)
+    return textwrap.fill(line, width, subsequent_indent=inset, break_long_words=False, break_on_hyphens=False)
