@@ -8,7 +8,7 @@ asked. So a region has one tree, and a tree one text.
 from __future__ import annotations
 
 import itertools
-from typing import Any, Callable, Iterable, Optional, Union
+from typing import Any, Callable, Iterable, Union
 
 from plain import OPAQUE_KINDS, OPAQUE_VARIABLES, TEXT_VARIABLES, World, atoms, holds, meets, of_triple
 

@@ -71,8 +71,8 @@ def is_number(word: str, least: int, most: int) -> bool:
 
 def odd_words(rng: random.Random) -> list:
     """Words of which some are a command's."""
-    command = rng.choice(["lock", "why", "env", "check", "gen", "export", "verify", "Lock", "", "--help"])
-    kinds = {"lock": "ffnf", "why": "ffnf", "gen": "nnn", "check": "fff"}.get(command, "fff")
+    command = rng.choice(["lock", "why", "relock", "env", "check", "gen", "export", "verify", "Lock", "", "--help"])
+    kinds = {"lock": "ffnf", "why": "ffnf", "relock": "ffnf", "gen": "nnn", "check": "fff"}.get(command, "fff")
     words = [rng.choice(NUMBERS if it == "n" else FILES) for it in kinds]
     if rng.random() < 0.6:
         words = [rng.choice(["1", "2"]) if it == "n" else "absent" for it in kinds]
@@ -85,6 +85,8 @@ def are_words(words: list) -> bool:
     command, *given = words
     if command in ("lock", "why"):
         return len(given) in (3, 4) and is_number(given[2], 1, 64)
+    if command == "relock":
+        return len(given) == 4 and is_number(given[2], 1, 64)
     if command == "gen":
         is_sized = len(given) == 3 and is_number(given[0], 0, 2**64 - 1) and is_number(given[1], 1, 2000)
         return is_sized and is_number(given[2], 1, 64)

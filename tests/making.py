@@ -201,9 +201,9 @@ def other_interpreters() -> List[str]:
     """An interpreter of another version beside the running one, where there is one that can make environments."""
     found = []
     folder = Path.home() / ".pyenv" / "versions"
-    places = [*sorted(folder.glob("3.*/bin/python3")), *(Path(f"/usr/bin/python3.{it}") for it in range(8, 20))]
+    places = [*sorted(folder.glob("3.*/bin/python3")), *(Path(f"/usr/bin/python3.{it}") for it in range(10, 20))]
     for path in places:
-        code = "import sys, ensurepip, venv; print(sys.version_info >= (3, 8), sys.version_info[:2])"
+        code = "import sys, ensurepip, venv; print(sys.version_info >= (3, 10), sys.version_info[:2])"
         if path.exists():
             done = subprocess.run([str(path), "-c", code], capture_output=True, text=True, check=False)
             if done.stdout.strip().startswith("True") and str(sys.version_info[:2]) not in done.stdout:

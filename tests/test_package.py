@@ -13,6 +13,7 @@ from making import PYTHON, TOP, Folder, other_interpreters, skip
 from unilock_tools import __version__
 from unilock_tools.__main__ import COMMANDS
 
+NO_READER = "no reader of TOML is installed; `pip install tomli` installs one"
 OWN = sorted((PYTHON / "unilock_tools").glob("*.py"))
 
 
@@ -20,7 +21,8 @@ class Package(Folder):
     def test_one_version(self) -> None:
         self.assertRegex(__version__, r"\A\d+\.\d+\.\d+\Z")
         said = subprocess.run([str(TOP / "unilock"), "--version"], stdout=subprocess.PIPE, text=True, check=True).stdout
-        self.assertEqual(said, f"unilock {__version__}\n")
+        self.assertEqual(said.splitlines()[0], f"unilock {__version__}")
+        self.assertEqual([it.split()[0] for it in said.splitlines()], ["unilock", "commit", "toolchain", "sources"])
 
     def test_the_script_answers_help_and_builds_nothing(self) -> None:
         link = self.top / "link"
@@ -29,7 +31,7 @@ class Package(Folder):
         for word in ["--help", "-h"]:
             said = subprocess.run([str(link), word], cwd=self.top, stdout=subprocess.PIPE, text=True, check=True).stdout
             self.assertTrue(said.startswith("usage: unilock COMMAND WORDS\n"))
-            for command in ["lock", "why", "env", "export", "check", "verify", "gen"]:
+            for command in ["lock", "why", "relock", "env", "export", "check", "verify", "gen"]:
                 self.assertIn(f"\n  {command} ", said)
         self.assertEqual((TOP / "out").exists(), before)
 
@@ -65,9 +67,9 @@ class Package(Folder):
         )
         self.assertEqual(done.stdout.splitlines()[1], b"|-- numpy 1.26 ; python_full_version < '3.11.0'")
 
-    def test_all_is_read_by_python_3_8_and_machine_by_3_6(self) -> None:
+    def test_all_is_read_by_python_3_10_and_machine_by_3_6(self) -> None:
         for path in [*OWN, *(TOP / "tools" / it for it in COMMANDS)]:
-            ast.parse(path.read_text(encoding="utf-8"), str(path), feature_version=(3, 8))
+            ast.parse(path.read_text(encoding="utf-8"), str(path), feature_version=(3, 10))
         for name in ["__init__", "console", "machine"]:
             text = (PYTHON / "unilock_tools" / f"{name}.py").read_text(encoding="utf-8")
             self.assertNotIn("from __future__ import annotations", text)
@@ -93,7 +95,12 @@ class Package(Folder):
         for python in other_interpreters()[:1] + other_interpreters()[-1:]:
             said = self.ran("tree", TOP / "examples" / "by_python" / "unilock.lock", python=python).stdout
             self.assertTrue(said.startswith("by-python 0.1\n"), python)
-            self.ran("doctor", TOP / "examples" / "web_app" / "pyproject.toml", python=python)
+            # Python 3.10 has no reader of TOML of its own.
+            reads = subprocess.run([python, "-c", "import tomllib"], capture_output=True, check=False).returncode == 0
+            reads = reads or not subprocess.run([python, "-c", "import tomli"], capture_output=True).returncode
+            project = TOP / "examples" / "web_app" / "pyproject.toml"
+            said = self.ran("doctor", project, python=python, status=0 if reads else 3).stderr
+            self.assertEqual(said, "" if reads else f"doctor: {NO_READER}\n")
 
     def copied(self, needs: str) -> None:
         """A copy of the package to build from, where what builds it is there."""
@@ -111,10 +118,11 @@ class Package(Folder):
         )
         self.assertEqual(done.returncode, 0, done.stderr)
         built = self.top / "python" / "build" / "lib" / "unilock_tools"
-        self.assertEqual(sorted(it.name for it in built.iterdir()), sorted([*(it.name for it in OWN), "VERSION"]))
+        names = [*(it.name for it in OWN), "VERSION", "page", "py.typed"]
+        self.assertEqual(sorted(it.name for it in built.iterdir()), sorted(names))
         told = (self.top / "python" / "unilock_tools.egg-info" / "PKG-INFO").read_text()
         self.assertIn(f"\nName: unilock-tools\nVersion: {__version__}\n", told)
-        self.assertIn("Requires-Python: >=3.8\n", told)
+        self.assertIn("Requires-Python: >=3.10\n", told)
 
     def test_it_is_installed_by_pip(self) -> None:
         self.copied("import setuptools, pip, wheel; assert int(setuptools.__version__.split('.')[0]) >= 61")

@@ -1,4 +1,4 @@
-"""What README.md says of the tools and of the project file: a row for each. The walks themselves stand in
+"""What docs/MANUAL.md says of the tools and of the project file: a row for each. The walks themselves stand in
 test_walk.py."""
 
 from __future__ import annotations
@@ -15,7 +15,7 @@ from unilock_tools import keys, locks
 from unilock_tools.__main__ import COMMANDS
 
 BARE = '[project]\nname = "demo"\nversion = "0.1"\nrequires-python = ">=3.8"\ndependencies = ["a"]\n'
-README = (TOP / "README.md").read_text(encoding="utf-8")
+MANUAL = (TOP / "docs" / "MANUAL.md").read_text(encoding="utf-8")
 
 
 class Rows(Folder):
@@ -90,10 +90,10 @@ class Keys(Rows):
         self.assertIn("python_full_version < '3.12.0'", self.locked(BARE.replace(">=3.8", ">=3.8,<3.12")))
 
     def test_the_table(self) -> None:
-        """Each key that the tools know of stands in the README's table, in the row that says what becomes of it."""
-        section = README.partition("## What is read of the project file")[2].partition("\n## ")[0]
+        """Each key that the tools know of stands in the manual's table, in the row that says what becomes of it."""
+        section = MANUAL.partition("## What is read of the project file")[2].partition("\n## ")[0]
         if not section:
-            skip(self, "README.md has no table of keys yet")
+            skip(self, "docs/MANUAL.md has no table of keys yet")
         rows = {cells[0]: cells[1] for cells in re.findall(r"(?m)^\| (`.*?) \| (.*) \|$", section)}
         named = [(name, text) for cell, text in rows.items() for name in re.findall(r"`([^`]+)`", cell)]
         told = {name.rpartition("tool.uv.")[2]: text for name, text in named}
@@ -166,9 +166,9 @@ class Tools(Folder):
             self.assertEqual(len(self.ran(name, "--no-such-option", status=2).stderr.splitlines()), 1)
 
     def test_each_tool_has_a_line_in_the_readme(self) -> None:
-        section = README.partition("## Tools\n")[2].partition("\n## ")[0]
+        section = MANUAL.partition("## Tools\n")[2].partition("\n## ")[0]
         if not section:
-            skip(self, "README.md has no table of tools yet")
+            skip(self, "docs/MANUAL.md has no table of tools yet")
         for name in COMMANDS:
             self.assertIn(f"| `tools/{name}", section)
 
