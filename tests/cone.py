@@ -1,14 +1,15 @@
 """The definitions that a statement rests on: the cone of a definition of specs/, by the `use` lines of the files.
 
 python3 tests/cone.py prints, for each tier of docs/HEADLINE.md, the files in an order in which they can be read (each
-behind those that it uses), with how many of their definitions the statement reaches; with --write it puts the lists
-into that page.
+behind those that it uses), with how many of their definitions the statement reaches; with --page the first tier as one
+page, comments and definitions in reading order; with --write it puts the lists into that page, and writes docs/SOUND.md.
 """
 
 from __future__ import annotations
 
 import re
 import sys
+from itertools import takewhile
 from pathlib import Path
 from typing import Iterator
 
@@ -21,6 +22,8 @@ HEAD = re.compile(r"(?:(?:abbrev|unfoldable|record|data|type|pub)\s+)*(?:abbrev|
 PLAIN_HEAD = re.compile(r"(?:pub\s+)?([^\s:(){}=]+)\s+:\s")
 # The head of a block: definitions that name each other, or that share parameters.
 BLOCK = re.compile(r"(?:abbrev\s+|unfoldable\s+)*mutual\s*$|(?:pub\s+)?module\s+\S+\s*(.*)\bwhere\s*$")
+# How docs/SOUND.md begins.
+PAGE_BEGINS = "A lock is right where this holds of it: in each world that the project supports, with each list of its extras."
 WORD = re.compile(r"[^\s(){}\[\],;.λ∷]+")
 
 
@@ -181,10 +184,58 @@ def lists(text: str) -> str:
     return text
 
 
+def paragraphs(text: str) -> Iterator[tuple[str, set[str]]]:
+    """The pieces of a file between blank lines that have definitions, each with the names that it defines."""
+    inside = ""
+    for piece in re.split(r"\n\s*\n", text):
+        found = piece.strip("\n").splitlines()
+        kept = [it for it in found if not USE.match(it) and not it.strip().startswith("-- ----")]
+        if any(BLOCK.match(it.strip()) for it in kept):
+            inside = ""
+        elif inside and kept and kept[0].startswith(" "):
+            # A piece of a block that goes on: its definitions are found behind the block's head.
+            kept = [inside, *kept]
+        names = {name for name, _ in definitions("\n".join(kept))}
+        heads = [it for it in kept if BLOCK.match(it.strip())]
+        if names:
+            yield "\n".join(kept), names
+        inside = heads[0] if heads else ""
+
+
+def page(cone: Cone, name: str) -> str:
+    """A statement with all definitions that it reaches, file by file, each behind those that it uses."""
+
+    def joined(pieces: list[str]) -> str:
+        """The pieces, with the head of a block once where several of its pieces follow one another."""
+        made = ""
+        for piece in pieces:
+            head, _, rest = piece.partition("\n")
+            again = BLOCK.match(head.strip()) and f"\n{head}\n" in f"\n{made}" and made.splitlines()[-1].startswith(" ")
+            made += ("\n\n" if made else "") + (rest if again else piece)
+        return made
+
+    out = [
+        f"# What `{name}` says\n",
+        f"{PAGE_BEGINS} The {cone.count()} definitions that `{name}` reaches, and no others, in an order in which they"
+        " can be read; `◌` in a name is the place of an operand. `python3 tests/cone.py --write` writes this page from"
+        " the sources.\n",
+    ]
+    for path in cone.in_order():
+        pieces = [text for text, names in paragraphs(cone.files[path].text) if names & cone.reached[path]]
+        first = takewhile(lambda it: it.startswith("--"), cone.files[path].text.splitlines())
+        about = " ".join(it[2:].strip() for it in first)
+        out += [f"## `{path.removeprefix('crates/')}`\n", f"{about}\n", "```", joined(pieces), "```\n"]
+    return "\n".join(out).rstrip("\n") + "\n"
+
+
 if __name__ == "__main__":
-    page = TOP / "docs" / "HEADLINE.md"
+    headline, sound = TOP / "docs" / "HEADLINE.md", TOP / "docs" / "SOUND.md"
+    first = TIERS[0]
     if sys.argv[1:] == ["--write"]:
-        page.write_text(lists(page.read_text(encoding="utf-8")), encoding="utf-8")
+        headline.write_text(lists(headline.read_text(encoding="utf-8")), encoding="utf-8")
+        sound.write_text(page(Cone(*first), first[2]), encoding="utf-8")
+    elif sys.argv[1:] == ["--page"]:
+        print(page(Cone(*first), first[2]), end="")
     else:
         for crate, file, name in TIERS:
             cone = Cone(crate, file, name)

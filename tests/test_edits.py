@@ -17,7 +17,7 @@ from making import TOP, tool
 TRY_EDITS = tool("try-edits")
 RESULTS = TOP / "docs" / "edits.txt"
 # Each edit of the gate is a check of its crate, so only those that tell most are tried there, about four a crate.
-MOST_OF_GATE = 202
+MOST_OF_GATE = 208
 
 
 # Stands for `rt`: refuses each edit of the crates that it is asked for but those named `weak`, and writes into what was

@@ -74,6 +74,20 @@ class Headline(unittest.TestCase):
         page = (cone.TOP / "docs" / "HEADLINE.md").read_text(encoding="utf-8")
         self.assertEqual(page, cone.lists(page), "python3 tests/cone.py --write puts them right")
 
+    def test_the_page_of_the_first_tier_is_that_of_the_sources(self) -> None:
+        crate, file, name = cone.TIERS[0]
+        found = (cone.TOP / "docs" / "SOUND.md").read_text(encoding="utf-8")
+        self.assertEqual(found, cone.page(cone.Cone(crate, file, name), name), "python3 tests/cone.py --write writes it")
+
+    def test_the_page_has_each_definition_once(self) -> None:
+        reached = cone.Cone(*cone.TIERS[0]).reached
+        text = (cone.TOP / "docs" / "SOUND.md").read_text(encoding="utf-8")
+        for path, names in reached.items():
+            part = text.partition(f"## `{path.removeprefix('crates/')}`\n")[2].partition("\n## ")[0]
+            listed = [name for name, words in cone.definitions(part) if not isinstance(words, str)]
+            for name in names:
+                self.assertIn(name, listed, path)
+
     def test_a_definition_is_reached_through_another_file(self) -> None:
         reached = cone.Cone("ul_sound", "Sound", "IsSound").reached
         self.assertIn("version_cmp", reached["crates/ul_version/specs/Order.antt"])

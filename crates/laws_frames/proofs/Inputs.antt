@@ -2,7 +2,7 @@
 use Rattle.std.proofs.Common.{◌∙◌, ℕ, List, Option, Some, None, Result, Ok, Err, refl, sym, ap, inl, inr}
 use Rattle.std.specs.Prelude.{codes}
 use Rattle.ul_project.specs.Fields.{ProjectFields}
-use Rattle.ul_groups.specs.Adjusted.{adjusted_catalog}
+use Rattle.ul_groups.specs.Adjusted.{catalog_for}
 use Rattle.ul_groups.specs.Expanded.{expanded_project}
 use Rattle.ul_load.specs.Laws.{LoadingEnds, TurnsAgree}
 use Rattle.ul_load.specs.Loading.{file_bytes}
@@ -113,7 +113,7 @@ by_documents turns ends folder p m n agree =
 
 by_catalog : TurnsAgree → LoadingEnds → (folder : List ℕ) (p : ProjectFields) → IsByWhatIsRead (catalog_in folder p)
 by_catalog turns ends folder p =
-    goes_on (documents folder p) (λ c. just (Ok (adjusted_catalog p.constraints p.overrides c))) (by_documents turns ends folder p)
+    goes_on (documents folder p) (λ c. just (Ok (catalog_for p c))) (by_documents turns ends folder p)
     (λ c. by_values _)
 
 by_resolution_with : TurnsAgree → LoadingEnds → (folder : List ℕ) (p : ProjectFields) (kept : List Kept)

@@ -2,7 +2,7 @@
 use Rattle.std.proofs.Common.{◌≡◌, ◌∙◌, ℕ, zero, suc, List, [], ◌∷◌, ◌++◌, length, cond, nat_lt, Bool, true, false, Option, Some, None, option_map, Ok, Err, Contains, refl, sym, ap, subst}
 use Rattle.std.specs.Prelude.{◌↔◌}
 use Rattle.ul_base.proofs.ForCallers.{contains_first, contains_later}
-use Rattle.ul_base.specs.Files.{FileMap, content}
+use Rattle.ul_files.specs.Files.{FileMap, content}
 use Rattle.ul_index.specs.Catalogs.{Packages}
 use Rattle.ul_load.specs.Laws.{LoadingEnds, TurnsAgree}
 use Rattle.ul_load.specs.Loading.{Beginning, Found, IsRead, Loads, ProgressFields, Traced, ◌>>=◌, document_path, file_content, first_progress, go_on, load_from, next_name, next_progress, package_at, package_from, progress_with, within}

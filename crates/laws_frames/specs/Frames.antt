@@ -1,7 +1,7 @@
 -- An input depends on the paths that it reads alone: of files that have the same at each of them it says the same, and it
 -- reads the same paths.
 use Rattle.std.specs.Prelude.{◌≡◌, ◌↔◌, ℕ, List, Option, Result}
-use Rattle.ul_base.specs.Files.{FileMap, content}
+use Rattle.ul_files.specs.Files.{FileMap, content}
 use Rattle.ul_project.specs.Fields.{ProjectFields}
 use Rattle.ul_inputs.specs.Inputs.{Input, Said}
 use Rattle.ul_inputs.specs.Refused.{Refused}

@@ -1,6 +1,6 @@
 -- An old lock does no harm.
 use Rattle.std.proofs.Common.{◌≡◌, ◌∙◌, ℕ, List, [], Some, None, Result, Ok, Err, refl, ap, inl, inr}
-use Rattle.ul_base.specs.Files.{FileMap}
+use Rattle.ul_files.specs.Files.{FileMap}
 use Rattle.ul_project.specs.Fields.{ProjectFields}
 use Rattle.ul_lock.specs.declared.parts.Lock.{Lock}
 use Rattle.ul_lock_read.specs.Laws.{OneFault, OneTextOneLock}

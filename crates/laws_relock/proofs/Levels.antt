@@ -1,16 +1,16 @@
 -- Eligible versions that are level are equal, where the versions of each package's releases differ.
-use Rattle.std.proofs.Common.{◌≡◌, ◌∙◌, ◌⊎◌, ⊎_elim, ℕ, List, [], ◌∷◌, find, filter, Option, Some, None, Contains, Bool, true, false, cond, refl, sym, ap, subst, inl, inr, bytes_eq}
+use Rattle.std.proofs.Common.{◌≡◌, ◌∙◌, ◌⊎◌, ℕ, List, [], ◌∷◌, find, Option, Some, None, Contains, refl, sym, ap, subst, inl, inr, bytes_eq}
 use Rattle.std.specs.Cmp.{tied_back}
 use Rattle.std.specs.List.{AllByRecursion}
 use Rattle.std.specs.declared.cmp.Ordering.TheVariants.{Equal}
 use Rattle.std.proofs.lemmas.List.Elements.{All-contains}
-use Rattle.ul_base.proofs.ForCallers.{contains_cases, contains_first, contains_later, found_in, none_in}
+use Rattle.ul_base.proofs.ForCallers.{contains_cases, found_in, none_in}
 use Rattle.ul_version.specs.Order.{version_cmp}
 use Rattle.ul_version.proofs.ForCallers.{version_total}
 use Rattle.ul_requirement.specs.Fields.{IsOtherVersion, IsPackage, PackageFields, ReleaseFields, VersionsDiffer}
 use Rattle.ul_index.specs.Catalogs.{Packages, releases_in, releases_of}
-use Rattle.ul_index.specs.Eligible.{passing}
 use Rattle.ul_index.specs.Laws.{EligibleSame}
+use Rattle.ul_index.proofs.ForCallers.{passing_in}
 use Rattle.laws_relock.specs.Again.{LevelVersionsAreEqual}
 use Rattle.laws_relock.proofs.Answered.{each_of}
 
@@ -43,22 +43,6 @@ one_level (x ∷ rs) r s differ at there level =
         (tied_back version_total r.version s.version level)))
     by_place on (inr later) (inr also) = on later also
 
--- what passes a test is in the list
-among : {A : Type 0} (test : A → Bool) (xs : List A) (x : A) → Contains (filter test xs) x → Contains xs x
-among test [] x at = at
-among test (y ∷ ys) x at = from (test y) (among test ys x) at
-  where
-    from : (b : Bool) → (Contains (filter test ys) x → Contains ys x)
-        → Contains (cond b (y ∷ filter test ys) (filter test ys)) x → Contains (y ∷ ys) x
-    from true on h =
-        ⊎_elim (λ e. subst (λ z. Contains (y ∷ ys) z) (sym e) (contains_first y ys))
-        (λ k. contains_later y ys x (on k)) (contains_cases y (filter test ys) x h)
-    from false on h = contains_later y ys x (on h)
-
-passing_listed : (c : Packages) (n : List ℕ) (r : ReleaseFields) → Contains (passing c n) r → Contains (releases_of c n) r
-unfolding passing
-passing_listed c n r at = among _ (releases_of c n) r at
-
 pub level_versions_are_equal : EligibleSame → LevelVersionsAreEqual
 level_versions_are_equal same c all name v u has also level =
     let a = (same c name v).0 has in
@@ -66,4 +50,4 @@ level_versions_are_equal same c all name v u has also level =
     let cmp : version_cmp a.0.version b.0.version ≡ Equal = ap (λ x. version_cmp x b.0.version) a.2 ∙ (ap (λ x. version_cmp v x) b.2 ∙ level) in
     sym a.2
     ∙ (ap (λ (r : ReleaseFields). r.version) (one_level (releases_of c name) a.0 b.0 (names_differ c all name)
-    (passing_listed c name a.0 a.1) (passing_listed c name b.0 b.1) cmp) ∙ b.2)
+    (passing_in c name a.0 a.1) (passing_in c name b.0 b.1) cmp) ∙ b.2)

@@ -1,6 +1,6 @@
 -- A lock of one fork that is printed is printed again, where it is the old lock.
 use Rattle.std.proofs.Common.{◌≡◌, ◌∙◌, ℕ, List, [], Option, Some, None, Result, Ok, Err, sym, ap, subst, inl, inr}
-use Rattle.ul_base.specs.Files.{FileMap, content}
+use Rattle.ul_files.specs.Files.{FileMap, content}
 use Rattle.ul_lock.specs.WellFormed.{IsWellFormed}
 use Rattle.ul_lock.specs.declared.parts.Lock.{Lock}
 use Rattle.ul_lock_read.specs.Laws.{OneTextOneLock, TextIsLocks}

@@ -1,6 +1,6 @@
 -- A lock that `lock` or `relock` gives of files is settled, and what holds of a settled lock.
 use Rattle.std.proofs.Common.{◌≡◌, ◌∙◌, ◌≤◌, ℕ, List, [], length, Option, Some, None, Result, Ok, refl, sym, ap, subst, inl, inr}
-use Rattle.ul_base.specs.Files.{FileMap, content}
+use Rattle.ul_files.specs.Files.{FileMap, content}
 use Rattle.ul_index.specs.Catalogs.{Packages}
 use Rattle.ul_project.specs.Fields.{ProjectFields}
 use Rattle.ul_lock.specs.WellFormed.{IsWellFormed}
@@ -19,7 +19,8 @@ use Rattle.ul_commands.specs.Asked.{verify}
 use Rattle.ul_commands.specs.Commands.{command}
 use Rattle.ul_commands.specs.Locking.{IsLockAnswer}
 use Rattle.laws_frames.specs.Frames.{AgreeOn, InputsByWhatIsRead}
-use Rattle.ul_command_laws.proofs.ForCallers.{PrintedLaws, answered_verified, file_text, ok_same, read_of, read_well}
+use Rattle.ul_command_laws.specs.Printed.{PrintedLaws}
+use Rattle.ul_command_laws.proofs.ForCallers.{answered_verified, answered_well, ok_same, read_of, read_well, text_read}
 use Rattle.ul_commands.specs.Relocking.{IsKept, IsRelockAnswer, fork_count, refreshed, relock_of, relock_on, relock_with, unkept}
 use Rattle.laws_relock.specs.Answered.{FilesAreDocuments, RootsListNoOther}
 use Rattle.laws_relock.specs.Settled.{IsSettled, LocksAreSettled, RelocksAreSettled, SettledPromises}
@@ -83,8 +84,7 @@ pub answered_settled : SettledLaws → (project folder : List ℕ) (old : Option
 answered_settled laws project folder old m r l forks gave answer few =
     let is = laws.printed.resolution project folder old m r gave in
     let same = refreshed_same r.catalog l (laws.files r l forks answer) in
-    settled_by project folder old m r l gave
-    (laws.printed.formed r l forks is (laws.printed.had project folder old m r gave) answer)
+    settled_by project folder old m r l gave (answered_well laws.printed project folder old m r l forks gave answer)
     (record {
       verified = answered_verified laws.printed project folder old m r l forks gave answer;
       extras = laws.extras r l forks is answer;
@@ -193,11 +193,9 @@ relocks_are_settled laws project folder old m l forks gives few =
 -- its text is read as the lock
 pub lock_read : TextIsLocks → (project folder path : List ℕ) (m : FileMap) (l : Lock) → IsSettled project folder m l
     → content m path ≡ Some (lock_text l) → (lock_at path m).gives (Ok l)
-lock_read texts project folder path m l h at = inr (record {
-  value = lock_text l;
-  gave = file_text m path (lock_text l) at (subst (λ k. length (lock_text k) ≤ text_bytes) h.same h.kept.bytes);
-  answers = texts l h.well_formed (ap (λ k. first_over (markers_of k)) (sym h.same) ∙ h.kept.paths);
-})
+lock_read texts project folder path m l h at =
+    text_read texts m path l h.well_formed (ap (λ k. first_over (markers_of k)) (sym h.same) ∙ h.kept.paths) at
+    (subst (λ k. length (lock_text k) ≤ text_bytes) h.same h.kept.bytes)
 
 -- what was read of the project and the index, and the lock that is kept for it
 record IsReadAs (project folder : List ℕ) (m : FileMap) (l : Lock) : Type 0 where

@@ -1,6 +1,6 @@
 -- An old lock does no harm.
 use Rattle.std.specs.Prelude.{◌≡◌, ℕ, List, None, Result, Ok}
-use Rattle.ul_base.specs.Files.{FileMap}
+use Rattle.ul_files.specs.Files.{FileMap}
 use Rattle.ul_lock.specs.declared.parts.Lock.{Lock}
 use Rattle.ul_inputs.specs.Locks.{lock_at}
 use Rattle.ul_inputs.specs.Refused.{Refused}

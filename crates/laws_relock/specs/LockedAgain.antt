@@ -1,6 +1,6 @@
 -- `lock` gives a lock of one fork again, where it is the old lock.
 use Rattle.std.specs.Prelude.{◌≡◌, ◌≤◌, ℕ, List, [], length, Option, None, Some, Ok}
-use Rattle.ul_base.specs.Files.{FileMap, content}
+use Rattle.ul_files.specs.Files.{FileMap, content}
 use Rattle.ul_lock.specs.declared.parts.Lock.{Lock}
 use Rattle.ul_lock_write.specs.Texts.{lock_text}
 use Rattle.ul_inputs.specs.Inputs.{text_bytes}

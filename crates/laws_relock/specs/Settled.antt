@@ -1,7 +1,7 @@
 -- A lock that is printed stays as it is: beside the same project file and index folder it is kept, and has the files of
 -- today.
 use Rattle.std.specs.Prelude.{◌≡◌, ◌≤◌, ℕ, List, length, Option, Some, None, Ok}
-use Rattle.ul_base.specs.Files.{FileMap, content}
+use Rattle.ul_files.specs.Files.{FileMap, content}
 use Rattle.ul_lock.specs.WellFormed.{IsWellFormed}
 use Rattle.ul_lock.specs.declared.parts.Lock.{Lock}
 use Rattle.ul_lock_write.specs.Texts.{lock_text}

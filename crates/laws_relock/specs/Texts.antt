@@ -1,6 +1,6 @@
 -- What is printed, by its status and its bytes: a lock that is printed is the text of a settled lock, and stays.
 use Rattle.std.specs.Prelude.{◌≡◌, ℕ, List, [], Option, None, Some, Result, Ok}
-use Rattle.ul_base.specs.Files.{FileMap, content}
+use Rattle.ul_files.specs.Files.{FileMap, content}
 use Rattle.ul_lock.specs.declared.parts.Lock.{Lock}
 use Rattle.ul_lock_read.specs.TextOf.{IsTextOf}
 use Rattle.ul_lock_write.specs.Texts.{lock_text}

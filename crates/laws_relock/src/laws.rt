@@ -53,12 +53,7 @@ pub fn locks_are_settled()
 {
     files_are_documents();
     roots_list_no_other();
-    ul_given::laws::given_is_resolution();
-    ul_given::laws::given_has_texts();
-    ul_command_laws::laws::locks_are_well_formed();
-    ul_commands::laws::locks_are_sound();
-    ul_verified::laws::verified_laws();
-    ul_lock_read::laws::text_laws();
+    ul_command_laws::laws::printed_laws();
 }
 
 /// A settled lock is given again by `relock`, accepted by `verify`, and right in every world; and it is settled
@@ -89,12 +84,7 @@ pub fn locks_are_locked_again()
     one_fork_stays();
     files_are_documents();
     roots_list_no_other();
-    ul_given::laws::given_is_resolution();
-    ul_given::laws::given_has_texts();
-    ul_command_laws::laws::locks_are_well_formed();
-    ul_commands::laws::locks_are_sound();
-    ul_verified::laws::verified_laws();
-    ul_lock_read::laws::text_laws();
+    ul_command_laws::laws::printed_laws();
 }
 
 /// What `lock` or `relock` prints with status 0 is the text of a settled lock.

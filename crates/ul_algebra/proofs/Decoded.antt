@@ -4,7 +4,7 @@ use Rattle.ul_comparison.specs.Atoms.{AtomFields, atom_key, atom_cmp, text_numbe
 use Rattle.ul_comparison.specs.declared.variable.AtomKind.{AtomKind}
 use Rattle.ul_comparison.specs.declared.variable.AtomKind.TheVariants.{Contains, Within, Below, AtMost, Same}
 use Rattle.ul_comparison.specs.declared.variable.Variable.{Variable}
-use Rattle.ul_comparison.specs.declared.variable.Variable.TheVariants.{OsName, SysPlatform, PlatformMachine, PlatformPythonImplementation, PlatformRelease, PlatformSystem, PlatformVersion, PythonVersion, PythonFullVersion, ImplementationName, ImplementationVersion}
+use Rattle.ul_comparison.specs.declared.variable.Variable.TheVariants.{OsName, SysPlatform, PlatformMachine, PlatformPythonImplementation, PlatformRelease, PlatformSystem, PlatformVersion, PythonVersion, PythonFullVersion, ImplementationName, ImplementationVersion, Extras}
 use Rattle.ul_core.specs.declared.trees.Tree.{Tree}
 use Rattle.ul_core.specs.declared.trees.Tree.TheOpen.{Tree-F}
 use Rattle.ul_core.specs.declared.trees.Tree.TheViews.{out-Tree, roll-Tree, roll-out-Tree}
@@ -35,7 +35,8 @@ variable_at (suc (suc (suc (suc (suc (suc zero)))))) = PlatformVersion
 variable_at (suc (suc (suc (suc (suc (suc (suc zero))))))) = PythonVersion
 variable_at (suc (suc (suc (suc (suc (suc (suc (suc zero)))))))) = PythonFullVersion
 variable_at (suc (suc (suc (suc (suc (suc (suc (suc (suc zero))))))))) = ImplementationName
-variable_at (suc (suc (suc (suc (suc (suc (suc (suc (suc (suc n)))))))))) = ImplementationVersion
+variable_at (suc (suc (suc (suc (suc (suc (suc (suc (suc (suc zero)))))))))) = ImplementationVersion
+variable_at (suc (suc (suc (suc (suc (suc (suc (suc (suc (suc (suc n))))))))))) = Extras
 
 pub variable_back : (v : Variable) → variable_at (variable_number v) ≡ v
 variable_back OsName = refl
@@ -49,6 +50,7 @@ variable_back PythonVersion = refl
 variable_back PythonFullVersion = refl
 variable_back ImplementationName = refl
 variable_back ImplementationVersion = refl
+variable_back Extras = refl
 
 abbrev pub text_at : ℕ → Variable
 text_at zero = OsName
@@ -72,6 +74,7 @@ text_back PythonVersion h = absurd (omega arith)
 text_back PythonFullVersion h = absurd (omega arith)
 text_back ImplementationName h = refl
 text_back ImplementationVersion h = absurd (omega arith)
+text_back Extras h = absurd (omega arith)
 
 abbrev pub kind_at : ℕ → AtomKind
 kind_at zero = Contains

@@ -27,6 +27,8 @@ pub data Answer : Type 0 where
   environment : List ℕ → Answer
   -- where a lock gives each of its packages
   exported : List Reached → Answer
+  -- the canonical texts of a file's markers, a line for each
+  canonical : List ℕ → Answer
   -- the lock isn't for the machine
   outside : Answer
   -- the lock's root doesn't have the extra of this word

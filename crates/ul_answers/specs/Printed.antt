@@ -13,7 +13,7 @@ use Rattle.ul_reach.specs.Lines.{row_markers, rows_text}
 use Rattle.ul_reach.specs.declared.rows.Reached.{Reached}
 use Rattle.ul_inputs.specs.Refused.{Refused, malformed, limit}
 use Rattle.ul_inputs.specs.Inputs.{text_bytes}
-use Rattle.ul_answers.specs.Answer.{Answer, usage, locked, counted, unwritten, untold, no_selection, derived, none_refused, environment, exported, outside, no_extra, accepted, rejected, verified, rejected_root, rejected_supported, rejected_package}
+use Rattle.ul_answers.specs.Answer.{Answer, usage, locked, counted, unwritten, untold, no_selection, derived, none_refused, environment, exported, canonical, outside, no_extra, accepted, rejected, verified, rejected_root, rejected_supported, rejected_package}
 
 -- a status and a text
 abbrev pub Output : Type 0
@@ -78,6 +78,7 @@ output_of (derived path region steps) = refusal_output region (refusal_text path
 output_of none_refused = (0, codes "no fork is refused\n")
 output_of (environment text) = (0, text)
 output_of (exported rows) = exported_output rows
+output_of (canonical text) = (0, text)
 output_of outside = (8, codes "outside\n")
 output_of (no_extra name) = (8, codes "extra: " ++ name ++ codes "\n")
 output_of accepted = (0, codes "accepted\n")

@@ -3,7 +3,7 @@ use Rattle.std.specs.Prelude.{string_bytes}
 use Rattle.ul_answers.specs.Answer as answer
 use Rattle.ul_answers.specs.Printed.{Output as Printed}
 use Rattle.ul_answers.specs.declared.answer.Answer.{Answer}
-use Rattle.ul_answers.specs.declared.answer.Answer.TheVariants.{Usage, Locked, Counted, Unwritten, Untold, NoSelection, Derived, NoneRefused, Environment, Exported, Outside, NoExtra, Accepted, Rejected, Verified, RejectedRoot, RejectedSupported, RejectedPackage}
+use Rattle.ul_answers.specs.declared.answer.Answer.TheVariants.{Usage, Locked, Counted, Unwritten, Untold, NoSelection, Derived, NoneRefused, Environment, Exported, Canonical, Outside, NoExtra, Accepted, Rejected, Verified, RejectedRoot, RejectedSupported, RejectedPackage}
 use Rattle.ul_answers.specs.declared.outputs.Output.{Output}
 
 -- an answer
@@ -18,6 +18,7 @@ view (Derived path region steps) = answer.derived path.items region steps.items
 view NoneRefused = answer.none_refused
 view (Environment text) = answer.environment text.items
 view (Exported rows) = answer.exported rows.items
+view (Canonical text) = answer.canonical text.items
 view Outside = answer.outside
 view (NoExtra name) = answer.no_extra (string_bytes name)
 view Accepted = answer.accepted

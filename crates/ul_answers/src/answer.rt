@@ -41,6 +41,8 @@ pub enum Answer {
     Environment(Vec<u8>),
     /// Where a lock gives each of its packages.
     Exported(Vec<Reached>),
+    /// The canonical texts of a file's markers, a line for each.
+    Canonical(Vec<u8>),
     /// The lock isn't for the machine.
     Outside,
     /// The lock's root doesn't have the extra of this word.

@@ -225,6 +225,7 @@ pub fn answer_output(alloc: Global, answer: Answer) -> Result<Output, AllocError
             mem::forget(rows);
             output
         }
+        Answer::Canonical(text) => Ok(Output { status: 0, text }),
         Answer::Outside => fixed(alloc, 8, "outside\n"),
         Answer::NoExtra(name) => extra_output(alloc, name.as_str()),
         Answer::Accepted => fixed(alloc, 0, "accepted\n"),

@@ -2,8 +2,6 @@ pub mod ForCallers
 pub mod Names
 pub mod NameAbove
 pub mod Nodes
-pub mod Memory
-pub mod ListedFiles
 pub mod Lists
 pub mod HandedOn
 pub mod Members

@@ -1,11 +1,5 @@
 pub mod Names
 pub mod Nodes
-pub mod Causes
-pub mod Files
-pub mod MemFiles
-pub mod ListedFiles
-pub mod Sinks
-pub mod MemSink
 pub mod Kept
 pub mod Owned
 pub mod Reached

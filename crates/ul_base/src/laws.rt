@@ -1,18 +1,13 @@
-//! The laws of names and nodes, and worked examples of names, nodes, files and sinks.
+//! The laws of names and nodes, and worked examples of both.
 //!
 //! Each function has an empty body: its contract is the law.
 ghost use Rattle.std.specs.Prelude.{◌≡◌, ◌∷◌, [], ℕ, List, codes, true};
 ghost use Rattle.std.specs.Cmp.{IsTotalOrder};
 ghost use Rattle.std.specs.declared.cmp.Ordering.TheVariants.{Equal, Greater, Less};
 ghost use Rattle.ul_base.specs.Names.{is_name, name_of, normal_form, name_above, name_cmp, IsNormalName, IsPlain};
-ghost use Rattle.ul_base.specs.Examples.{files_after, node_at, sink_after, three_files};
-ghost use Rattle.ul_base.specs.Files.{content};
-ghost use Rattle.ul_base.specs.MemFiles.{MemRead};
-ghost use Rattle.ul_base.specs.MemSink.{MemWrite};
+ghost use Rattle.ul_base.specs.Examples.{node_at};
 ghost use Rattle.ul_base.specs.Nodes.{node_cmp};
 ghost use Rattle.ul_base.specs.declared.node.Node.{Node};
-ghost use Rattle.ul_base.specs.declared.files.ReadRefused.TheVariants as read;
-ghost use Rattle.ul_base.specs.declared.sink.SinkRefused.TheVariants as write;
 
 /// The normal form of a name is a name, and its own normal form, so that a name's text reads as that name; and it is
 /// digits, lower-case letters and `-` alone, and never empty.
@@ -70,32 +65,4 @@ pub fn node_examples()
     ensures prefix { node_cmp (node_at (codes "a") None) (node_at (codes "a-b") None) ≡ Less }
     ensures turned { node_cmp (node_at (codes "b") None) (node_at (codes "a") (Some (codes "x"))) ≡ Greater }
     ensures level { node_cmp (node_at (codes "a") (Some (codes "x"))) (node_at (codes "a") (Some (codes "x"))) ≡ Equal }
-{}
-
-/// Worked examples of what files hold: the first pair of a path counts.
-pub fn content_examples()
-    ensures first { content three_files (codes "p") ≡ Some (codes "12345") }
-    ensures empty { content three_files (codes "q") ≡ Some [] }
-    ensures absent { content three_files (codes "r") ≡ None }
-    ensures longer { content three_files (codes "pp") ≡ None }
-{}
-
-/// Worked examples of reads of files in memory, of which the second read fails.
-pub fn read_examples()
-    ensures absent { MemRead (files_after 0 0 None) (files_after 1 0 None) (codes "r") (Ok None) }
-    ensures failed { MemRead (files_after 1 0 None) (files_after 2 1 (Some (codes "q"))) (codes "q") (Err read.Failed) }
-    ensures only_then { MemRead (files_after 0 0 None) (files_after 1 1 (Some (codes "q")))
-        (codes "q") (Err read.Failed) → ⊥ }
-    ensures then_so { MemRead (files_after 1 0 None) (files_after 2 0 None) (codes "r") (Ok None) → ⊥ }
-    ensures counted { MemRead (files_after 0 0 None) (files_after 0 0 None) (codes "r") (Ok None) → ⊥ }
-{}
-
-/// Worked examples of writes to a sink in memory, of which the second write fails after three bytes.
-pub fn write_examples()
-    ensures whole { MemWrite (sink_after (codes "a") 0 0) (sink_after (codes "abc") 1 0) (codes "bc") (Ok tt) }
-    ensures part { MemWrite (sink_after [] 1 0) (sink_after (codes "abc") 2 1) (codes "abcde") (Err write.Failed) }
-    ensures short { MemWrite (sink_after [] 1 0) (sink_after (codes "ab") 2 1) (codes "ab") (Err write.Failed) }
-    ensures not_whole { MemWrite (sink_after [] 1 0) (sink_after (codes "abcde") 2 0) (codes "abcde") (Ok tt) → ⊥ }
-    ensures only_then { MemWrite (sink_after [] 0 0) (sink_after (codes "abc") 1 1)
-        (codes "abcde") (Err write.Failed) → ⊥ }
 {}

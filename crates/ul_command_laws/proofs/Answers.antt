@@ -2,7 +2,7 @@
 use Rattle.std.proofs.Common.{◌≡◌, ◌∙◌, ℕ, List, [], Bool, true, false, length, map, ◌++◌, Option, Some, None, Result, Ok, Err, refl, sym, ap, subst, inl, inr}
 use Rattle.std.specs.Prelude.{codes}
 use Rattle.std.specs.Fmt.{decimal}
-use Rattle.ul_base.specs.Files.{FileMap}
+use Rattle.ul_files.specs.Files.{FileMap}
 use Rattle.ul_lines.specs.Lines.{lines_of}
 use Rattle.ul_comparison.specs.Machines.{MachineFields}
 use Rattle.ul_nodes.specs.Plain.{Plain as Tree}
@@ -12,6 +12,8 @@ use Rattle.ul_problem.specs.Plain.{Plain as Problem}
 use Rattle.ul_blame.specs.Texts.{IsCoreText, core_text}
 use Rattle.ul_project.specs.Laws.{OneProject}
 use Rattle.ul_load.specs.Laws.{TurnsAgree}
+use Rattle.ul_load.specs.Loading.{file_bytes}
+use Rattle.ul_canonical.proofs.ForCallers.{canonical_once}
 use Rattle.ul_lock_read.specs.Laws.{OneFault as OneLockFault, OneTextOneLock}
 use Rattle.ul_lock.specs.declared.parts.Lock.{Lock}
 use Rattle.ul_lock_write.specs.Markers.{first_over, markers_of}
@@ -27,7 +29,7 @@ use Rattle.ul_reach.specs.declared.rows.Reached.{Reached}
 use Rattle.ul_report_read.specs.Proofs.{AreProofLines, IsTextOf}
 use Rattle.ul_report_read.specs.declared.proof.Proof.{Proof}
 use Rattle.ul_report_judge.specs.Faults.{AcceptsNames, IsFirstBad}
-use Rattle.ul_inputs.specs.Inputs.{Said, answer, large_file, said_on, text_bytes}
+use Rattle.ul_inputs.specs.Inputs.{Said, answer, large_file, said_on, small_file, text_bytes}
 use Rattle.ul_inputs.specs.Refused.{Refused, malformed}
 use Rattle.ul_inputs.specs.Locks.{kept_of, lock_at}
 use Rattle.ul_inputs.specs.Machines.{machine_at}
@@ -39,11 +41,12 @@ use Rattle.ul_answers.specs.Printed.{printed}
 use Rattle.ul_lock_commands.specs.Environments.{GivesFor, GivesWhere, IsEnvAnswer}
 use Rattle.ul_lock_commands.specs.Exports.{GivesRows, IsExportAnswer}
 use Rattle.ul_lock_commands.specs.Words.{first_other, names_of}
-use Rattle.ul_commands.specs.Asked.{usage, lock, why, relock, gen, env, export, check, verify}
+use Rattle.ul_commands.specs.Asked.{usage, lock, why, relock, gen, env, export, marker, check, verify}
 use Rattle.ul_commands.specs.Checking.{IsAccepted, IsCheckAnswer, IsProofOf, IsRejected, proof_at, proof_said}
 use Rattle.ul_commands.specs.Commands.{command}
 use Rattle.ul_commands.specs.Generating.{IsCounted, counted_for, generated_files, index_folder, project_path}
 use Rattle.ul_commands.specs.Locking.{AreCoreLines, IsLockAnswer, LocksFor, RefusedWhere, answer_of, answer_where, leaf_fields, lock_of}
+use Rattle.ul_commands.specs.Markers.{IsMarkerAnswer, answer_of as marker_answer}
 use Rattle.ul_commands.specs.Questions.{question_of}
 use Rattle.ul_commands.specs.Reasons.{DerivedWhere, GivesReason, IsWhyAnswer}
 use Rattle.ul_commands.specs.Relocking.{IsRelockAnswer, unkept}
@@ -271,6 +274,15 @@ one_export : LowerLaws → (path : List ℕ) (words : List (List ℕ)) (m : File
 one_export laws path words m =
     one_on (lock_at path m) (λ l. answer (IsExportAnswer l words) m) (one_lock_at laws.locks laws.lock_faults path m) (λ l. export_once laws.rows l words)
 
+-- the bytes of a file of markers have one answer
+marker_once : (path bytes : List ℕ) (a b : Result Answer Refused) → IsMarkerAnswer path bytes a → IsMarkerAnswer path bytes b → a ≡ b
+marker_once path bytes a b g h = g.is ∙ (ap (marker_answer path) (canonical_once bytes g.texts h.texts g.canonical h.canonical) ∙ sym h.is)
+
+one_marker : (path : List ℕ) (m : FileMap) → IsOne (command (marker path) m)
+one_marker path m =
+    one_on (small_file path m) (λ bytes. answer (IsMarkerAnswer path bytes) m) (one_file (codes "file-bytes") file_bytes path m)
+    (λ bytes. marker_once path bytes)
+
 one_check : LowerLaws → (project folder derivation : List ℕ) (m : FileMap) → IsOne (command (check project folder derivation) m)
 one_check laws project folder derivation m =
     one_on (project_at project m)
@@ -306,6 +318,7 @@ answers_are_equal laws (gen seed size workers) m a b other g h =
     counts_once (lock_of project_path index_folder None files) (one_lock_of laws project_path index_folder None files) a b g h
 answers_are_equal laws (env path machine words) m a b other g h = one_env laws path machine words m a b g h
 answers_are_equal laws (export path words) m a b other g h = one_export laws path words m a b g h
+answers_are_equal laws (marker path) m a b other g h = one_marker path m a b g h
 answers_are_equal laws (check project folder derivation) m a b other g h = one_check laws project folder derivation m a b g h
 answers_are_equal laws (verify project folder path) m a b other g h = one_verify laws project folder path m a b g h
 
@@ -321,6 +334,7 @@ answers_are_one laws (relock project folder workers old) m a b g h =
 answers_are_one laws (gen seed size workers) m a b g h = ap without_steps (answers_are_equal laws (gen seed size workers) m a b tt g h)
 answers_are_one laws (env path machine words) m a b g h = ap without_steps (answers_are_equal laws (env path machine words) m a b tt g h)
 answers_are_one laws (export path words) m a b g h = ap without_steps (answers_are_equal laws (export path words) m a b tt g h)
+answers_are_one laws (marker path) m a b g h = ap without_steps (answers_are_equal laws (marker path) m a b tt g h)
 answers_are_one laws (check project folder derivation) m a b g h =
     ap without_steps (answers_are_equal laws (check project folder derivation) m a b tt g h)
 answers_are_one laws (verify project folder path) m a b g h =

@@ -1,7 +1,7 @@
 -- Inputs that are read are answered, and by which status.
 use Rattle.std.proofs.Common.{◌≡◌, ◌∙◌, ◌≤◌, ℕ, List, [], ◌++◌, Bool, true, false, length, Option, Some, None, Result, Ok, refl, sym, ap, arith, inl, inr}
-use Rattle.std.specs.Prelude.{nat_le}
-use Rattle.ul_base.specs.Files.{FileMap}
+use Rattle.std.specs.Prelude.{codes, nat_le}
+use Rattle.ul_files.specs.Files.{FileMap}
 use Rattle.ul_tree.specs.Paths.{is_printable}
 use Rattle.ul_nodes.specs.Plain.{Plain}
 use Rattle.ul_generations.specs.Generations.{leaves_are, refused_at, too_many}
@@ -10,7 +10,8 @@ use Rattle.ul_lock.specs.declared.parts.Lock.{Lock}
 use Rattle.ul_lock_write.specs.Markers.{first_over, markers_of}
 use Rattle.ul_lock_write.specs.Texts.{lock_text}
 use Rattle.ul_report.specs.Texts.{refusal_text}
-use Rattle.ul_inputs.specs.Inputs.{answer, text_bytes}
+use Rattle.ul_load.specs.Loading.{file_bytes}
+use Rattle.ul_inputs.specs.Inputs.{answer, small_file, text_bytes}
 use Rattle.ul_inputs.specs.Locks.{kept_of, lock_at, old_lock}
 use Rattle.ul_inputs.specs.Machines.{machine_at}
 use Rattle.ul_inputs.specs.Projects.{project_at}
@@ -24,6 +25,7 @@ use Rattle.ul_commands.specs.Asked.{relock}
 use Rattle.ul_commands.specs.Checking.{IsCheckAnswer, check_on, check_with, proof_at}
 use Rattle.ul_commands.specs.Commands.{command}
 use Rattle.ul_commands.specs.Locking.{IsLockAnswer, IsLocked, LocksFor, RefusedWhere, answer_of, answer_where}
+use Rattle.ul_commands.specs.Markers.{IsMarkerAnswer}
 use Rattle.ul_commands.specs.Questions.{IsForked}
 use Rattle.ul_commands.specs.Reasons.{IsWhyAnswer}
 use Rattle.ul_commands.specs.Relocking.{IsRelockAnswer, relock_on, relock_with}
@@ -32,7 +34,7 @@ use Rattle.ul_command_laws.specs.Complete.{InputsAreAnswered, IsWithinLimits, Lo
 use Rattle.ul_command_laws.specs.Lower.{LowerLaws}
 use Rattle.ul_command_laws.proofs.Answers.{one_proof_at, one_resolution}
 use Rattle.ul_command_laws.proofs.Inputs.{one_lock_at, one_old_lock, one_machine_at, one_project_at, one_resolution_with}
-use Rattle.ul_command_laws.proofs.Ones.{given_on}
+use Rattle.ul_command_laws.proofs.Ones.{given_on, one_file}
 
 -- ---- inputs that are read
 
@@ -63,6 +65,8 @@ inputs_are_answered laws = record {
       (given_on (lock_at path m) (λ k. env_on machine words k m) (one_lock_at laws.locks laws.lock_faults path m) l has_lock a gives);
   export = λ path words m l a has_lock gives.
       given_on (lock_at path m) (λ k. answer (IsExportAnswer k words) m) (one_lock_at laws.locks laws.lock_faults path m) l has_lock a gives;
+  marker = λ path m bytes a has_bytes gives.
+      given_on (small_file path m) (λ b. answer (IsMarkerAnswer path b) m) (one_file (codes "file-bytes") file_bytes path m) bytes has_bytes a gives;
   check = λ project folder derivation m p x r a has_project has_proof read gives.
       given_on (resolution_with folder p [] m) (λ s. answer (IsCheckAnswer s x) m) (one_resolution_with laws.turns folder p [] m) r read a
       (given_on (proof_at derivation m) (λ y. check_with folder p y m) (one_proof_at laws derivation m) x has_proof a

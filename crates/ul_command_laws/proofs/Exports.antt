@@ -1,21 +1,17 @@
 -- What `export` prints of a lock that is right for a project.
-use Rattle.std.proofs.Common.{◌≡◌, ◌≢◌, ◌∙◌, ℕ, List, true, Contains, Ok, refl, sym, ap, subst, inl, inr}
+use Rattle.std.proofs.Common.{◌≡◌, ◌≢◌, ◌∙◌, ℕ, List, Ok, refl, sym, ap, subst}
 use Rattle.std.specs.Prelude.{◌↔◌}
 use Rattle.ul_base.specs.declared.node.Node.{Node}
 use Rattle.ul_nodes.specs.Plain.{Plain}
 use Rattle.ul_version.specs.Fields.{Fields}
-use Rattle.ul_comparison.specs.Worlds.{WorldFields, IsWorld}
+use Rattle.ul_comparison.specs.Worlds.{WorldFields}
 use Rattle.ul_tree.specs.Regions.{region_of}
 use Rattle.ul_lock.specs.declared.parts.Lock.{Lock}
-use Rattle.ul_lock.specs.Walk.{Walk}
-use Rattle.ul_lock.specs.WellFormed.{IsWellFormed}
-use Rattle.ul_lock_write.specs.Texts.{lock_text}
 use Rattle.ul_sound.specs.Leaves.{supported_by}
-use Rattle.ul_sound.specs.Sound.{AreProjectExtras, Closure, IsSound, IsSoundAt}
+use Rattle.ul_sound.specs.Sound.{IsSound, IsSoundAt}
 use Rattle.ul_reach.specs.Headline.{HasRowIn, IsGiven}
 use Rattle.ul_reach.specs.Rows.{is_supported, row_key}
 use Rattle.ul_reach.specs.declared.rows.Reached.{Reached}
-use Rattle.ul_inputs.specs.Locks.{lock_at}
 use Rattle.ul_inputs.specs.Resolutions.{ResolutionFields}
 use Rattle.ul_answers.specs.Answer.{exported, locked}
 use Rattle.ul_lock_commands.specs.Exports.{ExportsAreExact, SayWhatIsGiven}
@@ -24,10 +20,11 @@ use Rattle.ul_commands.specs.Laws.{LocksAreSound}
 use Rattle.ul_command_laws.specs.Complete.{InputsAreAnswered}
 use Rattle.ul_command_laws.specs.Environments.{IsRequired}
 use Rattle.ul_command_laws.specs.Exports.{ExportsOfFiles, ExportsOfVerifiedFiles, ExportsRequired, HoldsIn, ListsRequired}
+use Rattle.ul_command_laws.specs.Printed.{PrintedLaws}
 use Rattle.ul_command_laws.specs.Verified.{VerifiedFilesAreSound}
-use Rattle.ul_command_laws.proofs.ReadFiles.{file_text}
+use Rattle.ul_command_laws.proofs.ReadFiles.{text_read}
 use Rattle.ul_command_laws.proofs.Verified.{verified_lock}
-use Rattle.ul_command_laws.proofs.VerifiedFiles.{PrintedLaws, answered_verified, read_well, verified_answer}
+use Rattle.ul_command_laws.proofs.VerifiedFiles.{answered_verified, answered_well, read_well, verified_answer}
 
 module _ (r : ResolutionFields) (l : Lock) (words : List (List ℕ)) (rows : List Reached) (w : WorldFields)
     (named : l.root ≡ r.project.package.name)
@@ -72,16 +69,10 @@ exports_required r l words rows named supported sound say own w world within =
 pub exports_of_files : InputsAreAnswered → ExportsAreExact → LocksAreSound → PrintedLaws → ExportsOfFiles
 exports_of_files inputs exact sound laws project folder old workers path words before now r l forks rows gave locks at few prints =
     let locked_by = inputs.lock project folder workers old before r (Ok (locked l forks)) gave locks in
-    let resolution = laws.resolution project folder old before r gave in
-    let well = laws.formed r l forks resolution (laws.had project folder old before r gave) locked_by in
+    let well = answered_well laws project folder old before r l forks gave locked_by in
     let is = answered_verified laws project folder old before r l forks gave locked_by in
-    let read : (lock_at path now).gives (Ok l) =
-    inr (record {
-      value = lock_text l;
-      gave = file_text now path (lock_text l) at few;
-      answers = laws.texts l well (laws.printable r l forks locked_by);
-    }) in
-    exports_required r l words rows is.root.named is.supported (sound r l forks resolution locked_by)
+    let read = text_read laws.texts now path l well (laws.printable r l forks locked_by) at few in
+    exports_required r l words rows is.root.named is.supported (sound r l forks (laws.resolution project folder old before r gave) locked_by)
     (exact l words rows well (inputs.export path words now l (Ok (exported rows)) read prints))
 
 pub exports_of_verified_files : InputsAreAnswered → ExportsAreExact → VerifiedFilesAreSound → ExportsOfVerifiedFiles

@@ -6,7 +6,9 @@ pub use Rattle.ul_command_laws.proofs.Reasons.{split_goes}
 pub use Rattle.ul_command_laws.proofs.Ones.{not_both, ok_same}
 -- a lock file gives at most one result
 pub use Rattle.ul_command_laws.proofs.Inputs.{one_lock_at}
--- the text of a file that isn't too long is read, and the parts of what the files give
-pub use Rattle.ul_command_laws.proofs.ReadFiles.{Read, file_text, fits, read_of}
--- a lock that is read is well formed, and one that is answered is verified
-pub use Rattle.ul_command_laws.proofs.VerifiedFiles.{PrintedLaws, answered_verified, read_well}
+-- a length within the limit, the text of a lock is read as the lock, and the parts of what the files give
+pub use Rattle.ul_command_laws.proofs.ReadFiles.{Read, fits, read_of, text_read}
+-- what is read of a file is its text
+pub use Rattle.ul_command_laws.proofs.LockFiles.{file_read}
+-- a lock that is read is well formed, and one that is answered is that and verified
+pub use Rattle.ul_command_laws.proofs.VerifiedFiles.{answered_verified, answered_well, read_well}

@@ -1,13 +1,13 @@
 -- Each input is one result.
 use Rattle.std.proofs.Common.{◌≡◌, ◌∙◌, ℕ, List, [], Option, Some, None, Result, Ok, Err, sym, ap, inl, inr}
 use Rattle.std.specs.Prelude.{codes}
-use Rattle.ul_base.specs.Files.{FileMap}
+use Rattle.ul_files.specs.Files.{FileMap}
 use Rattle.ul_index.specs.Catalogs.{Packages}
 use Rattle.ul_project.specs.Fields.{ProjectFields}
 use Rattle.ul_project.specs.Laws.{OneProject}
 use Rattle.ul_project.specs.ProjectFile.{FileFields}
 use Rattle.ul_project.specs.Shapes.{Fault}
-use Rattle.ul_groups.specs.Adjusted.{adjusted_catalog}
+use Rattle.ul_groups.specs.Adjusted.{catalog_for}
 use Rattle.ul_groups.specs.Expanded.{Expanding, expanded_project, refused}
 use Rattle.ul_load.specs.Laws.{TurnsAgree}
 use Rattle.ul_load.specs.Loading.{Traced, file_bytes}
@@ -102,8 +102,8 @@ one_documents turns folder p m a b g h =
 
 pub one_catalog_in : TurnsAgree → (folder : List ℕ) (p : ProjectFields) (m : FileMap) → IsOne (catalog_in folder p m)
 one_catalog_in turns folder p m =
-    one_on (documents folder p m) (λ c. just (Ok (adjusted_catalog p.constraints p.overrides c)) m) (one_documents turns folder p m)
-    (λ c. one_just (Ok (adjusted_catalog p.constraints p.overrides c)) m)
+    one_on (documents folder p m) (λ c. just (Ok (catalog_for p c)) m) (one_documents turns folder p m)
+    (λ c. one_just (Ok (catalog_for p c)) m)
 
 -- ---- resolutions
 

@@ -1,7 +1,7 @@
 -- What `env` prints of a file that has a lock's text.
 use Rattle.std.proofs.Common.{◌≡◌, ◌∙◌, ℕ, List, Bool, true, false, length, Option, Some, None, Result, Ok, Err, ap, subst, inl, inr}
 use Rattle.std.specs.Prelude.{nat_le, codes, if◌then◌else◌}
-use Rattle.ul_base.specs.Files.{FileMap, content}
+use Rattle.ul_files.specs.Files.{FileMap, content}
 use Rattle.ul_comparison.specs.Machines.{MachineFields}
 use Rattle.ul_project.specs.Laws.{OneProject}
 use Rattle.ul_load.specs.Laws.{TurnsAgree}
@@ -11,7 +11,7 @@ use Rattle.ul_lock.specs.declared.parts.Lock.{Lock}
 use Rattle.ul_lock_write.specs.Markers.{first_over, markers_of}
 use Rattle.ul_lock_write.specs.Texts.{lock_text}
 use Rattle.ul_lock.specs.WellFormed.{IsWellFormed}
-use Rattle.ul_inputs.specs.Inputs.{answer, bounded, large_file, present, said_on, text_bytes}
+use Rattle.ul_inputs.specs.Inputs.{answer, bounded, present, present_file, said_on, text_bytes}
 use Rattle.ul_inputs.specs.Refused.{Refused, limit}
 use Rattle.ul_inputs.specs.Locks.{lock_at}
 use Rattle.ul_inputs.specs.Machines.{machine_at}
@@ -42,19 +42,20 @@ pub record FileLaws : Type 0 where
 
 -- ---- the text of a file
 
-found_is : (text : List ℕ) (b : Bool) (found : Option (List ℕ))
-    → Ok found ≡ (if b then Ok (Some text) else Err (limit (codes "text-bytes") text_bytes)) → found ≡ Some text
-found_is text true found e = cc
-found_is text false found e = absurd (cc)
+found_is : (name : List ℕ) (most : ℕ) (text : List ℕ) (b : Bool) (found : Option (List ℕ))
+    → Ok found ≡ (if b then Ok (Some text) else Err (limit name most)) → found ≡ Some text
+found_is name most text true found e = cc
+found_is name most text false found e = absurd (cc)
 
 text_same : (s t : List ℕ) → (let r : Result (List ℕ) Refused = Ok s in r) ≡ Ok t → s ≡ t
 text_same s t e = cc
 
 -- what is read of a file that has the text is the text
-file_read : (m : FileMap) (path text read : List ℕ) → content m path ≡ Some text → (large_file path m).gives (Ok read) → read ≡ text
-file_read m path text read at (inl h) = absurd h
-file_read m path text read at (inr h) =
-    let found = found_is text (nat_le (length text) text_bytes) h.value (h.gave ∙ ap (bounded (codes "text-bytes") text_bytes) at) in
+pub file_read : (name : List ℕ) (most : ℕ) (m : FileMap) (path text read : List ℕ) → content m path ≡ Some text
+    → (present_file name most path m).gives (Ok read) → read ≡ text
+file_read name most m path text read at (inl h) = absurd h
+file_read name most m path text read at (inr h) =
+    let found = found_is name most text (nat_le (length text) most) h.value (h.gave ∙ ap (bounded name most) at) in
     text_same read text (h.answers ∙ ap (present path) found)
 
 -- the lock of a file that has its text
@@ -63,7 +64,7 @@ lock_read : OneTextOneLock → TextIsLocks → (m : FileMap) (path : List ℕ) (
     → (lock_at path m).gives (Ok k) → k ≡ l
 lock_read locks texts m path l k well none at (inl h) = absurd h
 lock_read locks texts m path l k well none at (inr h) =
-    let read = file_read m path (lock_text l) h.value at h.gave in
+    let read = file_read (codes "text-bytes") text_bytes m path (lock_text l) h.value at h.gave in
     locks (lock_text l) k l (subst (λ t. IsTextOf t k) read h.answers) (texts l well none)
 
 -- ---- what was answered

@@ -1,6 +1,6 @@
 -- What files say is one result, where each part of it is.
 use Rattle.std.proofs.Common.{◌≡◌, ◌∙◌, ℕ, List, Result, Ok, Err, refl, sym, subst, inl, inr}
-use Rattle.ul_base.specs.Files.{FileMap}
+use Rattle.ul_files.specs.Files.{FileMap}
 use Rattle.ul_inputs.specs.Inputs.{Said, just, said_on, file_at, present, present_file}
 use Rattle.ul_inputs.specs.Refused.{Refused}
 

@@ -1,7 +1,8 @@
 -- The answer to what is asked depends on what is read for it alone.
 use Rattle.std.proofs.Common.{ℕ, List, []}
 use Rattle.std.specs.Prelude.{codes}
-use Rattle.ul_inputs.specs.Inputs.{answer, large_file, text_bytes}
+use Rattle.ul_load.specs.Loading.{file_bytes}
+use Rattle.ul_inputs.specs.Inputs.{answer, large_file, small_file, text_bytes}
 use Rattle.ul_inputs.specs.Locks.{kept_of, lock_at}
 use Rattle.ul_inputs.specs.Machines.{machine_at}
 use Rattle.ul_inputs.specs.Projects.{project_at}
@@ -10,9 +11,10 @@ use Rattle.laws_frames.specs.Frames.{InputsByWhatIsRead, IsByWhatIsRead}
 use Rattle.laws_frames.proofs.ForCallers.{by_present, by_values, goes_on}
 use Rattle.ul_lock_commands.specs.Environments.{IsEnvAnswer, env_on}
 use Rattle.ul_lock_commands.specs.Exports.{IsExportAnswer}
-use Rattle.ul_commands.specs.Asked.{usage, lock, why, relock, gen, env, export, check, verify}
+use Rattle.ul_commands.specs.Asked.{usage, lock, why, relock, gen, env, export, marker, check, verify}
 use Rattle.ul_commands.specs.Checking.{IsCheckAnswer, check_on, check_with, proof_at, proof_said}
 use Rattle.ul_commands.specs.Locking.{IsLockAnswer}
+use Rattle.ul_commands.specs.Markers.{IsMarkerAnswer}
 use Rattle.ul_commands.specs.Reasons.{IsWhyAnswer}
 use Rattle.ul_commands.specs.Relocking.{IsRelockAnswer, relock_on, relock_with}
 use Rattle.ul_commands.specs.Verifying.{IsVerifyAnswer, verify_on, verify_with}
@@ -40,6 +42,9 @@ answers_by_what_is_read inputs (env path machine words) =
     (λ l. goes_on (machine_at machine) (λ x. answer (IsEnvAnswer l x words)) (inputs.machine machine) (λ x. by_values _))
 answers_by_what_is_read inputs (export path words) =
     goes_on (lock_at path) (λ l. answer (IsExportAnswer l words)) (inputs.lock path) (λ l. by_values _)
+answers_by_what_is_read inputs (marker path) =
+    goes_on (small_file path) (λ bytes. answer (IsMarkerAnswer path bytes)) (by_present (codes "file-bytes") file_bytes path)
+    (λ bytes. by_values _)
 answers_by_what_is_read inputs (check project folder derivation) =
     goes_on (project_at project) (check_on folder derivation) (inputs.project project)
     (λ p. goes_on (proof_at derivation) (check_with folder p) (by_derivation derivation)

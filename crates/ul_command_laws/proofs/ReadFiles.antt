@@ -1,11 +1,16 @@
 -- What was read of files: the text of a file, and the parts of a resolution, whatever an old lock keeps.
 use Rattle.std.proofs.Common.{◌≡◌, ◌∙◌, ◌≤◌, ℕ, List, [], true, length, Option, Some, None, Ok, refl, sym, ap, subst, arith, inl, inr}
 use Rattle.std.specs.Prelude.{codes, nat_le}
-use Rattle.ul_base.specs.Files.{FileMap, content}
+use Rattle.ul_files.specs.Files.{FileMap, content}
 use Rattle.ul_index.specs.Catalogs.{Packages}
 use Rattle.ul_project.specs.Fields.{ProjectFields}
+use Rattle.ul_lock.specs.WellFormed.{IsWellFormed}
+use Rattle.ul_lock.specs.declared.parts.Lock.{Lock}
+use Rattle.ul_lock_read.specs.Laws.{TextIsLocks}
+use Rattle.ul_lock_write.specs.Markers.{first_over, markers_of}
+use Rattle.ul_lock_write.specs.Texts.{lock_text}
 use Rattle.ul_inputs.specs.Inputs.{bounded, large_file, said_on, text_bytes}
-use Rattle.ul_inputs.specs.Locks.{Kept, old_lock}
+use Rattle.ul_inputs.specs.Locks.{Kept, lock_at, old_lock}
 use Rattle.ul_inputs.specs.Projects.{project_at}
 use Rattle.ul_inputs.specs.Resolutions.{ResolutionFields, resolution_in, resolution_of, resolution_with}
 use Rattle.laws_frames.specs.Frames.{AgreeOn, InputsByWhatIsRead}
@@ -27,6 +32,15 @@ file_text m path text at few = inr (record {
       rw (fits (length text) few) refl in
       sym whole ∙ ap (bounded (codes "text-bytes") text_bytes) (sym at);
   answers = refl;
+})
+
+-- the text of a lock is read as the lock
+pub text_read : TextIsLocks → (m : FileMap) (path : List ℕ) (l : Lock) → IsWellFormed l → first_over (markers_of l) ≡ None
+    → content m path ≡ Some (lock_text l) → length (lock_text l) ≤ text_bytes → (lock_at path m).gives (Ok l)
+text_read texts m path l well printable at few = inr (record {
+  value = lock_text l;
+  gave = file_text m path (lock_text l) at few;
+  answers = texts l well printable;
 })
 
 -- ---- the parts of a resolution

@@ -1,5 +1,5 @@
 -- With which status `env` ends of a lock that is right for a project.
-use Rattle.std.proofs.Common.{◌≡◌, ◌↔◌, ◌∙◌, ℕ, List, [], ◌∷◌, Bool, true, false, not, cond, find, Option, Some, None, Contains, Result, Ok, refl, sym, ap, subst, inr}
+use Rattle.std.proofs.Common.{◌≡◌, ◌↔◌, ◌∙◌, ℕ, List, [], ◌∷◌, Bool, true, false, not, cond, find, Option, Some, None, Contains, Result, Ok, refl, sym, ap, subst}
 use Rattle.ul_base.specs.Names.{is_name, name_of, normal_form}
 use Rattle.ul_base.proofs.ForCallers.{contains_first, contains_flat, contains_later, name-is_name, none_found}
 use Rattle.ul_comparison.specs.Atoms.{AtomFields}
@@ -10,24 +10,23 @@ use Rattle.ul_project.specs.Fields.{ProjectFields}
 use Rattle.ul_lock.specs.WellFormed.{IsWellFormed}
 use Rattle.ul_lock.specs.declared.parts.Lock.{Lock}
 use Rattle.ul_lock_nodes.specs.Roots.{root_lists}
-use Rattle.ul_lock_write.specs.Texts.{lock_text}
 use Rattle.ul_sound.specs.Leaves.{supported_by}
 use Rattle.ul_sound.specs.Sound.{AreProjectExtras}
 use Rattle.ul_verified.specs.Verified.{IsRoot}
 use Rattle.ul_verified.proofs.ForCallers.{root_has}
 use Rattle.ul_filter.specs.Comparisons.{HasAll, lock_atoms, machine_world}
 use Rattle.ul_filter.specs.Headline.{MoreAgrees, is_supported_at}
-use Rattle.ul_inputs.specs.Locks.{lock_at}
 use Rattle.ul_inputs.specs.Refused.{Refused}
 use Rattle.ul_answers.specs.Answer.{Answer, locked}
 use Rattle.ul_answers.specs.Printed.{printed}
 use Rattle.ul_lock_commands.specs.Environments.{GivesFor, GivesWhere, IsEnvAnswer}
 use Rattle.ul_lock_commands.specs.Words.{first_other, has_extra, is_extra_word, names_in, names_of}
 use Rattle.ul_command_laws.specs.Complete.{InputsAreAnswered}
+use Rattle.ul_command_laws.specs.Printed.{PrintedLaws}
 use Rattle.ul_command_laws.specs.Statuses.{EndsRightly, StatusesOfFiles, StatusesOfVerifiedFiles, WordsAreNames}
-use Rattle.ul_command_laws.proofs.ReadFiles.{file_text}
+use Rattle.ul_command_laws.proofs.ReadFiles.{text_read}
 use Rattle.ul_command_laws.proofs.Verified.{verified_lock}
-use Rattle.ul_command_laws.proofs.VerifiedFiles.{PrintedLaws, answered_verified, read_well, verified_answer}
+use Rattle.ul_command_laws.proofs.VerifiedFiles.{answered_verified, answered_well, read_well, verified_answer}
 
 -- ---- words
 
@@ -113,14 +112,9 @@ pub statuses_of_files : InputsAreAnswered → MoreAgrees → PrintedLaws → Sta
 statuses_of_files inputs more laws project folder old workers path machine words before now r l forks m a comparisons
     gave locks at few machined all extras answers =
     let locked_by = inputs.lock project folder workers old before r (Ok (locked l forks)) gave locks in
-    let well = laws.formed r l forks (laws.resolution project folder old before r gave) (laws.had project folder old before r gave) locked_by in
+    let well = answered_well laws project folder old before r l forks gave locked_by in
     let is = answered_verified laws project folder old before r l forks gave locked_by in
-    let read : (lock_at path now).gives (Ok l) =
-    inr (record {
-      value = lock_text l;
-      gave = file_text now path (lock_text l) at few;
-      answers = laws.texts l well (laws.printable r l forks locked_by);
-    }) in
+    let read = text_read laws.texts now path l well (laws.printable r l forks locked_by) at few in
     ends_rightly more r.project l well is.root is.supported m words a comparisons all extras
     (inputs.env path machine words now l m a read machined answers)
 

@@ -1,32 +1,28 @@
 -- What `verify` reads and accepts.
 use Rattle.std.proofs.Common.{◌≡◌, ℕ, List, [], ◌∷◌, map, Option, None, Ok, refl, ap, subst, inl, inr}
-use Rattle.ul_base.specs.Files.{FileMap}
+use Rattle.ul_files.specs.Files.{FileMap}
 use Rattle.ul_requirement.specs.Fields.{ReleaseFields}
 use Rattle.ul_project.specs.Fields.{ProjectFields}
-use Rattle.ul_groups.specs.Adjusted.{ByName, adjusted_package, adjusted_release, all_on}
-use Rattle.ul_lock_read.specs.Laws.{TextIsLocks}
+use Rattle.ul_groups.specs.Adjusted.{ByName, adjusted_release, all_on, package_for}
 use Rattle.ul_lock_read.specs.TextOf.{IsTextOf}
 use Rattle.ul_lock.specs.declared.parts.Lock.{Lock}
-use Rattle.ul_lock_write.specs.Texts.{lock_text}
 use Rattle.ul_lock.specs.WellFormed.{IsWellFormed}
-use Rattle.ul_verified.specs.Headline.{HasProject, VerifiedPromises}
+use Rattle.ul_verified.specs.Headline.{HasProject}
 use Rattle.ul_verified.specs.Verified.{IsVerified}
-use Rattle.ul_inputs.specs.Inputs.{large_file}
 use Rattle.ul_inputs.specs.Locks.{lock_at}
 use Rattle.ul_inputs.specs.Projects.{project_at}
 use Rattle.ul_inputs.specs.Resolutions.{ResolutionFields, resolution_in, resolution_of, resolution_with}
-use Rattle.ul_given.specs.Given.{BeginsWithProject, GivenBegins, GivenHasTexts, GivenIsResolution}
+use Rattle.ul_given.specs.Given.{BeginsWithProject}
 use Rattle.ul_answers.specs.Answer.{environment, locked, verified}
 use Rattle.ul_commands.specs.Asked.{verify}
 use Rattle.ul_commands.specs.Commands.{command}
-use Rattle.ul_commands.specs.Laws.{LocksAreOfLeaves, LocksArePrintable}
 use Rattle.ul_commands.specs.Locking.{IsLockAnswer}
 use Rattle.ul_commands.specs.Verifying.{IsVerifyAnswer}
 use Rattle.ul_command_laws.specs.Complete.{InputsAreAnswered}
 use Rattle.ul_command_laws.specs.Verified.{EnvironmentsOfVerified, EnvironmentsOfVerifiedFiles, LocksAreVerified, VerifiedAreSound, VerifiedFilesAreSound}
-use Rattle.ul_command_laws.specs.WellFormed.{LocksAreWellFormed}
+use Rattle.ul_command_laws.specs.Printed.{PrintedLaws}
 use Rattle.laws_frames.specs.Frames.{InputsByWhatIsRead}
-use Rattle.ul_command_laws.proofs.ReadFiles.{file_text, made_itself, made_now, read_of, said_now}
+use Rattle.ul_command_laws.proofs.ReadFiles.{made_itself, made_now, read_of, said_now, text_read}
 
 -- a lock that is read is well formed
 pub read_well : (path : List ℕ) (m : FileMap) (l : Lock) → (lock_at path m).gives (Ok l) → IsWellFormed l
@@ -64,23 +60,12 @@ has_project r begun =
     let constraints = all_on r.project.constraints in
     let overrides = all_on r.project.overrides in
     record {
-      first = adjusted_package constraints overrides r.project.package;
+      first = package_for r.project r.project.package;
       rest = begun.begins.others;
       is = begun.begins.is;
       named = refl;
       versions = versions_stay constraints overrides r.project.package.releases;
     }
-
--- the laws on which this rests
-pub record PrintedLaws : Type 0 where
-  pub resolution : GivenIsResolution
-  pub begins : GivenBegins
-  pub leaves : LocksAreOfLeaves
-  pub verified : VerifiedPromises
-  pub texts : TextIsLocks
-  pub printable : LocksArePrintable
-  pub had : GivenHasTexts
-  pub formed : LocksAreWellFormed
 
 -- the lock that is answered is verified
 pub answered_verified : PrintedLaws → (project folder : List ℕ) (old : Option (List ℕ)) (m : FileMap) (r : ResolutionFields) (l : Lock) (forks : ℕ)
@@ -89,32 +74,33 @@ answered_verified laws project folder old m r l forks gave answer =
     let of = laws.leaves r l forks (laws.resolution project folder old m r gave) answer in
     laws.verified.merged r.catalog r.project of.leaves l (has_project r (laws.begins project folder old m r gave)) of.served of.merged
 
+-- and well formed
+pub answered_well : PrintedLaws → (project folder : List ℕ) (old : Option (List ℕ)) (m : FileMap) (r : ResolutionFields) (l : Lock) (forks : ℕ)
+    → (resolution_in project folder old m).gives (Ok r) → IsLockAnswer r (Ok (locked l forks)) → IsWellFormed l
+answered_well laws project folder old m r l forks gave answer =
+    laws.formed r l forks (laws.resolution project folder old m r gave) (laws.had project folder old m r gave) answer
+
 -- what `verify` reads and answers, part by part
-accepted : (project folder path text : List ℕ) (m : FileMap) (p : ProjectFields) (r : ResolutionFields) (l : Lock)
-    → (project_at project m).gives (Ok p) → (large_file path m).gives (Ok text) → IsTextOf text l
+accepted : (project folder path : List ℕ) (m : FileMap) (p : ProjectFields) (r : ResolutionFields) (l : Lock)
+    → (project_at project m).gives (Ok p) → (lock_at path m).gives (Ok l)
     → (resolution_with folder p [] m).gives (Ok r) → IsVerifyAnswer r l (Ok verified)
     → (command (verify project folder path) m).gives (Ok verified)
-accepted project folder path text m p r l said file is_text made answer = inr (record {
+accepted project folder path m p r l said read made answer = inr (record {
   value = p;
   gave = said;
-  answers = inr (record {
-    value = l;
-    gave = inr (record { value = text; gave = file; answers = is_text });
-    answers = inr (record { value = r; gave = made; answers = answer });
-  });
+  answers = inr (record { value = l; gave = read; answers = inr (record { value = r; gave = made; answers = answer }) });
 })
 
 pub locks_are_verified : InputsByWhatIsRead → PrintedLaws → LocksAreVerified
 locks_are_verified inputs laws project folder path old workers before now l forks (inl h) agree at few = absurd h
 locks_are_verified inputs laws project folder path old workers before now l forks (inr h) agree at few =
-    let well = laws.formed h.value l forks (laws.resolution project folder old before h.value h.gave)
-    (laws.had project folder old before h.value h.gave) h.answers in
+    let well = answered_well laws project folder old before h.value l forks h.gave h.answers in
     let read = read_of project folder old before h.value h.gave in
     let is = answered_verified laws project folder old before h.value l forks h.gave h.answers in
     let bare = resolution_of read.fields [] read.catalog in
     let here : IsVerified read.catalog read.fields l =
     subst (λ (r : ResolutionFields). IsVerified r.catalog r.project l) read.is is in
-    accepted project folder path (lock_text l) now read.fields bare l
+    accepted project folder path now read.fields bare l
     (said_now inputs project folder before now read.fields agree read.said)
-    (file_text now path (lock_text l) at few) (laws.texts l well (laws.printable h.value l forks h.answers))
+    (text_read laws.texts now path l well (laws.printable h.value l forks h.answers) at few)
     (made_now inputs project folder before now read.fields bare agree read.said read.made) (inl (record { verified = here; is = refl }))

@@ -1,7 +1,7 @@
 -- The number of workers doesn't matter.
 use Rattle.ul_inputs.specs.Inputs.{Said}
 use Rattle.ul_answers.specs.Answer.{Answer}
-use Rattle.ul_commands.specs.Asked.{usage, lock, why, relock, gen, env, export, check, verify}
+use Rattle.ul_commands.specs.Asked.{usage, lock, why, relock, gen, env, export, marker, check, verify}
 use Rattle.ul_commands.specs.Commands.{command}
 use Rattle.ul_command_laws.specs.Answers.{AnswersAreOne}
 use Rattle.laws_frames.specs.Frames.{SayTheSame}
@@ -18,6 +18,7 @@ workers_dont_matter (relock project folder workers old) n m = itself (command (r
 workers_dont_matter (gen seed size workers) n m = itself (command (gen seed size n) m)
 workers_dont_matter (env path machine words) n m = itself (command (env path machine words) m)
 workers_dont_matter (export path words) n m = itself (command (export path words) m)
+workers_dont_matter (marker path) n m = itself (command (marker path) m)
 workers_dont_matter (check project folder derivation) n m = itself (command (check project folder derivation) m)
 workers_dont_matter (verify project folder path) n m = itself (command (verify project folder path) m)
 

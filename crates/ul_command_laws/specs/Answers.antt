@@ -1,6 +1,6 @@
 -- What is asked has one answer.
 use Rattle.std.specs.Prelude.{◌≡◌, ℕ, List, [], Option, Result, Ok}
-use Rattle.ul_base.specs.Files.{FileMap}
+use Rattle.ul_files.specs.Files.{FileMap}
 use Rattle.ul_inputs.specs.Refused.{Refused}
 use Rattle.ul_answers.specs.Answer.{Answer, derived, locked, no_selection, none_refused, unwritten}
 use Rattle.ul_commands.specs.Asked.{Asked, lock, why}

@@ -1,6 +1,6 @@
 -- Inputs that are read are answered, and by which status.
 use Rattle.std.specs.Prelude.{◌≡◌, ◌≤◌, ◌↔◌, ℕ, List, [], length, Option, Some, None, Result, Ok}
-use Rattle.ul_base.specs.Files.{FileMap}
+use Rattle.ul_files.specs.Files.{FileMap}
 use Rattle.ul_comparison.specs.Machines.{MachineFields}
 use Rattle.ul_project.specs.Fields.{ProjectFields}
 use Rattle.ul_generations.specs.Generations.{leaves_are}
@@ -9,7 +9,7 @@ use Rattle.ul_lock.specs.declared.parts.Lock.{Lock}
 use Rattle.ul_lock_write.specs.Markers.{first_over, markers_of}
 use Rattle.ul_lock_write.specs.Texts.{lock_text}
 use Rattle.ul_report_read.specs.declared.proof.Proof.{Proof}
-use Rattle.ul_inputs.specs.Inputs.{text_bytes}
+use Rattle.ul_inputs.specs.Inputs.{small_file, text_bytes}
 use Rattle.ul_inputs.specs.Locks.{lock_at}
 use Rattle.ul_inputs.specs.Machines.{machine_at}
 use Rattle.ul_inputs.specs.Projects.{project_at}
@@ -20,10 +20,11 @@ use Rattle.ul_answers.specs.Answer.{Answer}
 use Rattle.ul_answers.specs.Printed.{printed}
 use Rattle.ul_lock_commands.specs.Environments.{IsEnvAnswer}
 use Rattle.ul_lock_commands.specs.Exports.{IsExportAnswer}
-use Rattle.ul_commands.specs.Asked.{check, env, export, lock, relock, verify, why}
+use Rattle.ul_commands.specs.Asked.{check, env, export, lock, marker, relock, verify, why}
 use Rattle.ul_commands.specs.Checking.{IsCheckAnswer, proof_at}
 use Rattle.ul_commands.specs.Commands.{command}
 use Rattle.ul_commands.specs.Locking.{IsLockAnswer, IsLocked}
+use Rattle.ul_commands.specs.Markers.{IsMarkerAnswer}
 use Rattle.ul_commands.specs.Questions.{IsForked}
 use Rattle.ul_commands.specs.Reasons.{IsWhyAnswer}
 use Rattle.ul_commands.specs.Relocking.{IsRelockAnswer}
@@ -49,6 +50,8 @@ pub record InputsAreAnswered : Type 0 where
       → (command (env path machine words) m).gives a → IsEnvAnswer l x words a
   pub export : (path : List ℕ) (words : List (List ℕ)) (m : FileMap) (l : Lock) (a : Result Answer Refused)
       → (lock_at path m).gives (Ok l) → (command (export path words) m).gives a → IsExportAnswer l words a
+  pub marker : (path : List ℕ) (m : FileMap) (bytes : List ℕ) (a : Result Answer Refused)
+      → (small_file path m).gives (Ok bytes) → (command (marker path) m).gives a → IsMarkerAnswer path bytes a
   pub check : (project folder derivation : List ℕ) (m : FileMap) (p : ProjectFields) (x : Proof) (r : ResolutionFields)
       (a : Result Answer Refused)
       → (project_at project m).gives (Ok p) → (proof_at derivation m).gives (Ok x)

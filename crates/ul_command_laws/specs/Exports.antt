@@ -1,6 +1,6 @@
 -- What `export` prints of a lock that is right for a project is what the project requires in each world.
 use Rattle.std.specs.Prelude.{◌≡◌, ◌≤◌, ◌↔◌, ℕ, List, Contains, length, true, None, Option, Ok, Some}
-use Rattle.ul_base.specs.Files.{FileMap, content}
+use Rattle.ul_files.specs.Files.{FileMap, content}
 use Rattle.ul_base.specs.declared.node.Node.{Node}
 use Rattle.ul_comparison.specs.Worlds.{WorldFields, IsWorld}
 use Rattle.ul_tree.specs.Regions.{region_of}

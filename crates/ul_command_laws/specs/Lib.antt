@@ -4,6 +4,7 @@ pub mod Workers
 pub mod Reads
 pub mod Reasons
 pub mod WellFormed
+pub mod Printed
 pub mod Environments
 pub mod Verified
 pub mod Statuses

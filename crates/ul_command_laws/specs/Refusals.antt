@@ -1,6 +1,6 @@
 -- A fork that is printed in place of a lock is served by nothing.
 use Rattle.std.specs.Prelude.{ℕ, List, Bool, Option, Ok}
-use Rattle.ul_base.specs.Files.{FileMap}
+use Rattle.ul_files.specs.Files.{FileMap}
 use Rattle.ul_nodes.specs.Plain.{Plain}
 use Rattle.ul_inputs.specs.Resolutions.{ResolutionFields, resolution_in}
 use Rattle.ul_answers.specs.Answer.{derived, no_selection}

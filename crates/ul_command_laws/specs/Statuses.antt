@@ -1,6 +1,6 @@
 -- With which status `env` ends of a lock that is right for a project.
 use Rattle.std.specs.Prelude.{◌≡◌, ◌≤◌, ◌↔◌, ℕ, List, Contains, length, true, Option, None, Some, Result, Ok}
-use Rattle.ul_base.specs.Files.{FileMap, content}
+use Rattle.ul_files.specs.Files.{FileMap, content}
 use Rattle.ul_base.specs.Names.{is_name}
 use Rattle.ul_comparison.specs.Atoms.{AtomFields}
 use Rattle.ul_comparison.specs.Machines.{MachineFields, world_of}

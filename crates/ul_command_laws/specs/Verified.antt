@@ -1,6 +1,6 @@
 -- What `verify` accepts is right, and it accepts what `lock` prints.
 use Rattle.std.specs.Prelude.{◌≡◌, ◌≤◌, ℕ, List, length, Option, None, Some, Ok}
-use Rattle.ul_base.specs.Files.{FileMap, content}
+use Rattle.ul_files.specs.Files.{FileMap, content}
 use Rattle.ul_comparison.specs.Atoms.{AtomFields}
 use Rattle.ul_comparison.specs.Machines.{MachineFields, world_of}
 use Rattle.ul_comparison.specs.Worlds.{IsWorld}

@@ -1,6 +1,6 @@
 -- A lock that is answered is well formed.
 use Rattle.std.specs.Prelude.{ℕ, List, Option, Ok, map}
-use Rattle.ul_base.specs.Files.{FileMap}
+use Rattle.ul_files.specs.Files.{FileMap}
 use Rattle.ul_lock.specs.declared.parts.Lock.{Lock}
 use Rattle.ul_lock.specs.WellFormed.{IsWellFormed}
 use Rattle.ul_generations.specs.Generations.{leaves_are}

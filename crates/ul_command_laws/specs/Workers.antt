@@ -1,6 +1,6 @@
 -- The number of workers doesn't matter.
 use Rattle.std.specs.Prelude.{ℕ, Result}
-use Rattle.ul_base.specs.Files.{FileMap}
+use Rattle.ul_files.specs.Files.{FileMap}
 use Rattle.ul_inputs.specs.Refused.{Refused}
 use Rattle.laws_frames.specs.Frames.{SayTheSame}
 use Rattle.ul_answers.specs.Answer.{Answer}

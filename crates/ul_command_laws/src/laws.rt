@@ -4,6 +4,7 @@ ghost use Rattle.ul_command_laws.specs.Complete.{InputsAreAnswered, LocksWithinL
 ghost use Rattle.ul_command_laws.specs.Environments.{EnvironmentsOfFiles, EnvironmentsOfLocks};
 ghost use Rattle.ul_command_laws.specs.Exports.{ExportsOfFiles, ExportsOfVerifiedFiles};
 ghost use Rattle.ul_command_laws.specs.Lower.{LowerLaws};
+ghost use Rattle.ul_command_laws.specs.Printed.{PrintedLaws};
 ghost use Rattle.ul_command_laws.specs.Reads.{AnswersByWhatIsRead};
 ghost use Rattle.ul_command_laws.specs.Reasons.{AcceptedAreUnserved, FilesAreAccepted, ReasonsAreAccepted};
 ghost use Rattle.ul_command_laws.specs.Refusals.{ReasonsOfFiles, RefusalsOfFiles};
@@ -154,6 +155,18 @@ pub fn given_are_well_formed()
     ul_given::laws::given_has_texts();
 }
 
+/// What is printed of a lock rests on these laws.
+pub fn printed_laws()
+    ensures { PrintedLaws }
+{
+    ul_given::laws::given_is_resolution();
+    ul_given::laws::given_has_texts();
+    ul_commands::laws::locks_are_sound();
+    locks_are_well_formed();
+    ul_lock_read::laws::text_laws();
+    ul_verified::laws::verified_laws();
+}
+
 /// What `env` prints of a lock that `lock` gives lists exactly what is required in the machine's world.
 pub fn environments_of_locks()
     ensures { EnvironmentsOfLocks }
@@ -220,12 +233,7 @@ pub fn locks_are_verified()
     laws_frames::laws::inputs_by_what_is_read();
     inputs_are_answered();
     ul_filter::laws::more_comparisons();
-    ul_given::laws::given_is_resolution();
-    ul_given::laws::given_has_texts();
-    locks_are_well_formed();
-    ul_commands::laws::locks_are_sound();
-    ul_verified::laws::verified_laws();
-    ul_lock_read::laws::text_laws();
+    printed_laws();
 }
 
 /// What `export` prints of a lock that `lock` printed or `verify` accepted is, in each world that the project supports, exactly
@@ -236,11 +244,7 @@ pub fn exports_are_right()
 {
     inputs_are_answered();
     ul_lock_commands::laws::exports_are_exact();
-    ul_given::laws::given_is_resolution();
-    ul_given::laws::given_has_texts();
-    locks_are_well_formed();
     ul_commands::laws::locks_are_sound();
-    ul_verified::laws::verified_laws();
-    ul_lock_read::laws::text_laws();
+    printed_laws();
     verified_files();
 }

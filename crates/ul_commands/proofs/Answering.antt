@@ -1,6 +1,6 @@
 -- No command answers that the words aren't a command; and what is asked for is answered on the resolution that is read.
 use Rattle.std.proofs.Common.{◌≡◌, ℕ, List, Bool, true, false, length, Option, Some, None, Result, Ok, Err, inl, inr, subst, sym}
-use Rattle.ul_base.specs.Files.{FileMap}
+use Rattle.ul_files.specs.Files.{FileMap}
 use Rattle.ul_generations.specs.Generations.{leaves_are, refused_at, too_many}
 use Rattle.ul_lock.specs.declared.parts.Lock.{Lock}
 use Rattle.ul_lock_write.specs.Markers.{first_over, markers_of}
@@ -22,6 +22,8 @@ use Rattle.ul_lock_commands.specs.Environments.{GivesFor, GivesWhere, IsEnvAnswe
 use Rattle.ul_lock_commands.specs.Exports.{GivesRows, IsExportAnswer}
 use Rattle.ul_lock_commands.specs.Words.{first_other}
 use Rattle.ul_commands.specs.Locking.{IsLockAnswer, LocksFor}
+use Rattle.ul_canonical.specs.Answers.{Refusal as CanonicalRefusal}
+use Rattle.ul_commands.specs.Markers.{IsMarkerAnswer, answer_of}
 use Rattle.ul_commands.specs.Reasons.{GivesReason, IsWhyAnswer}
 use Rattle.ul_commands.specs.Relocking.{IsRelockAnswer, unkept}
 use Rattle.ul_commands.specs.Verifying.{IsVerifyAnswer}
@@ -77,6 +79,15 @@ by_rows l words (Some w) a h = answering a _ h tt
 pub export_answers : (l : Lock) (words : List (List ℕ)) (result : Result Answer Refusal) → Answers view result (only (IsExportAnswer l words)) → GivesAnswer result
 export_answers l words (Ok a) h = by_rows l words (first_other l words) (view a) h
 export_answers l words (Err e) h = tt
+
+by_texts : (path : List ℕ) (texts : Result (List ℕ) CanonicalRefusal) (a : answer.Answer) → (let r : Result answer.Answer Refused = Ok a in r) ≡ answer_of path texts
+    → IsAnswering a
+by_texts path (Ok text) a h = answering a _ h tt
+by_texts path (Err e) a h = absurd (cc)
+
+pub marker_answers : (path bytes : List ℕ) (result : Result Answer Refusal) → Answers view result (only (IsMarkerAnswer path bytes)) → GivesAnswer result
+marker_answers path bytes (Ok a) h = by_texts path h.texts (view a) h.is
+marker_answers path bytes (Err e) h = tt
 
 by_judge : (r : ResolutionFields) (x : Proof) (a : answer.Answer) → IsCheckAnswer r x (Ok a) → IsAnswering a
 by_judge r x a (inl h) = answering a _ h.is tt

@@ -42,6 +42,7 @@ still_answering (answer.derived path region steps) h = tt
 still_answering answer.none_refused h = tt
 still_answering (answer.environment text) h = tt
 still_answering (answer.exported rows) h = tt
+still_answering (answer.canonical text) h = tt
 still_answering answer.outside h = tt
 still_answering (answer.no_extra name) h = tt
 still_answering answer.accepted h = tt

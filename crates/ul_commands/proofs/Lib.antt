@@ -1,4 +1,5 @@
 mod ProofFaults
+mod MarkerFiles
 mod Mergeable
 mod Answering
 mod Served

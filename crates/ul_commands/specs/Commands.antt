@@ -7,10 +7,11 @@ use Rattle.ul_inputs.specs.Resolutions.{resolution_in}
 use Rattle.ul_answers.specs.Answer as answers
 use Rattle.ul_lock_commands.specs.Environments.{env_on}
 use Rattle.ul_lock_commands.specs.Exports.{IsExportAnswer}
-use Rattle.ul_commands.specs.Asked.{Asked, usage, lock, why, relock, gen, env, export, check, verify}
+use Rattle.ul_commands.specs.Asked.{Asked, usage, lock, why, relock, gen, env, export, marker, check, verify}
 use Rattle.ul_commands.specs.Checking.{check_on}
 use Rattle.ul_commands.specs.Generating.{gen_said}
 use Rattle.ul_commands.specs.Locking.{lock_of}
+use Rattle.ul_commands.specs.Markers.{markers_at}
 use Rattle.ul_commands.specs.Reasons.{IsWhyAnswer}
 use Rattle.ul_commands.specs.Relocking.{relock_of}
 use Rattle.ul_commands.specs.Verifying.{verify_on}
@@ -24,5 +25,6 @@ command (relock project folder workers old) = relock_of project folder old
 command (gen seed size workers) = gen_said seed size
 command (env path machine words) = lock_at path >>= env_on machine words
 command (export path words) = lock_at path >>= λ l. answer (IsExportAnswer l words)
+command (marker path) = markers_at path
 command (check project folder derivation) = project_at project >>= check_on folder derivation
 command (verify project folder path) = project_at project >>= verify_on folder path

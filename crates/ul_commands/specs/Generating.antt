@@ -1,6 +1,6 @@
 -- A generated project: its files, and the counts of its lock.
 use Rattle.std.specs.Prelude.{◌≡◌, ℕ, zero, suc, List, [], ◌∷◌, ◌++◌, codes, decimal, None, Result, Ok, Err}
-use Rattle.ul_base.specs.Files.{FileMap}
+use Rattle.ul_files.specs.Files.{FileMap}
 use Rattle.ul_gen.specs.Texts.{document_text, name_text, project_text}
 use Rattle.ul_inputs.specs.Inputs.{Input, Said, only}
 use Rattle.ul_inputs.specs.Refused.{Refused}

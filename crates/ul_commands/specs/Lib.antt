@@ -3,6 +3,7 @@ pub mod Questions
 pub mod Locking
 pub mod Generating
 pub mod Reasons
+pub mod Markers
 pub mod Checking
 pub mod Verifying
 pub mod Relocking

@@ -11,7 +11,7 @@ use Rattle.ul_answers.specs.declared.answer.Answer.TheVariants.{Usage as AnswerU
 use Rattle.ul_commands.specs.Asked as asked
 use Rattle.ul_commands.specs.Generating.{gen_said}
 use Rattle.ul_commands.specs.declared.asked.Asked.{Asked}
-use Rattle.ul_commands.specs.declared.asked.Asked.TheVariants.{Usage, Lock, Why, Relock, Gen, Env, Export, Check, Verify}
+use Rattle.ul_commands.specs.declared.asked.Asked.TheVariants.{Usage, Lock, Why, Relock, Gen, Env, Export, Marker, Check, Verify}
 
 -- what is asked
 abbrev pub view : Asked → asked.Asked
@@ -22,6 +22,7 @@ view (Relock project folder workers old) = asked.relock project.now folder.now w
 view (Gen seed size workers) = asked.gen seed size workers
 view (Env lock machine extras) = asked.env lock.now machine.now (map string_bytes extras.now)
 view (Export lock extras) = asked.export lock.now (map string_bytes extras.now)
+view (Marker file) = asked.marker file.now
 view (Check project folder derivation) = asked.check project.now folder.now derivation.now
 view (Verify project folder lock) = asked.verify project.now folder.now lock.now
 

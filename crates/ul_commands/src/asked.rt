@@ -43,6 +43,10 @@ pub enum Asked<'w> {
         lock: &'w str,
         extras: &'w [String],
     },
+    /// The canonical texts of a file's markers.
+    Marker {
+        file: &'w str,
+    },
     /// Whether a derivation is accepted for a project file and an index folder.
     Check {
         project: &'w str,

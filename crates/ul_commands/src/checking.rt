@@ -4,7 +4,7 @@
 //! takes large values back at once, where letting go of them goes through them piece by piece.
 ghost use Rattle.std.specs.Prelude.{◌≡◌, IfOk, Ok, Some};
 ghost use Rattle.std.specs.Fmt.{decimal};
-ghost use Rattle.ul_base.specs.Files.{Told};
+ghost use Rattle.ul_files.specs.Files.{ByReads, Remembers};
 ghost use Rattle.ul_algebra.specs.Spelled.{tree_of};
 ghost use Rattle.ul_region.specs.Truths.{IsRegion};
 ghost use Rattle.ul_answers.specs.Views.{view as answer_view};
@@ -20,8 +20,8 @@ use std::mem;
 use std::sync::Wait;
 use ul_algebra::{Algebra, Diagram};
 use ul_answers::Answer;
-use ul_base::Files;
 use ul_derivation::AcceptFault;
+use ul_files::Files;
 use ul_inputs::{Refusal, Resolution, large_file, malformed};
 use ul_interner::Interner;
 use ul_placing::problem_of;
@@ -59,8 +59,9 @@ pub(crate) fn proof_file<F: Files>(
     files: &mut F,
     path: &str,
 ) -> Result<Proof, Refusal>
-    ensures told { Told (F.map files.old) (λ m. Answers (λ x. x) result (spec.proof_at path.now m)) }
+    ensures told { ByReads (F.reads files.new) (λ m. Answers (λ x. x) result (spec.proof_at path.now m)) }
     ensures same { F.map files.new ≡ F.map files.old }
+    ensures grown { Remembers (F.reads files.old) (F.reads files.new) }
     ensures cause { Cause (F.faults files.old) (F.faults files.new) (F.last_failed files.new) result }
 {
     let bytes = large_file(alloc, files, path)?;

@@ -3,7 +3,7 @@
 //! What a command has read is left to the end of the process by `mem::forget`: that comes soon, and the system takes
 //! large values back at once, where letting go of them goes through them piece by piece.
 ghost use Rattle.std.specs.Prelude.{◌≡◌, ◌≤◌, map, option_map, string_bytes};
-ghost use Rattle.ul_base.specs.Files.{FileMap, Told};
+ghost use Rattle.ul_files.specs.Files.{ByReads, FileMap, Remembers};
 ghost use Rattle.ul_workers.specs.WorkerCount.{IsWorkerCount};
 ghost use Rattle.ul_answers.specs.Views.{view as answer_view};
 ghost use Rattle.ul_inputs.specs.Refusals.{Answers, Cause};
@@ -21,6 +21,7 @@ ghost use Rattle.ul_commands.specs.Wanted.{asked_for};
 use crate::asked::Asked;
 use crate::checking::{check, proof_file};
 use crate::generating::{INDEX, PROJECT, counted, files};
+use crate::markers::marker_files;
 use crate::relocking::relock_files;
 use crate::resolving::answer;
 use crate::verifying::verify;
@@ -30,7 +31,8 @@ use std::mem;
 use std::sync::Wait;
 use std::thread::Threads;
 use ul_answers::Answer;
-use ul_base::{Files, Gate, SureFiles};
+use ul_base::Gate;
+use ul_files::{Files, SureFiles};
 use ul_inputs::{Refusal, lock_file, machine_file, project_file, resolution_in, resolution_with};
 use ul_lock::Lock;
 use ul_lock_commands::{env, export};
@@ -50,9 +52,10 @@ fn resolved_files<R: Threads + Wait + Sync, F: Files, G: Gate + Sync>(
     old: Option<&str>,
 ) -> Result<Answer, Refusal>
     requires { IsWorkerCount workers }
-    ensures told { Told (F.map files.old) (λ m. Answers answer_view result (spec.command
+    ensures told { ByReads (F.reads files.new) (λ m. Answers answer_view result (spec.command
         (asked_for wanted project.now folder.now workers (option_map (λ p. p.now) old.entry)) m)) }
     ensures same { F.map files.new ≡ F.map files.old }
+    ensures grown { Remembers (F.reads files.old) (F.reads files.new) }
     ensures cause { Cause (F.faults files.old) (F.faults files.new) (F.last_failed files.new) result }
     ensures answering { GivesAnswer result }
 {
@@ -106,9 +109,10 @@ fn env_on<F: Files>(
     lock: &Lock,
 ) -> Result<Answer, Refusal>
     requires { IsWellFormed lock.now }
-    ensures told { Told (F.map files.old)
+    ensures told { ByReads (F.reads files.new)
         (λ m. Answers answer_view result (environments.env_on machine.now (map string_bytes extras.now) lock.now m)) }
     ensures same { F.map files.new ≡ F.map files.old }
+    ensures grown { Remembers (F.reads files.old) (F.reads files.new) }
     ensures cause { Cause (F.faults files.old) (F.faults files.new) (F.last_failed files.new) result }
     ensures answering { GivesAnswer result }
 {
@@ -126,9 +130,10 @@ fn env_files<F: Files>(
     machine: &str,
     extras: &[String],
 ) -> Result<Answer, Refusal>
-    ensures told { Told (F.map files.old) (λ m. Answers answer_view result
+    ensures told { ByReads (F.reads files.new) (λ m. Answers answer_view result
         (spec.command (asked.env lock.now machine.now (map string_bytes extras.now)) m)) }
     ensures same { F.map files.new ≡ F.map files.old }
+    ensures grown { Remembers (F.reads files.old) (F.reads files.new) }
     ensures cause { Cause (F.faults files.old) (F.faults files.new) (F.last_failed files.new) result }
     ensures answering { GivesAnswer result }
 {
@@ -146,9 +151,10 @@ fn export_files<R: Wait, F: Files>(
     lock: &str,
     extras: &[String],
 ) -> Result<Answer, Refusal>
-    ensures told { Told (F.map files.old) (λ m. Answers answer_view result
+    ensures told { ByReads (F.reads files.new) (λ m. Answers answer_view result
         (spec.command (asked.export lock.now (map string_bytes extras.now)) m)) }
     ensures same { F.map files.new ≡ F.map files.old }
+    ensures grown { Remembers (F.reads files.old) (F.reads files.new) }
     ensures cause { Cause (F.faults files.old) (F.faults files.new) (F.last_failed files.new) result }
     ensures answering { GivesAnswer result }
 {
@@ -168,9 +174,10 @@ fn check_with<R: Wait, F: Files>(
     proof: &Proof,
 ) -> Result<Answer, Refusal>
     requires { HasUsable project.package }
-    ensures told { Told (F.map files.old)
+    ensures told { ByReads (F.reads files.new)
         (λ m. Answers answer_view result (checking.check_with folder.now project proof.now m)) }
     ensures same { F.map files.new ≡ F.map files.old }
+    ensures grown { Remembers (F.reads files.old) (F.reads files.new) }
     ensures cause { Cause (F.faults files.old) (F.faults files.new) (F.last_failed files.new) result }
     ensures answering { GivesAnswer result }
 {
@@ -190,9 +197,10 @@ fn check_on<R: Wait, F: Files>(
     derivation: &str,
 ) -> Result<Answer, Refusal>
     requires { HasUsable project.package }
-    ensures told { Told (F.map files.old)
+    ensures told { ByReads (F.reads files.new)
         (λ m. Answers answer_view result (checking.check_on folder.now derivation.now project m)) }
     ensures same { F.map files.new ≡ F.map files.old }
+    ensures grown { Remembers (F.reads files.old) (F.reads files.new) }
     ensures cause { Cause (F.faults files.old) (F.faults files.new) (F.last_failed files.new) result }
     ensures answering { GivesAnswer result }
 {
@@ -218,9 +226,10 @@ fn check_files<R: Wait, F: Files>(
     folder: &str,
     derivation: &str,
 ) -> Result<Answer, Refusal>
-    ensures told { Told (F.map files.old) (λ m. Answers answer_view result
+    ensures told { ByReads (F.reads files.new) (λ m. Answers answer_view result
         (spec.command (asked.check project.now folder.now derivation.now) m)) }
     ensures same { F.map files.new ≡ F.map files.old }
+    ensures grown { Remembers (F.reads files.old) (F.reads files.new) }
     ensures cause { Cause (F.faults files.old) (F.faults files.new) (F.last_failed files.new) result }
     ensures answering { GivesAnswer result }
 {
@@ -239,9 +248,10 @@ fn verify_with<R: Wait, F: Files>(
 ) -> Result<Answer, Refusal>
     requires usable { HasUsable project.package }
     requires well_formed { IsWellFormed lock.now }
-    ensures told { Told (F.map files.old)
+    ensures told { ByReads (F.reads files.new)
         (λ m. Answers answer_view result (verifying.verify_with folder.now project lock.now m)) }
     ensures same { F.map files.new ≡ F.map files.old }
+    ensures grown { Remembers (F.reads files.old) (F.reads files.new) }
     ensures cause { Cause (F.faults files.old) (F.faults files.new) (F.last_failed files.new) result }
     ensures answering { GivesAnswer result }
 {
@@ -261,9 +271,10 @@ fn verify_on<R: Wait, F: Files>(
     lock: &str,
 ) -> Result<Answer, Refusal>
     requires { HasUsable project.package }
-    ensures told { Told (F.map files.old)
+    ensures told { ByReads (F.reads files.new)
         (λ m. Answers answer_view result (verifying.verify_on folder.now lock.now project m)) }
     ensures same { F.map files.new ≡ F.map files.old }
+    ensures grown { Remembers (F.reads files.old) (F.reads files.new) }
     ensures cause { Cause (F.faults files.old) (F.faults files.new) (F.last_failed files.new) result }
     ensures answering { GivesAnswer result }
 {
@@ -289,9 +300,10 @@ fn verify_files<R: Wait, F: Files>(
     folder: &str,
     lock: &str,
 ) -> Result<Answer, Refusal>
-    ensures told { Told (F.map files.old) (λ m. Answers answer_view result
+    ensures told { ByReads (F.reads files.new) (λ m. Answers answer_view result
         (spec.command (asked.verify project.now folder.now lock.now) m)) }
     ensures same { F.map files.new ≡ F.map files.old }
+    ensures grown { Remembers (F.reads files.old) (F.reads files.new) }
     ensures cause { Cause (F.faults files.old) (F.faults files.new) (F.last_failed files.new) result }
     ensures answering { GivesAnswer result }
 {
@@ -312,8 +324,9 @@ pub fn command<R: Threads + Wait + Sync, F: Files, G: Gate + Sync>(
     question: &Asked<'_>,
 ) -> Result<Answer, Refusal>
     requires { HasWorkers question.now }
-    ensures told { Told (F.map files.old) (λ m. Answers answer_view result (spec.command (view question.now) m)) }
+    ensures told { ByReads (F.reads files.new) (λ m. Answers answer_view result (spec.command (view question.now) m)) }
     ensures same { F.map files.new ≡ F.map files.old }
+    ensures grown { Remembers (F.reads files.old) (F.reads files.new) }
     ensures cause { Cause (F.faults files.old) (F.faults files.new) (F.last_failed files.new) result }
     ensures by_words { IsByWords question.now result }
 {
@@ -358,6 +371,7 @@ pub fn command<R: Threads + Wait + Sync, F: Files, G: Gate + Sync>(
             extras,
         } => env_files(alloc, files, lock, machine, extras),
         Asked::Export { lock, extras } => export_files(rt, alloc, files, lock, extras),
+        Asked::Marker { file } => marker_files(rt, alloc, files, file),
         Asked::Check {
             project,
             folder,

@@ -1,6 +1,6 @@
 //! A generated project: its files in memory, and the counts of its lock.
 ghost use Rattle.std.specs.Prelude.{◌≡◌, ◌<◌, ◌≤◌, IfOk, Ok, string_bytes};
-ghost use Rattle.ul_base.specs.Files.{files_of};
+ghost use Rattle.ul_files.specs.Files.{files_of};
 ghost use Rattle.ul_answers.specs.Views.{view};
 ghost use Rattle.ul_commands.specs.Generating as spec;
 

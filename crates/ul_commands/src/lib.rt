@@ -11,6 +11,7 @@ mod generating;
 mod keeping;
 pub mod laws;
 mod locking;
+mod markers;
 mod relocking;
 mod resolving;
 mod root_extras;

@@ -4,7 +4,7 @@
 //! What an answer is found with is left to the end of the process by `mem::forget`: that comes soon, and the system
 //! takes large values back at once, where letting go of them goes through them piece by piece.
 ghost use Rattle.std.specs.Prelude.{◌≡◌, Decides, IfOk, Ok, option_map};
-ghost use Rattle.ul_base.specs.Files.{Told};
+ghost use Rattle.ul_files.specs.Files.{ByReads, Remembers};
 ghost use Rattle.ul_workers.specs.WorkerCount.{IsWorkerCount};
 ghost use Rattle.ul_lock.specs.WellFormed.{IsWellFormed};
 ghost use Rattle.ul_answers.specs.Answer.{locked};
@@ -28,7 +28,8 @@ use std::mem;
 use std::sync::Wait;
 use std::thread::Threads;
 use ul_answers::Answer;
-use ul_base::{Files, Gate, Name};
+use ul_base::{Gate, Name};
+use ul_files::Files;
 use ul_inputs::{Refusal, Resolution, kept, lock_file, project_file, resolution_with};
 use ul_lock::{Lock, Region};
 use ul_project::Project;
@@ -224,9 +225,10 @@ fn relock_keeping<R: Threads + Wait + Sync, F: Files, G: Gate + Sync>(
     requires usable { HasUsable project.package }
     requires well_formed { IsWellFormed lock }
     requires kept { kept.items ≡ kept_of lock }
-    ensures told { Told (F.map files.old)
+    ensures told { ByReads (F.reads files.new)
         (λ m. Answers answer_view result (spec.relock_with folder.now project lock m)) }
     ensures same { F.map files.new ≡ F.map files.old }
+    ensures grown { Remembers (F.reads files.old) (F.reads files.new) }
     ensures cause { Cause (F.faults files.old) (F.faults files.new) (F.last_failed files.new) result }
     ensures answering { GivesAnswer result }
 {
@@ -254,9 +256,10 @@ fn relock_with<R: Threads + Wait + Sync, F: Files, G: Gate + Sync>(
     requires workers { IsWorkerCount workers }
     requires usable { HasUsable project.package }
     requires well_formed { IsWellFormed lock }
-    ensures told { Told (F.map files.old)
+    ensures told { ByReads (F.reads files.new)
         (λ m. Answers answer_view result (spec.relock_with folder.now project lock m)) }
     ensures same { F.map files.new ≡ F.map files.old }
+    ensures grown { Remembers (F.reads files.old) (F.reads files.new) }
     ensures cause { Cause (F.faults files.old) (F.faults files.new) (F.last_failed files.new) result }
     ensures answering { GivesAnswer result }
 {
@@ -282,9 +285,10 @@ fn relock_on<R: Threads + Wait + Sync, F: Files, G: Gate + Sync>(
 ) -> Result<Answer, Refusal>
     requires workers { IsWorkerCount workers }
     requires usable { HasUsable project.package }
-    ensures told { Told (F.map files.old)
+    ensures told { ByReads (F.reads files.new)
         (λ m. Answers answer_view result (spec.relock_on folder.now old.now project m)) }
     ensures same { F.map files.new ≡ F.map files.old }
+    ensures grown { Remembers (F.reads files.old) (F.reads files.new) }
     ensures cause { Cause (F.faults files.old) (F.faults files.new) (F.last_failed files.new) result }
     ensures answering { GivesAnswer result }
 {
@@ -309,9 +313,10 @@ pub(crate) fn relock_files<R: Threads + Wait + Sync, F: Files, G: Gate + Sync>(
     old: &str,
 ) -> Result<Answer, Refusal>
     requires { IsWorkerCount workers }
-    ensures told { Told (F.map files.old)
+    ensures told { ByReads (F.reads files.new)
         (λ m. Answers answer_view result (spec.relock_of project.now folder.now old.now m)) }
     ensures same { F.map files.new ≡ F.map files.old }
+    ensures grown { Remembers (F.reads files.old) (F.reads files.new) }
     ensures cause { Cause (F.faults files.old) (F.faults files.new) (F.last_failed files.new) result }
     ensures answering { GivesAnswer result }
 {

@@ -5,7 +5,7 @@ use Rattle.ul_comparison.specs.Atoms.{AtomFields, atom_cmp, atom_key, kind_numbe
 use Rattle.ul_comparison.specs.declared.variable.AtomKind.{AtomKind}
 use Rattle.ul_comparison.specs.declared.variable.AtomKind.TheVariants.{Contains, Within, Below, AtMost, Same}
 use Rattle.ul_comparison.specs.declared.variable.Variable.{Variable}
-use Rattle.ul_comparison.specs.declared.variable.Variable.TheVariants.{OsName, SysPlatform, PlatformMachine, PlatformPythonImplementation, PlatformRelease, PlatformSystem, PlatformVersion, PythonVersion, PythonFullVersion, ImplementationName, ImplementationVersion}
+use Rattle.ul_comparison.specs.declared.variable.Variable.TheVariants.{OsName, SysPlatform, PlatformMachine, PlatformPythonImplementation, PlatformRelease, PlatformSystem, PlatformVersion, PythonVersion, PythonFullVersion, ImplementationName, ImplementationVersion, Extras}
 
 -- the variable of a number
 abbrev pub variable_of : ℕ → Variable
@@ -19,7 +19,8 @@ variable_of (suc (suc (suc (suc (suc (suc zero)))))) = PlatformVersion
 variable_of (suc (suc (suc (suc (suc (suc (suc zero))))))) = PythonVersion
 variable_of (suc (suc (suc (suc (suc (suc (suc (suc zero)))))))) = PythonFullVersion
 variable_of (suc (suc (suc (suc (suc (suc (suc (suc (suc zero))))))))) = ImplementationName
-variable_of (suc (suc (suc (suc (suc (suc (suc (suc (suc (suc n)))))))))) = ImplementationVersion
+variable_of (suc (suc (suc (suc (suc (suc (suc (suc (suc (suc zero)))))))))) = ImplementationVersion
+variable_of (suc (suc (suc (suc (suc (suc (suc (suc (suc (suc (suc n))))))))))) = Extras
 
 -- the kind of a number
 abbrev pub kind_of : ℕ → AtomKind
@@ -42,6 +43,7 @@ variable_back PythonVersion = refl
 variable_back PythonFullVersion = refl
 variable_back ImplementationName = refl
 variable_back ImplementationVersion = refl
+variable_back Extras = refl
 
 -- a kind is told by its number
 pub kind_back : (k : AtomKind) → kind_of (kind_number k) ≡ k

@@ -7,3 +7,5 @@ pub use Rattle.ul_comparison.proofs.AtomNumbers.{kind_back, kind_of, same_atom, 
 pub use Rattle.ul_comparison.proofs.Placed.{put_atoms, put_rises, truths_are, truths_rise}
 -- the texts of interpreters
 pub use Rattle.ul_comparison.proofs.Interpreters.{interpreter-is, interpreter-literal, interpreter-version, interpreter_quoted}
+-- a name in its normal form reads as itself
+pub use Rattle.ul_comparison.proofs.NormalNames.{normal_if, normal_then}

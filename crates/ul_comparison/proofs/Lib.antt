@@ -1,5 +1,6 @@
 pub mod JsonReading
 pub mod Cloned
+pub mod NormalNames
 pub mod AtomNumbers
 pub mod AtomOrder
 pub mod Placed

@@ -5,7 +5,7 @@ use Rattle.std.specs.Ordering.{is_eq, ordering_reverse}
 use Rattle.std.specs.declared.cmp.Ordering.{Ordering}
 use Rattle.std.proofs.lemmas.Bool.{cases_Bool}
 use Rattle.std.proofs.lemmas.List.Elements.{All-cons, All-head, All-tail}
-use Rattle.ul_comparison.specs.Atoms.{AtomFields, IsAtom, atom_cmp, has_atom}
+use Rattle.ul_comparison.specs.Atoms.{AtomFields, IsAtom, atom_cmp, has_atom, is_extras}
 use Rattle.ul_comparison.specs.Machines.{MachineFields, atom_holds, put_atom, truths_onto}
 use Rattle.ul_comparison.specs.Worlds.{IsAfter, Rise}
 use Rattle.ul_comparison.proofs.AtomNumbers.{same_atom}
@@ -104,3 +104,16 @@ truths_rise m ts (a ∷ atoms) rise = truths_rise m (if atom_holds m a then put_
     one : (b : Bool) → Rise None (if b then put_atom a ts else ts)
     one true = put_rises a None ts tt rise
     one false = rise
+
+-- no comparison with `extras` holds on a machine
+extras_fail : (m : MachineFields) (x : AtomFields) → is_extras x.variable ≡ true → atom_holds m x ≡ false
+unfolding atom_holds
+extras_fail m x e = rw e refl
+
+-- so none is among its truths
+pub no_extras : (m : MachineFields) (atoms : List AtomFields) (x : AtomFields) → is_extras x.variable ≡ true → has_atom (truths_onto m [] atoms) x ≡ false
+no_extras m atoms x e = truths_are m [] atoms x ∙ ap (λ h. has_atom atoms x && h) (extras_fail m x e) ∙ never (has_atom atoms x)
+  where
+    never : (b : Bool) → (b && false) ≡ false
+    never true = refl
+    never false = refl

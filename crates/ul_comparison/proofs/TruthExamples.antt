@@ -1,12 +1,13 @@
 -- The worked truths, by computation.
 use Rattle.std.proofs.Common.{refl}
-use Rattle.ul_base.specs.Names.{is_name}
+use Rattle.ul_base.specs.Names.{is_name, normal_form}
 use Rattle.ul_version.specs.Order.{padded_release, release_cmp, has_release_front, version_cmp}
 use Rattle.ul_specifier.specs.Meaning.{meets_clause}
+use Rattle.ul_comparison.specs.Atoms.{is_normal_name}
 use Rattle.ul_comparison.specs.TruthVectors.{Truths}
 
 pub truths : Truths
-unfolding is_name padded_release release_cmp has_release_front version_cmp meets_clause
+unfolding is_name normal_form is_normal_name padded_release release_cmp has_release_front version_cmp meets_clause
 truths = record {
   extra_equal = refl;
   extra_other = refl;
@@ -30,6 +31,11 @@ truths = record {
   opaque_that_is_negated = refl;
   opaque_of_other_kind = refl;
   opaque_of_a_version = refl;
+  normal_beside_extras = refl;
+  capital_beside_extras = refl;
+  dot_beside_extras = refl;
+  two_hyphens_beside_extras = refl;
+  nothing_beside_extras = refl;
   all_of_two = refl;
   all_of_none = refl;
   any_of_two = refl;

@@ -1,13 +1,16 @@
--- Comparisons that a decision tree doesn't look into, and their order.
+-- Comparisons that a decision tree doesn't look into, and their order. Variables are those of PEP 508 ("Environment
+-- Markers") and `extras` of PEP 751, the extras that are chosen.
 use Rattle.std.specs.Prelude.{◌≡◌, ◌==◌, ◌&&◌, ◌||◌, ℕ, Bool, true, false, not, nat_le, List, ◌∷◌}
 use Rattle.std.specs.Cmp.Lexicographic.{slice_cmp}
 use Rattle.std.specs.List.{list_all, list_any}
 use Rattle.std.specs.Ordering.{nat_cmp, is_eq}
+use Rattle.std.specs.Str.{bytes_eq}
 use Rattle.std.specs.declared.cmp.Ordering.{Ordering}
+use Rattle.ul_base.specs.Names.{is_name, normal_form}
 use Rattle.ul_comparison.specs.declared.variable.AtomKind.{AtomKind}
 use Rattle.ul_comparison.specs.declared.variable.AtomKind.TheVariants.{Contains, Within, Below, AtMost, Same}
 use Rattle.ul_comparison.specs.declared.variable.Variable.{Variable}
-use Rattle.ul_comparison.specs.declared.variable.Variable.TheVariants.{OsName, SysPlatform, PlatformMachine, PlatformPythonImplementation, PlatformRelease, PlatformSystem, PlatformVersion, PythonVersion, PythonFullVersion, ImplementationName, ImplementationVersion}
+use Rattle.ul_comparison.specs.declared.variable.Variable.TheVariants.{OsName, SysPlatform, PlatformMachine, PlatformPythonImplementation, PlatformRelease, PlatformSystem, PlatformVersion, PythonVersion, PythonFullVersion, ImplementationName, ImplementationVersion, Extras}
 
 -- ---- variables
 
@@ -24,6 +27,7 @@ variable_number PythonVersion = 7
 variable_number PythonFullVersion = 8
 variable_number ImplementationName = 9
 variable_number ImplementationVersion = 10
+variable_number Extras = 11
 
 -- the place of a text variable among the eight texts of a world, and 8 for the other variables
 abbrev pub text_number : Variable → ℕ
@@ -38,6 +42,7 @@ text_number PythonVersion = 8
 text_number PythonFullVersion = 8
 text_number ImplementationName = 7
 text_number ImplementationVersion = 8
+text_number Extras = 8
 
 -- whether a variable is one of the eight text variables
 abbrev pub is_text : Variable → Bool
@@ -52,6 +57,7 @@ is_text PythonVersion = false
 is_text PythonFullVersion = false
 is_text ImplementationName = true
 is_text ImplementationVersion = false
+is_text Extras = false
 
 -- whether a variable is `implementation_version`
 abbrev pub is_implementation_version : Variable → Bool
@@ -66,6 +72,22 @@ is_implementation_version PythonVersion = false
 is_implementation_version PythonFullVersion = false
 is_implementation_version ImplementationName = false
 is_implementation_version ImplementationVersion = true
+is_implementation_version Extras = false
+
+-- whether a variable is `extras`
+abbrev pub is_extras : Variable → Bool
+is_extras OsName = false
+is_extras SysPlatform = false
+is_extras PlatformMachine = false
+is_extras PlatformPythonImplementation = false
+is_extras PlatformRelease = false
+is_extras PlatformSystem = false
+is_extras PlatformVersion = false
+is_extras PythonVersion = false
+is_extras PythonFullVersion = false
+is_extras ImplementationName = false
+is_extras ImplementationVersion = false
+is_extras Extras = true
 
 -- ---- literals
 
@@ -80,6 +102,14 @@ has_byte q text = list_any (λ b. b == q) text
 -- the text of a literal: such bytes, and not both quotes, since the literal's own quote can't stand in it
 abbrev pub is_literal : List ℕ → Bool
 is_literal text = list_all is_literal_byte text && not (has_byte 39 text && has_byte 34 text)
+
+-- whether a text is a name in its normal form (PEP 503, and PEP 685 for extras)
+unfoldable pub is_normal_name : List ℕ → Bool
+is_normal_name text = is_name text && bytes_eq (normal_form text) text
+
+-- which literal stands beside which variable: beside `extras` the name of an extra in its normal form
+abbrev pub may_stand : Variable → List ℕ → Bool
+may_stand variable literal = not (is_extras variable) || is_normal_name literal
 
 -- ---- atoms
 
@@ -101,7 +131,7 @@ kind_number Below = 2
 kind_number AtMost = 3
 kind_number Same = 4
 
--- which kind stands with which variable
+-- which kind stands with which variable: with `extras` that it contains the literal alone
 abbrev pub may_compare : AtomKind → Variable → Bool
 may_compare Contains v = true
 may_compare Within v = is_text v || is_implementation_version v
@@ -113,6 +143,7 @@ may_compare Same v = is_implementation_version v
 pub record IsAtom (a : AtomFields) : Type 0 where
   pub literal : is_literal a.literal ≡ true
   pub kind : may_compare a.kind a.variable ≡ true
+  pub stands : may_stand a.variable a.literal ≡ true
 
 -- what orders atoms: the variable, then the kind, then the literal's bytes
 abbrev pub atom_key : AtomFields → List ℕ

@@ -1,7 +1,7 @@
 -- What holds of all machines and opaque comparisons.
-use Rattle.std.specs.Prelude.{◌≡◌, ◌↔◌, ◌&&◌, ℕ, true, List, None}
+use Rattle.std.specs.Prelude.{◌≡◌, ◌↔◌, ◌&&◌, ℕ, true, false, List, None}
 use Rattle.std.specs.Str.Iter.{HasSubslice}
-use Rattle.ul_comparison.specs.Atoms.{AtomFields, has_atom}
+use Rattle.ul_comparison.specs.Atoms.{AtomFields, has_atom, is_extras}
 use Rattle.ul_comparison.specs.Machines.{MachineFields, atom_holds, is_part, world_of}
 use Rattle.ul_comparison.specs.Worlds.{Rise}
 
@@ -9,6 +9,11 @@ use Rattle.ul_comparison.specs.Worlds.{Rise}
 abbrev pub TruthsOfMachine : Type 0
 TruthsOfMachine = (m : MachineFields) (atoms : List AtomFields) (a : AtomFields)
     → has_atom (world_of m atoms).truths a ≡ (has_atom atoms a && atom_holds m a)
+
+-- no comparison with `extras` is among them
+abbrev pub NoExtrasOnMachine : Type 0
+NoExtrasOnMachine = (m : MachineFields) (atoms : List AtomFields) (a : AtomFields)
+    → is_extras a.variable ≡ true → has_atom (world_of m atoms).truths a ≡ false
 
 -- they increase, each once
 abbrev pub TruthsIncrease : Type 0

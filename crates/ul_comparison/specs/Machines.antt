@@ -1,6 +1,6 @@
 -- Machines: what an interpreter says of itself, and the truth of opaque comparisons on it (PEP 508, "Environment
 -- Markers").
-use Rattle.std.specs.Prelude.{◌≡◌, ◌<◌, ◌^◌, ◌==◌, ◌&&◌, ◌||◌, ◌++◌, ℕ, Bool, true, false, List, [], ◌∷◌, codes, Option, Some, None, length, slice_index_or, if◌then◌else◌}
+use Rattle.std.specs.Prelude.{◌≡◌, ◌<◌, ◌^◌, ◌==◌, ◌&&◌, ◌||◌, ◌++◌, ℕ, Bool, true, false, not, List, [], ◌∷◌, codes, Option, Some, None, length, slice_index_or, if◌then◌else◌}
 use Rattle.std.specs.Cmp.Lexicographic.{slice_cmp}
 use Rattle.std.specs.Fmt.{decimal}
 use Rattle.std.specs.Ordering.{nat_cmp, is_eq, is_le, is_lt, match_ordering}
@@ -8,7 +8,7 @@ use Rattle.std.specs.declared.cmp.Ordering.{Ordering}
 use Rattle.ul_version.specs.Fields.{Fields}
 use Rattle.ul_version.specs.Order.{version_cmp}
 use Rattle.ul_version.specs.Reading.{version_of}
-use Rattle.ul_comparison.specs.Atoms.{AtomFields, atom_cmp, is_implementation_version, text_number}
+use Rattle.ul_comparison.specs.Atoms.{AtomFields, atom_cmp, is_extras, is_implementation_version, text_number}
 use Rattle.ul_comparison.specs.Truth.{is_empty}
 use Rattle.ul_comparison.specs.Worlds.{WorldFields}
 use Rattle.ul_comparison.specs.declared.variable.AtomKind.{AtomKind}
@@ -82,9 +82,9 @@ compares Below variable text literal = is_lt (literal_cmp variable text literal)
 compares AtMost variable text literal = is_le (literal_cmp variable text literal)
 compares Same variable text literal = is_eq (literal_cmp variable text literal)
 
--- whether an opaque comparison holds on a machine
+-- whether an opaque comparison holds on a machine, which chooses no extras by itself
 unfoldable pub atom_holds : MachineFields → AtomFields → Bool
-atom_holds m a = compares a.kind a.variable (machine_text m a.variable) a.literal
+atom_holds m a = not (is_extras a.variable) && compares a.kind a.variable (machine_text m a.variable) a.literal
 
 -- ---- the world of a machine
 

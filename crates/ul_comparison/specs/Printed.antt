@@ -11,7 +11,7 @@ use Rattle.ul_comparison.specs.Formulas.{Formula, IsExtraLiteral, extra, python,
 use Rattle.ul_comparison.specs.declared.variable.AtomKind.{AtomKind}
 use Rattle.ul_comparison.specs.declared.variable.AtomKind.TheVariants.{Contains, Within, Below, AtMost, Same}
 use Rattle.ul_comparison.specs.declared.variable.Variable.{Variable}
-use Rattle.ul_comparison.specs.declared.variable.Variable.TheVariants.{OsName, SysPlatform, PlatformMachine, PlatformPythonImplementation, PlatformRelease, PlatformSystem, PlatformVersion, PythonVersion, PythonFullVersion, ImplementationName, ImplementationVersion}
+use Rattle.ul_comparison.specs.declared.variable.Variable.TheVariants.{OsName, SysPlatform, PlatformMachine, PlatformPythonImplementation, PlatformRelease, PlatformSystem, PlatformVersion, PythonVersion, PythonFullVersion, ImplementationName, ImplementationVersion, Extras}
 
 -- ---- literals and variables
 
@@ -36,6 +36,7 @@ variable_name PythonVersion = codes "python_version"
 variable_name PythonFullVersion = codes "python_full_version"
 variable_name ImplementationName = codes "implementation_name"
 variable_name ImplementationVersion = codes "implementation_version"
+variable_name Extras = codes "extras"
 
 -- an interpreter: its three numbers joined by points
 unfoldable pub interpreter_text : ℕ → ℕ → ℕ → List ℕ

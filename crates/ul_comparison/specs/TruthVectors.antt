@@ -1,15 +1,16 @@
--- Worked examples: the truth of formulas at three worlds (PEP 508, "Environment Markers").
+-- Worked examples: the truth of formulas at three worlds (PEP 508, "Environment Markers"), and which texts stand beside
+-- `extras` (PEP 751).
 use Rattle.std.specs.Prelude.{◌≡◌, ℕ, Bool, true, false, List, [], ◌∷◌, codes}
 use Rattle.ul_version.specs.Fields.{plain}
 use Rattle.ul_specifier.specs.Clauses.{ClauseFields}
 use Rattle.ul_specifier.specs.declared.clause.Op.{Op}
 use Rattle.ul_specifier.specs.declared.clause.Op.TheVariants.{Equal, AtLeast}
-use Rattle.ul_comparison.specs.Atoms.{AtomFields}
+use Rattle.ul_comparison.specs.Atoms.{AtomFields, may_stand}
 use Rattle.ul_comparison.specs.Formulas.{Formula, extra, python, python_list, text, opaque, all, any, Formulas, none, more}
 use Rattle.ul_comparison.specs.Truth.{marker_holds}
 use Rattle.ul_comparison.specs.Worlds.{WorldFields}
 use Rattle.ul_comparison.specs.declared.variable.AtomKind.TheVariants.{Contains, Within, Below, Same}
-use Rattle.ul_comparison.specs.declared.variable.Variable.TheVariants.{OsName, SysPlatform, PlatformSystem, ImplementationName, ImplementationVersion}
+use Rattle.ul_comparison.specs.declared.variable.Variable.TheVariants.{OsName, SysPlatform, PlatformSystem, ImplementationName, ImplementationVersion, Extras}
 
 -- the texts of a machine, in the order of the text variables
 abbrev pub linux : List (List ℕ)
@@ -72,6 +73,11 @@ pub record Truths : Type 0 where
   pub opaque_that_is_negated : marker_holds (opaque below_z false) machine [] ≡ true
   pub opaque_of_other_kind : marker_holds (opaque (record has_inu { kind = Within }) true) machine [] ≡ false
   pub opaque_of_a_version : marker_holds (opaque same_version true) machine [] ≡ true
+  pub normal_beside_extras : may_stand Extras (codes "dev-tools") ≡ true
+  pub capital_beside_extras : may_stand Extras (codes "Dev") ≡ false
+  pub dot_beside_extras : may_stand Extras (codes "dev.tools") ≡ false
+  pub two_hyphens_beside_extras : may_stand Extras (codes "dev--tools") ≡ false
+  pub nothing_beside_extras : may_stand Extras [] ≡ false
   pub all_of_two : marker_holds (all (both (extra [] true) (opaque has_inu true))) later [] ≡ false
   pub all_of_none : marker_holds (all none) later [] ≡ true
   pub any_of_two : marker_holds (any (both (opaque has_inu true) (extra [] true))) later [] ≡ true

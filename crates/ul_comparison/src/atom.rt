@@ -1,6 +1,8 @@
 //! Opaque comparisons.
 ghost use Rattle.std.specs.Prelude.{◌≡◌, IfOk, IfSome, None, string_bytes};
 ghost use Rattle.std.specs.List.{list_all};
+ghost use Rattle.std.specs.Str.{bytes_eq};
+ghost use Rattle.ul_base.specs.Names.{normal_form};
 ghost use Rattle.ul_comparison.specs.Atoms;
 ghost use Rattle.ul_comparison.specs.Atoms.{IsAtom, atom_cmp, atom_fields};
 
@@ -8,12 +10,14 @@ use crate::{AtomKind, Variable};
 use std::alloc::{AllocError, Global};
 use std::cmp::Ordering;
 use std::marker::Model;
+use ul_base::is_name;
 
 /// An opaque comparison: one whose truth is independent of all else in a world.
 ///
 /// `Contains` stands with every variable, `Within`, `Below` and `AtMost` with a text variable or
 /// `implementation_version`, and `Same` with `implementation_version` alone. The literal is printable ASCII
-/// without the backslash and has not both quotes. Contracts see an atom as the record `AtomFields`.
+/// without the backslash and has not both quotes; beside `extras` it is a name in its normal form. Contracts see
+/// an atom as the record `AtomFields`.
 #[derive(Debug, Drop)]
 pub struct Atom {
     pub variable: Variable,
@@ -36,12 +40,16 @@ impl Atom {
     /// The comparison of a variable with a literal.
     ///
     /// `None` exactly where the kind doesn't stand with the variable, or the literal has another byte than those
-    /// of printable ASCII without the backslash, or both quotes. It takes no memory.
+    /// of printable ASCII without the backslash, or both quotes, or beside `extras` is no name in its normal form. It
+    /// takes no memory.
     pub fn of(variable: Variable, kind: AtomKind, literal: String) -> Option<Atom>
         ensures given { IfSome result (λ a. a ≡ atom_fields variable kind (string_bytes literal)) }
         ensures refused { result ≡ None → ¬ IsAtom (atom_fields variable kind (string_bytes literal)) }
     {
         if !may_compare(kind, variable) || !is_literal(literal.as_bytes()) {
+            return None;
+        }
+        if !may_stand(variable, literal.as_str()) {
             return None;
         }
         Some(Atom {
@@ -85,6 +93,40 @@ fn may_compare(kind: AtomKind, variable: Variable) -> bool
         AtomKind::Within | AtomKind::Below | AtomKind::AtMost => variable.is_text() || version,
         AtomKind::Same => version,
     }
+}
+
+/// Whether a literal may stand beside a variable: beside `extras` a name in its normal form. It takes no memory.
+pub fn may_stand(variable: Variable, literal: &str) -> bool
+    ensures { result ≡ Atoms.may_stand variable literal.now }
+{
+    !variable.is_extras() || is_normal_name(literal)
+}
+
+// Whether a text is a name in its normal form.
+#[tactic(auto, unfolding(crate::specs::Atoms::is_normal_name))]
+fn is_normal_name(text: &str) -> bool
+    ensures { result ≡ Atoms.is_normal_name text.now }
+{
+    is_name(text) && is_normal(text.as_bytes())
+}
+
+// Whether a text has neither capital letters nor another separator than single hyphens, so that it is its own normal
+// form.
+fn is_normal(text: &[u8]) -> bool
+    ensures { result ≡ bytes_eq (normal_form text.now) text.now }
+{
+    let mut hyphen = false;
+    for byte in text {
+        let byte = *byte;
+        if byte == b'.' || byte == b'_' || byte.is_ascii_uppercase() {
+            return false;
+        }
+        if byte == b'-' && hyphen {
+            return false;
+        }
+        hyphen = byte == b'-';
+    }
+    true
 }
 
 /// Whether a text can stand in a literal: printable ASCII without the backslash, and not with both quotes.

@@ -12,7 +12,7 @@ mod truth;
 mod variable;
 mod world;
 
-pub use atom::{Atom, is_literal, is_literal_byte};
+pub use atom::{Atom, is_literal, is_literal_byte, may_stand};
 pub use env_fault::EnvFault;
 pub use machine::Machine;
 pub use machine_truth::world_of;

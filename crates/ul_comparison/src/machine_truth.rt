@@ -17,8 +17,8 @@ use ul_version::{Version, VersionFault};
 ///
 /// `Contains` and `Within` ask whether the one text stands in the other, and the other kinds compare the bytes of
 /// the two. On `implementation_version` these others compare versions (PEP 440) where both texts spell one. The
-/// texts of `python_version` and `python_full_version` are the interpreter's numbers joined by points. The
-/// comparisons may stand in any order and repeat.
+/// texts of `python_version` and `python_full_version` are the interpreter's numbers joined by points. No literal is
+/// in `extras`, since a machine chooses no extras by itself. The comparisons may stand in any order and repeat.
 #[tactic(auto, using(crate::proofs::Cloned::texts_cloned))]
 pub fn world_of(alloc: Global, machine: &Machine, atoms: &Vec<Atom>) -> Result<World, AllocError>
     ensures { IfOk result (λ w. w ≡ spec.world_of machine.now atoms.now.items) }
@@ -82,6 +82,7 @@ fn holds_on(alloc: Global, machine: &Machine, atom: &Atom) -> Result<bool, Alloc
         Variable::ImplementationVersion => {
             compares(alloc, atom, machine.implementation_version.as_str())
         }
+        Variable::Extras => Ok(false),
         Variable::OsName
         | Variable::SysPlatform
         | Variable::PlatformMachine

@@ -28,6 +28,8 @@ pub enum Variable {
     ImplementationName,
     /// `implementation_version`
     ImplementationVersion,
+    /// `extras`, the extras that are chosen (PEP 751): a literal is `in` it, and nothing else is asked of it
+    Extras,
 }
 
 /// How an opaque comparison compares a variable with a literal, in the order of kinds.
@@ -62,6 +64,7 @@ impl Variable {
             Variable::PythonFullVersion => "python_full_version",
             Variable::ImplementationName => "implementation_name",
             Variable::ImplementationVersion => "implementation_version",
+            Variable::Extras => "extras",
         }
     }
 
@@ -81,6 +84,7 @@ impl Variable {
             Variable::PythonFullVersion => 8,
             Variable::ImplementationName => 9,
             Variable::ImplementationVersion => 10,
+            Variable::Extras => 11,
         }
     }
 
@@ -100,8 +104,16 @@ impl Variable {
             Variable::ImplementationName => 7,
             Variable::PythonVersion
             | Variable::PythonFullVersion
-            | Variable::ImplementationVersion => 8,
+            | Variable::ImplementationVersion
+            | Variable::Extras => 8,
         }
+    }
+
+    /// Whether this is `extras`.
+    pub fn is_extras(self) -> bool
+        ensures { result ≡ Atoms.is_extras self }
+    {
+        matches!(self, Variable::Extras)
     }
 
     /// Whether this is one of the eight text variables.
@@ -110,7 +122,10 @@ impl Variable {
     {
         !matches!(
             self,
-            Variable::PythonVersion | Variable::PythonFullVersion | Variable::ImplementationVersion
+            Variable::PythonVersion
+                | Variable::PythonFullVersion
+                | Variable::ImplementationVersion
+                | Variable::Extras
         )
     }
 }

@@ -1,1 +1,2 @@
 mod GivenBytes
+mod OpenedReads

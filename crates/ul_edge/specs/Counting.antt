@@ -4,7 +4,7 @@ use Rattle.std.specs.IoError.{error_kind}
 use Rattle.std.specs.declared.io.Error.{Error}
 use Rattle.std.specs.declared.io.ErrorKind.{ErrorKind}
 use Rattle.std.specs.declared.io.ErrorKind.TheVariants.{Interrupted}
-use Rattle.ul_base.specs.Causes.{Rose, next_count}
+use Rattle.ul_files.specs.Causes.{Rose, next_count}
 use Rattle.ul_edge.specs.declared.counted.Counted.{Counted}
 
 -- the reader or the writer whose failures are counted

@@ -1,8 +1,8 @@
 -- What reading to the end gives.
 use Rattle.std.specs.Prelude.{◌≡◌, ℕ, ◌<◌, List, length, Result, Ok, Err, Vec, ⊤}
 use Rattle.std.specs.declared.alloc.Global.{Global}
-use Rattle.ul_base.specs.declared.files.ReadRefused.{ReadRefused}
-use Rattle.ul_base.specs.declared.files.ReadRefused.TheVariants.{Failed, TooLong, NoMemory}
+use Rattle.ul_files.specs.declared.files.ReadRefused.{ReadRefused}
+use Rattle.ul_files.specs.declared.files.ReadRefused.TheVariants.{Failed, TooLong, NoMemory}
 use Rattle.ul_edge.specs.Counting.{HasFailed, HasNoFailure}
 use Rattle.ul_edge.specs.declared.counted.Counted.{Counted}
 

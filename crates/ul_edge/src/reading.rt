@@ -6,7 +6,7 @@ ghost use Rattle.ul_edge.specs.Reading.{FailsWith, GivesAll};
 use crate::counted::Counted;
 use std::alloc::{AllocError, Global};
 use std::io::Read;
-use ul_base::ReadRefused;
+use ul_files::ReadRefused;
 
 // How many bytes one read asks for.
 const CHUNK: usize = 16_384;

@@ -1,9 +1,12 @@
 -- Each question has an answer on every map of files.
 use Rattle.std.proofs.Common.{ℕ, List, [], Option, Some, None, Result, Ok, refl, inr}
-use Rattle.ul_base.specs.Files.{FileMap}
+use Rattle.std.specs.Prelude.{codes}
+use Rattle.ul_files.specs.Files.{FileMap}
+use Rattle.ul_truth_trees.specs.Trees.{TruthTrees}
 use Rattle.ul_load.specs.Laws.{LoadingEnds}
 use Rattle.ul_project.specs.Fields.{ProjectFields}
-use Rattle.ul_inputs.specs.Inputs.{answer, large_file}
+use Rattle.ul_load.specs.Loading.{file_bytes}
+use Rattle.ul_inputs.specs.Inputs.{answer, large_file, small_file}
 use Rattle.ul_inputs.specs.Locks.{kept_of, lock_at}
 use Rattle.ul_inputs.specs.Machines.{machine_at}
 use Rattle.ul_inputs.specs.Projects.{project_at}
@@ -13,11 +16,12 @@ use Rattle.ul_answers.specs.Answer as answers
 use Rattle.ul_answers.specs.Answer.{Answer}
 use Rattle.ul_lock_commands.specs.Environments.{IsEnvAnswer, env_on}
 use Rattle.ul_lock_commands.specs.Exports.{IsExportAnswer}
-use Rattle.ul_commands.specs.Asked.{check, env, export, gen, lock, relock, usage, verify, why}
+use Rattle.ul_commands.specs.Asked.{check, env, export, gen, lock, marker, relock, usage, verify, why}
 use Rattle.ul_commands.specs.Checking.{IsCheckAnswer, check_on, check_with, proof_at, proof_said}
 use Rattle.ul_commands.specs.Commands.{command}
 use Rattle.ul_commands.specs.Generating.{counted_for, gen_said, generated_files, index_folder, project_path}
 use Rattle.ul_commands.specs.Locking.{IsLockAnswer, lock_of}
+use Rattle.ul_commands.specs.Markers.{IsMarkerAnswer, markers_at}
 use Rattle.ul_commands.specs.Reasons.{IsWhyAnswer}
 use Rattle.ul_commands.specs.Relocking.{IsRelockAnswer, relock_on, relock_with}
 use Rattle.ul_commands.specs.Verifying.{IsVerifyAnswer, verify_on, verify_with}
@@ -35,9 +39,10 @@ use Rattle.ul_existence.proofs.Given.{machine_given, resolution_with_given}
 use Rattle.ul_existence.proofs.LockAnswers.{WalkLaws, env_answered, export_answered}
 use Rattle.ul_existence.proofs.LockTexts.{given_lock}
 use Rattle.ul_existence.proofs.Locks.{LockLaws, lock_answered}
+use Rattle.ul_existence.proofs.MarkerFiles.{marker_answered}
 use Rattle.ul_existence.proofs.Reasons.{ReasonLaws, why_answered}
 use Rattle.ul_existence.proofs.Relocks.{relock_answered}
-use Rattle.ul_existence.proofs.Sequenced.{given_just, given_then}
+use Rattle.ul_existence.proofs.Sequenced.{given_file, given_just, given_then}
 
 -- what is known of what files give
 pub record GivenLaws : Type 0 where
@@ -54,6 +59,7 @@ pub record AnswerLaws : Type 0 where
   pub reasons : ReasonLaws
   pub walks : WalkLaws
   pub checks : CheckLaws
+  pub trees : TruthTrees
 
 known : GivenLaws → (project folder : List ℕ) (old : Option (List ℕ)) (m : FileMap) (r : ResolutionFields)
     → (resolution_in project folder old m).gives (Ok r) → IsKnown r
@@ -105,6 +111,13 @@ export_given : AnswerLaws → (path : List ℕ) (words : List (List ℕ)) (m : F
 export_given laws path words m =
     given_then (lock_at path) (λ l. answer (IsExportAnswer l words)) m (laws.given.inputs.lock path m)
     (λ l gave. export_answered laws.walks l words (given_lock path m l gave))
+
+-- ---- `marker`
+
+marker_given : AnswerLaws → (path : List ℕ) (m : FileMap) → IsGiven (markers_at path) m
+marker_given laws path m =
+    given_then (small_file path) (λ bytes. answer (IsMarkerAnswer path bytes)) m (given_file (codes "file-bytes") file_bytes path m)
+    (λ bytes gave. marker_answered laws.trees path bytes)
 
 -- ---- `check` and `verify`
 
@@ -184,5 +197,6 @@ answers_exist laws (relock project folder workers old) m = relock_given laws pro
 answers_exist laws (gen seed size workers) m = gen_given laws seed size m
 answers_exist laws (env path machine words) m = env_given laws path machine words m
 answers_exist laws (export path words) m = export_given laws path words m
+answers_exist laws (marker path) m = marker_given laws path m
 answers_exist laws (check project folder derivation) m = check_given laws project folder derivation m
 answers_exist laws (verify project folder path) m = verify_given laws project folder path m

@@ -2,13 +2,13 @@
 use Rattle.std.proofs.Common.{◌≡◌, ℕ, List, [], ◌∷◌, ap, sym, subst}
 use Rattle.std.specs.List.{AllByRecursion}
 use Rattle.std.proofs.lemmas.List.Elements.{All-nil}
-use Rattle.ul_base.specs.Files.{FileMap}
+use Rattle.ul_files.specs.Files.{FileMap}
 use Rattle.ul_marker.specs.ReadingLaws.{ReadIsFormula}
 use Rattle.ul_requirement.specs.Fields.{IsOtherVersion, IsPackage, IsRequirement, ReleaseFields, VersionsDiffer}
 use Rattle.ul_index.specs.Catalogs.{Packages}
 use Rattle.ul_project.specs.Fields.{ProjectFields}
 use Rattle.ul_project.specs.Headline.{IsSaid}
-use Rattle.ul_groups.specs.Adjusted.{adjusted_catalog}
+use Rattle.ul_groups.specs.Adjusted.{catalog_for}
 use Rattle.ul_forks.specs.Outcome.{starts_of}
 use Rattle.ul_inputs.specs.Catalogs.{beginning}
 use Rattle.ul_inputs.specs.Resolutions.{HasUsable, IsResolution, ResolutionFields}
@@ -70,8 +70,8 @@ catalog_right : ReadIsFormula → (m : FileMap) (folder : List ℕ) (p : Project
 catalog_right reads m folder p c had right from =
     let project = package_right p had right in
     let loaded = loaded_right (read_requirement_is reads) m folder (beginning p) from.loaded project from.loads in
-    subst IsRightCatalog {x = adjusted_catalog p.constraints p.overrides from.loaded} from.is
-    (adjusted_right p.constraints p.overrides from.loaded right.constraints right.overrides loaded)
+    subst IsRightCatalog {x = catalog_for p from.loaded} from.is
+    (adjusted_right p from.loaded right.constraints right.overrides loaded)
 
 -- ---- what is asked of
 

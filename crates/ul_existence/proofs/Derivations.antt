@@ -2,7 +2,7 @@
 use Rattle.std.proofs.Common.{◌≡◌, ℕ, List, Result, Ok, Err, refl, ◌++◌}
 use Rattle.std.specs.Prelude.{codes}
 use Rattle.std.specs.Fmt.{decimal}
-use Rattle.ul_base.specs.Files.{FileMap}
+use Rattle.ul_files.specs.Files.{FileMap}
 use Rattle.ul_lines.specs.Reader.{read_text}
 use Rattle.ul_tree.specs.Sample.{SampleHolds}
 use Rattle.ul_report_read.specs.Automaton.{proof_reader}

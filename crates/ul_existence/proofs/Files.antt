@@ -14,6 +14,7 @@ use Rattle.ul_project.specs.declared.path.Place.TheVariants.{Key}
 use Rattle.ul_project.specs.declared.path.ProjectKey.TheVariants as key
 use Rattle.ul_project.specs.declared.path.ProjectPath.{ProjectPath}
 use Rattle.ul_project.specs.declared.path.ProjectPath.TheVariants.{Whole, Entry}
+use Rattle.ul_project.specs.declared.profile.Profile.{Profile}
 use Rattle.ul_given.proofs.ForCallers.{AreRead, IsFileWith, each_all, file_formulas, file_from, file_has, requirement_has, same_ok, went_on}
 use Rattle.ul_existence.proofs.Markers.{of_extra_is}
 use Rattle.ul_existence.proofs.Requirements.{read_requirement_is}
@@ -28,20 +29,20 @@ bare_is path q p e = by_test (speaks_of_extras q) e
     by_test true e = absurd (cc e)
     by_test false e = same_ok q p e
 
-bound_is : AreRead IsRequirement → (place : Place) (i : ℕ) (d : Data) (q : RequirementFields)
-    → bound_at place i d ≡ Ok q → IsRequirement q
+bound_is : AreRead IsRequirement → (profile : Profile) (place : Place) (i : ℕ) (d : Data) (q : RequirementFields)
+    → bound_at profile place i d ≡ Ok q → IsRequirement q
 unfolding bound_at
-bound_is law place i d q e =
-    let read = went_on (requirement_at place i d) (without_extras (Entry place i)) q e in
+bound_is law profile place i d q e =
+    let read = went_on (requirement_at profile place i d) (without_extras (Entry place i)) q e in
     subst IsRequirement (bare_is (Entry place i) read.0 q read.2)
-    (requirement_has IsRequirement law place i d read.0 read.1)
+    (requirement_has IsRequirement law profile place i d read.0 read.1)
 
-bounds_are : AreRead IsRequirement → (place : Place) (value : Option Data) (qs : List RequirementFields)
-    → bounds_at place value ≡ Ok qs → AreSpelled qs
+bounds_are : AreRead IsRequirement → (profile : Profile) (place : Place) (value : Option Data)
+    (qs : List RequirementFields) → bounds_at profile place value ≡ Ok qs → AreSpelled qs
 unfolding bounds_at
-bounds_are law place value qs e =
-    let items = went_on (optional_items_at (Whole place) value) (each_from (bound_at place) 0) qs e in
-    each_all IsRequirement (bound_at place) (bound_is law place) 0 items.0 qs items.2
+bounds_are law profile place value qs e =
+    let items = went_on (optional_items_at (Whole place) value) (each_from (bound_at profile place) 0) qs e in
+    each_all IsRequirement (bound_at profile place) (bound_is law profile place) 0 items.0 qs items.2
 
 -- ---- the whole file
 
@@ -56,13 +57,16 @@ pub record IsRightFile (f : FileFields) : Type 0 where
 pub file_right : ReadIsFormula → (bytes : List ℕ) (f : FileFields) → file_of bytes ≡ Ok f → IsRightFile f
 file_right reads bytes f e =
     let law = read_requirement_is reads in
-    let from = (file_from bytes f e).settings in
-    let bounds = get_member (codes "constraint-dependencies") from.members in
-    let others = get_member (codes "override-dependencies") from.members in
+    let from = file_from bytes f e in
+    let settings = from.settings in
+    let bounds = get_member (codes "constraint-dependencies") settings.members in
+    let others = get_member (codes "override-dependencies") settings.members in
     record {
       listed = file_has IsRequirement law of_extra_is bytes f e;
       environments = file_formulas reads bytes f e;
       constraints =
-          bounds_are law (Key key.ConstraintDependencies) bounds f.settings.constraints from.constraints;
-      overrides = bounds_are law (Key key.OverrideDependencies) others f.settings.overrides from.overrides;
+          bounds_are law from.profile (Key key.ConstraintDependencies) bounds f.settings.constraints
+          settings.constraints;
+      overrides = bounds_are law from.profile (Key key.OverrideDependencies) others f.settings.overrides
+          settings.overrides;
     }

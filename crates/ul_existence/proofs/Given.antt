@@ -1,12 +1,12 @@
 -- Each input is given.
 use Rattle.std.proofs.Common.{ℕ, List, Option, Ok, refl}
 use Rattle.std.specs.Prelude.{codes}
-use Rattle.ul_base.specs.Files.{FileMap}
+use Rattle.ul_files.specs.Files.{FileMap}
 use Rattle.ul_tree.specs.Sample.{SampleHolds}
 use Rattle.ul_load.specs.Laws.{LoadingEnds}
 use Rattle.ul_load.specs.Loading.{file_bytes}
 use Rattle.ul_comparison.specs.MachineFiles.{machine_of}
-use Rattle.ul_groups.specs.Adjusted.{adjusted_catalog}
+use Rattle.ul_groups.specs.Adjusted.{catalog_for}
 use Rattle.ul_project.specs.Fields.{ProjectFields}
 use Rattle.ul_inputs.specs.Catalogs.{beginning, catalog_in, documents, found_or_refused}
 use Rattle.ul_inputs.specs.Inputs.{◌>>=◌, just, small_file}
@@ -33,9 +33,9 @@ documents_given ends folder p m =
 
 catalog_given : LoadingEnds → (folder : List ℕ) (p : ProjectFields) (m : FileMap) → IsGiven (catalog_in folder p) m
 catalog_given ends folder p m =
-    given_then (documents folder p) (λ c. just (Ok (adjusted_catalog p.constraints p.overrides c))) m
+    given_then (documents folder p) (λ c. just (Ok (catalog_for p c))) m
     (documents_given ends folder p m)
-    (λ c gave. given_just (Ok (adjusted_catalog p.constraints p.overrides c)) m)
+    (λ c gave. given_just (Ok (catalog_for p c)) m)
 
 -- what a project says, with the documents of a folder
 pub resolution_with_given : LoadingEnds → (folder : List ℕ) (p : ProjectFields) (kept : List Kept) (m : FileMap)

@@ -5,6 +5,7 @@ mod UsableReleases
 mod Documents
 mod Loaded
 mod Markers
+mod MarkerFiles
 mod Files
 mod Adjusted
 mod Projects

@@ -9,7 +9,7 @@ use Rattle.std.proofs.lemmas.List.{append-nil}
 use Rattle.std.proofs.lemmas.List.Elements.{All-cons, All-nil}
 use Rattle.std.proofs.lemmas.Slice.Eq.{bytes_eq-Decides}
 use Rattle.indexmap.specs.IndexSet.{insert_key}
-use Rattle.ul_base.specs.Files.{FileMap}
+use Rattle.ul_files.specs.Files.{FileMap}
 use Rattle.ul_requirement.specs.Fields.{IsRequirement, PackageFields}
 use Rattle.ul_index.specs.Catalogs.{NamesDiffer, Packages}
 use Rattle.ul_index.proofs.ForCallers.{document_facts}

@@ -3,7 +3,7 @@ use Rattle.std.proofs.Common.{◌≡◌, ◌≤◌, ◌+◌, ℕ, List, [], ◌�
 use Rattle.std.specs.Prelude.{codes, nat_le, not}
 use Rattle.std.specs.List.{list_all, position_from}
 use Rattle.std.proofs.lemmas.Bool.Decides.{nat_tests}
-use Rattle.ul_base.specs.Files.{FileMap, content}
+use Rattle.ul_files.specs.Files.{FileMap, content}
 use Rattle.ul_lines.specs.Reader.{read_text}
 use Rattle.ul_lock.specs.Targets.{first_without_target, has_one_root, package_leads_on}
 use Rattle.ul_lock.specs.declared.parts.Lock.{Lock}

@@ -1,6 +1,6 @@
 -- Inputs, one after another, are given where each is.
 use Rattle.std.proofs.Common.{ℕ, List, Result, Ok, Err, refl, inl, inr}
-use Rattle.ul_base.specs.Files.{FileMap, content}
+use Rattle.ul_files.specs.Files.{FileMap, content}
 use Rattle.ul_inputs.specs.Inputs.{◌>>=◌, Input, Said, bounded, file_at, just, present, present_file, said_on}
 use Rattle.ul_inputs.specs.Refused.{Refused}
 use Rattle.ul_existence.specs.Inputs.{IsGiven}

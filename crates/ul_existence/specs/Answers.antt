@@ -1,6 +1,6 @@
 -- Each question has an answer on every map of files.
 use Rattle.std.specs.Prelude.{Result}
-use Rattle.ul_base.specs.Files.{FileMap}
+use Rattle.ul_files.specs.Files.{FileMap}
 use Rattle.ul_inputs.specs.Refused.{Refused}
 use Rattle.ul_answers.specs.Answer.{Answer}
 use Rattle.ul_commands.specs.Asked.{Asked}

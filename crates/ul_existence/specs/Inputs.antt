@@ -1,6 +1,6 @@
 -- Each input of a command is said by the files: a value, or a refusal.
 use Rattle.std.specs.Prelude.{ℕ, List, Option, Ok, Result}
-use Rattle.ul_base.specs.Files.{FileMap}
+use Rattle.ul_files.specs.Files.{FileMap}
 use Rattle.ul_forks.specs.Outcome.{starts_of}
 use Rattle.ul_region_problems.specs.Exists.{IsAskedOf}
 use Rattle.ul_inputs.specs.Inputs.{Input}

@@ -27,6 +27,7 @@ pub fn answers_exist()
 {
     inputs_are_given();
     given_is_askable();
+    ul_truth_trees::laws::truth_trees();
     ul_load::laws::loading_ends();
     ul_given::laws::given_is_resolution();
     ul_given::laws::given_has_texts();

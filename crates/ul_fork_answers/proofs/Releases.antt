@@ -1,11 +1,10 @@
 -- Each decision of a best selection is of an eligible version, which has a release.
-use Rattle.std.specs.Prelude.{Contains, filter, find}
+use Rattle.std.specs.Prelude.{Contains, find}
 use Rattle.std.specs.Ordering.{is_eq, ordering_reverse}
 use Rattle.std.specs.declared.cmp.Ordering.{Ordering}
 use Rattle.std.specs.declared.cmp.Ordering.TheVariants.{Less, Equal, Greater}
 use Rattle.std.proofs.Common.{◌≡◌, ◌∙◌, ℕ, List, [], ◌∷◌, ◌++◌, Bool, true, false, Option, Some, None, refl, ap, subst}
 use Rattle.std.proofs.Common.{⊎_elim, sym}
-use Rattle.std.proofs.lemmas.List.Elements.{All-contains, All-contains_itself, All-filter}
 use Rattle.ul_base.specs.declared.node.Node.{Node}
 use Rattle.ul_base.proofs.ForCallers.{contains_cases, first_in, none_found, none_in}
 use Rattle.ul_version.specs.Fields.{Fields}
@@ -13,9 +12,10 @@ use Rattle.ul_version.specs.Order.{version_cmp}
 use Rattle.ul_version.proofs.ForCallers.{version_total}
 use Rattle.ul_requirement.specs.Fields.{ReleaseFields, RequirementFields, WishFields}
 use Rattle.ul_index.specs.Catalogs.{Packages, release_of, releases_of}
-use Rattle.ul_index.specs.Eligible.{directs_on, eligible, passes, passing, takes_pre}
+use Rattle.ul_index.specs.Eligible.{eligible}
 use Rattle.ul_index.specs.Laws.{EligibleSame, PreferenceSame}
 use Rattle.ul_index.specs.Preference.{preference}
+use Rattle.ul_index.proofs.ForCallers.{passing_in}
 use Rattle.ul_index.specs.Regions.{Region}
 use Rattle.ul_index.specs.Serves.{Selection}
 use Rattle.ul_region.specs.Best.{CanServe, IsBestFrom}
@@ -49,13 +49,6 @@ listed_found : (c : Packages) (n : List ℕ) (r : ReleaseFields) (v : Fields) �
 unfolding release_of
 listed_found c n r v m e = found_some (λ (x : ReleaseFields). is_eq (version_cmp x.version v)) (releases_of c n) r m
     (level_itself r.version v e)
-
-passing_in : (c : Packages) (n : List ℕ) (r : ReleaseFields) → Contains (passing c n) r → Contains (releases_of c n) r
-unfolding passing
-passing_in c n r m =
-    let rs = releases_of c n in
-    let test = passes (directs_on c n) (takes_pre (directs_on c n) rs) in
-    All-contains (Contains rs) (filter test rs) r (All-filter test (Contains rs) rs (All-contains_itself rs)) m
 
 release_found : EligibleSame → (c : Packages) (n : List ℕ) (v : Fields) → Contains (eligible c n) v
     → (r : ReleaseFields) × (release_of c n v ≡ Some r)

@@ -21,12 +21,12 @@ adjusted_named = record {
 }
 
 pub adjusted_are_texts : AdjustedAreTexts
-adjusted_are_texts constraints overrides [] h = tt
-adjusted_are_texts constraints overrides (p ∷ ps) h = (
+adjusted_are_texts p [] h = tt
+adjusted_are_texts p (found ∷ others) h = (
   record {
     name = h.0.name;
     releases = releases_adjusted IsNamedRequirement AnyBound adjusted_named IsTextRelease text_release
-        constraints overrides (any_bounds constraints) (any_bounds overrides) p.releases h.0.releases;
+        p.constraints p.overrides (any_bounds p.constraints) (any_bounds p.overrides) found.releases h.0.releases;
   },
-  adjusted_are_texts constraints overrides ps h.1,
+  adjusted_are_texts p others h.1,
 )

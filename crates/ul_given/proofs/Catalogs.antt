@@ -3,7 +3,7 @@ use Rattle.std.proofs.Common.{◌≡◌, ◌<◌, ℕ, zero, suc, List, [], ◌�
 use Rattle.std.specs.List.{AllByRecursion, list_any}
 use Rattle.std.specs.Str.{bytes_eq}
 use Rattle.indexmap.specs.IndexSet.{insert_key}
-use Rattle.ul_base.specs.Files.{FileMap}
+use Rattle.ul_files.specs.Files.{FileMap}
 use Rattle.ul_base.specs.Names.{IsNormalName}
 use Rattle.ul_requirement.specs.Fields.{PackageFields, ReleaseFields, RequirementFields}
 use Rattle.ul_load.specs.Loading.{Beginning, ProgressFields, first_progress, names_of, names_with, next_name, package_at, progress_with, requirements_of}

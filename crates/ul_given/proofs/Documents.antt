@@ -1,5 +1,5 @@
 -- A document that is read has versions, requirements that are read, and files in the order of their names.
-use Rattle.std.proofs.Common.{◌≡◌, ℕ, ◌+◌, List, [], ◌∷◌, length, Bool, true, false, cond, Option, Some, None, Result, Ok, Err, refl, sym, ap, subst}
+use Rattle.std.proofs.Common.{◌≡◌, ℕ, ◌+◌, List, [], ◌∷◌, length, Bool, true, false, cond, Option, Some, None, Result, Ok, Err, inl, refl, sym, ap, subst}
 use Rattle.std.specs.Prelude.{codes, ◌&&◌}
 use Rattle.std.specs.Str.{str_to_ascii_lowercase}
 use Rattle.std.proofs.lemmas.Bool.{and_parts}
@@ -12,6 +12,7 @@ use Rattle.ul_version.specs.Reading.{version_of}
 use Rattle.ul_version.proofs.ForCallers.{versions}
 use Rattle.ul_requirement.specs.Fields.{FileFields, FilesRise, IsFile, PackageFields, ReleaseFields, RequirementFields, is_digest, is_file_name}
 use Rattle.ul_requirement.specs.Reading.{Reading as Grammar, by_url, read_requirement, reading_of, requirement, requirement_of, unread}
+use Rattle.ul_requirement.specs.declared.wish.Prereleases.TheVariants.{IfNecessaryOrExplicit}
 use Rattle.ul_index.specs.Documents.{DocumentFault, Reading, by_name, differ_after, document_of, entries_from, entry_at, file_of, file_of_texts, file_with, files_at, files_from, files_in_order, items_at, not_json, object_at, optional_items_at, ordered_files, package_in, python_at, releases_of_items, requirements_at, requirements_in, right_name, shape, text_at, text_of, texts_at, version_at, yanked_at}
 use Rattle.ul_index.specs.Json.{json_of}
 use Rattle.ul_index.specs.Results.{◌>>=◌, option_bind, or_fault, read_each}
@@ -43,7 +44,7 @@ same_some x y e = cc
 
 read_is : (r : Grammar) (q : RequirementFields) → read_requirement r ≡ Some q → r ≡ requirement q
 read_is (requirement p) q e = ap (λ (x : RequirementFields). requirement x) (same_some p q e)
-read_is by_url q e = absurd (cc e)
+read_is (by_url o) q e = absurd (cc e)
 read_is unread q e = absurd (cc e)
 
 versions_at : (place : Place) (value : Option Data) (o : Option Fields) → version_at place value ≡ Ok o
@@ -140,7 +141,7 @@ module _ (P : RequirementFields → Type 0) (law : AreRead P) where
       let one = bound (requirement_of t) _ qs e in
       let more = bound (read_each requirement_of ts) _ qs one.2 in
       subst (λ (x : List RequirementFields). AllByRecursion P x) (same_some (one.0 ∷ more.0) qs more.2)
-      (law t one.0 (read_is (reading_of t) one.0 one.1), each_read ts more.0 more.1)
+      (law t one.0 (inl (read_is (reading_of t) one.0 one.1)), each_read ts more.0 more.1)
 
   requirements_have : (place : Place) (value : Option Data) (o : Option (List RequirementFields))
       → requirements_at place value ≡ Ok o → (qs : List RequirementFields) → o ≡ Some qs → AllByRecursion P qs
@@ -238,7 +239,8 @@ module _ (P : RequirementFields → Type 0) (law : AreRead P) where
       let releases = went_on (releases_of_items items.0) _ p right.2 in
       let entries = went_on (entries_from 0 items.0) _ releases.0 releases.1 in
       let are : usable entries.0 ≡ releases.0 = same_ok (usable entries.0) releases.0 entries.2 in
-      let made : PackageFields = record { name = name; entries = length items.0; releases = releases.0 } in
+      let made : PackageFields =
+      record { name = name; entries = length items.0; prereleases = IfNecessaryOrExplicit; releases = releases.0 } in
       subst (IsPackageWith P) {x = made} (same_ok made p releases.2) (record {
         entries = entries.0;
         are = are;

@@ -1,108 +1,145 @@
 -- A project file that is read, and its settings, are made of parts that are read.
-use Rattle.std.proofs.Common.{◌≡◌, ℕ, List, ◌++◌, map, Ok, refl, subst}
+use Rattle.std.proofs.Common.{◌≡◌, ℕ, List, ◌++◌, Ok, refl, subst, sym}
 use Rattle.std.specs.Prelude.{codes}
 use Rattle.toml.specs.Data.{Members, get_member}
+use Rattle.ul_comparison.specs.Formulas.{Formula}
 use Rattle.ul_requirement.specs.Fields.{RequirementFields}
-use Rattle.ul_project.specs.Extras.{extra_requirements, extra_size, extras_at}
-use Rattle.ul_project.specs.GroupLists.{groups_at}
-use Rattle.ul_project.specs.Head.{head_in}
+use Rattle.ul_requirement.specs.declared.wish.Mode.{Mode}
+use Rattle.ul_requirement.specs.declared.wish.Prereleases.{Prereleases}
+use Rattle.ul_requirement.specs.declared.wish.Strategy.{Strategy}
+use Rattle.ul_project.specs.Extras.{extra_requirements, extras_at}
+use Rattle.ul_project.specs.DevDependencies.{dev_dependencies_in, groups_with}
+use Rattle.ul_project.specs.GroupLists.{group_lists_at}
+use Rattle.ul_project.specs.Head.{HeadFields, head_in}
 use Rattle.ul_project.specs.Lists.{Named, names_of}
-use Rattle.ul_project.specs.ProjectFile.{FileFields, file_in, file_of}
+use Rattle.ul_project.specs.Profiles.{profile_of}
+use Rattle.ul_project.specs.ProjectFile.{FileFields, RequiredFields, file_in, file_of, file_with, required_in}
 use Rattle.ul_project.specs.Requirements.{bounds_at, requirements_at}
 use Rattle.ul_project.specs.Results.{or_fault}
-use Rattle.ul_project.specs.Settings.{SettingsFields, all_silent, environments_at, mode_at, prerelease_at, settings_in, strategy_at, uv_at}
-use Rattle.ul_project.specs.Shapes.{at_key, not_toml, table_at}
+use Rattle.ul_project.specs.Settings.{SettingsFields, all_silent, choices_in, environments_at, listed_in, settings_in, settings_with, uv_at}
+use Rattle.ul_project.specs.Shapes.{Reading, at_key, not_toml, table_at}
 use Rattle.ul_project.specs.Toml.{toml_of}
+use Rattle.ul_project.specs.declared.group.GroupEntry.{GroupEntry}
 use Rattle.ul_project.specs.declared.path.Place.TheVariants.{Key}
 use Rattle.ul_project.specs.declared.path.ProjectKey.TheVariants as key
+use Rattle.ul_project.specs.declared.profile.Profile.{Profile}
 use Rattle.ul_given.proofs.Readings.{same_ok, went_on}
 
 -- ---- settings
 
--- the settings of a table
-pub record AreFrom (s : SettingsFields) : Type 0 where
+-- the requirements of the group `dev`, and what is asked of the resolver
+abbrev pub Asked : Type 0
+Asked = List RequirementFields × SettingsFields
+
+-- constraints, overrides, and the requirements of the group `dev`
+abbrev pub Listed : Type 0
+Listed = List RequirementFields × List RequirementFields × List RequirementFields
+
+-- they are those of a table, by a profile, beside extras
+pub record AreFrom (profile : Profile) (extras : List (List ℕ)) (asked : Asked) : Type 0 where
   pub members : Members
   pub constraints :
-      bounds_at (Key key.ConstraintDependencies) (get_member (codes "constraint-dependencies") members)
-      ≡ Ok s.constraints
+      bounds_at profile (Key key.ConstraintDependencies) (get_member (codes "constraint-dependencies") members)
+      ≡ Ok asked.1.constraints
   pub overrides :
-      bounds_at (Key key.OverrideDependencies) (get_member (codes "override-dependencies") members) ≡ Ok s.overrides
-  pub environments : environments_at (get_member (codes "environments") members) ≡ Ok s.environments
+      bounds_at profile (Key key.OverrideDependencies) (get_member (codes "override-dependencies") members)
+      ≡ Ok asked.1.overrides
+  pub dev : dev_dependencies_in profile extras members ≡ Ok asked.0
+  pub environments : environments_at (get_member (codes "environments") members) ≡ Ok asked.1.environments
 
-settings_from : (document : Members) (s : SettingsFields) → settings_in document ≡ Ok s → AreFrom s
-unfolding settings_in
-settings_from document s e =
-    let uv = went_on (uv_at document) _ s e in
-    let silent = went_on (all_silent uv.0) _ s uv.2 in
-    let bounds = get_member (codes "constraint-dependencies") uv.0 in
-    let constraints = went_on (bounds_at (Key key.ConstraintDependencies) bounds) _ s silent.2 in
-    let others = get_member (codes "override-dependencies") uv.0 in
-    let overrides = went_on (bounds_at (Key key.OverrideDependencies) others) _ s constraints.2 in
-    let environments = went_on (environments_at (get_member (codes "environments") uv.0)) _ s overrides.2 in
-    let mode = went_on (mode_at (get_member (codes "resolution") uv.0)) _ s environments.2 in
-    let prerelease = went_on (prerelease_at (get_member (codes "prerelease") uv.0)) _ s mode.2 in
-    let strategy = went_on (strategy_at (get_member (codes "fork-strategy") uv.0)) _ s prerelease.2 in
-    let made : SettingsFields = record {
-      constraints = constraints.0;
-      overrides = overrides.0;
-      environments = environments.0;
-      mode = mode.0;
-      strategy = strategy.0;
-    } in
-    subst AreFrom {x = made} (same_ok made s strategy.2) (record {
-      members = uv.0;
-      constraints = constraints.1;
-      overrides = overrides.1;
-      environments = environments.1;
-    })
+abbrev settings_of : Listed → List Formula → Mode × Prereleases × Strategy → Reading Asked
+settings_of listed environments choices = Ok (listed.2, settings_with listed environments choices)
+
+module _ (profile : Profile) (extras : List (List ℕ)) where
+  settings_from : (document : Members) (asked : Asked) → settings_in profile extras document ≡ Ok asked
+      → AreFrom profile extras asked
+  unfolding settings_in listed_in
+  settings_from document asked e =
+      let uv = went_on (uv_at document) _ asked e in
+      let silent = went_on (all_silent profile uv.0) _ asked uv.2 in
+      let listed = went_on (listed_in profile extras uv.0) _ asked silent.2 in
+      let environments = went_on (environments_at (get_member (codes "environments") uv.0)) _ asked listed.2 in
+      let choices = went_on (choices_in profile uv.0) _ asked environments.2 in
+      let bounds = get_member (codes "constraint-dependencies") uv.0 in
+      let constraints = went_on (bounds_at profile (Key key.ConstraintDependencies) bounds) _ listed.0 listed.1 in
+      let others = get_member (codes "override-dependencies") uv.0 in
+      let overrides = went_on (bounds_at profile (Key key.OverrideDependencies) others) _ listed.0 constraints.2 in
+      let dev = went_on (dev_dependencies_in profile extras uv.0) _ listed.0 overrides.2 in
+      let lists : Listed = (constraints.0, overrides.0, dev.0) in
+      let made : Asked = (dev.0, settings_with lists environments.0 choices.0) in
+      let same = same_ok lists listed.0 dev.2 in
+      let last : settings_of lists environments.0 choices.0 ≡ Ok asked =
+      subst (λ (l : Listed). settings_of l environments.0 choices.0 ≡ Ok asked) (sym same) choices.2 in
+      subst (AreFrom profile extras) {x = made} (same_ok made asked last) (record {
+        members = uv.0;
+        constraints = constraints.1;
+        overrides = overrides.1;
+        dev = dev.1;
+        environments = environments.1;
+      })
 
 -- ---- the whole file
+
+abbrev file_read : HeadFields → RequiredFields → Asked → Reading FileFields
+file_read head required asked = Ok (file_with head required asked)
 
 -- the file of a document
 pub record IsFileFrom (f : FileFields) : Type 0 where
   pub document : Members
   pub project : Members
   pub head : head_in project ≡ Ok f.head
+  pub profile : Profile
   pub own : List RequirementFields
-  pub dependencies : requirements_at (Key key.Dependencies) (get_member (codes "dependencies") project) ≡ Ok own
+  pub dependencies : requirements_at profile (Key key.Dependencies) (get_member (codes "dependencies") project) ≡ Ok own
   pub lists : List (Named (List RequirementFields))
-  pub optional : extras_at (get_member (codes "optional-dependencies") project) ≡ Ok lists
+  pub optional : extras_at profile (get_member (codes "optional-dependencies") project) ≡ Ok lists
   pub requirements : own ++ extra_requirements lists ≡ f.requirements
   pub extras : names_of lists ≡ f.extras
-  pub groups : groups_at (names_of lists) (get_member (codes "dependency-groups") document) ≡ Ok f.groups
-  pub settings : AreFrom f.settings
+  pub groups : List (Named (List GroupEntry))
+  pub listed : group_lists_at profile (names_of lists) (get_member (codes "dependency-groups") document) ≡ Ok groups
+  pub dev : List RequirementFields
+  pub with_dev : groups_with dev groups ≡ f.groups
+  pub settings : AreFrom profile (names_of lists) (dev, f.settings)
 
 document_from : (document : Members) (f : FileFields) → file_in document ≡ Ok f → IsFileFrom f
-unfolding file_in
+unfolding file_in required_in
 document_from document f e =
+    let profile = profile_of document in
     let project = went_on (table_at (at_key key.Project) (get_member (codes "project") document)) _ f e in
     let head = went_on (head_in project.0) _ f project.2 in
+    let required = went_on (required_in profile document project.0) _ f head.2 in
+    let asked = went_on (settings_in profile (names_of required.0.extras) document) _ f required.2 in
     let listed = get_member (codes "dependencies") project.0 in
-    let dependencies = went_on (requirements_at (Key key.Dependencies) listed) _ f head.2 in
-    let extras = went_on (extras_at (get_member (codes "optional-dependencies") project.0)) _ f dependencies.2 in
+    let dependencies = went_on (requirements_at profile (Key key.Dependencies) listed) _ required.0 required.1 in
+    let optional = get_member (codes "optional-dependencies") project.0 in
+    let extras = went_on (extras_at profile optional) _ required.0 dependencies.2 in
     let members = get_member (codes "dependency-groups") document in
-    let groups = went_on (groups_at (names_of extras.0) members) _ f extras.2 in
-    let settings = went_on (settings_in document) _ f groups.2 in
-    let made : FileFields = record {
-      head = head.0;
-      requirements = dependencies.0 ++ extra_requirements extras.0;
-      extras = names_of extras.0;
-      sizes = map extra_size extras.0;
-      groups = groups.0;
-      settings = settings.0;
-    } in
-    subst IsFileFrom {x = made} (same_ok made f settings.2) (record {
+    let groups = went_on (group_lists_at profile (names_of extras.0) members) _ required.0 extras.2 in
+    let parts : RequiredFields = record { requirements = dependencies.0; extras = extras.0; groups = groups.0 } in
+    let same : required.0 ≡ parts = sym {a = parts} (same_ok parts required.0 groups.2) in
+    let settings : AreFrom profile (names_of parts.extras) asked.0 =
+    settings_from profile (names_of parts.extras) document asked.0
+    (subst (λ (r : RequiredFields). settings_in profile (names_of r.extras) document ≡ Ok asked.0) {y = parts} same
+    asked.1) in
+    let made : FileFields = file_with head.0 parts asked.0 in
+    let last : file_read head.0 parts asked.0 ≡ Ok f =
+    subst (λ (r : RequiredFields). file_read head.0 r asked.0 ≡ Ok f) {y = parts} same asked.2 in
+    subst IsFileFrom {x = made} (same_ok made f last) (record {
       document = document;
       project = project.0;
       head = head.1;
+      profile = profile;
       own = dependencies.0;
       dependencies = dependencies.1;
       lists = extras.0;
       optional = extras.1;
       requirements = refl;
       extras = refl;
-      groups = groups.1;
-      settings = settings_from document settings.0 settings.1;
+      groups = groups.0;
+      listed = groups.1;
+      dev = asked.0.0;
+      with_dev = refl;
+      settings = settings;
     })
 
 -- a project file that is read is a document's

@@ -5,7 +5,7 @@ pub use Rattle.ul_given.proofs.Lists.{all_as, more}
 -- sets increase
 pub use Rattle.ul_given.proofs.Inserted.{set_rises}
 -- what is true of each requirement that is read, and the parts of one
-pub use Rattle.ul_given.proofs.ReadRequirements.{AreRead, Tail, front_has, read_from, requirement_with}
+pub use Rattle.ul_given.proofs.ReadRequirements.{AreRead, IsTailOf, Tail, front_has, read_from, requirement_with}
 -- so it is of the requirements of a document
 pub use Rattle.ul_given.proofs.Documents.{IsReleaseWith, document_has}
 -- what each turn of loading keeps is so of what is loaded, and what is true of documents is so of each package

@@ -1,25 +1,25 @@
 -- What files give is a resolution.
 use Rattle.std.proofs.Common.{ℕ, List, map, refl, ap, subst}
-use Rattle.ul_base.specs.Files.{FileMap}
+use Rattle.ul_files.specs.Files.{FileMap}
 use Rattle.ul_index.specs.Catalogs.{Packages}
 use Rattle.ul_load.specs.Begun.{BeginsWith}
 use Rattle.ul_project.specs.Fields.{IsProject, ProjectFields}
-use Rattle.ul_groups.specs.Adjusted.{adjusted_catalog, adjusted_package, adjusted_release, all_on}
+use Rattle.ul_groups.specs.Adjusted.{adjusted_release, all_on, catalog_for, package_for}
 use Rattle.ul_inputs.specs.Catalogs.{BeginsAdjusted, beginning}
 use Rattle.ul_inputs.specs.Resolutions.{IsResolution, ResolutionFields}
 use Rattle.ul_given.specs.Given.{BeginsWithProject, GivenBegins, GivenIsResolution, LoadedBegins, SaidIsProject}
 use Rattle.ul_given.proofs.Inputs.{IsResolutionFrom, resolution_from}
 
 adjusted_begins : (p : ProjectFields) (c : Packages) → BeginsWith p.package c
-    → BeginsAdjusted p (adjusted_catalog p.constraints p.overrides c)
+    → BeginsAdjusted p (catalog_for p c)
 adjusted_begins p c begun = record {
-  others = map (adjusted_package (all_on p.constraints) (all_on p.overrides)) begun.others;
-  is = ap (adjusted_catalog p.constraints p.overrides) begun.is;
+  others = catalog_for p begun.others;
+  is = ap (catalog_for p) begun.is;
 }
 
 is_resolution : (r : ResolutionFields) → IsProject r.project → BeginsWithProject r → IsResolution r
 is_resolution r project begun = record {
-  first = adjusted_package (all_on r.project.constraints) (all_on r.project.overrides) r.project.package;
+  first = package_for r.project r.project.package;
   others = begun.begins.others;
   begins = begun.begins.is;
   named = refl;
@@ -34,7 +34,7 @@ given : LoadedBegins → SaidIsProject → (m : FileMap) (folder : List ℕ) (r 
 given loads says m folder r from =
     let project = says from.project.bytes from.project.read r.project from.project.said from.project.expanded in
     let begun = loads m folder (beginning r.project) from.catalog.loaded from.catalog.loads in
-    let adjusted = adjusted_catalog r.project.constraints r.project.overrides from.catalog.loaded in
+    let adjusted = catalog_for r.project from.catalog.loaded in
     let begins : BeginsAdjusted r.project r.catalog =
     subst (BeginsAdjusted r.project) {x = adjusted} from.catalog.is
     (adjusted_begins r.project from.catalog.loaded begun) in

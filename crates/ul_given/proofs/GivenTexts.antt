@@ -2,13 +2,13 @@
 use Rattle.std.proofs.Common.{ℕ, List, [], sym, subst}
 use Rattle.std.specs.List.{AllByRecursion}
 use Rattle.std.specs.List.Sorted.{IsStrictlySortedBy}
-use Rattle.ul_base.specs.Files.{FileMap}
+use Rattle.ul_files.specs.Files.{FileMap}
 use Rattle.ul_base.specs.Names.{IsNormalName}
 use Rattle.ul_requirement.specs.Fields.{FilesRise}
 use Rattle.ul_index.specs.Catalogs.{Packages}
 use Rattle.ul_project.specs.Fields.{ProjectFields}
 use Rattle.ul_project.specs.Headline.{IsSaid}
-use Rattle.ul_groups.specs.Adjusted.{adjusted_catalog}
+use Rattle.ul_groups.specs.Adjusted.{catalog_for}
 use Rattle.ul_inputs.specs.Catalogs.{beginning}
 use Rattle.ul_given.specs.Texts.{AdjustedAreTexts, CatalogsAreTexts, ExpandedAreTexts, FilesAreTexts, IsTextPackage, IsTextProject, TextsAreHad}
 use Rattle.ul_given.specs.Given.{GivenHasTexts}
@@ -54,9 +54,9 @@ catalog_text : TextLaws → (m : FileMap) (folder : List ℕ) (p : ProjectFields
     → IsCatalogFrom m folder p c → AllByRecursion IsTextPackage c
 catalog_text laws m folder p c text from =
     let loaded = laws.catalogs m folder (beginning p) from.loaded text.package from.loads in
-    let adjusted = adjusted_catalog p.constraints p.overrides from.loaded in
+    let adjusted = catalog_for p from.loaded in
     subst (λ (x : Packages). AllByRecursion IsTextPackage x) {x = adjusted} from.is
-    (laws.adjusted p.constraints p.overrides from.loaded loaded)
+    (laws.adjusted p from.loaded loaded)
 
 pub given_has_texts : TextLaws → GivenHasTexts
 given_has_texts laws project folder old m r gave =

@@ -14,7 +14,7 @@ use Rattle.ul_requirement.specs.Fields.{FileFields, FilesRise, IsFile, PackageFi
 use Rattle.ul_lock.specs.Increasing.{Before, Rising}
 use Rattle.ul_lock.specs.Orders.{file_cmp, file_less}
 use Rattle.ul_requirement.specs.Truth.{base, targets, with_extra}
-use Rattle.ul_index.specs.Catalogs.{Packages, releases_of}
+use Rattle.ul_index.specs.Catalogs.{Packages, prereleases_of, releases_of}
 use Rattle.ul_index.specs.Eligible.{directs_on, passes, passing, takes_pre}
 use Rattle.ul_index.specs.Laws.{EligibleSame}
 use Rattle.ul_given.specs.Texts.{IsNamedRequirement, IsTextPackage, IsTextRelease, TextsAreHad}
@@ -37,7 +37,7 @@ releases_of_text p h = h.releases
 passing_are : (c : Packages) (n : List ℕ) → AllByRecursion IsTextPackage c → AllByRecursion IsTextRelease (passing c n)
 unfolding passing
 passing_are c n h =
-    all_kept IsTextRelease (passes (directs_on c n) (takes_pre (directs_on c n) (releases_of c n))) (releases_of c n)
+    all_kept IsTextRelease (passes (directs_on c n) (takes_pre (prereleases_of c n) (directs_on c n) (releases_of c n))) (releases_of c n)
     (releases_have IsTextPackage IsTextRelease releases_of_text c h n)
 
 target_named : (q : RequirementFields) (t : Node) → IsNamedRequirement q → Contains (targets q) t

@@ -1,11 +1,11 @@
 -- Where files give a resolution, a project file says its project, and its catalog is loaded and adjusted.
 use Rattle.std.proofs.Common.{◌≡◌, ℕ, List, Option, Result, Ok, Err, ap, sym, subst, inl, inr}
-use Rattle.ul_base.specs.Files.{FileMap}
+use Rattle.ul_files.specs.Files.{FileMap}
 use Rattle.ul_index.specs.Catalogs.{Packages}
 use Rattle.ul_load.specs.Loading.{Found, LoadAnswer}
 use Rattle.ul_project.specs.Fields.{ProjectFields}
 use Rattle.ul_project.specs.Headline.{IsSaid}
-use Rattle.ul_groups.specs.Adjusted.{adjusted_catalog}
+use Rattle.ul_groups.specs.Adjusted.{catalog_for}
 use Rattle.ul_groups.specs.Expanded.{Expanding, expanded_project, refused}
 use Rattle.ul_inputs.specs.Catalogs.{beginning, catalog_in, documents, found_or_refused}
 use Rattle.ul_inputs.specs.Inputs.{◌>>=◌, GoesOn, Input, answer, just, small_file}
@@ -57,7 +57,7 @@ project_from path m p gave =
 pub record IsCatalogFrom (m : FileMap) (folder : List ℕ) (p : ProjectFields) (c : Packages) : Type 0 where
   pub loaded : Packages
   pub loads : LoadAnswer m folder (beginning p) (Ok loaded)
-  pub is : adjusted_catalog p.constraints p.overrides loaded ≡ c
+  pub is : catalog_for p loaded ≡ c
 
 found_loads : (m : FileMap) (folder : List ℕ) (p : ProjectFields) (c : Packages) (found : Found Packages)
     → LoadAnswer m folder (beginning p) found → Ok c ≡ found_or_refused found
@@ -69,12 +69,12 @@ found_loads m folder p c (Err f) answered is = absurd (cc is)
 catalog_from : (folder : List ℕ) (p : ProjectFields) (m : FileMap) (c : Packages)
     → (catalog_in folder p m).gives (Ok c) → IsCatalogFrom m folder p c
 catalog_from folder p m c gave =
-    let adjust = λ (d : Packages). just (Ok (adjusted_catalog p.constraints p.overrides d)) in
+    let adjust = λ (d : Packages). just (Ok (catalog_for p d)) in
     let on = on_ok (documents folder p) adjust m c gave in
     record {
       loaded = on.value;
       loads = found_loads m folder p on.value on.gave.found on.gave.answered on.gave.is;
-      is = sym (same_value c (adjusted_catalog p.constraints p.overrides on.value) on.answers);
+      is = sym (same_value c (catalog_for p on.value) on.answers);
     }
 
 -- ---- both

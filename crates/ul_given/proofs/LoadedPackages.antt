@@ -1,6 +1,6 @@
 -- A package that is loaded is a document's, or has no releases.
 use Rattle.std.proofs.Common.{◌≡◌, ℕ, ◌+◌, List, Bool, true, false, cond, length, nat_lt, Option, Some, None, Result, Ok, Err, refl, ap, subst}
-use Rattle.ul_base.specs.Files.{FileMap, content}
+use Rattle.ul_files.specs.Files.{FileMap, content}
 use Rattle.ul_requirement.specs.Fields.{PackageFields}
 use Rattle.ul_index.specs.Documents.{DocumentFault, document_of}
 use Rattle.ul_load.specs.Loading.{Found, ◌>>=◌, document_answer, document_path, file_content, no_package, package_at, package_from, too_many_bytes, total_bytes}

@@ -17,7 +17,8 @@ use Rattle.ul_given.proofs.Readings.{same_ok, was_there, went_on}
 abbrev pub IsNamedList : {L : Type 0} → (L → Type 0) → Named L → Type 0
 IsNamedList P list = IsNormalName list.0 × P list.1
 
-put_named : {L : Type 0} (P : L → Type 0) (lists : List (Named L)) (name : List ℕ) (list : L)
+-- so do they with one more
+pub put_named : {L : Type 0} (P : L → Type 0) (lists : List (Named L)) (name : List ℕ) (list : L)
     → AllByRecursion (IsNamedList P) lists
     → IsNormalName name → P list → AllByRecursion (IsNamedList P) (insert_entry name_cmp lists name list)
 put_named P [] name list h n p = ((n, p), tt)

@@ -1,5 +1,6 @@
--- A requirement that is read is one of a front, with a name and extras, and of the specifiers and the marker behind it.
-use Rattle.std.proofs.Common.{◌≡◌, ℕ, List, [], ◌∷◌, Bool, true, false, cond, Option, Some, None, refl, subst}
+-- A requirement that is read, by a URL or not, is one of a front, with a name and extras, and of the specifiers and the
+-- marker behind it.
+use Rattle.std.proofs.Common.{◌≡◌, ◌⊎◌, ℕ, List, [], ◌∷◌, Bool, true, false, cond, drop, Option, Some, None, inl, inr, ap, refl, subst}
 use Rattle.std.specs.Prelude.{◌==◌}
 use Rattle.ul_base.specs.Names.{IsNormalName, name_of}
 use Rattle.ul_base.proofs.ForCallers.{name_reads_itself}
@@ -9,11 +10,12 @@ use Rattle.ul_version.proofs.ForCallers.{bind_some, inside}
 use Rattle.ul_specifier.specs.Clauses.{ClauseFields}
 use Rattle.ul_comparison.specs.Formulas.{Formula}
 use Rattle.ul_requirement.specs.Fields.{RequirementFields}
-use Rattle.ul_requirement.specs.Reading.{Front, after_name, by_url, cut_at, extras_front, extras_in, front_of, is_address, name_text, reading_behind, reading_of, reading_with, requirement, tail_of}
+use Rattle.ul_requirement.specs.Reading.{Front, address_of, address_with, after_name, by_url, cut_at, extras_front, extras_in, front_of, is_address, name_text, read_address, reading_behind, reading_of, reading_with, requirement, tail_of, url_marker}
+use Rattle.ul_given.specs.Texts.{IsRequired}
 
--- each requirement that is read is such
+-- each requirement that is read, by a URL or not, is such
 abbrev pub AreRead : (RequirementFields → Type 0) → Type 0
-AreRead P = (text : List ℕ) (q : RequirementFields) → reading_of text ≡ requirement q → P q
+AreRead P = (text : List ℕ) (q : RequirementFields) → IsRequired (reading_of text) q → P q
 
 -- ---- fronts
 
@@ -55,30 +57,62 @@ Tail = List ClauseFields × Option Formula
 abbrev pub requirement_with : Front → Tail → RequirementFields
 requirement_with f t = record { name = f.name; extras = f.extras; specifiers = t.0; marker = t.1 }
 
+-- what stands behind is specifiers and a marker, or `@`, a URL and a marker
+abbrev pub IsTailOf : List ℕ → Tail → Type 0
+IsTailOf rest tail =
+    (tail_of rest ≡ Some tail) ⊎ ((tail.0 ≡ []) × (url_marker (after_all is_blank (drop 1 rest)) ≡ Some tail.1))
+
 -- the requirement of a text
 pub record IsReadFrom (text : List ℕ) (q : RequirementFields) : Type 0 where
   pub front : Front
   pub in_front : front_of (text_between is_white text) ≡ Some front
   pub tail : Tail
-  pub behind : tail_of front.rest ≡ Some tail
+  pub behind : IsTailOf front.rest tail
   pub is : requirement_with front tail ≡ q
 
 by_tail : (text : List ℕ) (f : Front) → front_of (text_between is_white text) ≡ Some f → (t : Option Tail)
     → tail_of f.rest ≡ t → (q : RequirementFields) → reading_with f t ≡ requirement q → IsReadFrom text q
 by_tail text f in_front None behind q e = absurd (cc e)
 by_tail text f in_front (Some t) behind q e =
-    record { front = f; in_front = in_front; tail = t; behind = behind; is = cc }
+    record { front = f; in_front = in_front; tail = t; behind = inl behind; is = cc }
 
 by_front : (text : List ℕ) (o : Option Front) → front_of (text_between is_white text) ≡ o → (q : RequirementFields)
     → reading_behind o ≡ requirement q → IsReadFrom text q
 by_front text None in_front q e = absurd (cc e)
 by_front text (Some f) in_front q e = by_address (is_address f.rest) e
   where
-    by_address : (b : Bool) → cond b by_url (reading_with f (tail_of f.rest)) ≡ requirement q → IsReadFrom text q
+    by_address : (b : Bool) → cond b (by_url (address_of f)) (reading_with f (tail_of f.rest)) ≡ requirement q
+        → IsReadFrom text q
     by_address true e = absurd (cc e)
     by_address false e = by_tail text f in_front (tail_of f.rest) refl q e
 
+other_reading : (f : Front) (t : Option Tail) (q : RequirementFields) → reading_with f t ≡ by_url (Some q) → ⊥
+other_reading f None q e = cc e
+other_reading f (Some t) q e = cc e
+
+same_address : (o : Option RequirementFields) (q : RequirementFields) → by_url o ≡ by_url (Some q) → o ≡ Some q
+same_address o q e = ap read_address e
+
+url_front : (text : List ℕ) (o : Option Front) → front_of (text_between is_white text) ≡ o → (q : RequirementFields)
+    → reading_behind o ≡ by_url (Some q) → IsReadFrom text q
+url_front text None in_front q e = absurd (cc e)
+url_front text (Some f) in_front q e = by_address (is_address f.rest) e
+  where
+    by_address : (b : Bool) → cond b (by_url (address_of f)) (reading_with f (tail_of f.rest)) ≡ by_url (Some q)
+        → IsReadFrom text q
+    by_address false e = absurd (other_reading f (tail_of f.rest) q e)
+    by_address true e =
+        let m = bind_some (url_marker (after_all is_blank (drop 1 f.rest))) _ q (same_address (address_of f) q e) in
+        record {
+          front = f;
+          in_front = in_front;
+          tail = ([], m.0);
+          behind = inr (refl, m.1);
+          is = inside (address_with f m.0) q m.2;
+        }
+
 -- a requirement that is read is its text's
-pub read_from : (text : List ℕ) (q : RequirementFields) → reading_of text ≡ requirement q → IsReadFrom text q
+pub read_from : (text : List ℕ) (q : RequirementFields) → IsRequired (reading_of text) q → IsReadFrom text q
 unfolding reading_of
-read_from text q e = by_front text (front_of (text_between is_white text)) refl q e
+read_from text q (inl e) = by_front text (front_of (text_between is_white text)) refl q e
+read_from text q (inr e) = url_front text (front_of (text_between is_white text)) refl q e

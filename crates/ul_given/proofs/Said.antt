@@ -8,6 +8,7 @@ use Rattle.ul_base.specs.Names.{name_cmp}
 use Rattle.ul_comparison.specs.Formulas.{AreFormulas, Formula, IsFormula, formulas_of}
 use Rattle.ul_marker.specs.Reading.{marker_of}
 use Rattle.ul_marker.specs.ReadingLaws.{ReadIsFormula}
+use Rattle.ul_marker.specs.declared.words.Dialect.TheVariants.{Document}
 use Rattle.ul_nodes.specs.Plain.{Plain, truth}
 use Rattle.ul_tree.specs.Regions.{IsRegionTree}
 use Rattle.ul_tree.specs.Values.{tree_holds}
@@ -31,7 +32,8 @@ use Rattle.ul_given.proofs.Sorted.{sorted_by_name}
 
 formula_of : ReadIsFormula → (path : ProjectPath) (text : List ℕ) (f : Formula) → environment_of path text ≡ Ok f
     → IsFormula f
-formula_of reads path text f e = reads text f (was_there (shape path) (marker_of text) f e)
+unfolding marker_of
+formula_of reads path text f e = reads Document text f (was_there (shape path) (marker_of text) f e)
 
 formula_at : ReadIsFormula → (i : ℕ) (d : Data) (f : Formula) → environment_at i d ≡ Ok f → IsFormula f
 unfolding environment_at

@@ -1,7 +1,7 @@
 -- What each turn of loading keeps is so of the catalog that is found.
 use Rattle.std.proofs.Common.{◌≡◌, ◌<◌, ℕ, zero, suc, List, [], ◌∷◌, ◌++◌, length, nat_lt, cond, Bool, true, false, Option, Some, None, option_map, Ok, Err, refl, subst, arith}
 use Rattle.std.proofs.lemmas.Bool.Decides.{nat_tests}
-use Rattle.ul_base.specs.Files.{FileMap}
+use Rattle.ul_files.specs.Files.{FileMap}
 use Rattle.ul_requirement.specs.Fields.{PackageFields}
 use Rattle.ul_index.specs.Catalogs.{Packages}
 use Rattle.ul_load.specs.Loading.{Beginning, Fault, Found, LoadAnswer, ProgressFields, Traced, ◌>>=◌, document_path, first_progress, go_on, load_from, most_comparisons, most_packages, most_releases, next_name, next_progress, package_at, progress_with, too_many_comparisons, too_many_packages, too_many_releases, within}

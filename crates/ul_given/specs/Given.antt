@@ -1,6 +1,6 @@
 -- What files give is a resolution, with names and versions.
 use Rattle.std.specs.Prelude.{◌≡◌, ℕ, List, Contains, IfSome, Option, Ok}
-use Rattle.ul_base.specs.Files.{FileMap}
+use Rattle.ul_files.specs.Files.{FileMap}
 use Rattle.ul_base.specs.Names.{IsNormalName}
 use Rattle.ul_base.specs.declared.node.Node.{Node}
 use Rattle.ul_version.specs.Fields.{Fields, IsVersion}

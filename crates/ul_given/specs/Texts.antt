@@ -1,18 +1,18 @@
 -- Names in their normal form, and versions.
-use Rattle.std.specs.Prelude.{◌≡◌, ℕ, List, Contains, IfSome, Ok}
+use Rattle.std.specs.Prelude.{◌≡◌, ◌⊎◌, ℕ, List, Contains, IfSome, Ok, Some}
 use Rattle.std.specs.List.{AllByRecursion}
-use Rattle.ul_base.specs.Files.{FileMap}
+use Rattle.ul_files.specs.Files.{FileMap}
 use Rattle.ul_base.specs.Names.{IsNormalName}
 use Rattle.ul_version.specs.Fields.{Fields, IsVersion}
 use Rattle.ul_requirement.specs.Fields.{FilesRise, IsFile, PackageFields, ReleaseFields, RequirementFields}
-use Rattle.ul_requirement.specs.Reading.{reading_of, requirement}
+use Rattle.ul_requirement.specs.Reading.{Reading, by_url, reading_of, requirement}
 use Rattle.ul_base.specs.declared.node.Node.{Node}
 use Rattle.ul_requirement.specs.Truth.{targets}
 use Rattle.ul_index.specs.Catalogs.{Packages, requirements}
 use Rattle.ul_index.specs.Eligible.{eligible}
 use Rattle.ul_index.specs.Documents.{document_of}
 use Rattle.ul_load.specs.Loading.{Beginning, LoadAnswer}
-use Rattle.ul_groups.specs.Adjusted.{adjusted_catalog}
+use Rattle.ul_groups.specs.Adjusted.{catalog_for}
 use Rattle.ul_groups.specs.Expanded.{expanded_project}
 use Rattle.ul_sound.specs.Headline.{HasRightFiles}
 use Rattle.ul_project.specs.Fields.{ProjectFields}
@@ -38,9 +38,13 @@ pub record IsTextPackage (p : PackageFields) : Type 0 where
   pub name : IsNormalName p.name
   pub releases : AllByRecursion IsTextRelease p.releases
 
--- a requirement that is read is such
+-- a reading is a requirement, or one by a URL that requires it
+abbrev pub IsRequired : Reading → RequirementFields → Type 0
+IsRequired reading q = (reading ≡ requirement q) ⊎ (reading ≡ by_url (Some q))
+
+-- a requirement that is read, by a URL or not, is such
 abbrev pub RequirementsAreNamed : Type 0
-RequirementsAreNamed = (text : List ℕ) (q : RequirementFields) → reading_of text ≡ requirement q → IsNamedRequirement q
+RequirementsAreNamed = (text : List ℕ) (q : RequirementFields) → IsRequired (reading_of text) q → IsNamedRequirement q
 
 -- a document that is read is such
 abbrev pub DocumentsAreTexts : Type 0
@@ -51,10 +55,10 @@ abbrev pub CatalogsAreTexts : Type 0
 CatalogsAreTexts = (m : FileMap) (folder : List ℕ) (b : Beginning) (c : Packages) → IsTextPackage b.project → LoadAnswer m folder b (Ok c)
     → AllByRecursion IsTextPackage c
 
--- an adjusted catalog is such
+-- a catalog for a project is such
 abbrev pub AdjustedAreTexts : Type 0
-AdjustedAreTexts = (constraints overrides : List RequirementFields) (c : Packages) → AllByRecursion IsTextPackage c
-    → AllByRecursion IsTextPackage (adjusted_catalog constraints overrides c)
+AdjustedAreTexts = (p : ProjectFields) (c : Packages) → AllByRecursion IsTextPackage c
+    → AllByRecursion IsTextPackage (catalog_for p c)
 
 -- what such a catalog has
 pub record HasTextsIn (c : Packages) : Type 0 where

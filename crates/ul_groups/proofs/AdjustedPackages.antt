@@ -1,10 +1,12 @@
 -- What holds of packages holds of adjusted ones.
-use Rattle.std.proofs.Common.{◌≡◌, ◌+◌, ◌<◌, ◌^◌, ◌∙◌, ℕ, List, [], ◌∷◌, length, map, refl, ap, sym, subst}
+use Rattle.std.proofs.Common.{◌≡◌, ◌∙◌, ℕ, List, [], ◌∷◌, map, refl, ap, sym, subst}
 use Rattle.std.proofs.lemmas.List.{length-map}
 use Rattle.std.proofs.lemmas.List.Elements.{All-map}
 use Rattle.ul_requirement.specs.Fields.{IsOtherVersion, PackageFields, ReleaseFields, RequirementFields, VersionsDiffer}
-use Rattle.ul_index.specs.Catalogs.{BeginsWithOne, IsCatalog, IsOtherName, NamesDiffer, Packages, release_count}
-use Rattle.ul_groups.specs.Adjusted.{ByName, adjusted_catalog, adjusted_list, adjusted_package, adjusted_release, all_on, constrained_list, overridden_list}
+use Rattle.ul_index.specs.Catalogs.{IsCatalog, Packages, with_prereleases}
+use Rattle.ul_index.proofs.ForCallers.{catalog_still}
+use Rattle.ul_project.specs.Fields.{ProjectFields}
+use Rattle.ul_groups.specs.Adjusted.{ByName, adjusted_catalog, adjusted_list, adjusted_package, adjusted_release, all_on, catalog_for, constrained_list, overridden_list, package_for}
 use Rattle.ul_groups.specs.NameLists.{Entries, HasEach, at_name}
 
 differ_still : (cs os : ByName) (rs : List ReleaseFields) → VersionsDiffer rs → VersionsDiffer (map (adjusted_release cs os) rs)
@@ -16,31 +18,10 @@ differ_still cs os (r ∷ rs) h =
 pub differ_of : (cs os : ByName) (rs ss : List ReleaseFields) → ss ≡ map (adjusted_release cs os) rs → VersionsDiffer rs → VersionsDiffer ss
 differ_of cs os rs ss e h = subst VersionsDiffer (sym e) (differ_still cs os rs h)
 
-names_still : (cs os : ByName) (ps : Packages) → NamesDiffer ps → NamesDiffer (map (adjusted_package cs os) ps)
-names_still cs os [] h = tt
-names_still cs os (p ∷ ps) h =
-    (All-map (IsOtherName (adjusted_package cs os p)) (adjusted_package cs os) ps h.0, names_still cs os ps h.1)
-
-count_still : (cs os : ByName) (ps : Packages) → release_count (map (adjusted_package cs os) ps) ≡ release_count ps
-count_still cs os [] = refl
-count_still cs os (p ∷ ps) =
-    ap (λ (n : ℕ). n + release_count (map (adjusted_package cs os) ps)) (length-map p.releases (adjusted_release cs os))
-    ∙ ap (λ (n : ℕ). length p.releases + n) (count_still cs os ps)
-
-begins_still : (cs os : ByName) (ps : Packages) → BeginsWithOne ps → BeginsWithOne (map (adjusted_package cs os) ps)
-begins_still cs os [] h = h
-begins_still cs os (p ∷ ps) h = length-map p.releases (adjusted_release cs os) ∙ h
-
-catalog_still : (cs os : ByName) (ps : Packages) → IsCatalog ps → IsCatalog (map (adjusted_package cs os) ps)
-catalog_still cs os ps h = record {
-  differ = names_still cs os ps h.differ;
-  few = subst (λ (n : ℕ). n < 2 ^ 32) (sym (count_still cs os ps)) h.few;
-  project = begins_still cs os ps h.project;
-}
-
 -- adjusted packages are a catalog
 pub catalog_of : (cs os : ByName) (ps qs : Packages) → qs ≡ map (adjusted_package cs os) ps → IsCatalog ps → IsCatalog qs
-catalog_of cs os ps qs e h = subst IsCatalog (sym e) (catalog_still cs os ps h)
+catalog_of cs os ps qs e h =
+    subst IsCatalog (sym e) (catalog_still (adjusted_package cs os) (λ p. refl) (λ p. length-map p.releases (adjusted_release cs os)) ps h)
 
 each_at : (f g : ByName) → ((name : List ℕ) → f name ≡ g name) → f ≡ g
 each_at f g h = λ i name. h name i
@@ -88,3 +69,11 @@ pub adjusted_by_none : (constraints overrides : List RequirementFields) (ps : Pa
     → ps ≡ adjusted_catalog constraints overrides ps
 adjusted_by_none constraints overrides ps c o =
     sym (packages_stay ps) ∙ ap (λ cs. adjusted_catalog cs [] ps) (sym c) ∙ ap (λ os. adjusted_catalog constraints os ps) (sym o)
+
+-- ---- the project's mode
+
+-- adjusted packages in the project's mode are those for the project
+pub packages_for : (p : ProjectFields) (ps : Packages)
+    → with_prereleases p.prereleases (adjusted_catalog p.constraints p.overrides ps) ≡ catalog_for p ps
+packages_for p [] = refl
+packages_for p (q ∷ qs) = ap (λ (rest : Packages). package_for p q ∷ rest) (packages_for p qs)

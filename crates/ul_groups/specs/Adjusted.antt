@@ -1,10 +1,12 @@
 -- Requirements adjusted by overrides and constraints: an override replaces what it is on, and then a constraint follows
--- what it is on.
+-- what it is on. The catalog that a project is resolved in is adjusted so, and has the project's mode of pre-releases.
 use Rattle.std.specs.Prelude.{ℕ, List, [], ◌∷◌, ◌++◌, map, filter, Bool}
 use Rattle.std.specs.BTreeMap.{is_at}
 use Rattle.ul_base.specs.Names.{name_cmp}
 use Rattle.ul_requirement.specs.Fields.{PackageFields, ReleaseFields, RequirementFields}
+use Rattle.ul_index.specs.Catalogs.{package_with_prereleases}
 use Rattle.ul_project.specs.Extras.{joined_markers}
+use Rattle.ul_project.specs.Fields.{ProjectFields}
 
 -- what stands on each name
 abbrev pub ByName : Type 0
@@ -64,3 +66,13 @@ adjusted_package constraints overrides p =
 -- a catalog whose packages are adjusted by lists of constraints and overrides
 abbrev pub adjusted_catalog : (constraints overrides : List RequirementFields) → List PackageFields → List PackageFields
 adjusted_catalog constraints overrides ps = map (adjusted_package (all_on constraints) (all_on overrides)) ps
+
+-- a package for a project: adjusted by the project's constraints and overrides, and its pre-releases count by the
+-- project's mode
+abbrev pub package_for : ProjectFields → PackageFields → PackageFields
+package_for p found =
+    package_with_prereleases p.prereleases (adjusted_package (all_on p.constraints) (all_on p.overrides) found)
+
+-- the catalog that a project is resolved in
+abbrev pub catalog_for : ProjectFields → List PackageFields → List PackageFields
+catalog_for p ps = map (package_for p) ps

@@ -1,4 +1,4 @@
-//! Catalogs adjusted by a project's overrides and constraints.
+//! Catalogs adjusted by a project's overrides and constraints, with the project's mode of pre-releases.
 
 ghost use Rattle.std.specs.Prelude.{◌≡◌, ◌↔◌, [], IfOk, IsTrue, map};
 ghost use Rattle.ul_groups.specs.Adjusted as Adjusted;
@@ -101,6 +101,7 @@ fn adjusted_package(
     Ok(Package {
         name,
         entries: found.entries,
+        prereleases: found.prereleases,
         releases,
     })
 }
@@ -131,14 +132,13 @@ fn adjusts_nothing(project: &Project) -> bool
     constraints.is_empty() && overrides.is_empty()
 }
 
-/// The catalog whose requirements are adjusted by the project's overrides and constraints.
-///
-/// In each release, the project's included, a requirement on a name with overrides is replaced by one for each of
-/// them, in order: with the requirement's extras, the override's specifiers, and both markers joined by `and`. After
-/// that, each requirement on a name with constraints is followed by one for each of them, in order: without extras,
-/// with the constraint's specifiers, and both markers joined by `and`. The only error is want of memory.
+// The catalog whose requirements are adjusted by the project's overrides and constraints.
 #[tactic(auto, using(crate::proofs::AdjustedPackages::adjusted_by_lists, crate::proofs::AdjustedPackages::adjusted_by_none))]
-pub fn adjust(alloc: Global, project: &Project, catalog: Catalog) -> Result<Catalog, AllocError>
+fn adjusted_catalog(
+    alloc: Global,
+    project: &Project,
+    catalog: Catalog,
+) -> Result<Catalog, AllocError>
     ensures { IfOk result (λ c. c
         ≡ Adjusted.adjusted_catalog project.now.constraints project.now.overrides catalog) }
 {
@@ -151,4 +151,19 @@ pub fn adjust(alloc: Global, project: &Project, catalog: Catalog) -> Result<Cata
     let overrides = by_name(alloc, overrides)?;
     let packages = adjusted_packages(alloc, &constraints, &overrides, catalog.packages())?;
     Catalog::of(alloc, packages)
+}
+
+/// The catalog that a project is resolved in: its requirements are adjusted by the project's overrides and constraints,
+/// and pre-releases count by the project's mode.
+///
+/// In each release, the project's included, a requirement on a name with overrides is replaced by one for each of
+/// them, in order: with the requirement's extras, the override's specifiers, and both markers joined by `and`. After
+/// that, each requirement on a name with constraints is followed by one for each of them, in order: without extras,
+/// with the constraint's specifiers, and both markers joined by `and`. The only error is want of memory.
+#[tactic(auto, using(crate::proofs::AdjustedPackages::packages_for))]
+pub fn adjust(alloc: Global, project: &Project, catalog: Catalog) -> Result<Catalog, AllocError>
+    ensures { IfOk result (λ c. c ≡ Adjusted.catalog_for project.now catalog) }
+{
+    let adjusted = adjusted_catalog(alloc, project, catalog)?;
+    Ok(adjusted.with_prereleases(project.prereleases))
 }

@@ -312,6 +312,7 @@ fn with_extras(
     let Package {
         name,
         entries,
+        prereleases,
         mut releases,
     } = found;
     let Some(release) = releases.pop() else {
@@ -327,6 +328,7 @@ fn with_extras(
     let found = Package {
         name,
         entries,
+        prereleases,
         releases,
     };
     Ok((found, extras, sizes))
@@ -349,6 +351,7 @@ fn extended_project(
         region,
         mode,
         strategy,
+        prereleases,
         groups,
         constraints,
         overrides,
@@ -367,6 +370,7 @@ fn extended_project(
         region,
         mode,
         strategy,
+        prereleases,
         groups: Vec::new(alloc),
         constraints,
         overrides,

@@ -5,6 +5,7 @@ use Rattle.serde_json.specs.Find.{get}
 use Rattle.ul_base.specs.Names.{name_of}
 use Rattle.ul_version.specs.Fields.{Fields}
 use Rattle.ul_requirement.specs.Fields.{PackageFields, ReleaseFields}
+use Rattle.ul_requirement.specs.declared.wish.Prereleases.TheVariants.{IfNecessaryOrExplicit}
 use Rattle.ul_index.specs.Documents.{Reading, document_of, entries_from, entry_at, items_at, not_json, object_at, package_in, releases_of_items, right_name, text_at}
 use Rattle.ul_index.specs.Json.{json_of}
 use Rattle.ul_index.specs.Results.{◌>>=◌, or_fault}
@@ -53,16 +54,16 @@ few_releases ds rs h = releases_few (entries_from 0 ds) rs (length ds) (entries_
 
 last_parts : (right : Reading (Unit {0})) (releases : Reading (List ReleaseFields)) (n : ℕ) (name : List ℕ) (p : PackageFields)
     → ((rs : List ReleaseFields) → releases ≡ Ok rs → length rs ≤ n)
-    → (right >>= λ _. releases >>= λ rs. Ok (record { name = name; entries = n; releases = rs })) ≡ Ok p → IsPackageOf name p
+    → (right >>= λ _. releases >>= λ rs. Ok (record { name = name; entries = n; prereleases = IfNecessaryOrExplicit; releases = rs })) ≡ Ok p → IsPackageOf name p
 last_parts (Err f) releases n name p have h = cc
 last_parts (Ok u) (Err f) n name p have h = cc
 last_parts (Ok u) (Ok rs) n name p have h =
-    let same : record { name = name; entries = n; releases = rs } ≡ p = cc in
+    let same : record { name = name; entries = n; prereleases = IfNecessaryOrExplicit; releases = rs } ≡ p = cc in
     subst (IsPackageOf name) same record { named = refl; few = have rs refl }
 
 first_parts : (whole : Reading (Unit {0})) (title : Reading (List ℕ)) (items : Reading (List Data)) (name : List ℕ) (p : PackageFields)
     → (whole >>= λ _. title >>= λ t. items >>= λ ds. right_name name (name_of t) >>= λ _. releases_of_items ds
-    >>= λ rs. Ok (record { name = name; entries = length ds; releases = rs })) ≡ Ok p → IsPackageOf name p
+    >>= λ rs. Ok (record { name = name; entries = length ds; prereleases = IfNecessaryOrExplicit; releases = rs })) ≡ Ok p → IsPackageOf name p
 first_parts (Err f) title items name p h = cc
 first_parts (Ok u) (Err f) items name p h = cc
 first_parts (Ok u) (Ok t) (Err f) name p h = cc

@@ -11,10 +11,12 @@ mod UsableReleases
 mod Ordered
 mod Orders
 mod Rising
+mod Passing
 mod Serving
 mod Inserted
 mod OrderedPlaces
 mod Finding
+mod Prereleases
 mod DirectPlaces
 mod NamePlaces
 mod ReleaseExamples

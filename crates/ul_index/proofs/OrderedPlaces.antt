@@ -12,7 +12,8 @@ use Rattle.std.specs.declared.cmp.Ordering.TheVariants.{Less, Equal, Greater}
 use Rattle.ul_version.specs.Fields.{Fields}
 use Rattle.ul_version.specs.Order.{version_cmp}
 use Rattle.ul_requirement.specs.Fields.{ReleaseFields, RequirementFields, VersionsDiffer}
-use Rattle.ul_index.specs.Catalogs.{Packages, directs, releases_of}
+use Rattle.ul_requirement.specs.declared.wish.Prereleases.{Prereleases}
+use Rattle.ul_index.specs.Catalogs.{Packages, directs, prereleases_of, releases_of}
 use Rattle.ul_index.specs.Eligible.{directs_on, eligible, in_order, on_name, passing, increasing_with, version_at}
 use Rattle.ul_index.specs.Preference.{is_direct}
 use Rattle.ul_index.specs.VersionOrders.{IsOrder, IsPlaceIn, by_version, place_list, places_in}
@@ -81,11 +82,11 @@ seconds : (ks : List Versioned) → map (λ k. k.place) ks ≡ map (λ (p : Fiel
 seconds [] = refl
 seconds (k ∷ ks) = ap (λ l. k.place ∷ l) (seconds ks)
 
-pub eligible_places : (c : Packages) (n : List ℕ) (rs : List ReleaseFields) (qs : List RequirementFields) (order : VersionOrder) (places : List ℕ) → rs ≡ releases_of c n → qs ≡ directs_on c n
-    → IsOrder qs rs order → places ≡ place_list order → map (version_at (releases_of c n)) places ≡ map Some (eligible c n)
+pub eligible_places : (c : Packages) (n : List ℕ) (mode : Prereleases) (rs : List ReleaseFields) (qs : List RequirementFields) (order : VersionOrder) (places : List ℕ) → mode ≡ prereleases_of c n → rs ≡ releases_of c n → qs ≡ directs_on c n
+    → IsOrder mode qs rs order → places ≡ place_list order → map (version_at (releases_of c n)) places ≡ map Some (eligible c n)
 unfolding eligible passing
-eligible_places c n rs qs order places of_name of_project right are =
-    rw (← of_name, ← of_project, are, seconds order.keys.keys) (places_versions rs (places_in order) right.places ∙ ap (map Some) right.versions)
+eligible_places c n mode rs qs order places by of_name of_project right are =
+    rw (← by, ← of_name, ← of_project, are, seconds order.keys.keys) (places_versions rs (places_in order) right.places ∙ ap (map Some) right.versions)
 
 -- ---- a name on which the project has no requirement
 
@@ -98,8 +99,8 @@ none_on n [] e = refl
 none_on n (q ∷ qs) e = none_next q (filter (on_name n) qs) (on_name n q) (list_any (on_name n) qs) e (none_on n qs)
 
 -- its eligible releases are found among no requirements
-pub indirect_places : (c : Packages) (n : List ℕ) (rs : List ReleaseFields) (qs : List RequirementFields) (order : VersionOrder) (places : List ℕ) → rs ≡ releases_of c n
-    → is_direct c n ≡ false → qs ≡ [] → IsOrder qs rs order → places ≡ place_list order
+pub indirect_places : (c : Packages) (n : List ℕ) (mode : Prereleases) (rs : List ReleaseFields) (qs : List RequirementFields) (order : VersionOrder) (places : List ℕ) → mode ≡ prereleases_of c n → rs ≡ releases_of c n
+    → is_direct c n ≡ false → qs ≡ [] → IsOrder mode qs rs order → places ≡ place_list order
     → map (version_at (releases_of c n)) places ≡ map Some (eligible c n)
-indirect_places c n rs qs order places of_name none empty right are =
-    eligible_places c n rs qs order places of_name (empty ∙ sym (none_on n (directs c) none)) right are
+indirect_places c n mode rs qs order places by of_name none empty right are =
+    eligible_places c n mode rs qs order places by of_name (empty ∙ sym (none_on n (directs c) none)) right are

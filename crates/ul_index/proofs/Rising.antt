@@ -9,7 +9,7 @@ use Rattle.ul_version.specs.Fields.{Fields}
 use Rattle.ul_version.specs.Order.{version_cmp}
 use Rattle.ul_version.proofs.ForCallers.{version_total}
 use Rattle.ul_requirement.specs.Fields.{ReleaseFields, IsOtherVersion, VersionsDiffer}
-use Rattle.ul_index.specs.Catalogs.{releases_of}
+use Rattle.ul_index.specs.Catalogs.{prereleases_of, releases_of}
 use Rattle.ul_index.specs.Eligible.{increasing_with, in_order, passes, takes_pre, directs_on, passing, eligible}
 use Rattle.ul_index.specs.Laws.{IsVersionAfter, VersionsRise, EligibleRises}
 use Rattle.ul_base.proofs.ForCallers.{contains_first, contains_later}
@@ -68,4 +68,4 @@ filter_differ test (r ∷ rs) h = kept_differ test r rs (test r) h.0 (filter_dif
 pub eligible_rises : EligibleRises
 unfolding eligible passing
 eligible_rises c n h = order_rises (map (λ (s : ReleaseFields). s.version) (passing c n))
-    (filter_differ (passes (directs_on c n) (takes_pre (directs_on c n) (releases_of c n))) (releases_of c n) h)
+    (filter_differ (passes (directs_on c n) (takes_pre (prereleases_of c n) (directs_on c n) (releases_of c n))) (releases_of c n) h)

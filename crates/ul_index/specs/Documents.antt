@@ -16,6 +16,7 @@ use Rattle.ul_specifier.specs.Clauses.{ClauseFields}
 use Rattle.ul_specifier.specs.Reading.{specifiers_of}
 use Rattle.ul_requirement.specs.Fields.{FileFields, PackageFields, ReleaseFields, RequirementFields, is_digest, is_file_name}
 use Rattle.ul_requirement.specs.Reading.{requirement_of}
+use Rattle.ul_requirement.specs.declared.wish.Prereleases.TheVariants.{IfNecessaryOrExplicit}
 use Rattle.ul_index.specs.Json.{items_list, json_of}
 use Rattle.ul_index.specs.Results.{◌>>=◌, option_bind, or_fault, read_each}
 use Rattle.ul_index.specs.Usable.{EntryFields, usable}
@@ -190,7 +191,7 @@ abbrev pub right_name : List ℕ → Option (List ℕ) → Reading (Unit {0})
 right_name name None = Err wrong_name
 right_name name (Some found) = if bytes_eq found name then Ok tt else Err wrong_name
 
--- the package that a value says of a name
+-- the package that a value says of a name; documents say nothing of pre-releases
 unfoldable pub package_in : List ℕ → Data → Reading PackageFields
 package_in name document = do
   _ ← object_at Document document
@@ -198,7 +199,7 @@ package_in name document = do
   items ← items_at Versions (get (codes "versions") document)
   _ ← right_name name (name_of title)
   releases ← releases_of_items items
-  Ok (record { name = name; entries = length items; releases = releases })
+  Ok (record { name = name; entries = length items; prereleases = IfNecessaryOrExplicit; releases = releases })
 
 -- the package that bytes say of a name
 unfoldable pub document_of : List ℕ → List ℕ → Reading PackageFields

@@ -7,6 +7,8 @@ use Rattle.ul_requirement.specs.Fields.{ReleaseFields}
 use Rattle.ul_requirement.specs.Reading.{requirement_of}
 use Rattle.ul_requirement.specs.declared.wish.Mode.{Mode}
 use Rattle.ul_requirement.specs.declared.wish.Mode.TheVariants.{Highest, Lowest, LowestDirect}
+use Rattle.ul_requirement.specs.declared.wish.Prereleases.{Prereleases}
+use Rattle.ul_requirement.specs.declared.wish.Prereleases.TheVariants.{Disallow, Allow, IfNecessary, Explicit, IfNecessaryOrExplicit}
 use Rattle.ul_requirement.specs.declared.wish.Strategy.TheVariants.{Fewest}
 use Rattle.ul_index.specs.Catalogs.{Packages, is_release_fit}
 use Rattle.ul_index.specs.Documents.{document_of, not_json, shape, wrong_name}
@@ -27,17 +29,30 @@ bare version yanked = record { version = version; python = []; requirements = []
 abbrev pub release_named : List ℕ × Bool → Option ReleaseFields
 release_named p = option_map (λ v. bare v p.1) (version_of p.0)
 
--- a project with direct requirements, and a package `a`
-abbrev pub two_packages : List (List ℕ) → List (List ℕ × Bool) → Option Packages
-two_packages directs releases =
+-- a project with direct requirements, and a package `a`, whose pre-releases count by a mode
+abbrev pub packages_by : Prereleases → List (List ℕ) → List (List ℕ × Bool) → Option Packages
+packages_by mode directs releases =
     option_bind (read_each requirement_of directs) (λ qs.
     option_bind (read_each release_named releases) (λ rs.
-    Some (record { name = codes "demo"; entries = 1; releases = record { version = plain (0 ∷ []); python = []; requirements = qs; yanked = false; files = [] } ∷ [] }
-    ∷ record { name = codes "a"; entries = 9; releases = rs } ∷ [])))
+    Some (record { name = codes "demo"; entries = 1; prereleases = mode; releases = record { version = plain (0 ∷ []); python = []; requirements = qs; yanked = false; files = [] } ∷ [] }
+    ∷ record { name = codes "a"; entries = 9; prereleases = mode; releases = rs } ∷ [])))
 
--- the eligible versions of `a`
+-- a project with direct requirements, and a package `a`, with the usual mode
+abbrev pub two_packages : List (List ℕ) → List (List ℕ × Bool) → Option Packages
+two_packages = packages_by IfNecessaryOrExplicit
+
+-- the eligible versions of `a` in a mode
+abbrev pub eligible_by : Prereleases → List (List ℕ) → List (List ℕ × Bool) → Option (List Fields)
+eligible_by mode directs releases = option_map (λ c. eligible c (codes "a")) (packages_by mode directs releases)
+
+-- the eligible versions of `a` in the usual mode
 abbrev pub eligible_among : List (List ℕ) → List (List ℕ × Bool) → Option (List Fields)
-eligible_among directs releases = option_map (λ c. eligible c (codes "a")) (two_packages directs releases)
+eligible_among = eligible_by IfNecessaryOrExplicit
+
+-- the eligible versions of a project of this version
+abbrev pub own_eligible : Prereleases → List ℕ → Option (List Fields)
+own_eligible mode version =
+    option_map (λ r. eligible (record { name = codes "demo"; entries = 1; prereleases = mode; releases = r ∷ [] } ∷ []) (codes "demo")) (release_named (version, false))
 
 -- versions
 abbrev pub versions : List (List ℕ) → Option (List Fields)
@@ -74,6 +89,30 @@ pub record EligibleReleases : Type 0 where
   pub withdrawn_front : eligible_among (codes "a==2.*" ∷ []) withdrawn_and_other ≡ versions (codes "1" ∷ [])
   pub pinned_by_any_marker : eligible_among (codes "a" ∷ codes "a==2; os_name=='x'" ∷ []) withdrawn_and_other ≡ versions (codes "1" ∷ codes "2" ∷ [])
   pub both_reasons : eligible_among (codes "a==2a1" ∷ []) (withdrawn (codes "2a1") ∷ withdrawn (codes "3a1") ∷ []) ≡ versions (codes "2a1" ∷ [])
+
+-- a pre-release and nothing else
+abbrev pub only_pre : List (List ℕ × Bool)
+only_pre = stands (codes "1a1") ∷ []
+
+-- each mode: where nothing else is there, beside a final release, and where the project names a pre-release; and the
+-- project's own release
+pub record PrereleaseModes : Type 0 where
+  pub disallow_alone : eligible_by Disallow (codes "a" ∷ []) only_pre ≡ Some []
+  pub disallow_named : eligible_by Disallow (codes "a>=2.0a1" ∷ []) pre_and_final ≡ versions (codes "1.0" ∷ [])
+  pub allow_alone : eligible_by Allow (codes "a" ∷ []) only_pre ≡ versions (codes "1a1" ∷ [])
+  pub allow_beside_final : eligible_by Allow (codes "a" ∷ []) pre_and_final ≡ versions (codes "1.0" ∷ codes "2.0a1" ∷ [])
+  pub allow_withdrawn : eligible_by Allow (codes "a" ∷ []) (withdrawn (codes "1a1") ∷ []) ≡ Some []
+  pub necessary_alone : eligible_by IfNecessary (codes "a" ∷ []) only_pre ≡ versions (codes "1a1" ∷ [])
+  pub necessary_beside_final : eligible_by IfNecessary (codes "a" ∷ []) pre_and_final ≡ versions (codes "1.0" ∷ [])
+  pub necessary_named : eligible_by IfNecessary (codes "a>=2.0a1" ∷ []) pre_and_final ≡ versions (codes "1.0" ∷ [])
+  pub explicit_alone : eligible_by Explicit (codes "a" ∷ []) only_pre ≡ Some []
+  pub explicit_named : eligible_by Explicit (codes "a>=2.0a1" ∷ []) pre_and_final ≡ versions (codes "1.0" ∷ codes "2.0a1" ∷ [])
+  pub explicit_excluded : eligible_by Explicit (codes "a!=2.0a1" ∷ []) pre_and_final ≡ versions (codes "1.0" ∷ [])
+  pub either_alone : eligible_by IfNecessaryOrExplicit (codes "a" ∷ []) only_pre ≡ versions (codes "1a1" ∷ [])
+  pub either_beside_final : eligible_by IfNecessaryOrExplicit (codes "a" ∷ []) pre_and_final ≡ versions (codes "1.0" ∷ [])
+  pub either_named : eligible_by IfNecessaryOrExplicit (codes "a>=2.0a1" ∷ []) pre_and_final ≡ versions (codes "1.0" ∷ codes "2.0a1" ∷ [])
+  pub own_disallow : own_eligible Disallow (codes "0.1.dev0") ≡ versions (codes "0.1.dev0" ∷ [])
+  pub own_explicit : own_eligible Explicit (codes "0.1.dev0") ≡ versions (codes "0.1.dev0" ∷ [])
 
 -- ---- preference
 
@@ -136,11 +175,11 @@ pub record UsableEntries : Type 0 where
 
 -- whole documents, and one of each fault
 pub record DocumentExamples : Type 0 where
-  pub empty : document_of (codes "a-b") (codes "{\"name\": \"A.B\", \"versions\": []}") ≡ Ok (record { name = codes "a-b"; entries = 0; releases = [] })
+  pub empty : document_of (codes "a-b") (codes "{\"name\": \"A.B\", \"versions\": []}") ≡ Ok (record { name = codes "a-b"; entries = 0; prereleases = IfNecessaryOrExplicit; releases = [] })
   pub one : document_of (codes "a") (codes "{\"name\": \"a\", \"versions\": [{\"version\": \"1\", \"yanked\": \"bad\"}]}")
-      ≡ Ok (record { name = codes "a"; entries = 1; releases = bare (plain (1 ∷ [])) true ∷ [] })
+      ≡ Ok (record { name = codes "a"; entries = 1; prereleases = IfNecessaryOrExplicit; releases = bare (plain (1 ∷ [])) true ∷ [] })
   pub unusable : document_of (codes "a") (codes "{\"name\": \"a\", \"versions\": [{\"version\": \"1\", \"requires_dist\": [\"!!\"]}]}")
-      ≡ Ok (record { name = codes "a"; entries = 1; releases = [] })
+      ≡ Ok (record { name = codes "a"; entries = 1; prereleases = IfNecessaryOrExplicit; releases = [] })
   pub no_json : document_of (codes "a") (codes "{") ≡ Err not_json
   pub no_object : document_of (codes "a") (codes "[]") ≡ Err (shape Document)
   pub no_versions : document_of (codes "a") (codes "{\"name\": \"b\"}") ≡ Err (shape Versions)

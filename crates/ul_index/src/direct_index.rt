@@ -57,10 +57,7 @@ impl DirectIndex {
         let next: &[usize] = self.next.as_slice();
         let mut found = Vec::new(alloc);
         let mut place = place_or(self.first.get(name), requirements.len());
-        for _step in 0..usize::MAX {
-            let Some(requirement) = requirements.get(place) else {
-                return Ok(found);
-            };
+        while let Some(requirement) = requirements.get(place) {
             if is_on(requirement, name) {
                 found.push(requirement)?;
                 place = next[place];
@@ -68,7 +65,7 @@ impl DirectIndex {
                 place += 1;
             }
         }
-        Err(AllocError)
+        Ok(found)
     }
 }
 

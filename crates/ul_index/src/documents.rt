@@ -19,7 +19,7 @@ use serde_json::Value;
 use std::alloc::{AllocError, Global};
 use ul_base::owned::{beside, refused};
 use ul_base::{Name, NameFault};
-use ul_requirement::{Package, Release};
+use ul_requirement::{Package, Prereleases, Release};
 use ul_version::Version;
 
 // A text that is the name.
@@ -146,6 +146,7 @@ fn package_in(alloc: Global, name: &Name, document: &Value) -> Result<Package, I
     Ok(Package {
         name,
         entries: items.len() as u64,
+        prereleases: Prereleases::IfNecessaryOrExplicit,
         releases,
     })
 }
@@ -157,7 +158,7 @@ fn package_in(alloc: Global, name: &Name, document: &Value) -> Result<Package, I
 /// and by PEP 592, and `files` with their `sha256`. Other keys are passed over. An entry is a usable release where its
 /// version, its Python bound and its requirements have readings, none of its requirements is one by a URL, and no
 /// earlier entry whose version has a reading has an equal version. An entry that isn't usable never refuses the
-/// document.
+/// document. A document says nothing of pre-releases, so they count as is usual, until a catalog is given another mode.
 ///
 /// `NotJson` comes exactly where `serde_json` doesn't read the bytes. `Shape` names the first place of another shape:
 /// the document, `name` and `versions` first, then, after `WrongName`, each entry with its keys in the order above,

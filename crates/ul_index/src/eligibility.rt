@@ -1,7 +1,7 @@
 //! Eligible releases.
 
 ghost use Rattle.std.specs.Prelude.{◌≡◌, ◌<◌, ◌^◌, Bool, false, length, map, IfOk, Some};
-ghost use Rattle.std.specs.List.{list_all, list_any};
+ghost use Rattle.std.specs.List.{list_any};
 ghost use Rattle.ul_version.specs.Fields.{is_pre_of};
 ghost use Rattle.ul_specifier.specs.Meaning.{lower_list, meets_list, names_pre_of, pins_of};
 ghost use Rattle.ul_comparison.specs.Truth.{python_release};
@@ -16,7 +16,7 @@ use crate::Catalog;
 use crate::version_order::VersionOrder;
 use std::alloc::{AllocError, Global};
 use ul_base::Name;
-use ul_requirement::{Release, Requirement};
+use ul_requirement::{Prereleases, Release, Requirement};
 use ul_specifier::Specifiers;
 use ul_version::Version;
 
@@ -36,7 +36,7 @@ fn pins(requirement: &Requirement, version: &Version) -> bool
 
 // Whether a requirement names a pre-release.
 fn any_names_pre(directs: &[&Requirement]) -> bool
-    ensures { result ≡ list_any (λ q. names_pre_of q.specifiers) (map (λ q. q.now) directs.now) }
+    ensures { result ≡ Eligible.is_named (map (λ q. q.now) directs.now) }
 {
     for requirement in directs {
         if names_pre(requirement) {
@@ -67,7 +67,7 @@ fn is_pre(release: &Release) -> bool
 
 // Whether all releases are pre-releases.
 fn are_pre(releases: &[Release]) -> bool
-    ensures { result ≡ list_all (λ r. is_pre_of r.version) releases.now }
+    ensures { result ≡ Eligible.is_necessary releases.now }
 {
     for release in releases {
         if !is_pre(release) {
@@ -77,11 +77,17 @@ fn are_pre(releases: &[Release]) -> bool
     true
 }
 
-// Whether pre-releases of a package count, by the direct requirements on it.
-fn takes_pre(directs: &[&Requirement], releases: &[Release]) -> bool
-    ensures { result ≡ Eligible.takes_pre (map (λ q. q.now) directs.now) releases.now }
+// Whether pre-releases of a package count in a mode, by the direct requirements on it.
+fn takes_pre(mode: Prereleases, directs: &[&Requirement], releases: &[Release]) -> bool
+    ensures { result ≡ Eligible.takes_pre mode (map (λ q. q.now) directs.now) releases.now }
 {
-    any_names_pre(directs) || are_pre(releases)
+    match mode {
+        Prereleases::Disallow => false,
+        Prereleases::Allow => true,
+        Prereleases::IfNecessary => are_pre(releases),
+        Prereleases::Explicit => any_names_pre(directs),
+        Prereleases::IfNecessaryOrExplicit => any_names_pre(directs) || are_pre(releases),
+    }
 }
 
 fn version_of(release: &Release) -> &Version
@@ -99,17 +105,19 @@ fn passes(directs: &[&Requirement], pre: bool, release: &Release) -> bool
     (!version.is_pre() || pre) && (!release.yanked || any_pins(directs, version))
 }
 
-// The places of the releases of a package that count, in the order of their versions, by the direct requirements on it.
+// The places of the releases of a package that count in a mode, in the order of their versions, by the direct
+// requirements on it.
 fn order<'a>(
     alloc: Global,
+    mode: Prereleases,
     directs: &[&Requirement],
     releases: &'a [Release],
 ) -> Result<VersionOrder<'a>, AllocError>
     requires differ { VersionsDiffer releases.now }
     requires few { length releases.now < 2 ^ 32 }
-    ensures { IfOk result (IsOrder (map (λ q. q.now) directs.now) releases.now) }
+    ensures { IfOk result (IsOrder mode (map (λ q. q.now) directs.now) releases.now) }
 {
-    let pre = takes_pre(directs, releases);
+    let pre = takes_pre(mode, directs, releases);
     let mut order = VersionOrder::new(alloc);
     let mut place = releases.len();
     while place > 0 {
@@ -125,17 +133,23 @@ fn order<'a>(
 
 /// The places of a name's eligible releases, in increasing order of their versions.
 ///
-/// A pre-release is passed over, unless some direct requirement on the name has a clause other than `!=` that names
-/// one, or all releases of the package are pre-releases. A yanked release (PEP 592) is passed over, unless some direct
-/// requirement on the name has a clause `==V` without `.*` whose V is equal to its version. A direct requirement is one
-/// of the project's, whatever its marker. A name that the catalog doesn't have has no eligible releases.
+/// A pre-release is passed over where it doesn't count in the package's mode ([`Prereleases`]): a direct requirement
+/// names a pre-release where it has a clause other than `!=` that does. The project's own release is never passed over
+/// as a pre-release. A yanked release (PEP 592) is passed over, unless some direct requirement on the name has a clause
+/// `==V` without `.*` whose V is equal to its version. A direct requirement is one of the project's, whatever its
+/// marker. A name that the catalog doesn't have has no eligible releases.
 pub fn eligible(alloc: Global, catalog: &Catalog, name: &Name) -> Result<Vec<u32>, AllocError>
     ensures { IfOk result (λ places.
         map (version_at (releases_of catalog.now name.now)) places.items ≡ map Some (eligible catalog.now name.now)) }
 {
     let directs = catalog.directs_on(alloc, name)?;
     let releases = catalog.releases_of(name);
-    let order = order(alloc, directs.as_slice(), releases)?;
+    let order = order(
+        alloc,
+        catalog.prereleases_of(name),
+        directs.as_slice(),
+        releases,
+    )?;
     order.places(alloc)
 }
 
@@ -151,6 +165,6 @@ pub fn eligible_indirect(
         map (version_at (releases_of catalog.now name.now)) places.items ≡ map Some (eligible catalog.now name.now)) }
 {
     let releases = catalog.releases_of(name);
-    let order = order(alloc, &[], releases)?;
+    let order = order(alloc, catalog.prereleases_of(name), &[], releases)?;
     order.places(alloc)
 }

@@ -1,6 +1,6 @@
 -- Lemmas for crates above: inputs, one after another.
-use Rattle.std.proofs.Common.{◌≡◌, ℕ, List, Option, Some, None, IfSome, Result, Ok, Err, subst, inl, inr}
-use Rattle.ul_inputs.specs.Inputs.{Said, only, said_on}
+use Rattle.std.proofs.Common.{◌≡◌, Option, Some, None, IfSome, Result, Ok, Err, subst, inl, inr}
+use Rattle.ul_inputs.specs.Inputs.{Said, said_on}
 use Rattle.ul_inputs.specs.Refused.{Refused}
 use Rattle.ul_inputs.specs.Refusals.{Answers, IsRefusalFor, failed_path, refused_of}
 use Rattle.ul_inputs.specs.declared.refusal.Refusal.{Refusal}

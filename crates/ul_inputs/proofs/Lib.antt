@@ -3,3 +3,4 @@ mod ProjectFaults
 mod LockFaults
 mod Usable
 mod LoadFaults
+mod FileReads

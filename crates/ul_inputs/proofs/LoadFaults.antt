@@ -1,6 +1,6 @@
 -- Refusals of index folders.
-use Rattle.std.proofs.Common.{◌≡◌, ℕ, List, Option, Some, None, option_map, IfSome, Ok, Err, refl}
-use Rattle.ul_base.specs.Files.{FileMap}
+use Rattle.std.proofs.Common.{ℕ, List, Option, Some, None, option_map, IfSome, Ok, Err, refl}
+use Rattle.ul_files.specs.Files.{FileMap}
 use Rattle.ul_index.specs.Catalogs.{Packages}
 use Rattle.ul_project.specs.Fields.{ProjectFields}
 use Rattle.ul_load.specs.Faults.{LoadGives, fault_of}

@@ -1,5 +1,5 @@
 -- Refusals of locks.
-use Rattle.std.proofs.Common.{◌≡◌, ℕ, List, Option, Some, None, Result, Ok, Err, IfOk, refl}
+use Rattle.std.proofs.Common.{ℕ, List, Result, Ok, Err, IfOk, refl}
 use Rattle.ul_lock.specs.declared.parts.Lock.{Lock}
 use Rattle.ul_lock.specs.WellFormed.{IsWellFormed}
 use Rattle.ul_lock_read.specs.Headline.{ReadsLock}

@@ -1,5 +1,5 @@
 -- Refusals of project files.
-use Rattle.std.proofs.Common.{◌≡◌, ℕ, List, Option, Some, None, Ok, Err, refl, inl, inr}
+use Rattle.std.proofs.Common.{ℕ, List, Err, refl, inl, inr}
 use Rattle.ul_project.specs.Fields.{ProjectFields}
 use Rattle.ul_project.specs.Headline.{IsAnswer}
 use Rattle.ul_project.specs.Shapes as fault

@@ -1,12 +1,11 @@
 -- The project's release isn't yanked, and stays so where groups become extras and requirements are adjusted.
-use Rattle.std.proofs.Common.{◌≡◌, ℕ, List, [], ◌∷◌, false, map, Result, Ok, Err, refl, ap, sym, subst, ◌∙◌}
-use Rattle.ul_requirement.specs.Fields.{PackageFields, ReleaseFields, RequirementFields}
+use Rattle.std.proofs.Common.{◌≡◌, ℕ, List, [], false, map, Ok, Err, refl, ap, subst}
 use Rattle.ul_index.specs.Catalogs.{Packages}
 use Rattle.ul_project.specs.Fields.{IsProject, ProjectFields}
 use Rattle.ul_project.specs.Headline.{IsAnswer}
 use Rattle.ul_project.specs.Results.{◌>>=◌}
 use Rattle.ul_load.specs.Begun.{BeginsWith}
-use Rattle.ul_groups.specs.Adjusted.{adjusted_catalog, adjusted_package, adjusted_release, all_on}
+use Rattle.ul_groups.specs.Adjusted.{adjusted_release, all_on, catalog_for, package_for}
 use Rattle.ul_groups.specs.Answers.{Gives}
 use Rattle.ul_groups.specs.Expanded.{ExtraLists, Expanding, all_lists, expanded_project, first_requirements, group_lists, group_named, own_size, with_extras, with_lists}
 use Rattle.ul_inputs.specs.Catalogs.{BeginsAdjusted}
@@ -43,19 +42,19 @@ pub expanded_usable : (p q : ProjectFields) → HasUsable p.package → Gives {X
     → HasUsable q.package
 expanded_usable p q had went = expanded_from p q (group_lists (group_named p.groups) p.groups) had went
 
--- an adjusted catalog begins with the adjusted package
+-- the catalog for a project begins with the package for it
 pub adjusted_begins : (p : ProjectFields) (c : Packages) → BeginsWith p.package c
-    → BeginsAdjusted p (adjusted_catalog p.constraints p.overrides c)
+    → BeginsAdjusted p (catalog_for p c)
 adjusted_begins p c begun = record {
-  others = map (adjusted_package (all_on p.constraints) (all_on p.overrides)) begun.others;
-  is = ap (adjusted_catalog p.constraints p.overrides) begun.is;
+  others = catalog_for p begun.others;
+  is = ap (catalog_for p) begun.is;
 }
 
 -- a resolution of a project with a catalog that begins with its adjusted package
 pub is_resolution : (p : ProjectFields) (kept : List Kept) (c : Packages) → IsProject p → HasUsable p.package → BeginsAdjusted p c
     → IsResolution (resolution_of p kept c)
 is_resolution p kept c project had begun = record {
-  first = adjusted_package (all_on p.constraints) (all_on p.overrides) p.package;
+  first = package_for p p.package;
   others = begun.others;
   begins = begun.is;
   named = refl;

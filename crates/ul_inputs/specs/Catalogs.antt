@@ -1,4 +1,4 @@
--- The catalog of a project from its index folder, adjusted by its constraints and overrides.
+-- The catalog of a project from its index folder, adjusted by its constraints and overrides, in its mode of pre-releases.
 use Rattle.std.specs.Prelude.{◌≡◌, ℕ, List, ◌∷◌, ◌++◌, codes, option_map, Option, Some, None, Result, Ok, Err}
 use Rattle.ul_index.specs.Catalogs.{Packages}
 use Rattle.ul_index.specs.Documents.{DocumentFault, not_json, shape, wrong_name}
@@ -10,7 +10,7 @@ use Rattle.ul_load.specs.Loading.{Beginning, Fault, Found, IsRead, LoadAnswer, b
 use Rattle.ul_load.specs.Faults.{fault_of}
 use Rattle.ul_load.specs.declared.fault.LoadFault.{LoadFault}
 use Rattle.ul_load.specs.declared.fault.LoadFault.TheVariants.{Read}
-use Rattle.ul_groups.specs.Adjusted.{adjusted_catalog, adjusted_package, all_on}
+use Rattle.ul_groups.specs.Adjusted.{catalog_for, package_for}
 use Rattle.ul_inputs.specs.Inputs.{Input, ◌>>=◌, just}
 use Rattle.ul_inputs.specs.Refusals.{IsRefusalFor}
 use Rattle.ul_inputs.specs.declared.refusal.Refusal.{Refusal}
@@ -66,11 +66,11 @@ documents folder p m = record {
   reads = IsRead m folder (beginning p);
 }
 
--- the catalog of the documents, adjusted
+-- the catalog of the documents, for the project
 abbrev pub catalog_in : List ℕ → ProjectFields → Input Packages
-catalog_in folder p = documents folder p >>= λ c. just (Ok (adjusted_catalog p.constraints p.overrides c))
+catalog_in folder p = documents folder p >>= λ c. just (Ok (catalog_for p c))
 
--- the catalog begins with the project's package, adjusted
+-- the catalog begins with the project's package, adjusted and in its mode
 pub record BeginsAdjusted (p : ProjectFields) (c : Packages) : Type 0 where
   pub others : Packages
-  pub is : c ≡ adjusted_package (all_on p.constraints) (all_on p.overrides) p.package ∷ others
+  pub is : c ≡ package_for p p.package ∷ others

@@ -1,7 +1,7 @@
 -- What is read of files. One definition says which answer the files' contents give and which paths are read for it, so
 -- that the two can't drift apart.
 use Rattle.std.specs.Prelude.{◌≡◌, ◌⊎◌, ℕ, List, codes, length, nat_le, Option, Some, None, Result, Ok, Err, if◌then◌else◌}
-use Rattle.ul_base.specs.Files.{FileMap, content}
+use Rattle.ul_files.specs.Files.{FileMap, content}
 use Rattle.ul_load.specs.Loading.{file_bytes}
 use Rattle.ul_inputs.specs.Refused.{Refused, malformed, limit}
 
@@ -81,7 +81,7 @@ present_file name most path = file_at name most path >>= λ found. just (present
 abbrev pub text_bytes : ℕ
 text_bytes = 67108864
 
--- the bytes of a project file or a machine file
+-- the bytes of a project file, a machine file or a file of markers
 abbrev pub small_file : List ℕ → Input (List ℕ)
 small_file = present_file (codes "file-bytes") file_bytes
 

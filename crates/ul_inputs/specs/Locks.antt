@@ -1,5 +1,5 @@
 -- Locks that are read, and what an old one keeps.
-use Rattle.std.specs.Prelude.{◌≡◌, ℕ, List, [], ◌∷◌, ◌++◌, codes, map, filter, not, bytes_eq, Option, Some, None, Result, Ok, Err}
+use Rattle.std.specs.Prelude.{◌≡◌, ℕ, List, [], ◌++◌, codes, map, filter, not, bytes_eq, Option, Some, None, Result, Ok, Err}
 use Rattle.std.specs.Fmt.{decimal}
 use Rattle.ul_version.specs.Fields.{Fields}
 use Rattle.ul_lines.specs.Faults.{IsFault}

@@ -1,6 +1,6 @@
 -- What the refusals of the code stand for, and when each comes.
 use Rattle.std.specs.Prelude.{◌≡◌, ◌≤◌, ℕ, List, Option, Some, None, Result, Ok, Err, IfSome, string_bytes}
-use Rattle.ul_base.specs.Causes.{Rose}
+use Rattle.ul_files.specs.Causes.{Rose}
 use Rattle.ul_inputs.specs.Inputs.{Said}
 use Rattle.ul_inputs.specs.Refused.{Refused, malformed, limit}
 use Rattle.ul_inputs.specs.declared.refusal.Refusal.{Refusal}

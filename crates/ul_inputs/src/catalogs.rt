@@ -1,6 +1,6 @@
 //! The catalog of a project from its index folder.
 ghost use Rattle.std.specs.Prelude.{◌≡◌, ◌++◌, IfOk, codes, string_bytes};
-ghost use Rattle.ul_base.specs.Files.{Told};
+ghost use Rattle.ul_files.specs.Files.{ByReads, Remembers};
 ghost use Rattle.ul_index.specs.Places.{place_text};
 ghost use Rattle.ul_load.specs.Begun.{BeginsWith};
 ghost use Rattle.ul_inputs.specs.Catalogs as spec;
@@ -8,7 +8,7 @@ ghost use Rattle.ul_inputs.specs.Refusals.{Answers, Cause, IsRefusalFor};
 
 use crate::refusal::{Refusal, malformed, malformed_at};
 use std::alloc::{AllocError, Global};
-use ul_base::Files;
+use ul_files::Files;
 use ul_groups::adjust;
 use ul_index::{Catalog, IndexFault, Place};
 use ul_load::{COMPARISONS, FILE_BYTES, LoadFault, PACKAGES, RELEASES, TOTAL_BYTES, load_project};
@@ -61,10 +61,11 @@ fn documents<F: Files>(
     folder: &str,
     project: &Project,
 ) -> Result<Catalog, Refusal>
-    ensures told { Told (F.map files.old)
+    ensures told { ByReads (F.reads files.new)
         (λ m. Answers (λ c. c) result (spec.documents folder.now project.now m)) }
     ensures first { IfOk result (BeginsWith project.now.package) }
     ensures same { F.map files.new ≡ F.map files.old }
+    ensures grown { Remembers (F.reads files.old) (F.reads files.new) }
     ensures cause { Cause (F.faults files.old) (F.faults files.new) (F.last_failed files.new) result }
 {
     match load_project(alloc, files, folder, project) {
@@ -73,7 +74,7 @@ fn documents<F: Files>(
     }
 }
 
-// The catalog of the documents, adjusted by the project's constraints and overrides.
+// The catalog of the documents, adjusted by the project's constraints and overrides, in its mode of pre-releases.
 #[tactic(auto, using(crate::proofs::ForCallers::refuses, crate::proofs::ForCallers::goes_on, crate::proofs::Usable::adjusted_begins))]
 pub(crate) fn catalog_in<F: Files>(
     alloc: Global,
@@ -81,10 +82,11 @@ pub(crate) fn catalog_in<F: Files>(
     folder: &str,
     project: &Project,
 ) -> Result<Catalog, Refusal>
-    ensures told { Told (F.map files.old)
+    ensures told { ByReads (F.reads files.new)
         (λ m. Answers (λ c. c) result (spec.catalog_in folder.now project.now m)) }
     ensures first { IfOk result (spec.BeginsAdjusted project.now) }
     ensures same { F.map files.new ≡ F.map files.old }
+    ensures grown { Remembers (F.reads files.old) (F.reads files.new) }
     ensures cause { Cause (F.faults files.old) (F.faults files.new) (F.last_failed files.new) result }
 {
     let documents = documents(alloc, files, folder, project)?;

@@ -1,12 +1,12 @@
 //! Files that are read whole.
 ghost use Rattle.std.specs.Prelude.{◌≡◌, codes, option_map};
-ghost use Rattle.ul_base.specs.Files.{Told};
+ghost use Rattle.ul_files.specs.Files.{ByReads, Remembers};
 ghost use Rattle.ul_inputs.specs.Inputs as spec;
 ghost use Rattle.ul_inputs.specs.Refusals.{Answers, Cause};
 
 use crate::refusal::{Refusal, malformed_at};
 use std::alloc::Global;
-use ul_base::{Files, ReadRefused};
+use ul_files::{Files, ReadRefused};
 use ul_load::FILE_BYTES;
 
 /// The most bytes that a lock or a derivation may have.
@@ -20,9 +20,10 @@ fn file_at<F: Files>(
     most: u64,
     path: &str,
 ) -> Result<Option<Vec<u8>>, Refusal>
-    ensures told { Told (F.map files.old)
+    ensures told { ByReads (F.reads files.new)
         (λ m. Answers (option_map (λ v. v.items)) result (spec.file_at name.now most path.now m)) }
     ensures same { F.map files.new ≡ F.map files.old }
+    ensures grown { Remembers (F.reads files.old) (F.reads files.new) }
     ensures cause { Cause (F.faults files.old) (F.faults files.new) (F.last_failed files.new) result }
 {
     match files.read(path, most) {
@@ -41,9 +42,10 @@ fn present_file<F: Files>(
     most: u64,
     path: &str,
 ) -> Result<Vec<u8>, Refusal>
-    ensures told { Told (F.map files.old)
+    ensures told { ByReads (F.reads files.new)
         (λ m. Answers (λ v. v.items) result (spec.present_file name.now most path.now m)) }
     ensures same { F.map files.new ≡ F.map files.old }
+    ensures grown { Remembers (F.reads files.old) (F.reads files.new) }
     ensures cause { Cause (F.faults files.old) (F.faults files.new) (F.last_failed files.new) result }
 {
     match file_at(alloc, files, name, most, path)? {
@@ -52,10 +54,11 @@ fn present_file<F: Files>(
     }
 }
 
-/// The bytes of the project file or the machine file at a path, which has to be there.
+/// The bytes of the project file, the machine file or the file of markers at a path, which has to be there.
 pub fn small_file<F: Files>(alloc: Global, files: &mut F, path: &str) -> Result<Vec<u8>, Refusal>
-    ensures told { Told (F.map files.old) (λ m. Answers (λ v. v.items) result (spec.small_file path.now m)) }
+    ensures told { ByReads (F.reads files.new) (λ m. Answers (λ v. v.items) result (spec.small_file path.now m)) }
     ensures same { F.map files.new ≡ F.map files.old }
+    ensures grown { Remembers (F.reads files.old) (F.reads files.new) }
     ensures cause { Cause (F.faults files.old) (F.faults files.new) (F.last_failed files.new) result }
 {
     present_file(alloc, files, "file-bytes", FILE_BYTES, path)
@@ -63,8 +66,9 @@ pub fn small_file<F: Files>(alloc: Global, files: &mut F, path: &str) -> Result<
 
 /// The bytes of the lock or the derivation at a path, which has to be there.
 pub fn large_file<F: Files>(alloc: Global, files: &mut F, path: &str) -> Result<Vec<u8>, Refusal>
-    ensures told { Told (F.map files.old) (λ m. Answers (λ v. v.items) result (spec.large_file path.now m)) }
+    ensures told { ByReads (F.reads files.new) (λ m. Answers (λ v. v.items) result (spec.large_file path.now m)) }
     ensures same { F.map files.new ≡ F.map files.old }
+    ensures grown { Remembers (F.reads files.old) (F.reads files.new) }
     ensures cause { Cause (F.faults files.old) (F.faults files.new) (F.last_failed files.new) result }
 {
     present_file(alloc, files, "text-bytes", TEXT_BYTES, path)

@@ -1,6 +1,6 @@
 //! Locks that are read, and what an old one keeps.
 ghost use Rattle.std.specs.Prelude.{◌≡◌, Some, IfOk, Ok, bytes_eq, option_map};
-ghost use Rattle.ul_base.specs.Files.{Told};
+ghost use Rattle.ul_files.specs.Files.{ByReads, Remembers};
 ghost use Rattle.ul_lock.specs.WellFormed.{IsWellFormed};
 ghost use Rattle.ul_inputs.specs.Inputs.{only};
 ghost use Rattle.ul_inputs.specs.Locks as spec;
@@ -9,8 +9,9 @@ ghost use Rattle.ul_inputs.specs.Refusals.{Answers, Cause, IsRefusalFor};
 use crate::files::large_file;
 use crate::refusal::{Refusal, malformed, malformed_at};
 use std::alloc::{AllocError, Global};
+use ul_base::Name;
 use ul_base::owned::with_made;
-use ul_base::{Files, Name};
+use ul_files::Files;
 use ul_lock::{Lock, Locked};
 use ul_lock_read::{LockFault, read};
 use ul_version::Version;
@@ -50,8 +51,9 @@ fn lock_in(alloc: Global, path: &str, bytes: &[u8]) -> Result<Lock, Refusal>
 
 /// The lock of the lock file at a path, which is well formed.
 pub fn lock_file<F: Files>(alloc: Global, files: &mut F, path: &str) -> Result<Lock, Refusal>
-    ensures told { Told (F.map files.old) (λ m. Answers (λ l. l) result (spec.lock_at path.now m)) }
+    ensures told { ByReads (F.reads files.new) (λ m. Answers (λ l. l) result (spec.lock_at path.now m)) }
     ensures same { F.map files.new ≡ F.map files.old }
+    ensures grown { Remembers (F.reads files.old) (F.reads files.new) }
     ensures cause { Cause (F.faults files.old) (F.faults files.new) (F.last_failed files.new) result }
     ensures well_formed { IfOk result IsWellFormed }
 {
@@ -110,8 +112,9 @@ fn kept_at<F: Files>(
     files: &mut F,
     path: &str,
 ) -> Result<Vec<(Name, Version)>, Refusal>
-    ensures told { Told (F.map files.old) (λ m. Answers (λ k. k.items) result (spec.old_lock (Some path.now) m)) }
+    ensures told { ByReads (F.reads files.new) (λ m. Answers (λ k. k.items) result (spec.old_lock (Some path.now) m)) }
     ensures same { F.map files.new ≡ F.map files.old }
+    ensures grown { Remembers (F.reads files.old) (F.reads files.new) }
     ensures cause { Cause (F.faults files.old) (F.faults files.new) (F.last_failed files.new) result }
 {
     let lock = lock_file(alloc, files, path)?;
@@ -126,9 +129,10 @@ pub(crate) fn old_lock<F: Files>(
     files: &mut F,
     path: Option<&str>,
 ) -> Result<Vec<(Name, Version)>, Refusal>
-    ensures told { Told (F.map files.old)
+    ensures told { ByReads (F.reads files.new)
         (λ m. Answers (λ k. k.items) result (spec.old_lock (option_map (λ p. p.now) path.entry) m)) }
     ensures same { F.map files.new ≡ F.map files.old }
+    ensures grown { Remembers (F.reads files.old) (F.reads files.new) }
     ensures cause { Cause (F.faults files.old) (F.faults files.new) (F.last_failed files.new) result }
 {
     match path {

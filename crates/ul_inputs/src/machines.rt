@@ -1,6 +1,6 @@
 //! The machine of a machine file.
 ghost use Rattle.std.specs.Prelude.{◌≡◌, ◌++◌, IfOk, codes, string_bytes};
-ghost use Rattle.ul_base.specs.Files.{Told};
+ghost use Rattle.ul_files.specs.Files.{ByReads, Remembers};
 ghost use Rattle.ul_comparison.specs.MachineFiles.{machine_of};
 ghost use Rattle.ul_inputs.specs.Inputs.{only};
 ghost use Rattle.ul_inputs.specs.Machines as spec;
@@ -9,7 +9,7 @@ ghost use Rattle.ul_inputs.specs.Refusals.{Answers, Cause, IsRefusalFor};
 use crate::files::small_file;
 use crate::refusal::{Refusal, malformed, malformed_at};
 use std::alloc::{AllocError, Global};
-use ul_base::Files;
+use ul_files::Files;
 use ul_marker::{EnvFault, Machine};
 
 // The place of a key that is missing.
@@ -48,8 +48,9 @@ fn machine_in(alloc: Global, path: &str, bytes: &[u8]) -> Result<Machine, Refusa
 /// The machine of the machine file at a path.
 #[tactic(auto, using(crate::proofs::ForCallers::refuses, crate::proofs::ForCallers::goes_on))]
 pub fn machine_file<F: Files>(alloc: Global, files: &mut F, path: &str) -> Result<Machine, Refusal>
-    ensures told { Told (F.map files.old) (λ m. Answers (λ x. x) result (spec.machine_at path.now m)) }
+    ensures told { ByReads (F.reads files.new) (λ m. Answers (λ x. x) result (spec.machine_at path.now m)) }
     ensures same { F.map files.new ≡ F.map files.old }
+    ensures grown { Remembers (F.reads files.old) (F.reads files.new) }
     ensures cause { Cause (F.faults files.old) (F.faults files.new) (F.last_failed files.new) result }
 {
     let bytes = small_file(alloc, files, path)?;

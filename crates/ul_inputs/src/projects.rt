@@ -1,6 +1,6 @@
 //! The project of a project file.
 ghost use Rattle.std.specs.Prelude.{◌≡◌, ◌++◌, [], IfOk, Some, string_bytes};
-ghost use Rattle.ul_base.specs.Files.{Told};
+ghost use Rattle.ul_files.specs.Files.{ByReads, Remembers};
 ghost use Rattle.ul_project.specs.Paths.{path_text};
 ghost use Rattle.ul_groups.specs.Expanded.{expanded_project};
 ghost use Rattle.ul_inputs.specs.Inputs.{only};
@@ -12,7 +12,7 @@ ghost use Rattle.ul_inputs.specs.Refusals.{Answers, Cause, IsRefusalFor};
 use crate::files::small_file;
 use crate::refusal::{Refusal, malformed, malformed_at};
 use std::alloc::{AllocError, Global};
-use ul_base::Files;
+use ul_files::Files;
 use ul_groups::expand;
 use ul_project::{Project, ProjectFault, ProjectPath, project};
 
@@ -89,8 +89,9 @@ fn project_in(alloc: Global, path: &str, bytes: &[u8]) -> Result<Project, Refusa
 /// The project of the project file at a path, with its groups as extras.
 #[tactic(auto, using(crate::proofs::ForCallers::refuses, crate::proofs::ForCallers::goes_on))]
 pub fn project_file<F: Files>(alloc: Global, files: &mut F, path: &str) -> Result<Project, Refusal>
-    ensures told { Told (F.map files.old) (λ m. Answers (λ p. p) result (spec.project_at path.now m)) }
+    ensures told { ByReads (F.reads files.new) (λ m. Answers (λ p. p) result (spec.project_at path.now m)) }
     ensures same { F.map files.new ≡ F.map files.old }
+    ensures grown { Remembers (F.reads files.old) (F.reads files.new) }
     ensures cause { Cause (F.faults files.old) (F.faults files.new) (F.last_failed files.new) result }
     ensures usable { IfOk result (λ p. HasUsable p.package) }
 {

@@ -1,6 +1,6 @@
 //! What a resolution is about.
 ghost use Rattle.std.specs.Prelude.{◌≡◌, IfOk, option_map};
-ghost use Rattle.ul_base.specs.Files.{Told};
+ghost use Rattle.ul_files.specs.Files.{ByReads, Remembers};
 ghost use Rattle.ul_inputs.specs.Refusals.{Answers, Cause};
 ghost use Rattle.ul_inputs.specs.Resolutions as spec;
 
@@ -9,7 +9,8 @@ use crate::locks::old_lock;
 use crate::projects::project_file;
 use crate::refusal::Refusal;
 use std::alloc::Global;
-use ul_base::{Files, Name};
+use ul_base::Name;
+use ul_files::Files;
 use ul_index::Catalog;
 use ul_project::Project;
 use ul_requirement::Wish;
@@ -44,9 +45,10 @@ pub fn resolution_with<F: Files>(
     kept: Vec<(Name, Version)>,
 ) -> Result<Resolution, Refusal>
     requires { spec.HasUsable project.package }
-    ensures told { Told (F.map files.old)
+    ensures told { ByReads (F.reads files.new)
         (λ m. Answers spec.view result (spec.resolution_with folder.now project kept.items m)) }
     ensures same { F.map files.new ≡ F.map files.old }
+    ensures grown { Remembers (F.reads files.old) (F.reads files.new) }
     ensures cause { Cause (F.faults files.old) (F.faults files.new) (F.last_failed files.new) result }
     ensures resolution { IfOk result (λ r. spec.IsResolution (spec.view r)) }
 {
@@ -75,10 +77,11 @@ pub fn resolution_in<F: Files>(
     folder: &str,
     old: Option<&str>,
 ) -> Result<Resolution, Refusal>
-    ensures told { Told (F.map files.old)
+    ensures told { ByReads (F.reads files.new)
         (λ m. Answers spec.view result
         (spec.resolution_in project.now folder.now (option_map (λ p. p.now) old.entry) m)) }
     ensures same { F.map files.new ≡ F.map files.old }
+    ensures grown { Remembers (F.reads files.old) (F.reads files.new) }
     ensures cause { Cause (F.faults files.old) (F.faults files.new) (F.last_failed files.new) result }
     ensures resolution { IfOk result (λ r. spec.IsResolution (spec.view r)) }
 {

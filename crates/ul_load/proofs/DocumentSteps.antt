@@ -1,13 +1,14 @@
 -- One document, and what its definition says of it.
 use Rattle.std.proofs.Common.{◌≡◌, ℕ, List, Option, Some, None, IfSome, Result, Ok, Err, Vec, Global, cond, length, ap, ◌∙◌}
 use Rattle.std.specs.Option.{option_map}
-use Rattle.ul_base.specs.Files.{FileMap, Tells, content}
+use Rattle.ul_files.specs.Files.{FileMap, Tells, content}
 use Rattle.ul_requirement.specs.Fields.{PackageFields}
 use Rattle.ul_index.specs.Documents.{DocumentFault}
 use Rattle.ul_load.specs.Faults.{Gives, fault_of}
 use Rattle.ul_load.specs.Loading.{Fault, Found, ◌>>=◌, document_answer, file_bytes, file_content, too_long}
 use Rattle.ul_load.specs.declared.fault.LoadFault.{LoadFault}
-use Rattle.ul_load.proofs.Limits.{is_past}
+use Rattle.ul_files.specs.declared.files.ReadRefused.TheVariants as read
+use Rattle.ul_load.proofs.Limits.{is_below, is_past}
 
 -- a fact on an option, from another
 pub some_fault : {X : Type 0} (o : Option X) (P Q : X → Type 0) → ((p : X) → P p → Q p) → IfSome o P → IfSome o Q
@@ -38,3 +39,8 @@ pub file_read : (m : FileMap) (path : List ℕ) (found : Option (Vec ℕ Global)
 file_read m path None h = ap (file_content path) h
 file_read m path (Some bytes) h =
     ap (file_content path) h.0 ∙ ap (λ b. cond b (Err (too_long path)) (Ok (Some bytes.items))) (is_past file_bytes (length bytes.items) h.1)
+
+-- a file that is longer than its limit
+pub file_long : (m : FileMap) (path : List ℕ) → Tells m path file_bytes (Err read.TooLong) → file_content path (content m path) ≡ Err (too_long path)
+file_long m path h =
+    ap (file_content path) h.1 ∙ ap (λ b. cond b (Err (too_long path)) (Ok (Some h.0))) (is_below file_bytes (length h.0) h.2)

@@ -14,7 +14,7 @@ use Rattle.ul_requirement.specs.Fields.{PackageFields}
 use Rattle.ul_index.specs.Catalogs.{BeginsWithOne, IsCatalog, NamesDiffer, Packages, release_count}
 use Rattle.ul_load.specs.Begun.{BeginsWith, KeepsFirst}
 use Rattle.ul_load.specs.Loading.{Beginning, ProgressFields, first_progress, most_packages, most_releases, names_of, names_with, next_name, progress_with, requirements_of}
-use Rattle.ul_load.specs.Progressing.{HasNext, IsNextPackage, IsProgress}
+use Rattle.ul_load.specs.Progressing.{HasNext, HasOneMore, IsNextPackage, IsProgress}
 
 -- the names begin with others
 abbrev Begins : List (List ℕ) → List (List ℕ) → Type 0
@@ -118,3 +118,11 @@ keeps_first s p t is first had = record { others = had.others ++ p.1 ∷ []; is 
 -- the project stands first in the beginning
 pub first_stands : (p : PackageFields) (c : Packages) → c ≡ p ∷ [] → BeginsWith p c
 first_stands p c is = record { others = []; is = is }
+
+-- one package more
+pub package_more : (s : ProgressFields) (p : ℕ × PackageFields) (t : ProgressFields) → t ≡ progress_with s p → HasOneMore s t
+package_more s p t is = ap (λ x. length x.packages) is ∙ length-append s.packages (p.1 ∷ [])
+
+-- a catalog in which a package stands first has one
+pub has_first : (p : PackageFields) (c : Packages) → BeginsWith p c → 1 ≤ length c
+has_first p c first = omega (arith, ap length first.is)

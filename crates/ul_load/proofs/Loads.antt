@@ -1,7 +1,7 @@
 -- The exits of loading.
 use Rattle.std.proofs.Common.{◌≡◌, ℕ, List, Bool, false, IfSome, IsTrue, Ok, Err, subst, arith}
 use Rattle.std.specs.Prelude.{◌↔◌}
-use Rattle.ul_base.specs.Files.{FileMap}
+use Rattle.ul_files.specs.Files.{FileMap}
 use Rattle.ul_load.specs.Faults.{IsOfBytes, LoadGives, failed_path, fault_of}
 use Rattle.ul_load.specs.Loading.{Beginning, LoadAnswer, ProgressFields, document_path, first_progress, most_packages, next_name, next_progress, within}
 use Rattle.ul_load.specs.Progressing.{HasNext, IsLoading, IsProgress}

@@ -2,7 +2,7 @@
 use Rattle.std.proofs.Common.{◌≡◌, ℕ, zero, suc, ◌≤◌, List, [], ◌∷◌, ◌++◌, length, Option, Some, None, option_map, Ok, Err, Contains, refl, append_assoc}
 use Rattle.std.proofs.lemmas.List.Elements.{Contains-append_right}
 use Rattle.ul_base.proofs.ForCallers.{contains_first}
-use Rattle.ul_base.specs.Files.{FileMap}
+use Rattle.ul_files.specs.Files.{FileMap}
 use Rattle.ul_index.specs.Catalogs.{Packages}
 use Rattle.ul_load.specs.Loading.{Beginning, Fault, Found, IsRead, LoadAnswer, ProgressFields, Traced, document_path, first_progress, go_on, load_from, next_name, next_progress, within}
 use Rattle.ul_load.specs.Progressing.{HasNext, IsLoading}

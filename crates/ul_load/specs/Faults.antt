@@ -1,7 +1,7 @@
 -- What the faults of loading stand for, and when each comes.
 use Rattle.std.specs.Prelude.{◌≡◌, ◌≤◌, ℕ, List, Option, Some, None, Result, Ok, Err, IfErr, IfSome, string_bytes}
-use Rattle.ul_base.specs.Causes.{Rose}
-use Rattle.ul_base.specs.Files.{FileMap}
+use Rattle.ul_files.specs.Causes.{Rose}
+use Rattle.ul_files.specs.Files.{FileMap}
 use Rattle.ul_index.specs.Catalogs.{Packages}
 use Rattle.ul_index.specs.Documents.{not_json, shape, wrong_name}
 use Rattle.ul_index.specs.declared.fault.IndexFault.TheVariants as index

@@ -1,6 +1,6 @@
 -- Laws of loading.
 use Rattle.std.specs.Prelude.{◌≡◌, ℕ, List, Some}
-use Rattle.ul_base.specs.Files.{FileMap}
+use Rattle.ul_files.specs.Files.{FileMap}
 use Rattle.ul_index.specs.Catalogs.{Packages}
 use Rattle.ul_load.specs.Loading.{Beginning, Loads, Traced, load_in}
 

@@ -1,5 +1,6 @@
 pub mod Headline
 pub mod Loading
+pub mod Counted
 pub mod Progressing
 pub mod Faults
 pub mod Laws

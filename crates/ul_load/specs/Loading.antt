@@ -7,12 +7,13 @@ use Rattle.std.specs.Prelude.{◌≡◌, ℕ, zero, suc, ◌+◌, List, [], ◌�
 use Rattle.std.specs.List.{flat_map}
 use Rattle.std.specs.BTreeSet as ordered
 use Rattle.indexmap.specs.IndexSet as indexed
-use Rattle.ul_base.specs.Files.{FileMap, content}
+use Rattle.ul_files.specs.Files.{FileMap, content}
 use Rattle.ul_comparison.specs.Atoms.{AtomFields, atom_cmp}
 use Rattle.ul_comparison.specs.Formulas.{Formula}
 use Rattle.ul_marker.specs.Parts.{atoms_of}
 use Rattle.ul_requirement.specs.Fields.{PackageFields, ReleaseFields, RequirementFields}
 use Rattle.ul_requirement.specs.Truth.{atoms_of_requirement}
+use Rattle.ul_requirement.specs.declared.wish.Prereleases.TheVariants.{IfNecessaryOrExplicit}
 use Rattle.ul_index.specs.Catalogs.{Packages}
 use Rattle.ul_index.specs.Documents.{DocumentFault, document_of}
 
@@ -155,9 +156,9 @@ abbrev pub file_content : List ℕ → Option (List ℕ) → Found (Option (List
 file_content path None = Ok None
 file_content path (Some bytes) = if nat_lt file_bytes (length bytes) then Err (too_long path) else Ok (Some bytes)
 
--- a package without releases, since its name has no document
+-- a package without releases, since its name has no document; its mode of pre-releases is the usual one, as documents'
 abbrev pub no_package : List ℕ → PackageFields
-no_package name = record { name = name; entries = 0; releases = [] }
+no_package name = record { name = name; entries = 0; prereleases = IfNecessaryOrExplicit; releases = [] }
 
 -- the package that a document at a path is read as
 abbrev pub document_answer : List ℕ → Result PackageFields DocumentFault → Found PackageFields

@@ -1,6 +1,6 @@
 -- What holds in the midst of loading.
 use Rattle.std.specs.Prelude.{◌≡◌, ◌≤◌, ◌<◌, ℕ, ◌+◌, List, ◌++◌, map, take, length, Some}
-use Rattle.ul_base.specs.Files.{FileMap}
+use Rattle.ul_files.specs.Files.{FileMap}
 use Rattle.ul_requirement.specs.Fields.{PackageFields}
 use Rattle.ul_index.specs.Catalogs.{BeginsWithOne, Packages, release_count}
 use Rattle.ul_load.specs.Loading.{Beginning, Loads, ProgressFields, Traced, load_from, most_packages, most_releases, total_bytes}
@@ -17,6 +17,10 @@ pub record IsProgress (s : ProgressFields) : Type 0 where
 -- there is a name without a package
 abbrev pub HasNext : ProgressFields → Type 0
 HasNext s = length s.packages < length s.names
+
+-- one package was added
+abbrev pub HasOneMore : ProgressFields → ProgressFields → Type 0
+HasOneMore before now = length now.packages ≡ length before.packages + 1
 
 -- what is loaded from here on is, behind what was read so far, what is loaded from the project on
 pub record IsLoading (m : FileMap) (folder : List ℕ) (b : Beginning) (s : ProgressFields) : Type 0 where

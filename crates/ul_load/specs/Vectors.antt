@@ -1,9 +1,10 @@
 -- Worked examples of loading: what is read, in which order, and what is found.
 use Rattle.std.specs.Prelude.{◌≡◌, ℕ, List, [], ◌∷◌, codes, map, false, Option, None, Some, Ok, Err, option_map}
-use Rattle.ul_base.specs.Files.{FileMap}
+use Rattle.ul_files.specs.Files.{FileMap}
 use Rattle.ul_version.specs.Fields.{plain}
 use Rattle.ul_requirement.specs.Fields.{RequirementFields}
 use Rattle.ul_requirement.specs.Reading.{requirement_of}
+use Rattle.ul_requirement.specs.declared.wish.Prereleases.TheVariants.{Allow}
 use Rattle.ul_index.specs.Catalogs.{Packages}
 use Rattle.ul_index.specs.Documents.{shape}
 use Rattle.ul_index.specs.Results.{option_bind, read_each}
@@ -15,6 +16,7 @@ abbrev pub asks : List RequirementFields → Beginning
 asks qs = beginning_of (record {
   name = codes "demo";
   entries = 1;
+  prereleases = Allow;
   releases = record { version = plain (0 ∷ []); python = []; requirements = qs; yanked = false; files = [] } ∷ [];
 }) [] [] []
 

@@ -1,6 +1,6 @@
 //! Different opaque comparisons.
 
-ghost use Rattle.std.specs.Prelude.{◌≡◌, [], length, map, OnOk};
+ghost use Rattle.std.specs.Prelude.{◌≡◌, [], length, map, IfOk, OnOk};
 ghost use Rattle.std.specs.List.{flat_map};
 ghost use Rattle.std.specs.BTreeSet.{insert_key};
 ghost use Rattle.std.specs.Cmp.{eq_by_cmp_equiv, on_total, partial_equiv_from_equiv, partial_order_from_total};
@@ -10,9 +10,11 @@ ghost use Rattle.ul_comparison.specs.Atoms.{atom_cmp};
 ghost use Rattle.ul_marker.specs.Parts.{atoms_of};
 ghost use Rattle.ul_marker.specs.Views.{marker_view};
 ghost use Rattle.ul_comparison.proofs.ForCallers.{atoms_total};
+ghost use Rattle.ul_load.specs.Counted.{has_too_many};
 ghost use Rattle.ul_load.specs.Loading.{atoms_in, comparisons_with, requirements_of};
 ghost use Rattle.ul_load.specs.Views.{atoms_view};
 
+use crate::COMPARISONS;
 use std::alloc::{AllocError, Global};
 use std::cmp::Ordering;
 use std::collections::BTreeSet;
@@ -113,6 +115,19 @@ impl Comparisons {
         }
         Ok(())
     }
+}
+
+/// Whether markers have more than `COMPARISONS` different opaque comparisons.
+///
+/// # Errors
+///
+/// Only for want of memory.
+pub fn has_too_many_comparisons(alloc: Global, markers: &[Marker]) -> Result<bool, AllocError>
+    ensures { IfOk result (λ b. b ≡ has_too_many (map marker_view markers.now)) }
+{
+    let mut comparisons = Comparisons::new(alloc);
+    comparisons.add_markers(alloc, markers)?;
+    Ok(comparisons.len() > COMPARISONS)
 }
 
 /// A comparison as a key: keys are ordered as their comparisons are.

@@ -1,7 +1,7 @@
 //! The documents of names.
 
 ghost use Rattle.std.specs.Prelude.{◌≡◌, ◌≤◌, ◌+◌, IfErr, IfOk, length, option_map, string_bytes};
-ghost use Rattle.ul_base.specs.Files.{Told, content};
+ghost use Rattle.ul_files.specs.Files.{ByReads, Remembers, content};
 ghost use Rattle.ul_index.specs.Documents.{document_of};
 ghost use Rattle.ul_load.specs.Faults.{Cause, FailedAt, Gives, IsOfBytes};
 ghost use Rattle.ul_load.specs.Loading as spec;
@@ -10,9 +10,10 @@ ghost use Rattle.ul_load.specs.Progressing.{IsNextPackage};
 
 use crate::{FILE_BYTES, LoadFault, TOTAL_BYTES};
 use std::alloc::{AllocError, Global};
-use ul_base::{Files, Name, ReadRefused};
+use ul_base::Name;
+use ul_files::{Files, ReadRefused};
 use ul_index::{IndexFault, document};
-use ul_requirement::Package;
+use ul_requirement::{Package, Prereleases};
 
 // The path of a name's document.
 fn path_of(alloc: Global, folder: &str, name: &Name) -> Result<String, AllocError>
@@ -25,9 +26,10 @@ fn path_of(alloc: Global, folder: &str, name: &Name) -> Result<String, AllocErro
 
 // The bytes at a path, if the file is there.
 fn read<F: Files>(alloc: Global, files: &mut F, path: &str) -> Result<Option<Vec<u8>>, LoadFault>
-    ensures told { Told (F.map files.old)
+    ensures told { ByReads (F.reads files.new)
         (λ m. Gives (option_map (λ v. v.items)) result (file_content path.now (content m path.now))) }
     ensures same { F.map files.new ≡ F.map files.old }
+    ensures grown { Remembers (F.reads files.old) (F.reads files.new) }
     ensures cause { Cause (F.faults files.old) (F.faults files.new) (F.last_failed files.new) result }
     ensures failed { FailedAt (λ p. p ≡ path.now) result }
 {
@@ -70,6 +72,7 @@ fn no_package(alloc: Global, name: &Name) -> Result<Package, AllocError>
     Ok(Package {
         name,
         entries: 0,
+        prereleases: Prereleases::IfNecessaryOrExplicit,
         releases: Vec::new(alloc),
     })
 }
@@ -108,8 +111,9 @@ pub(crate) fn package_at<F: Files>(
     before: u64,
 ) -> Result<(u64, Package), LoadFault>
     requires { before ≤ total_bytes }
-    ensures told { Told (F.map files.old) (λ m. Gives (λ p. p) result (spec.package_at m folder.now name.now before)) }
+    ensures told { ByReads (F.reads files.new) (λ m. Gives (λ p. p) result (spec.package_at m folder.now name.now before)) }
     ensures same { F.map files.new ≡ F.map files.old }
+    ensures grown { Remembers (F.reads files.old) (F.reads files.new) }
     ensures cause { Cause (F.faults files.old) (F.faults files.new) (F.last_failed files.new) result }
     ensures failed { FailedAt (λ p. p ≡ document_path folder.now name.now) result }
     ensures next { IfOk result (IsNextPackage name.now before) }

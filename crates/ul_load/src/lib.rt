@@ -10,6 +10,7 @@ mod met;
 mod progress;
 mod projects;
 
+pub use comparisons::has_too_many_comparisons;
 pub use fault::LoadFault;
 pub use loading::load;
 pub use projects::load_project;
@@ -22,5 +23,5 @@ pub const TOTAL_BYTES: u64 = 268_435_456;
 pub const PACKAGES: usize = 20_000;
 /// The most releases that the documents may list, unusable ones included.
 pub const RELEASES: u64 = 200_000;
-/// The most different opaque comparisons that the project and the documents may have.
+/// The most different opaque comparisons that the project and the documents may have, or a file of markers.
 pub const COMPARISONS: usize = 256;

@@ -1,21 +1,21 @@
 //! Loading.
 
 ghost use Rattle.std.specs.Prelude.{◌≡◌, IfOk, OnOk, length, map};
-ghost use Rattle.ul_base.specs.Files.{Told};
+ghost use Rattle.ul_files.specs.Files.{ByReads, Remembers};
 ghost use Rattle.ul_index.specs.Catalogs.{IsCatalog};
 ghost use Rattle.ul_marker.specs.Views.{marker_view};
 ghost use Rattle.ul_load.specs.Begun.{BeginsWith, KeepsFirst};
 ghost use Rattle.ul_load.specs.Faults.{Cause, FailedAt, Gives, LoadGives};
 ghost use Rattle.ul_load.specs.Headline.{LoadPromises};
 ghost use Rattle.ul_load.specs.Loading.{beginning_of, document_path, next_name, next_progress};
-ghost use Rattle.ul_load.specs.Progressing.{HasNext, IsProgress};
+ghost use Rattle.ul_load.specs.Progressing.{HasNext, HasOneMore, IsProgress};
 ghost use Rattle.ul_load.specs.Views.{progress_view};
 
-use crate::LoadFault;
 use crate::documents::package_at;
 use crate::progress::Progress;
+use crate::{LoadFault, PACKAGES};
 use std::alloc::Global;
-use ul_base::Files;
+use ul_files::Files;
 use ul_index::Catalog;
 use ul_marker::Marker;
 use ul_requirement::{Package, Requirement};
@@ -29,12 +29,14 @@ fn follow<F: Files>(
 ) -> Result<(), LoadFault>
     requires kept { IsProgress (progress_view progress.old) }
     requires next { HasNext (progress_view progress.old) }
-    ensures told { Told (F.map files.old) (λ m. Gives (λ _. progress_view progress.new) result
+    ensures told { ByReads (F.reads files.new) (λ m. Gives (λ _. progress_view progress.new) result
         (next_progress m folder.now (progress_view progress.old))) }
     ensures same { F.map files.new ≡ F.map files.old }
+    ensures grown { Remembers (F.reads files.old) (F.reads files.new) }
     ensures cause { Cause (F.faults files.old) (F.faults files.new) (F.last_failed files.new) result }
     ensures failed { FailedAt (λ p. p ≡ document_path folder.now (next_name (progress_view progress.old))) result }
     ensures kept { OnOk result (IsProgress (progress_view progress.new)) }
+    ensures one { OnOk result (HasOneMore (progress_view progress.old) (progress_view progress.new)) }
     ensures first { OnOk result (KeepsFirst (progress_view progress.old).packages
         (progress_view progress.new).packages) }
 {
@@ -43,7 +45,7 @@ fn follow<F: Files>(
     progress.add(alloc, found.0, found.1)
 }
 
-// The catalog of a project, or the first fault.
+// The catalog of a project, or the first fault. Each turn adds a package, so that there are at most as many turns as names.
 fn load_all<F: Files>(
     alloc: Global,
     files: &mut F,
@@ -54,22 +56,23 @@ fn load_all<F: Files>(
     overrides: &[Requirement],
 ) -> Result<Catalog, LoadFault>
     requires { length project.now.releases ≡ 1 }
-    ensures told { Told (F.map files.old) (λ m. LoadGives m folder.now
+    ensures told { ByReads (F.reads files.new) (λ m. LoadGives m folder.now
         (beginning_of project.now (map marker_view environments.now) constraints.now overrides.now) result) }
     ensures same { F.map files.new ≡ F.map files.old }
+    ensures grown { Remembers (F.reads files.old) (F.reads files.new) }
     ensures cause { Cause (F.faults files.old) (F.faults files.new) (F.last_failed files.new) result }
     ensures catalog { IfOk result IsCatalog }
     ensures first { IfOk result (BeginsWith project.now) }
 {
     let mut progress = Progress::begin(alloc, project, environments, constraints, overrides)?;
-    for _turn in 0..usize::MAX {
+    for _turn in 0..PACKAGES {
         if !progress.has_next() {
             let catalog = progress.catalog(alloc)?;
             return Ok(catalog);
         }
         follow(alloc, files, folder, &mut progress)?;
     }
-    Err(LoadFault::NoMemory)
+    unreachable!()
 }
 
 /// The catalog of a project, from the index documents in a folder, or the first fault.
@@ -90,7 +93,8 @@ pub fn load<F: Files>(
     overrides: &[Requirement],
 ) -> Result<Catalog, LoadFault>
     requires { length project.now.releases ≡ 1 }
-    ensures { LoadPromises (F.map files.old) (F.map files.new) (F.faults files.old) (F.faults files.new)
+    ensures { LoadPromises (F.map files.old) (F.map files.new) (F.reads files.old) (F.reads files.new)
+        (F.faults files.old) (F.faults files.new)
         (F.last_failed files.new) folder.now
         (beginning_of project.now (map marker_view environments.now) constraints.now overrides.now) result }
 {

@@ -5,7 +5,7 @@ ghost use Rattle.ul_marker.specs.Views.{marker_view};
 ghost use Rattle.ul_load.specs.Begun.{BeginsWith, KeepsFirst};
 ghost use Rattle.ul_load.specs.Faults.{Gives, IsOfBytes};
 ghost use Rattle.ul_load.specs.Loading.{beginning_of, comparisons_with, first_progress, met_within, names_of, names_with, most_packages, most_releases, next_name, own_atoms, progress_with, requirements_of, total_bytes, within};
-ghost use Rattle.ul_load.specs.Progressing.{HasNext, IsNextPackage, IsProgress};
+ghost use Rattle.ul_load.specs.Progressing.{HasNext, HasOneMore, IsNextPackage, IsProgress};
 ghost use Rattle.ul_load.specs.Views.{atoms_view, progress_view};
 
 use crate::comparisons::Comparisons;
@@ -138,6 +138,7 @@ impl Progress {
         ensures told { Gives (λ _. progress_view self.new) result
             (within (progress_with (progress_view self.old) (size, found))) }
         ensures kept { OnOk result (IsProgress (progress_view self.new)) }
+        ensures one { OnOk result (HasOneMore (progress_view self.old) (progress_view self.new)) }
         ensures first { OnOk result (KeepsFirst (progress_view self.old).packages (progress_view self.new).packages) }
         ensures bytes { IfErr result IsOfBytes }
     {

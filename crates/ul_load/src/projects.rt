@@ -5,7 +5,7 @@ ghost use Rattle.ul_load.specs.Loading.{beginning_of};
 
 use crate::{LoadFault, load};
 use std::alloc::Global;
-use ul_base::Files;
+use ul_files::Files;
 use ul_index::Catalog;
 use ul_marker::Marker;
 use ul_project::Project;
@@ -19,7 +19,8 @@ pub fn load_project<F: Files>(
     folder: &str,
     project: &Project,
 ) -> Result<Catalog, LoadFault>
-    ensures { LoadPromises (F.map files.old) (F.map files.new) (F.faults files.old) (F.faults files.new)
+    ensures { LoadPromises (F.map files.old) (F.map files.new) (F.reads files.old) (F.reads files.new)
+        (F.faults files.old) (F.faults files.new)
         (F.last_failed files.new) folder.now
         (beginning_of project.now.package project.now.environments project.now.constraints project.now.overrides)
         result }

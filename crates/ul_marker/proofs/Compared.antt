@@ -1,25 +1,45 @@
 -- Lemmas on comparisons.
-use Rattle.std.proofs.Common.{◌≡◌, ◌∙◌, ◌<◌, ◌≤◌, List, [], ◌∷◌, length, get_or, ap, arith, sym, refl, true, false, None}
+use Rattle.std.proofs.Common.{◌≡◌, ◌∙◌, ◌<◌, ◌≤◌, List, [], ◌∷◌, length, get_or, ap, arith, sym, refl, true, false, true≢false, None, ℕ}
 use Rattle.std.specs.Prelude.{◌||◌, if◌then◌else◌}
-use Rattle.ul_comparison.specs.Atoms.{is_implementation_version, is_text}
+use Rattle.ul_comparison.specs.Atoms.{is_extras, is_implementation_version, is_text, may_stand}
 use Rattle.ul_marker.specs.Comparisons.{comparison_of, in_sides, is_not_in, literal_of, python_full, three}
 use Rattle.ul_marker.specs.declared.words.Token.{Token}
 use Rattle.ul_comparison.specs.declared.variable.Variable.{Variable}
-use Rattle.ul_comparison.specs.declared.variable.Variable.TheVariants.{OsName, SysPlatform, PlatformMachine, PlatformPythonImplementation, PlatformRelease, PlatformSystem, PlatformVersion, PythonVersion, PythonFullVersion, ImplementationName, ImplementationVersion}
+use Rattle.ul_comparison.specs.declared.variable.Variable.TheVariants.{OsName, SysPlatform, PlatformMachine, PlatformPythonImplementation, PlatformRelease, PlatformSystem, PlatformVersion, PythonVersion, PythonFullVersion, ImplementationName, ImplementationVersion, Extras}
 
--- a variable that is no version of Python is a text variable or `implementation_version`
-pub not_python : (v : Variable) → python_full v ≡ None → (is_text v || is_implementation_version v) ≡ true
-not_python OsName e = refl
-not_python SysPlatform e = refl
-not_python PlatformMachine e = refl
-not_python PlatformPythonImplementation e = refl
-not_python PlatformRelease e = refl
-not_python PlatformSystem e = refl
-not_python PlatformVersion e = refl
-not_python PythonVersion e = absurd (cc e)
-not_python PythonFullVersion e = absurd (cc e)
-not_python ImplementationName e = refl
-not_python ImplementationVersion e = refl
+-- a variable that is neither a version of Python nor `extras` is a text variable or `implementation_version`
+pub not_python : (v : Variable) → python_full v ≡ None → is_extras v ≡ false → (is_text v || is_implementation_version v) ≡ true
+not_python OsName e n = refl
+not_python SysPlatform e n = refl
+not_python PlatformMachine e n = refl
+not_python PlatformPythonImplementation e n = refl
+not_python PlatformRelease e n = refl
+not_python PlatformSystem e n = refl
+not_python PlatformVersion e n = refl
+not_python PythonVersion e n = absurd (cc e)
+not_python PythonFullVersion e n = absurd (cc e)
+not_python ImplementationName e n = refl
+not_python ImplementationVersion e n = refl
+not_python Extras e n = absurd (true≢false n)
+
+-- a text variable or `implementation_version` isn't `extras`
+pub text_no_extras : (v : Variable) → (is_text v || is_implementation_version v) ≡ true → is_extras v ≡ false
+text_no_extras OsName h = refl
+text_no_extras SysPlatform h = refl
+text_no_extras PlatformMachine h = refl
+text_no_extras PlatformPythonImplementation h = refl
+text_no_extras PlatformRelease h = refl
+text_no_extras PlatformSystem h = refl
+text_no_extras PlatformVersion h = refl
+text_no_extras PythonVersion h = refl
+text_no_extras PythonFullVersion h = refl
+text_no_extras ImplementationName h = refl
+text_no_extras ImplementationVersion h = refl
+text_no_extras Extras h = absurd (true≢false (sym h))
+
+-- so any literal stands beside it
+pub text_stands : (v : Variable) (literal : List ℕ) → (is_text v || is_implementation_version v) ≡ true → may_stand v literal ≡ true
+text_stands v literal h = rw (text_no_extras v h) refl
 
 -- the comparison that three tokens are
 pub three_tokens : (ts : List Token) (a b c : Token) → 3 ≤ length ts → length ts < 4 → a ≡ get_or ts 0 a → b ≡ get_or ts 1 b → c ≡ get_or ts 2 c → comparison_of ts ≡ three a b c

@@ -16,7 +16,7 @@ use Rattle.ul_comparison.specs.Atoms.{has_byte, is_literal, is_literal_byte}
 use Rattle.ul_comparison.specs.Printed.{quote_of, quoted_text, variable_name}
 use Rattle.ul_marker.specs.Words.{front_literal, front_sign, front_token, front_word, is_quote, is_quoted, is_sign_byte, is_word_byte, run_length, tokens_in, tokens_of, word_token}
 use Rattle.ul_comparison.specs.declared.variable.Variable.{Variable}
-use Rattle.ul_comparison.specs.declared.variable.Variable.TheVariants.{OsName, SysPlatform, PlatformMachine, PlatformPythonImplementation, PlatformRelease, PlatformSystem, PlatformVersion, PythonVersion, PythonFullVersion, ImplementationName, ImplementationVersion}
+use Rattle.ul_comparison.specs.declared.variable.Variable.TheVariants.{OsName, SysPlatform, PlatformMachine, PlatformPythonImplementation, PlatformRelease, PlatformSystem, PlatformVersion, PythonVersion, PythonFullVersion, ImplementationName, ImplementationVersion, Extras}
 use Rattle.ul_marker.specs.declared.words.Token.{Token}
 use Rattle.ul_marker.specs.declared.words.Token.TheVariants.{And, Or, In, Not, Extra, Named, Sign, Literal}
 use Rattle.ul_marker.proofs.Tokens.{onto, tokens-next}
@@ -172,6 +172,7 @@ name-front PythonVersion rest e = word-front 112 (codes "ython_version") rest (N
 name-front PythonFullVersion rest e = word-front 112 (codes "ython_full_version") rest (Named PythonFullVersion) refl e refl
 name-front ImplementationName rest e = word-front 105 (codes "mplementation_name") rest (Named ImplementationName) refl e refl
 name-front ImplementationVersion rest e = word-front 105 (codes "mplementation_version") rest (Named ImplementationVersion) refl e refl
+name-front Extras rest e = word-front 101 (codes "xtras") rest (Named Extras) refl e refl
 
 name-begins : (v : Variable) (rest : List ℕ) → begins is_blank (variable_name v ++ rest) ≡ false
 name-begins OsName rest = refl
@@ -185,6 +186,7 @@ name-begins PythonVersion rest = refl
 name-begins PythonFullVersion rest = refl
 name-begins ImplementationName rest = refl
 name-begins ImplementationVersion rest = refl
+name-begins Extras rest = refl
 
 -- `extra` in front
 pub extra-front : (rest : List ℕ) → begins is_word_byte rest ≡ false → front_token (codes "extra" ++ rest) ≡ Some (Extra, rest)

@@ -1,6 +1,7 @@
 pub mod PartProofs
 pub mod Lexed
 pub mod PrintedBack
+pub mod Dialects
 pub mod Depths
 pub mod Tokens
 pub mod Refusals

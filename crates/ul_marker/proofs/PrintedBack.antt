@@ -1,6 +1,7 @@
 -- Printed comparisons are read back.
 use Rattle.std.proofs.Common.{◌≡◌, ◌∙◌, ◌<◌, ◌^◌, ℕ, Bool, true, false, true≢false, List, [], ◌∷◌, ◌++◌, map, Option, Some, None, refl, sym, ap, arith, subst}
 use Rattle.std.specs.Prelude.{◌||◌, All, codes}
+use Rattle.std.specs.List.{list_any}
 use Rattle.std.specs.Option.{option_map_or}
 use Rattle.std.proofs.lemmas.List.{append_assoc, append-nil}
 use Rattle.std.proofs.lemmas.Bool.Decides.{nat_tests}
@@ -14,21 +15,24 @@ use Rattle.ul_specifier.specs.Reading.{after_all, before_all, clause_with, is_bl
 use Rattle.ul_specifier.specs.declared.clause.Op.{Op}
 use Rattle.ul_specifier.specs.declared.clause.Op.TheVariants.{Equal, Unequal, AtLeast, AtMost, More, Less}
 use Rattle.ul_specifier.proofs.ForCallers.{before_all-kept, clause-read}
-use Rattle.ul_comparison.specs.Atoms.{is_implementation_version, is_literal, is_text, may_compare}
+use Rattle.ul_comparison.specs.Atoms.{is_implementation_version, is_literal, is_text, may_compare, may_stand}
 use Rattle.ul_marker.specs.Comparisons.{comparison_of, containment, extra_literal, python_full, sign_formula, within}
 use Rattle.ul_comparison.specs.Formulas.{Formula, IsExtraLiteral, opaque}
 use Rattle.ul_marker.specs.Grammar.{AreJoined, IsAtomOf, IsConjunction, IsMarker, Spells}
 use Rattle.ul_comparison.specs.Printed.{Comparison, IsComparison, atom_text, bound, bound_clause, bound_op, bound_sign, comparison_formula, comparison_text, equality_sign, extra_is, interpreter_text, kind_sign, atom_is, quote_of, quoted_text, sides, text_is, variable_name}
 use Rattle.ul_marker.specs.PrintedPaths.{ComparisonReads, IsPath, PathsRead, path_formula, path_text, paths_formula, paths_text}
-use Rattle.ul_marker.specs.Words.{is_word_byte, tokens_in, tokens_of}
+use Rattle.ul_marker.specs.Reading.{printed_marker_of}
+use Rattle.ul_marker.specs.Words.{dialect_tokens, is_unread, is_word_byte, tokens_in, tokens_of, with_readings}
 use Rattle.ul_comparison.specs.declared.variable.AtomKind.{AtomKind}
 use Rattle.ul_comparison.specs.declared.variable.AtomKind.TheVariants.{Contains, Within, Below, AtMost as AtMostKind, Same}
 use Rattle.ul_comparison.specs.declared.variable.Variable.{Variable}
-use Rattle.ul_comparison.specs.declared.variable.Variable.TheVariants.{OsName, SysPlatform, PlatformMachine, PlatformPythonImplementation, PlatformRelease, PlatformSystem, PlatformVersion, PythonVersion, PythonFullVersion, ImplementationName, ImplementationVersion}
+use Rattle.ul_comparison.specs.declared.variable.Variable.TheVariants.{OsName, SysPlatform, PlatformMachine, PlatformPythonImplementation, PlatformRelease, PlatformSystem, PlatformVersion, PythonVersion, PythonFullVersion, ImplementationName, ImplementationVersion, Extras}
+use Rattle.ul_marker.specs.declared.words.Dialect.TheVariants.{Printed}
 use Rattle.ul_marker.specs.declared.words.Token.{Token}
 use Rattle.ul_marker.specs.declared.words.Token.TheVariants.{And, Or, Extra, Named, Sign, Literal}
 use Rattle.ul_comparison.proofs.ForCallers.{interpreter-is, interpreter-literal, interpreter-version}
 use Rattle.ul_marker.proofs.Lexed.{IsSubject, Lexes, and-front, contains-lexes, extra-front, in_tokens, lexes-next, name-front, or-front, quote-is, signed-lexes, within-lexes}
+use Rattle.ul_marker.proofs.Compared.{text_no_extras}
 use Rattle.ul_marker.proofs.Spelled.{comparison-spelled, reading_is_grammar}
 
 -- ---- tokens
@@ -98,6 +102,7 @@ text-not-python PythonVersion h = absurd (true≢false (sym h))
 text-not-python PythonFullVersion h = absurd (true≢false (sym h))
 text-not-python ImplementationName h = refl
 text-not-python ImplementationVersion h = refl
+text-not-python Extras h = absurd (true≢false (sym h))
 
 text-either : (v : Variable) → is_text v ≡ true → (is_text v || is_implementation_version v) ≡ true
 text-either v h = rw h refl
@@ -114,20 +119,21 @@ version-either PythonVersion h = absurd (true≢false (sym h))
 version-either PythonFullVersion h = absurd (true≢false (sym h))
 version-either ImplementationName h = absurd (true≢false (sym h))
 version-either ImplementationVersion h = (refl, refl)
+version-either Extras h = absurd (true≢false (sym h))
 
-atom-says : (kind : AtomKind) (v : Variable) (literal : List ℕ) (holds : Bool) → may_compare kind v ≡ true
+atom-says : (kind : AtomKind) (v : Variable) (literal : List ℕ) (holds : Bool) → may_compare kind v ≡ true → may_stand v literal ≡ true
     → comparison_of (atom_tokens kind v literal holds) ≡ Some (opaque (record { variable = v; kind = kind; literal = literal }) holds)
 unfolding comparison_of containment within sign_formula
-atom-says Contains v literal true h = refl
-atom-says Contains v literal false h = refl
-atom-says Within v literal true h = rw (text-not-python v h) refl
-atom-says Within v literal false h = rw (text-not-python v h) refl
-atom-says Below v literal true h = rw (text-not-python v h) refl
-atom-says Below v literal false h = rw (text-not-python v h) refl
-atom-says AtMostKind v literal true h = rw (text-not-python v h) refl
-atom-says AtMostKind v literal false h = rw (text-not-python v h) refl
-atom-says Same v literal true h = let is = version-either v h in rw (text-not-python v is.0, is.1) refl
-atom-says Same v literal false h = let is = version-either v h in rw (text-not-python v is.0, is.1) refl
+atom-says Contains v literal true h s = rw s refl
+atom-says Contains v literal false h s = rw s refl
+atom-says Within v literal true h s = rw (text_no_extras v h, text-not-python v h) refl
+atom-says Within v literal false h s = rw (text_no_extras v h, text-not-python v h) refl
+atom-says Below v literal true h s = rw (text_no_extras v h, text-not-python v h) refl
+atom-says Below v literal false h s = rw (text_no_extras v h, text-not-python v h) refl
+atom-says AtMostKind v literal true h s = rw (text_no_extras v h, text-not-python v h) refl
+atom-says AtMostKind v literal false h s = rw (text_no_extras v h, text-not-python v h) refl
+atom-says Same v literal true h s = let is = version-either v h in rw (text_no_extras v is.0, text-not-python v is.0, is.1) refl
+atom-says Same v literal false h s = let is = version-either v h in rw (text_no_extras v is.0, text-not-python v is.0, is.1) refl
 
 says : (c : Comparison) → IsComparison c → comparison_of (printed_tokens c) ≡ Some (comparison_formula c)
 unfolding comparison_of sign_formula
@@ -135,9 +141,9 @@ says (bound true major minor patch) is = rw (bound-read true major minor patch i
 says (bound false major minor patch) is = rw (bound-read false major minor patch is.0 is.1 is.2) refl
 says (extra_is literal true) is = rw (own-literal literal is) refl
 says (extra_is literal false) is = rw (own-literal literal is) refl
-says (text_is v literal true) is = rw (text-not-python v (text-either v is.0), is.0) refl
-says (text_is v literal false) is = rw (text-not-python v (text-either v is.0), is.0) refl
-says (atom_is a holds) is = atom-says a.kind a.variable a.literal holds is.kind
+says (text_is v literal true) is = rw (text_no_extras v (text-either v is.0), text-not-python v (text-either v is.0), is.0) refl
+says (text_is v literal false) is = rw (text_no_extras v (text-either v is.0), text-not-python v (text-either v is.0), is.0) refl
+says (atom_is a holds) is = atom-says a.kind a.variable a.literal holds is.kind is.stands
 
 -- ---- how the texts are cut
 
@@ -205,6 +211,7 @@ name-white PythonVersion rest = refl
 name-white PythonFullVersion rest = refl
 name-white ImplementationName rest = refl
 name-white ImplementationVersion rest = refl
+name-white Extras rest = refl
 
 -- a text begins with no white space, whatever stands behind it
 abbrev BeginsWell : List ℕ → Type 0
@@ -253,6 +260,7 @@ name-ends PythonVersion = (codes "python_versio", 110, refl, refl)
 name-ends PythonFullVersion = (codes "python_full_versio", 110, refl, refl)
 name-ends ImplementationName = (codes "implementation_nam", 101, refl, refl)
 name-ends ImplementationVersion = (codes "implementation_versio", 110, refl, refl)
+name-ends Extras = (codes "extra", 115, refl, refl)
 
 sided-ends : (name sign literal : List ℕ) → is_literal literal ≡ true → EndsWell (name ++ (sign ++ quoted_text literal))
 sided-ends name sign literal h = ends-behind name (sign ++ quoted_text literal) (ends-behind sign (quoted_text literal) (quoted-ends literal h))
@@ -381,6 +389,14 @@ paths-joined Inside path (next ∷ paths) all = (
 
 -- ---- whole texts
 
+-- each token has a reading in what is printed
+pub all-read : (ts : List Token) → with_readings Printed (Some ts) ≡ Some ts
+all-read ts = rw (none ts) refl
+  where
+    none : (ts : List Token) → list_any (is_unread Printed) ts ≡ false
+    none [] = refl
+    none (t ∷ ts) = none ts
+
 front-kept : (text : List ℕ) → begins is_white text ≡ false → after_all is_white text ≡ text
 front-kept [] e = refl
 front-kept (b ∷ text) e = rw e refl
@@ -389,7 +405,7 @@ kept-whole : (text : List ℕ) → begins is_white text ≡ false → EndsWell t
 kept-whole text e (front, b, ends, h) =
     ap (before_all is_white) (front-kept text e) ∙ ap (before_all is_white) ends ∙ before_all-kept is_white front b h ∙ sym ends
 
-paths-spelled : (path : List Comparison) (paths : List (List Comparison)) → All IsPath (path ∷ paths) → Spells (paths_text (path ∷ paths)) (paths_formula (path ∷ paths))
+paths-spelled : (path : List Comparison) (paths : List (List Comparison)) → All IsPath (path ∷ paths) → Spells Printed (paths_text (path ∷ paths)) (paths_formula (path ∷ paths))
 unfolding IsMarker tokens_of tokens_in
 paths-spelled path paths all =
     let text = paths_text (path ∷ paths) in
@@ -397,14 +413,15 @@ paths-spelled path paths all =
     let whole : tokens_of text ≡ Some (paths_tokens (path ∷ paths)) =
     ap tokens_of (sym (append-nil text)) ∙ paths-lex path paths all [] [] refl refl ∙ ap Some (append-nil (paths_tokens (path ∷ paths))) in (
       paths_tokens (path ∷ paths),
-      ap tokens_of (kept-whole text begin (paths-end path paths all)) ∙ whole,
+      ap (dialect_tokens Printed) (kept-whole text begin (paths-end path paths all)) ∙ ap (with_readings Printed) whole ∙ all-read (paths_tokens (path ∷ paths)),
       (map path_formula (path ∷ paths), paths-joined (IsMarker 63) path paths all, refl),
     )
 
 -- printed comparisons joined by ` and ` and by ` or ` are read as what they say
 pub paths-read : PathsRead
+unfolding printed_marker_of
 paths-read [] some all = absurd (omega (arith, some))
-paths-read (path ∷ paths) some all = (reading_is_grammar (paths_text (path ∷ paths)) (paths_formula (path ∷ paths))).1 (paths-spelled path paths all)
+paths-read (path ∷ paths) some all = (reading_is_grammar Printed (paths_text (path ∷ paths)) (paths_formula (path ∷ paths))).1 (paths-spelled path paths all)
 
 -- a printed comparison is read as what it says
 pub comparison-reads : ComparisonReads

@@ -11,16 +11,17 @@ use Rattle.ul_specifier.specs.Reading.{before_end, clause_after, clause_with, is
 use Rattle.ul_specifier.specs.declared.clause.Op.{Op}
 use Rattle.ul_specifier.specs.declared.clause.Op.TheVariants.{Equal, Unequal, AtLeast, AtMost, More, Less}
 use Rattle.ul_specifier.proofs.ForCallers as Clauses
-use Rattle.ul_comparison.specs.Atoms.{is_text}
-use Rattle.ul_marker.specs.Comparisons.{comparison_of, containment, mirror_sign, opaquely, parts_versions, python_full, python_sign, python_within, sign_formula, text_sign, versions_of, within}
+use Rattle.ul_comparison.specs.Atoms.{is_extras, is_text, may_stand as stands}
+use Rattle.ul_marker.specs.Comparisons.{comparison_of, containment, mirror_sign, opaquely, parts_versions, python_full, python_sign, python_within, sign_formula, text_sign, variable_within, versions_of, within}
 use Rattle.ul_comparison.specs.Formulas.{Formula, python, python_list, text}
-use Rattle.ul_marker.specs.Reading.{atom_at, before_close, chain_at, chain_with, each, inner_tokens, chain_formula, marker_of, part_at, pieces_from}
+use Rattle.ul_marker.specs.Reading.{atom_at, before_close, chain_at, chain_with, each, inner_tokens, chain_formula, formula_of, part_at, pieces_from}
 use Rattle.ul_marker.specs.ReadingLaws.{AreOpposed, HasTokens, MirroredIsSame, NegatedRelations, NotInIsNegation, subject}
 use Rattle.ul_comparison.specs.Truth.{python_release}
 use Rattle.ul_marker.specs.declared.reading.Chain.{Chain}
 use Rattle.ul_marker.specs.declared.reading.Chain.TheVariants.{Conjunction, Disjunction}
 use Rattle.ul_comparison.specs.declared.variable.AtomKind.TheVariants as Kind
 use Rattle.ul_comparison.specs.declared.variable.Variable.{Variable}
+use Rattle.ul_marker.specs.declared.words.Dialect.{Dialect}
 use Rattle.ul_marker.specs.declared.words.Token.{Token}
 use Rattle.ul_marker.specs.declared.words.Token.TheVariants.{In, Not, Extra, Sign, Literal}
 use Rattle.ul_marker.proofs.Chains.{atom-comparison}
@@ -42,50 +43,49 @@ unfolding chain_at part_at
 sole ts p q e =
     single Disjunction (part_at Disjunction 64) ts q ∙ single Conjunction (atom_at 64) ts p ∙ atom-comparison 64 ts e
 
-read-tokens : (input : List ℕ) (ts : List Token) → HasTokens input ts → pieces_from Conjunction 0 ts ≡ ts ∷ [] → pieces_from Disjunction 0 ts ≡ ts ∷ []
-    → inner_tokens ts ≡ None → marker_of input ≡ comparison_of ts
-unfolding marker_of
-read-tokens input ts h p q e = rw h (sole ts p q e)
+read-tokens : (dialect : Dialect) (input : List ℕ) (ts : List Token) → HasTokens dialect input ts → pieces_from Conjunction 0 ts ≡ ts ∷ [] → pieces_from Disjunction 0 ts ≡ ts ∷ []
+    → inner_tokens ts ≡ None → formula_of dialect input ≡ comparison_of ts
+read-tokens dialect input ts h p q e = rw h (sole ts p q e)
 
-sign-right : (input : List ℕ) (variable : Option Variable) (op : Op) (literal : List ℕ) → HasTokens input (subject variable ∷ Sign op ∷ Literal literal ∷ [])
-    → marker_of input ≡ sign_formula (subject variable) op literal
+sign-right : (dialect : Dialect) (input : List ℕ) (variable : Option Variable) (op : Op) (literal : List ℕ) → HasTokens dialect input (subject variable ∷ Sign op ∷ Literal literal ∷ [])
+    → formula_of dialect input ≡ sign_formula (subject variable) op literal
 unfolding pieces_from inner_tokens before_close comparison_of
-sign-right input None op literal h = read-tokens input _ h refl refl refl
-sign-right input (Some v) op literal h = read-tokens input _ h refl refl refl
+sign-right dialect input None op literal h = read-tokens dialect input _ h refl refl refl
+sign-right dialect input (Some v) op literal h = read-tokens dialect input _ h refl refl refl
 
-sign-left : (input : List ℕ) (variable : Option Variable) (op : Op) (literal : List ℕ) → HasTokens input (Literal literal ∷ Sign op ∷ subject variable ∷ [])
-    → marker_of input ≡ (mirror_sign op >>= λ sign. sign_formula (subject variable) sign literal)
+sign-left : (dialect : Dialect) (input : List ℕ) (variable : Option Variable) (op : Op) (literal : List ℕ) → HasTokens dialect input (Literal literal ∷ Sign op ∷ subject variable ∷ [])
+    → formula_of dialect input ≡ (mirror_sign op >>= λ sign. sign_formula (subject variable) sign literal)
 unfolding pieces_from inner_tokens before_close comparison_of
-sign-left input None op literal h = read-tokens input _ h refl refl refl
-sign-left input (Some v) op literal h = read-tokens input _ h refl refl refl
+sign-left dialect input None op literal h = read-tokens dialect input _ h refl refl refl
+sign-left dialect input (Some v) op literal h = read-tokens dialect input _ h refl refl refl
 
-in-right : (input : List ℕ) (variable : Option Variable) (literal : List ℕ) → HasTokens input (subject variable ∷ In ∷ Literal literal ∷ [])
-    → marker_of input ≡ within true (subject variable) literal
+in-right : (dialect : Dialect) (input : List ℕ) (variable : Option Variable) (literal : List ℕ) → HasTokens dialect input (subject variable ∷ In ∷ Literal literal ∷ [])
+    → formula_of dialect input ≡ within true (subject variable) literal
 unfolding pieces_from inner_tokens before_close comparison_of
-in-right input None literal h = read-tokens input _ h refl refl refl
-in-right input (Some v) literal h = read-tokens input _ h refl refl refl
+in-right dialect input None literal h = read-tokens dialect input _ h refl refl refl
+in-right dialect input (Some v) literal h = read-tokens dialect input _ h refl refl refl
 
-not-right : (input : List ℕ) (variable : Option Variable) (literal : List ℕ) → HasTokens input (subject variable ∷ Not ∷ In ∷ Literal literal ∷ [])
-    → marker_of input ≡ within false (subject variable) literal
+not-right : (dialect : Dialect) (input : List ℕ) (variable : Option Variable) (literal : List ℕ) → HasTokens dialect input (subject variable ∷ Not ∷ In ∷ Literal literal ∷ [])
+    → formula_of dialect input ≡ within false (subject variable) literal
 unfolding pieces_from inner_tokens before_close comparison_of
-not-right input None literal h = read-tokens input _ h refl refl refl
-not-right input (Some v) literal h = read-tokens input _ h refl refl refl
+not-right dialect input None literal h = read-tokens dialect input _ h refl refl refl
+not-right dialect input (Some v) literal h = read-tokens dialect input _ h refl refl refl
 
-in-left : (input : List ℕ) (variable : Option Variable) (literal : List ℕ) → HasTokens input (Literal literal ∷ In ∷ subject variable ∷ [])
-    → marker_of input ≡ containment true (subject variable) literal
+in-left : (dialect : Dialect) (input : List ℕ) (variable : Option Variable) (literal : List ℕ) → HasTokens dialect input (Literal literal ∷ In ∷ subject variable ∷ [])
+    → formula_of dialect input ≡ containment true (subject variable) literal
 unfolding pieces_from inner_tokens before_close comparison_of
-in-left input None literal h = read-tokens input _ h refl refl refl
-in-left input (Some v) literal h = read-tokens input _ h refl refl refl
+in-left dialect input None literal h = read-tokens dialect input _ h refl refl refl
+in-left dialect input (Some v) literal h = read-tokens dialect input _ h refl refl refl
 
-not-left : (input : List ℕ) (variable : Option Variable) (literal : List ℕ) → HasTokens input (Literal literal ∷ Not ∷ In ∷ subject variable ∷ [])
-    → marker_of input ≡ containment false (subject variable) literal
+not-left : (dialect : Dialect) (input : List ℕ) (variable : Option Variable) (literal : List ℕ) → HasTokens dialect input (Literal literal ∷ Not ∷ In ∷ subject variable ∷ [])
+    → formula_of dialect input ≡ containment false (subject variable) literal
 unfolding pieces_from inner_tokens before_close comparison_of
-not-left input None literal h = read-tokens input _ h refl refl refl
-not-left input (Some v) literal h = read-tokens input _ h refl refl refl
+not-left dialect input None literal h = read-tokens dialect input _ h refl refl refl
+not-left dialect input (Some v) literal h = read-tokens dialect input _ h refl refl refl
 
 pub mirrored_is_same : MirroredIsSame
-mirrored_is_same input other variable literal op sign e h k =
-    sign-left input variable op literal h ∙ rw e (sym (sign-right other variable sign literal k))
+mirrored_is_same dialect input other variable literal op sign e h k =
+    sign-left dialect input variable op literal h ∙ rw e (sym (sign-right dialect other variable sign literal k))
 
 -- ---- clauses
 
@@ -185,11 +185,15 @@ signed-opposed : (op other : Op) (variable : Option Variable) (literal : List �
     → AreOpposed (sign_formula (subject variable) op literal) (sign_formula (subject variable) other literal)
 unfolding sign_formula
 signed-opposed op other None literal o t = t.extras literal
-signed-opposed op other (Some v) literal o t = go (python_full v)
+signed-opposed op other (Some v) literal o t = chosen (is_extras v)
   where
     go : (full : Option Bool) → AreOpposed (python_sign v op literal full) (python_sign v other literal full)
     go None = t.texts v literal
     go (Some full) = clause-opposed op other full literal o
+
+    chosen : (extras : Bool) → AreOpposed (if extras then None else python_sign v op literal (python_full v)) (if extras then None else python_sign v other literal (python_full v))
+    chosen true = tt
+    chosen false = go (python_full v)
 
 equal-unequal-texts : OppositeTexts Equal Unequal
 unfolding sign_formula
@@ -212,7 +216,7 @@ at_most-more-texts = record { texts = λ v literal w x. refl; extras = λ litera
 within-opposed : (variable : Option Variable) (literal : List ℕ) → AreOpposed (within true (subject variable) literal) (within false (subject variable) literal)
 unfolding within
 within-opposed None literal = tt
-within-opposed (Some v) literal = go (python_full v)
+within-opposed (Some v) literal = chosen (is_extras v)
   where
     listed : (full : Bool) (read : Option (List Fields)) → AreOpposed (read >>= λ versions. Some (python_list full versions true)) (read >>= λ versions. Some (python_list full versions false))
     listed full None = tt
@@ -222,23 +226,31 @@ within-opposed (Some v) literal = go (python_full v)
     go None = λ w x. refl
     go (Some full) = listed full (versions_of (slice_split parts_versions literal))
 
+    chosen : (extras : Bool) → AreOpposed (if extras then None else variable_within v literal true) (if extras then None else variable_within v literal false)
+    chosen true = tt
+    chosen false = go (python_full v)
+
 contained-opposed : (variable : Option Variable) (literal : List ℕ) → AreOpposed (containment true (subject variable) literal) (containment false (subject variable) literal)
 unfolding containment
 contained-opposed None literal = tt
-contained-opposed (Some v) literal = λ w x. refl
+contained-opposed (Some v) literal = go (stands v literal)
+  where
+    go : (b : Bool) → AreOpposed (if b then Some (opaquely v Kind.Contains literal true) else None) (if b then Some (opaquely v Kind.Contains literal false) else None)
+    go true = λ w x. refl
+    go false = tt
 
 pub negated_relations : NegatedRelations
 negated_relations = record {
-  unequal = λ input other variable literal h k.
-      rw (sign-right input variable Equal literal h, sign-right other variable Unequal literal k) (signed-opposed Equal Unequal variable literal equal-unequal equal-unequal-texts);
-  at_least = λ input other variable literal h k.
-      rw (sign-right input variable Less literal h, sign-right other variable AtLeast literal k) (signed-opposed Less AtLeast variable literal less-at_least less-at_least-texts);
-  more = λ input other variable literal h k.
-      rw (sign-right input variable AtMost literal h, sign-right other variable More literal k) (signed-opposed AtMost More variable literal at_most-more at_most-more-texts);
-  not_in = λ input other variable literal h k.
-      rw (in-right input variable literal h, not-right other variable literal k) (within-opposed variable literal);
+  unequal = λ dialect input other variable literal h k.
+      rw (sign-right dialect input variable Equal literal h, sign-right dialect other variable Unequal literal k) (signed-opposed Equal Unequal variable literal equal-unequal equal-unequal-texts);
+  at_least = λ dialect input other variable literal h k.
+      rw (sign-right dialect input variable Less literal h, sign-right dialect other variable AtLeast literal k) (signed-opposed Less AtLeast variable literal less-at_least less-at_least-texts);
+  more = λ dialect input other variable literal h k.
+      rw (sign-right dialect input variable AtMost literal h, sign-right dialect other variable More literal k) (signed-opposed AtMost More variable literal at_most-more at_most-more-texts);
+  not_in = λ dialect input other variable literal h k.
+      rw (in-right dialect input variable literal h, not-right dialect other variable literal k) (within-opposed variable literal);
 }
 
 pub not_in_is_negation : NotInIsNegation
-not_in_is_negation input other variable literal h k =
-    rw (in-left input variable literal h, not-left other variable literal k) (contained-opposed variable literal)
+not_in_is_negation dialect input other variable literal h k =
+    rw (in-left dialect input variable literal h, not-left dialect other variable literal k) (contained-opposed variable literal)

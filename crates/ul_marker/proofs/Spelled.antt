@@ -12,9 +12,9 @@ use Rattle.ul_specifier.specs.declared.clause.Op.{Op}
 use Rattle.ul_marker.specs.Comparisons.{comparison_of, containment, in_sides, is_not_in, literal_of, mirror_sign, sign_formula, signed_sides, three, within}
 use Rattle.ul_comparison.specs.Formulas.{Formula}
 use Rattle.ul_marker.specs.Grammar.{AreJoined, IsAtomOf, IsChain, IsComparison, IsConjunction, IsDisjunction, IsMarker, comparison, literal_in, literal_not_in, literal_sign, parenthesized, variable_in, variable_not_in, variable_sign}
-use Rattle.ul_marker.specs.Reading.{atom_at, atom_with, before_close, chain_at, chain_with, cuts, each, inner_tokens, is_close, is_open, chain_formula, joiner, joins, marker_of, onto_first, open_count, part_at, pieces_from}
+use Rattle.ul_marker.specs.Reading.{atom_at, atom_with, before_close, chain_at, chain_with, cuts, each, inner_tokens, is_close, is_open, chain_formula, joiner, joins, onto_first, open_count, part_at, pieces_from}
 use Rattle.ul_marker.specs.ReadingLaws.{ReadingIsGrammar, SpelledOnce}
-use Rattle.ul_marker.specs.Words.{tokens_of}
+use Rattle.ul_marker.specs.Words.{dialect_tokens}
 use Rattle.ul_marker.specs.declared.reading.Chain.{Chain}
 use Rattle.ul_marker.specs.declared.reading.Chain.TheVariants.{Conjunction, Disjunction}
 use Rattle.ul_marker.specs.declared.words.Token.{Token}
@@ -519,12 +519,11 @@ depth-agrees zero = marker-agrees (λ inner. None) (λ inner f. ⊥) none-agrees
 depth-agrees (suc depth) = marker-agrees (chain_at Disjunction depth) (IsMarker depth) (depth-agrees depth)
 
 pub reading_is_grammar : ReadingIsGrammar
-unfolding marker_of
-reading_is_grammar input f =
+reading_is_grammar dialect input f =
     let a = depth-agrees 64 in (
-      λ e. let (ts, are, some) = bind_some (tokens_of (trimmed_text is_white input)) _ _ e in (ts, are, a.sound ts f some),
+      λ e. let (ts, are, some) = bind_some (dialect_tokens dialect (trimmed_text is_white input)) _ _ e in (ts, are, a.sound ts f some),
       λ s. rw s.1 (a.complete s.0 f s.2),
     )
 
 pub spelled_once : SpelledOnce
-spelled_once input f g s t = inside f g (sym ((reading_is_grammar input f).1 s) ∙ (reading_is_grammar input g).1 t)
+spelled_once dialect input f g s t = inside f g (sym ((reading_is_grammar dialect input f).1 s) ∙ (reading_is_grammar dialect input g).1 t)

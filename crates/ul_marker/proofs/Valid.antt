@@ -1,7 +1,7 @@
 -- What is read is a formula.
 use Rattle.std.proofs.Common.{◌≡◌, ℕ, zero, suc, List, [], ◌∷◌, length, drop, take, refl, sym, ap, subst, ◌∙◌, arith, Bool, true, false, true≢false, inl, inr, Option, Some, None, Result, Ok, Err}
 use Rattle.std.specs.Prelude.{All, ◌&&◌, ◌||◌, not, ◌==◌, if◌then◌else◌, IfOk}
-use Rattle.std.specs.List.{list_all, slice_split}
+use Rattle.std.specs.List.{list_all, list_any, slice_split}
 use Rattle.std.specs.Option.{option_map_or}
 use Rattle.std.specs.Str.{bytes_eq}
 use Rattle.std.proofs.lemmas.Bool.{and_parts, and_from, cases_Bool}
@@ -18,13 +18,13 @@ use Rattle.ul_specifier.specs.Reading.{after_all, clause_with, is_blank, operato
 use Rattle.ul_specifier.specs.declared.clause.Op.{Op}
 use Rattle.ul_specifier.specs.declared.clause.Op.TheVariants.{Equal, Unequal, AtLeast, AtMost, More, Less, Compatible}
 use Rattle.ul_specifier.proofs.ForCallers.{clause_with-clause}
-use Rattle.ul_comparison.specs.Atoms.{is_implementation_version, is_literal, is_literal_byte, is_text, has_byte, may_compare}
-use Rattle.ul_marker.specs.Comparisons.{comparison_of, containment, equality, extra_literal, extra_sign, in_sides, is_not_in, literal_of, mirror_sign, opaquely, parts_versions, python_full, python_sign, python_within, sign_formula, signed_sides, text_sign, three, versions_of, within}
+use Rattle.ul_comparison.specs.Atoms.{is_extras, is_implementation_version, is_literal, is_literal_byte, is_text, has_byte, may_compare, may_stand}
+use Rattle.ul_marker.specs.Comparisons.{comparison_of, containment, equality, extra_literal, extra_sign, in_sides, is_not_in, literal_of, mirror_sign, opaquely, parts_versions, python_full, python_sign, python_within, sign_formula, signed_sides, text_sign, three, variable_within, versions_of, within}
 use Rattle.ul_comparison.specs.Formulas.{AreFormulas, Formula, Formulas, IsExtraLiteral, IsFormula, extra, formulas_of, none, python, python_list}
-use Rattle.ul_marker.specs.Reading.{atom_at, atom_with, before_close, chain_at, chain_with, cuts, each, inner_tokens, is_close, is_open, join, chain_formula, marker_of, onto_first, open_count, part_at, pieces_from}
+use Rattle.ul_marker.specs.Reading.{atom_at, atom_with, before_close, chain_at, chain_with, cuts, each, inner_tokens, is_close, is_open, join, chain_formula, formula_of, onto_first, open_count, part_at, pieces_from, printed_marker_of}
 use Rattle.ul_marker.specs.Readers.{Reads}
 use Rattle.ul_marker.specs.Views.{marker_view}
-use Rattle.ul_marker.specs.Words.{after_quote, front_literal, front_sign, front_token, front_word, is_quote, is_quoted, is_sign_byte, is_word_byte, keywords, table_token, old_variables, run_length, tokens_in, tokens_of, variables, word_token}
+use Rattle.ul_marker.specs.Words.{after_quote, dialect_tokens, front_literal, front_sign, front_token, front_word, is_quote, is_quoted, is_sign_byte, is_unread, is_word_byte, keywords, table_token, old_variables, run_length, tokens_in, tokens_of, variables, with_readings, word_token}
 use Rattle.ul_marker.specs.declared.fault.MarkerFault.{MarkerFault}
 use Rattle.ul_marker.specs.declared.marker.Marker.{Marker}
 use Rattle.ul_marker.specs.declared.reading.Chain.{Chain}
@@ -32,9 +32,11 @@ use Rattle.ul_marker.specs.declared.reading.Chain.TheVariants.{Conjunction, Disj
 use Rattle.ul_comparison.specs.declared.variable.AtomKind.{AtomKind}
 use Rattle.ul_comparison.specs.declared.variable.AtomKind.TheVariants as Kind
 use Rattle.ul_comparison.specs.declared.variable.Variable.{Variable}
+use Rattle.ul_marker.specs.declared.words.Dialect.{Dialect}
+use Rattle.ul_marker.specs.declared.words.Dialect.TheVariants.{Printed}
 use Rattle.ul_marker.specs.declared.words.Token.{Token}
 use Rattle.ul_marker.specs.declared.words.Token.TheVariants.{Open, Close, And, Or, In, Not, Extra, Named, Sign, Literal}
-use Rattle.ul_marker.proofs.Compared.{not_python}
+use Rattle.ul_marker.proofs.Compared.{not_python, text_stands}
 use Rattle.ul_marker.proofs.Tokens.{first-of, quoted-is_literal, run-all}
 
 -- ---- tokens
@@ -70,7 +72,7 @@ word-token word t e =
     either-token (table_token keywords word) _ t
     (listed-token keywords word t (tt, (tt, (tt, (tt, (tt, tt))))))
     (either-token (table_token variables word) (table_token old_variables word) t
-    (listed-token variables word t (tt, (tt, (tt, (tt, (tt, (tt, (tt, (tt, (tt, (tt, (tt, tt))))))))))))
+    (listed-token variables word t (tt, (tt, (tt, (tt, (tt, (tt, (tt, (tt, (tt, (tt, (tt, (tt, tt)))))))))))))
     (listed-token old_variables word t (tt, (tt, (tt, (tt, (tt, (tt, tt))))))))
     e
 
@@ -172,10 +174,10 @@ extra-formula More literal f h e = absurd (cc e)
 extra-formula Less literal f h e = absurd (cc e)
 extra-formula Compatible literal f h e = absurd (cc e)
 
-opaque-formula : (variable : Variable) (kind : AtomKind) (literal : List ℕ) (positive : Bool) (f : Formula) → is_literal literal ≡ true → may_compare kind variable ≡ true
+opaque-formula : (variable : Variable) (kind : AtomKind) (literal : List ℕ) (positive : Bool) (f : Formula) → is_literal literal ≡ true → may_compare kind variable ≡ true → may_stand variable literal ≡ true
     → Some (opaquely variable kind literal positive) ≡ Some f → IsFormula f
-opaque-formula variable kind literal positive f h may e =
-    one-formula (opaquely variable kind literal positive) f e (record { literal = h; kind = may })
+opaque-formula variable kind literal positive f h may stands e =
+    one-formula (opaquely variable kind literal positive) f e (record { literal = h; kind = may; stands = stands })
 
 second-true : (x y : Bool) → (x || y) ≡ true → x ≡ false → y ≡ true
 second-true true y h e = absurd (true≢false e)
@@ -185,30 +187,37 @@ equality-formula : (variable : Variable) (literal : List ℕ) (equal : Bool) →
     → IsFormula (equality variable literal equal)
 equality-formula variable literal equal h may = elim (cases_Bool (is_text variable)) [
   | inl yes_text ↦ rw yes_text (yes_text, h)
-  | inr no_text ↦ rw no_text (record { literal = h; kind = second-true (is_text variable) (is_implementation_version variable) may no_text })
+  | inr no_text ↦ rw no_text (record { literal = h; kind = second-true (is_text variable) (is_implementation_version variable) may no_text; stands = text_stands variable literal may })
 ]
 
 text-formula : (variable : Variable) (op : Op) (literal : List ℕ) (f : Formula) → is_literal literal ≡ true
     → (is_text variable || is_implementation_version variable) ≡ true → text_sign variable op literal ≡ Some f → IsFormula f
 text-formula variable Equal literal f h may e = one-formula (equality variable literal true) f e (equality-formula variable literal true h may)
 text-formula variable Unequal literal f h may e = one-formula (equality variable literal false) f e (equality-formula variable literal false h may)
-text-formula variable Less literal f h may e = opaque-formula variable Kind.Below literal true f h may e
-text-formula variable AtLeast literal f h may e = opaque-formula variable Kind.Below literal false f h may e
-text-formula variable AtMost literal f h may e = opaque-formula variable Kind.AtMost literal true f h may e
-text-formula variable More literal f h may e = opaque-formula variable Kind.AtMost literal false f h may e
+text-formula variable Less literal f h may e = opaque-formula variable Kind.Below literal true f h may (text_stands variable literal may) e
+text-formula variable AtLeast literal f h may e = opaque-formula variable Kind.Below literal false f h may (text_stands variable literal may) e
+text-formula variable AtMost literal f h may e = opaque-formula variable Kind.AtMost literal true f h may (text_stands variable literal may) e
+text-formula variable More literal f h may e = opaque-formula variable Kind.AtMost literal false f h may (text_stands variable literal may) e
 text-formula variable Compatible literal f h may e = absurd (cc e)
 
-python-formula : (variable : Variable) (op : Op) (literal : List ℕ) (full : Option Bool) (f : Formula) → is_literal literal ≡ true → python_full variable ≡ full
+python-formula : (variable : Variable) (op : Op) (literal : List ℕ) (full : Option Bool) (f : Formula) → is_literal literal ≡ true → is_extras variable ≡ false → python_full variable ≡ full
     → python_sign variable op literal full ≡ Some f → IsFormula f
-python-formula variable op literal None f h is e = text-formula variable op literal f h (not_python variable is) e
-python-formula variable op literal (Some full) f h is e =
+python-formula variable op literal None f h no_extras is e = text-formula variable op literal f h (not_python variable is no_extras) e
+python-formula variable op literal (Some full) f h no_extras is e =
     let (clause, read, some) = bind_some (clause_with op literal) _ _ e in
     one-formula (python full clause) f some (clause_with-clause op literal clause read)
+
+-- what is there only beside another variable than `extras`
+pub none_else : (b : Bool) (found : Option Formula) (f : Formula) → (if b then None else found) ≡ Some f → (b ≡ false) × (found ≡ Some f)
+none_else true found f e = absurd (cc e)
+none_else false found f e = (refl, e)
 
 signed-formula : (subject : Token) (op : Op) (literal : List ℕ) (f : Formula) → is_literal literal ≡ true → sign_formula subject op literal ≡ Some f → IsFormula f
 unfolding sign_formula
 signed-formula Extra op literal f h e = extra-formula op literal f h e
-signed-formula (Named variable) op literal f h e = python-formula variable op literal (python_full variable) f h refl e
+signed-formula (Named variable) op literal f h e =
+    let own = none_else (is_extras variable) (python_sign variable op literal (python_full variable)) f e in
+    python-formula variable op literal (python_full variable) f h own.0 refl own.1
 signed-formula Open op literal f h e = absurd (cc e)
 signed-formula Close op literal f h e = absurd (cc e)
 signed-formula And op literal f h e = absurd (cc e)
@@ -227,16 +236,18 @@ are-versions ((b ∷ piece) ∷ pieces) vs e =
     let (us, are, some) = bind_some (versions_of pieces) _ _ next in
     subst (λ (x : List Fields). All IsVersion x) (inside (v ∷ us) vs some) (All-cons IsVersion v us (versions (b ∷ piece) v is) (are-versions pieces us are))
 
-within-python : (variable : Variable) (literal : List ℕ) (positive : Bool) (full : Option Bool) (f : Formula) → is_literal literal ≡ true → python_full variable ≡ full
+within-python : (variable : Variable) (literal : List ℕ) (positive : Bool) (full : Option Bool) (f : Formula) → is_literal literal ≡ true → is_extras variable ≡ false → python_full variable ≡ full
     → python_within variable literal positive full ≡ Some f → IsFormula f
-within-python variable literal positive None f h is e = opaque-formula variable Kind.Within literal positive f h (not_python variable is) e
-within-python variable literal positive (Some full) f h is e =
+within-python variable literal positive None f h no_extras is e = opaque-formula variable Kind.Within literal positive f h (not_python variable is no_extras) (text_stands variable literal (not_python variable is no_extras)) e
+within-python variable literal positive (Some full) f h no_extras is e =
     let (vs, read, some) = bind_some (versions_of (slice_split parts_versions literal)) _ _ e in
     one-formula (python_list full vs positive) f some (are-versions _ vs read)
 
 within-formula : (positive : Bool) (subject : Token) (literal : List ℕ) (f : Formula) → is_literal literal ≡ true → within positive subject literal ≡ Some f → IsFormula f
 unfolding within
-within-formula positive (Named variable) literal f h e = within-python variable literal positive (python_full variable) f h refl e
+within-formula positive (Named variable) literal f h e =
+    let own = none_else (is_extras variable) (variable_within variable literal positive) f e in
+    within-python variable literal positive (python_full variable) f h own.0 refl own.1
 within-formula positive Extra literal f h e = absurd (cc e)
 within-formula positive Open literal f h e = absurd (cc e)
 within-formula positive Close literal f h e = absurd (cc e)
@@ -249,7 +260,9 @@ within-formula positive (Literal other) literal f h e = absurd (cc e)
 
 contained-formula : (positive : Bool) (subject : Token) (literal : List ℕ) (f : Formula) → is_literal literal ≡ true → containment positive subject literal ≡ Some f → IsFormula f
 unfolding containment
-contained-formula positive (Named variable) literal f h e = opaque-formula variable Kind.Contains literal positive f h refl e
+contained-formula positive (Named variable) literal f h e =
+    let own = cond_some (may_stand variable literal) (Some (opaquely variable Kind.Contains literal positive)) f e in
+    opaque-formula variable Kind.Contains literal positive f h refl own.0 own.1
 contained-formula positive Extra literal f h e = absurd (cc e)
 contained-formula positive Open literal f h e = absurd (cc e)
 contained-formula positive Close literal f h e = absurd (cc e)
@@ -396,12 +409,25 @@ pub tokens-formula : (chain : Chain) (depth : ℕ) (ts : List Token) (f : Formul
 unfolding chain_at
 tokens-formula chain depth ts f h e = chain-formula chain (part_at chain depth) (part-formula chain depth) ts f h e
 
+-- tokens that have readings are those of the text
+pub read-tokens : (dialect : Dialect) (tokens : Option (List Token)) (ts : List Token) → with_readings dialect tokens ≡ Some ts → tokens ≡ Some ts
+read-tokens dialect None ts e = e
+read-tokens dialect (Some found) ts e = go (list_any (is_unread dialect) found) e
+  where
+    go : (b : Bool) → (if b then None else Some found) ≡ Some ts → Some found ≡ Some ts
+    go true e = absurd (cc e)
+    go false e = e
+
 -- what is read is a formula
-pub marker-formula : (input : List ℕ) (f : Formula) → marker_of input ≡ Some f → IsFormula f
-unfolding marker_of
-marker-formula input f e =
-    let (ts, are, some) = bind_some (tokens_of (trimmed_text is_white input)) _ _ e in
-    tokens-formula Disjunction 64 ts f (tokens-tokens _ ts are) some
+pub marker-formula : (dialect : Dialect) (input : List ℕ) (f : Formula) → formula_of dialect input ≡ Some f → IsFormula f
+marker-formula dialect input f e =
+    let (ts, are, some) = bind_some (dialect_tokens dialect (trimmed_text is_white input)) _ _ e in
+    tokens-formula Disjunction 64 ts f (tokens-tokens _ ts (read-tokens dialect (tokens_of (trimmed_text is_white input)) ts are)) some
+
+-- the formula that a printed text spells is a marker's
+pub printed-formula : (input : List ℕ) (f : Formula) → printed_marker_of input ≡ Some f → IsFormula f
+unfolding printed_marker_of
+printed-formula input f e = marker-formula Printed input f e
 
 -- a marker that a reader answers is one whose formula is a formula
 pub answer-formula : (result : Result Marker MarkerFault) (chain : Chain) (depth : ℕ) (ts : List Token) → AreTokens ts → Reads marker_view result (chain_at chain depth ts)

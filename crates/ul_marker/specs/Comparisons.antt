@@ -9,7 +9,7 @@ use Rattle.ul_version.specs.Reading.{◌>>=◌, version_of}
 use Rattle.ul_specifier.specs.Reading.{clause_with}
 use Rattle.ul_specifier.specs.declared.clause.Op.{Op}
 use Rattle.ul_specifier.specs.declared.clause.Op.TheVariants.{Equal, Unequal, AtLeast, AtMost, More, Less, Compatible}
-use Rattle.ul_comparison.specs.Atoms.{is_text}
+use Rattle.ul_comparison.specs.Atoms.{is_extras, is_text, may_stand}
 use Rattle.ul_comparison.specs.Formulas.{Formula, extra, python, python_list, text, opaque}
 use Rattle.ul_comparison.specs.declared.variable.AtomKind.{AtomKind}
 use Rattle.ul_comparison.specs.declared.variable.AtomKind.TheVariants as Kind
@@ -84,10 +84,10 @@ abbrev pub python_sign : Variable → Op → List ℕ → Option Bool → Option
 python_sign variable op literal (Some full) = clause_with op literal >>= λ clause. Some (python full clause)
 python_sign variable op literal None = text_sign variable op literal
 
--- a variable, a sign and a literal
+-- a variable, a sign and a literal; `extras` has no sign
 unfoldable pub sign_formula : Token → Op → List ℕ → Option Formula
 sign_formula Extra op literal = extra_sign op literal
-sign_formula (Named variable) op literal = python_sign variable op literal (python_full variable)
+sign_formula (Named variable) op literal = if is_extras variable then None else python_sign variable op literal (python_full variable)
 sign_formula other op literal = None
 
 -- the sign that says the same with its sides exchanged; `~=` has none
@@ -109,14 +109,15 @@ python_within variable literal positive None = Some (opaquely variable Kind.With
 abbrev pub variable_within : Variable → List ℕ → Bool → Option Formula
 variable_within variable literal positive = python_within variable literal positive (python_full variable)
 
--- a variable `in` a literal, or `not in` it
+-- a variable `in` a literal, or `not in` it, as `extras` never is
 unfoldable pub within : Bool → Token → List ℕ → Option Formula
-within positive (Named variable) literal = python_within variable literal positive (python_full variable)
+within positive (Named variable) literal = if is_extras variable then None else variable_within variable literal positive
 within positive other literal = None
 
--- a literal `in` a variable, or `not in` it
+-- a literal `in` a variable, or `not in` it; in `extras` a name in its normal form
 unfoldable pub containment : Bool → Token → List ℕ → Option Formula
-containment positive (Named variable) literal = Some (opaquely variable Kind.Contains literal positive)
+containment positive (Named variable) literal =
+    if may_stand variable literal then Some (opaquely variable Kind.Contains literal positive) else None
 containment positive other literal = None
 
 -- ---- sides

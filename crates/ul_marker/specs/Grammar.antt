@@ -7,9 +7,10 @@ use Rattle.ul_specifier.specs.declared.clause.Op.{Op}
 use Rattle.ul_marker.specs.Comparisons.{containment, mirror_sign, sign_formula, within}
 use Rattle.ul_comparison.specs.Formulas.{Formula}
 use Rattle.ul_marker.specs.Reading.{chain_formula}
-use Rattle.ul_marker.specs.Words.{tokens_of}
+use Rattle.ul_marker.specs.Words.{dialect_tokens}
 use Rattle.ul_marker.specs.declared.reading.Chain.{Chain}
 use Rattle.ul_marker.specs.declared.reading.Chain.TheVariants.{Conjunction, Disjunction}
+use Rattle.ul_marker.specs.declared.words.Dialect.{Dialect}
 use Rattle.ul_marker.specs.declared.words.Token.{Token}
 use Rattle.ul_marker.specs.declared.words.Token.TheVariants.{Open, Close, And, Or, In, Not, Sign, Literal}
 
@@ -57,6 +58,6 @@ unfoldable pub IsMarker : ℕ → List Token → Formula → Type 0
 IsMarker zero = IsDisjunction (λ inner f. ⊥)
 IsMarker (suc depth) = IsDisjunction (IsMarker depth)
 
--- a text spells a formula
-abbrev pub Spells : List ℕ → Formula → Type 0
-Spells text f = (tokens : List Token) × (tokens_of (trimmed_text is_white text) ≡ Some tokens) × IsMarker 64 tokens f
+-- a text spells a formula in a dialect
+abbrev pub Spells : Dialect → List ℕ → Formula → Type 0
+Spells dialect text f = (tokens : List Token) × (dialect_tokens dialect (trimmed_text is_white text) ≡ Some tokens) × IsMarker 64 tokens f

@@ -1,7 +1,8 @@
--- What stands in a marker's text: its opaque comparisons, and whether it asks for an extra. Both are asked of the
--- formula as it was written, even where its truth doesn't depend on them.
+-- What stands in a marker's text: its opaque comparisons, and whether it asks for an extra, by `extra` or by `extras`.
+-- All are asked of the formula as it was written, even where its truth doesn't depend on them.
 use Rattle.std.specs.Prelude.{◌||◌, ◌++◌, Bool, true, false, List, [], ◌∷◌}
-use Rattle.ul_comparison.specs.Atoms.{AtomFields}
+use Rattle.std.specs.List.{list_any}
+use Rattle.ul_comparison.specs.Atoms.{AtomFields, is_extras}
 use Rattle.ul_comparison.specs.Formulas.{Formula, extra, python, python_list, text, opaque, all, any, Formulas, none, more}
 
 abbrev mutual
@@ -33,3 +34,7 @@ abbrev mutual
   pub some_asks_extra : Formulas → Bool
   some_asks_extra none = false
   some_asks_extra (more f fs) = asks_extra f || some_asks_extra fs
+
+-- whether a comparison with `extras` stands in a formula
+abbrev pub asks_extras : Formula → Bool
+asks_extras f = list_any (λ atom. is_extras atom.variable) (atoms_of f)

@@ -2,7 +2,7 @@
 use Rattle.std.specs.Prelude.{◌≡◌, ℕ, List, [], ◌∷◌, ◌++◌, map, codes, Some, All, length, ◌<◌}
 use Rattle.ul_comparison.specs.Formulas.{Formula}
 use Rattle.ul_comparison.specs.Printed.{Comparison, IsComparison, comparison_formula, comparison_text}
-use Rattle.ul_marker.specs.Reading.{chain_formula, marker_of}
+use Rattle.ul_marker.specs.Reading.{chain_formula, printed_marker_of}
 use Rattle.ul_marker.specs.declared.reading.Chain.TheVariants.{Conjunction, Disjunction}
 
 -- comparisons joined by ` and `
@@ -31,11 +31,11 @@ paths_formula paths = chain_formula Disjunction (map path_formula paths)
 
 -- a printed comparison is read as what it says
 abbrev pub ComparisonReads : Type 0
-ComparisonReads = (c : Comparison) → IsComparison c → marker_of (comparison_text c) ≡ Some (comparison_formula c)
+ComparisonReads = (c : Comparison) → IsComparison c → printed_marker_of (comparison_text c) ≡ Some (comparison_formula c)
 
 -- so are printed comparisons joined by ` and ` and by ` or `
 abbrev pub PathsRead : Type 0
-PathsRead = (paths : List (List Comparison)) → 0 < length paths → All IsPath paths → marker_of (paths_text paths) ≡ Some (paths_formula paths)
+PathsRead = (paths : List (List Comparison)) → 0 < length paths → All IsPath paths → printed_marker_of (paths_text paths) ≡ Some (paths_formula paths)
 
 -- comparisons that say the same are one
 abbrev pub ComparisonsAreTold : Type 0

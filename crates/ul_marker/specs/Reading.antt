@@ -9,9 +9,11 @@ use Rattle.ul_version.specs.Reading.{◌>>=◌, is_white}
 use Rattle.ul_specifier.specs.Reading.{trimmed_text}
 use Rattle.ul_marker.specs.Comparisons.{comparison_of}
 use Rattle.ul_comparison.specs.Formulas.{Formula, Formulas, all, any, formulas_of}
-use Rattle.ul_marker.specs.Words.{tokens_of}
+use Rattle.ul_marker.specs.Words.{dialect_tokens}
 use Rattle.ul_marker.specs.declared.reading.Chain.{Chain}
 use Rattle.ul_marker.specs.declared.reading.Chain.TheVariants.{Conjunction, Disjunction}
+use Rattle.ul_marker.specs.declared.words.Dialect.{Dialect}
+use Rattle.ul_marker.specs.declared.words.Dialect.TheVariants.{Document, Lock, Printed}
 use Rattle.ul_marker.specs.declared.words.Token.{Token}
 use Rattle.ul_marker.specs.declared.words.Token.TheVariants.{Open, Close, And, Or}
 
@@ -115,6 +117,18 @@ chain_at chain depth tokens = chain_with chain (part_at chain depth) tokens
 abbrev pub marker_in : Option (List Token) → Option Formula
 marker_in tokens = tokens >>= λ ts. chain_at Disjunction 64 ts
 
--- the formula that a text spells
+-- the formula that a text spells in a dialect
+abbrev pub formula_of : Dialect → List ℕ → Option Formula
+formula_of dialect text = marker_in (dialect_tokens dialect (trimmed_text is_white text))
+
+-- the formula that a text spells in a document, as PEP 508 says
 unfoldable pub marker_of : List ℕ → Option Formula
-marker_of text = marker_in (tokens_of (trimmed_text is_white text))
+marker_of text = formula_of Document text
+
+-- the formula that a text spells in a lock, where `extras` stands in place of `extra` (PEP 751)
+unfoldable pub locked_marker_of : List ℕ → Option Formula
+locked_marker_of text = formula_of Lock text
+
+-- the formula that a printed text spells, which may have both
+unfoldable pub printed_marker_of : List ℕ → Option Formula
+printed_marker_of text = formula_of Printed text

@@ -1,5 +1,5 @@
--- What holds of all texts of markers and their formulas.
-use Rattle.std.specs.Prelude.{◌≡◌, ◌↔◌, ℕ, ◌++◌, Bool, not, List, [], ◌∷◌, Option, Some, None}
+-- What holds of all texts of markers and their formulas, in each dialect.
+use Rattle.std.specs.Prelude.{◌≡◌, ◌↔◌, ℕ, ◌++◌, Bool, false, not, List, [], ◌∷◌, Option, Some, None}
 use Rattle.ul_version.specs.Reading.{is_white}
 use Rattle.ul_specifier.specs.Reading.{trimmed_text}
 use Rattle.ul_specifier.specs.declared.clause.Op.{Op}
@@ -7,12 +7,14 @@ use Rattle.ul_specifier.specs.declared.clause.Op.TheVariants.{Equal, Unequal, At
 use Rattle.ul_marker.specs.Comparisons.{mirror_sign}
 use Rattle.ul_comparison.specs.Formulas.{Formula, IsFormula, formulas_of}
 use Rattle.ul_marker.specs.Grammar.{Spells}
-use Rattle.ul_marker.specs.Reading.{join, marker_of}
+use Rattle.ul_marker.specs.Parts.{asks_extra, asks_extras}
+use Rattle.ul_marker.specs.Reading.{formula_of, join, locked_marker_of, marker_of, printed_marker_of}
 use Rattle.ul_comparison.specs.Truth.{marker_holds}
-use Rattle.ul_marker.specs.Words.{tokens_of}
+use Rattle.ul_marker.specs.Words.{dialect_tokens}
 use Rattle.ul_comparison.specs.Worlds.{WorldFields}
 use Rattle.ul_marker.specs.declared.reading.Chain.{Chain}
 use Rattle.ul_comparison.specs.declared.variable.Variable.{Variable}
+use Rattle.ul_marker.specs.declared.words.Dialect.{Dialect}
 use Rattle.ul_marker.specs.declared.words.Token.{Token}
 use Rattle.ul_marker.specs.declared.words.Token.TheVariants.{In, Not, Extra, Named, Sign, Literal}
 
@@ -20,21 +22,26 @@ use Rattle.ul_marker.specs.declared.words.Token.TheVariants.{In, Not, Extra, Nam
 
 -- a text is read as a formula exactly where the grammar spells it so
 abbrev pub ReadingIsGrammar : Type 0
-ReadingIsGrammar = (input : List ℕ) (f : Formula) → (marker_of input ≡ Some f) ↔ Spells input f
+ReadingIsGrammar = (dialect : Dialect) (input : List ℕ) (f : Formula) → (formula_of dialect input ≡ Some f) ↔ Spells dialect input f
 
 -- a text spells one formula at most
 abbrev pub SpelledOnce : Type 0
-SpelledOnce = (input : List ℕ) (f g : Formula) → Spells input f → Spells input g → f ≡ g
+SpelledOnce = (dialect : Dialect) (input : List ℕ) (f g : Formula) → Spells dialect input f → Spells dialect input g → f ≡ g
 
 -- what is read is a formula
 abbrev pub ReadIsFormula : Type 0
-ReadIsFormula = (input : List ℕ) (f : Formula) → marker_of input ≡ Some f → IsFormula f
+ReadIsFormula = (dialect : Dialect) (input : List ℕ) (f : Formula) → formula_of dialect input ≡ Some f → IsFormula f
+
+-- of what is printed a document reads what has no comparison with `extras`, and a lock what has none with `extra`
+pub record DialectsAgree : Type 0 where
+  pub document : (input : List ℕ) (f : Formula) → (marker_of input ≡ Some f) ↔ ((printed_marker_of input ≡ Some f) × (asks_extras f ≡ false))
+  pub lock : (input : List ℕ) (f : Formula) → (locked_marker_of input ≡ Some f) ↔ ((printed_marker_of input ≡ Some f) × (asks_extra f ≡ false))
 
 -- ---- comparisons
 
 -- a text that has these tokens
-abbrev pub HasTokens : List ℕ → List Token → Type 0
-HasTokens input tokens = tokens_of (trimmed_text is_white input) ≡ Some tokens
+abbrev pub HasTokens : Dialect → List ℕ → List Token → Type 0
+HasTokens dialect input tokens = dialect_tokens dialect (trimmed_text is_white input) ≡ Some tokens
 
 -- the token of a variable, or of `extra`
 abbrev pub subject : Option Variable → Token
@@ -43,9 +50,9 @@ subject (Some variable) = Named variable
 
 -- a literal, a sign and a variable read as the variable, the mirrored sign and the literal
 abbrev pub MirroredIsSame : Type 0
-MirroredIsSame = (input other : List ℕ) (variable : Option Variable) (literal : List ℕ) (op sign : Op) → mirror_sign op ≡ Some sign
-    → HasTokens input (Literal literal ∷ Sign op ∷ subject variable ∷ []) → HasTokens other (subject variable ∷ Sign sign ∷ Literal literal ∷ [])
-    → marker_of input ≡ marker_of other
+MirroredIsSame = (dialect : Dialect) (input other : List ℕ) (variable : Option Variable) (literal : List ℕ) (op sign : Op) → mirror_sign op ≡ Some sign
+    → HasTokens dialect input (Literal literal ∷ Sign op ∷ subject variable ∷ []) → HasTokens dialect other (subject variable ∷ Sign sign ∷ Literal literal ∷ [])
+    → formula_of dialect input ≡ formula_of dialect other
 
 -- two readings, of which neither is there, or both are and the one is true exactly where the other isn't
 abbrev pub AreOpposed : Option Formula → Option Formula → Type 0
@@ -56,9 +63,9 @@ AreOpposed (Some f) (Some g) = (w : WorldFields) (x : List ℕ) → marker_holds
 
 -- a variable and a literal with one relation between them, and with another, have opposed readings
 abbrev pub RelationsOppose : List Token → List Token → Type 0
-RelationsOppose one two = (input other : List ℕ) (variable : Option Variable) (literal : List ℕ)
-    → HasTokens input (subject variable ∷ (one ++ (Literal literal ∷ []))) → HasTokens other (subject variable ∷ (two ++ (Literal literal ∷ [])))
-    → AreOpposed (marker_of input) (marker_of other)
+RelationsOppose one two = (dialect : Dialect) (input other : List ℕ) (variable : Option Variable) (literal : List ℕ)
+    → HasTokens dialect input (subject variable ∷ (one ++ (Literal literal ∷ []))) → HasTokens dialect other (subject variable ∷ (two ++ (Literal literal ∷ [])))
+    → AreOpposed (formula_of dialect input) (formula_of dialect other)
 
 -- the negated relations
 pub record NegatedRelations : Type 0 where
@@ -69,9 +76,9 @@ pub record NegatedRelations : Type 0 where
 
 -- a literal `not in` a variable is the negation of the literal `in` it
 abbrev pub NotInIsNegation : Type 0
-NotInIsNegation = (input other : List ℕ) (variable : Option Variable) (literal : List ℕ)
-    → HasTokens input (Literal literal ∷ In ∷ subject variable ∷ []) → HasTokens other (Literal literal ∷ Not ∷ In ∷ subject variable ∷ [])
-    → AreOpposed (marker_of input) (marker_of other)
+NotInIsNegation = (dialect : Dialect) (input other : List ℕ) (variable : Option Variable) (literal : List ℕ)
+    → HasTokens dialect input (Literal literal ∷ In ∷ subject variable ∷ []) → HasTokens dialect other (Literal literal ∷ Not ∷ In ∷ subject variable ∷ [])
+    → AreOpposed (formula_of dialect input) (formula_of dialect other)
 
 -- ---- `and` and `or`
 

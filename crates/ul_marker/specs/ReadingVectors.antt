@@ -5,9 +5,9 @@ use Rattle.ul_specifier.specs.declared.clause.Op.{Op}
 use Rattle.ul_specifier.specs.declared.clause.Op.TheVariants.{Equal, AtLeast, Less}
 use Rattle.ul_marker.specs.Comparisons.{opaquely}
 use Rattle.ul_comparison.specs.Formulas.{Formula, extra, python, python_list, text, all, any, formulas_of}
-use Rattle.ul_marker.specs.Reading.{marker_of}
+use Rattle.ul_marker.specs.Reading.{locked_marker_of, marker_of, printed_marker_of}
 use Rattle.ul_comparison.specs.declared.variable.AtomKind.TheVariants.{Contains, Within, Below, AtMost, Same}
-use Rattle.ul_comparison.specs.declared.variable.Variable.TheVariants.{OsName, SysPlatform, PlatformMachine, PlatformPythonImplementation, PlatformRelease, PlatformVersion, ImplementationVersion}
+use Rattle.ul_comparison.specs.declared.variable.Variable.TheVariants.{OsName, SysPlatform, PlatformMachine, PlatformPythonImplementation, PlatformRelease, PlatformVersion, ImplementationVersion, Extras}
 
 -- `python_version` or `python_full_version` against a version that has a release alone
 abbrev pub python_at : Bool → Op → List ℕ → Formula
@@ -50,6 +50,20 @@ pub record Readings : Type 0 where
   pub and_first : marker_of (codes "os_name=='a' or os_name=='b' and os_name=='a'") ≡ Some (any (formulas_of (os_a ∷ all (formulas_of (os_b ∷ os_a ∷ [])) ∷ [])))
   pub parentheses : marker_of (codes "((os_name=='a')or(os_name=='b'))and os_name=='a'") ≡ Some (all (formulas_of (any (formulas_of (os_a ∷ os_b ∷ [])) ∷ os_a ∷ [])))
 
+-- texts of locks and printed texts, and their formulas
+pub record LockedReadings : Type 0 where
+  pub chosen : locked_marker_of (codes "'x' in extras") ≡ Some (opaquely Extras Contains (codes "x") true)
+  pub not_chosen : locked_marker_of (codes "\"dev-tools\" not in extras") ≡ Some (opaquely Extras Contains (codes "dev-tools") false)
+  pub beside_others : locked_marker_of (codes "'x' in extras and os_name == 'a'") ≡ Some (all (formulas_of (opaquely Extras Contains (codes "x") true ∷ os_a ∷ [])))
+  pub no_normal_name : locked_marker_of (codes "'X' in extras") ≡ None
+  pub no_name : locked_marker_of (codes "'' in extras") ≡ None
+  pub extras_on_the_left : locked_marker_of (codes "extras in 'x'") ≡ None
+  pub extras_equal : locked_marker_of (codes "extras == 'x'") ≡ None
+  pub mirrored_extras : locked_marker_of (codes "'x' <= extras") ≡ None
+  pub extra_in_a_lock : locked_marker_of (codes "extra == 'x'") ≡ None
+  pub extra_beside : locked_marker_of (codes "os_name == 'a' or extra == 'x'") ≡ None
+  pub both_printed : printed_marker_of (codes "extra == 'x' or 'x' in extras") ≡ Some (any (formulas_of (extra (codes "x") true ∷ opaquely Extras Contains (codes "x") true ∷ [])))
+
 -- texts without a reading
 pub record NoReadings : Type 0 where
   pub empty : marker_of [] ≡ None
@@ -60,6 +74,8 @@ pub record NoReadings : Type 0 where
   pub mirrored_compatible : marker_of (codes "'3.8' ~= python_version") ≡ None
   pub extra_within : marker_of (codes "extra in 'a'") ≡ None
   pub in_extra : marker_of (codes "'a' in extra") ≡ None
+  pub in_extras : marker_of (codes "'a' in extras") ≡ None
+  pub not_in_extras : marker_of (codes "os_name == 'a' or 'a' not in extras") ≡ None
   pub extra_order : marker_of (codes "extra < 'a'") ≡ None
   pub joined_words : marker_of (codes "os_nameor") ≡ None
   pub no_version : marker_of (codes "python_version < 'x'") ≡ None

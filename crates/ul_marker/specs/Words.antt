@@ -1,13 +1,16 @@
 -- The tokens of a marker's text (PEP 508, "Environment Markers"): parentheses, words, literals in quotes and
 -- the signs of comparisons. Words are in lower case. Space and tab may stand between tokens, and white space
 -- of any kind at the ends of the text.
-use Rattle.std.specs.Prelude.{ℕ, zero, suc, ◌==◌, ◌&&◌, ◌||◌, Bool, not, List, [], ◌∷◌, length, take, drop, codes, Option, Some, None, if◌then◌else◌}
+use Rattle.std.specs.Prelude.{ℕ, zero, suc, ◌==◌, ◌&&◌, ◌||◌, Bool, true, false, not, List, [], ◌∷◌, length, take, drop, codes, Option, Some, None, if◌then◌else◌}
+use Rattle.std.specs.List.{list_any}
 use Rattle.std.specs.Str.{bytes_eq}
 pub use Rattle.ul_version.specs.Ascii.{run_length}
 use Rattle.ul_version.specs.Reading.{◌>>=◌, is_white, or_else}
 use Rattle.ul_specifier.specs.Reading.{after_all, is_blank, operator}
-use Rattle.ul_comparison.specs.Atoms.{is_literal_byte}
-use Rattle.ul_comparison.specs.declared.variable.Variable.TheVariants.{OsName, SysPlatform, PlatformMachine, PlatformPythonImplementation, PlatformRelease, PlatformSystem, PlatformVersion, PythonVersion, PythonFullVersion, ImplementationName, ImplementationVersion}
+use Rattle.ul_comparison.specs.Atoms.{is_extras, is_literal_byte}
+use Rattle.ul_comparison.specs.declared.variable.Variable.TheVariants.{OsName, SysPlatform, PlatformMachine, PlatformPythonImplementation, PlatformRelease, PlatformSystem, PlatformVersion, PythonVersion, PythonFullVersion, ImplementationName, ImplementationVersion, Extras}
+use Rattle.ul_marker.specs.declared.words.Dialect.{Dialect}
+use Rattle.ul_marker.specs.declared.words.Dialect.TheVariants.{Document, Lock, Printed}
 use Rattle.ul_marker.specs.declared.words.Token.{Token}
 use Rattle.ul_marker.specs.declared.words.Token.TheVariants.{Open, Close, And, Or, In, Not, Extra, Named, Sign, Literal}
 
@@ -35,14 +38,15 @@ is_quoted quote b = is_literal_byte b && not (b == quote)
 abbrev pub keywords : List (List ℕ × Token)
 keywords = (codes "and", And) ∷ (codes "or", Or) ∷ (codes "in", In) ∷ (codes "not", Not) ∷ (codes "extra", Extra) ∷ []
 
--- variables
+-- variables: those of PEP 508, and `extras` of PEP 751
 abbrev pub variables : List (List ℕ × Token)
 variables =
     (codes "os_name", Named OsName) ∷ (codes "sys_platform", Named SysPlatform) ∷ (codes "platform_machine", Named PlatformMachine)
     ∷ (codes "platform_python_implementation", Named PlatformPythonImplementation) ∷ (codes "platform_release", Named PlatformRelease)
     ∷ (codes "platform_system", Named PlatformSystem) ∷ (codes "platform_version", Named PlatformVersion)
     ∷ (codes "python_version", Named PythonVersion) ∷ (codes "python_full_version", Named PythonFullVersion)
-    ∷ (codes "implementation_name", Named ImplementationName) ∷ (codes "implementation_version", Named ImplementationVersion) ∷ []
+    ∷ (codes "implementation_name", Named ImplementationName) ∷ (codes "implementation_version", Named ImplementationVersion)
+    ∷ (codes "extras", Named Extras) ∷ []
 
 -- older spellings of variables
 abbrev pub old_variables : List (List ℕ × Token)
@@ -108,3 +112,31 @@ tokens_in (suc turns) (b ∷ rest) =
 -- the tokens of a text without blanks in front; it has no more tokens than bytes
 unfoldable pub tokens_of : List ℕ → Option (List Token)
 tokens_of text = tokens_in (length text) text
+
+-- ---- what has a reading where
+
+-- the variable `extras`
+abbrev pub is_extras_token : Token → Bool
+is_extras_token (Named variable) = is_extras variable
+is_extras_token other = false
+
+-- the variable `extra`
+abbrev pub is_extra_token : Token → Bool
+is_extra_token Extra = true
+is_extra_token other = false
+
+-- a token without a reading: in a document `extras`, which PEP 508 doesn't have, and in a lock `extra`, which PEP 751 has
+-- `extras` for; what is printed may have both
+abbrev pub is_unread : Dialect → Token → Bool
+is_unread Document token = is_extras_token token
+is_unread Lock token = is_extra_token token
+is_unread Printed token = false
+
+-- tokens, of which each has a reading
+abbrev pub with_readings : Dialect → Option (List Token) → Option (List Token)
+with_readings dialect None = None
+with_readings dialect (Some tokens) = if list_any (is_unread dialect) tokens then None else Some tokens
+
+-- the tokens of a text in a dialect
+abbrev pub dialect_tokens : Dialect → List ℕ → Option (List Token)
+dialect_tokens dialect text = with_readings dialect (tokens_of text)

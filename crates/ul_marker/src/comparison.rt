@@ -1,6 +1,6 @@
 //! The comparisons of markers.
 
-ghost use Rattle.std.specs.Prelude.{◌≡◌, ◌≤◌, ◌<◌, ◌+◌, ◌||◌, [], ◌∷◌, IfErr, IfOk, None, Some, true, length, take, drop, string_bytes};
+ghost use Rattle.std.specs.Prelude.{◌≡◌, ◌≤◌, ◌<◌, ◌+◌, ◌||◌, [], ◌∷◌, IfErr, IfOk, None, Some, true, false, length, take, drop, string_bytes};
 ghost use Rattle.std.specs.List.{list_all, slice_split};
 ghost use Rattle.ul_comparison.specs.Atoms;
 ghost use Rattle.ul_marker.specs.Comparisons as Grammar;
@@ -12,6 +12,7 @@ use crate::{Atom, AtomKind, Marker, MarkerFault, Variable};
 use std::alloc::{AllocError, Global};
 use ul_base::owned::made_from;
 use ul_base::{Name, NameFault};
+use ul_comparison::may_stand;
 use ul_specifier::{Clause, Op, SpecFault};
 use ul_version::ascii::{ByteClass, piece_len};
 use ul_version::{Version, VersionFault};
@@ -31,7 +32,8 @@ fn python_full(variable: Variable) -> Option<bool>
         | Variable::PlatformSystem
         | Variable::PlatformVersion
         | Variable::ImplementationName
-        | Variable::ImplementationVersion => None,
+        | Variable::ImplementationVersion
+        | Variable::Extras => None,
     }
 }
 
@@ -74,7 +76,8 @@ fn opaque(
     literal: &Literal,
     positive: bool,
 ) -> Result<Marker, MarkerFault>
-    requires { Atoms.may_compare kind variable ≡ true }
+    requires compares { Atoms.may_compare kind variable ≡ true }
+    requires stands { Atoms.may_stand variable literal.now ≡ true }
     ensures { Reads marker_view result (Some (Grammar.opaquely variable kind literal.now positive)) }
 {
     let literal = String::from_str(alloc, literal.as_str())?;
@@ -87,6 +90,7 @@ fn opaque(
 }
 
 // A text variable or `implementation_version` equals a literal, or doesn't.
+#[tactic(auto, using(crate::proofs::Compared::text_stands))]
 fn equality(
     alloc: Global,
     variable: Variable,
@@ -107,6 +111,7 @@ fn equality(
     opaque(alloc, variable, AtomKind::Same, literal, equal)
 }
 
+#[tactic(auto, using(crate::proofs::Compared::text_stands))]
 fn text_sign(
     alloc: Global,
     variable: Variable,
@@ -134,7 +139,12 @@ fn signed(alloc: Global, subject: &Token, op: Op, literal: &Literal) -> Result<M
 {
     match subject {
         Token::Extra => extra_sign(alloc, op, literal),
-        Token::Named(variable) => python_sign(alloc, *variable, op, literal),
+        Token::Named(variable) => {
+            if variable.is_extras() {
+                return Err(MarkerFault::NoReading);
+            }
+            python_sign(alloc, *variable, op, literal)
+        }
         Token::Open
         | Token::Close
         | Token::And
@@ -154,6 +164,7 @@ fn python_sign(
     op: Op,
     literal: &Literal,
 ) -> Result<Marker, MarkerFault>
+    requires { Atoms.is_extras variable ≡ false }
     ensures { Reads marker_view result (Grammar.python_sign variable op literal.now (Grammar.python_full variable)) }
 {
     match python_full(variable) {
@@ -231,13 +242,14 @@ fn versions(alloc: Global, input: &[u8]) -> Result<Vec<Version>, MarkerFault>
 }
 
 // A version of Python in a list of versions, or another variable in a literal.
-#[tactic(auto, using(crate::proofs::Compared::not_python))]
+#[tactic(auto, using(crate::proofs::Compared::not_python, crate::proofs::Compared::text_stands))]
 fn python_within(
     alloc: Global,
     variable: Variable,
     literal: &Literal,
     positive: bool,
 ) -> Result<Marker, MarkerFault>
+    requires { Atoms.is_extras variable ≡ false }
     ensures { Reads marker_view result (Grammar.variable_within variable literal.now positive) }
 {
     match python_full(variable) {
@@ -264,7 +276,12 @@ fn within(
     ensures { Reads marker_view result (Grammar.within positive subject.now literal.now) }
 {
     match subject {
-        Token::Named(variable) => python_within(alloc, *variable, literal, positive),
+        Token::Named(variable) => {
+            if variable.is_extras() {
+                return Err(MarkerFault::NoReading);
+            }
+            python_within(alloc, *variable, literal, positive)
+        }
         Token::Open
         | Token::Close
         | Token::And
@@ -277,7 +294,7 @@ fn within(
     }
 }
 
-// A literal `in` a variable, or `not in` it.
+// A literal `in` a variable, or `not in` it; in `extras` a name in its normal form.
 #[tactic(auto, unfolding(crate::specs::Comparisons::containment))]
 fn contained(
     alloc: Global,
@@ -289,6 +306,9 @@ fn contained(
 {
     match subject {
         Token::Named(variable) => {
+            if !may_stand(*variable, literal.as_str()) {
+                return Err(MarkerFault::NoReading);
+            }
             opaque(alloc, *variable, AtomKind::Contains, literal, positive)
         }
         Token::Open

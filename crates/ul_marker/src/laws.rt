@@ -2,14 +2,19 @@
 
 ghost use Rattle.ul_marker.specs.PartLaws.{NamesAreLiterals, TruthIsPlain};
 ghost use Rattle.ul_marker.specs.PrintedPaths.{ComparisonReads, ComparisonsAreTold, PathsRead};
-ghost use Rattle.ul_marker.specs.ReadingLaws.{GroupingIsFree, MirroredIsSame, NegatedRelations, NotInIsNegation, OrderIsFree, ReadingIsGrammar, ReadIsFormula, SpelledOnce};
-ghost use Rattle.ul_marker.specs.ReadingVectors.{NoReadings, Readings};
+ghost use Rattle.ul_marker.specs.ReadingLaws.{DialectsAgree, GroupingIsFree, MirroredIsSame, NegatedRelations, NotInIsNegation, OrderIsFree, ReadingIsGrammar, ReadIsFormula, SpelledOnce};
+ghost use Rattle.ul_marker.specs.ReadingVectors.{LockedReadings, NoReadings, Readings};
 
 /// A text is read as a formula exactly where the grammar spells it so, which is one formula at most.
 pub fn reading_is_grammar()
     ensures grammar { ReadingIsGrammar }
     ensures once { SpelledOnce }
     ensures formula { ReadIsFormula }
+{}
+
+/// Of what is printed a document reads what doesn't ask for `extras`, and a lock what doesn't ask for `extra`.
+pub fn dialects_agree()
+    ensures { DialectsAgree }
 {}
 
 /// A comparison with its sides exchanged reads as the mirrored one. `!=` is the negation of `==`, `>=` of
@@ -44,5 +49,6 @@ pub fn printed_is_read()
 /// Worked examples of readings, and of texts without one.
 pub fn readings()
     ensures read { Readings }
+    ensures locked { LockedReadings }
     ensures not_read { NoReadings }
 {}

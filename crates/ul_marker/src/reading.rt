@@ -7,7 +7,7 @@ ghost use Rattle.ul_marker.specs.Readers.{optional_tokens, Reads};
 ghost use Rattle.ul_marker.specs.Views.{marker_view};
 
 use crate::comparison::comparison;
-use crate::words::{MAX_DEPTH, Token, opened, tokens};
+use crate::words::{Dialect, MAX_DEPTH, Token, has_unread, opened, tokens};
 use crate::{Marker, MarkerFault};
 use std::alloc::Global;
 use ul_base::owned::with_one;
@@ -167,10 +167,45 @@ impl Marker {
         ensures valid { IfOk result (λ m. IsFormula (marker_view m)) }
         ensures no_reading { IfErr result (λ e. e ≡ MarkerFault.NoReading → spec.marker_of text.now ≡ None) }
     {
-        let tokens = tokens(
-            alloc,
-            before_space(after_space(text.as_bytes(), false), false),
-        )?;
-        read_chain(alloc, tokens.as_slice(), MAX_DEPTH, Chain::Disjunction)
+        read_dialect(alloc, text, Dialect::Document)
     }
+
+    /// The marker that a text spells in a lock, by the grammar of `read` but for the variables `extra` and `extras`.
+    ///
+    /// `extra` has no reading, and `'NAME' in extras` and `'NAME' not in extras` have one, NAME a name in its normal
+    /// form (PEP 751, "Dependency specifiers"). Nothing else is asked of `extras`.
+    #[tactic(auto, unfolding(crate::specs::Reading::locked_marker_of))]
+    pub fn read_locked(alloc: Global, text: &str) -> Result<Marker, MarkerFault>
+        ensures read { IfOk result (λ m. spec.locked_marker_of text.now ≡ Some (marker_view m)) }
+        ensures valid { IfOk result (λ m. IsFormula (marker_view m)) }
+        ensures no_reading { IfErr result (λ e. e ≡ MarkerFault.NoReading → spec.locked_marker_of text.now ≡ None) }
+    {
+        read_dialect(alloc, text, Dialect::Lock)
+    }
+
+    /// The marker that a printed text spells, which may have both `extra` and `extras`.
+    #[tactic(auto, unfolding(crate::specs::Reading::printed_marker_of))]
+    pub fn read_printed(alloc: Global, text: &str) -> Result<Marker, MarkerFault>
+        ensures read { IfOk result (λ m. spec.printed_marker_of text.now ≡ Some (marker_view m)) }
+        ensures valid { IfOk result (λ m. IsFormula (marker_view m)) }
+        ensures no_reading { IfErr result (λ e. e ≡ MarkerFault.NoReading → spec.printed_marker_of text.now ≡ None) }
+    {
+        read_dialect(alloc, text, Dialect::Printed)
+    }
+}
+
+// The marker that a text spells in a dialect.
+fn read_dialect(alloc: Global, text: &str, dialect: Dialect) -> Result<Marker, MarkerFault>
+    ensures read { IfOk result (λ m. spec.formula_of dialect text.now ≡ Some (marker_view m)) }
+    ensures valid { IfOk result (λ m. IsFormula (marker_view m)) }
+    ensures no_reading { IfErr result (λ e. e ≡ MarkerFault.NoReading → spec.formula_of dialect text.now ≡ None) }
+{
+    let tokens = tokens(
+        alloc,
+        before_space(after_space(text.as_bytes(), false), false),
+    )?;
+    if has_unread(tokens.as_slice(), dialect) {
+        return Err(MarkerFault::NoReading);
+    }
+    read_chain(alloc, tokens.as_slice(), MAX_DEPTH, Chain::Disjunction)
 }

@@ -1,7 +1,7 @@
 //! The tokens of a marker's text.
 
 ghost use Rattle.std.specs.Prelude.{◌≡◌, ◌≤◌, ◌<◌, ◌+◌, ◌^◌, Some, true, length};
-ghost use Rattle.std.specs.List.{list_all};
+ghost use Rattle.std.specs.List.{list_all, list_any};
 ghost use Rattle.std.specs.Str.{bytes_eq};
 ghost use Rattle.ul_comparison.specs.Atoms.{is_literal};
 ghost use Rattle.ul_marker.specs.Readers.{front_view, optional_bytes, optional_front, Reads, ReadsTokens};
@@ -18,6 +18,17 @@ use ul_version::ascii::{ByteClass, White, run_len};
 
 /// How many parentheses may be open at one place.
 pub const MAX_DEPTH: u8 = 64;
+
+/// Where a marker stands, which says which of the variables `extra` and `extras` it may have.
+#[derive(Clone, Copy)]
+pub enum Dialect {
+    /// In a document: `extra` alone (PEP 508).
+    Document,
+    /// In a lock: `extras` alone (PEP 751).
+    Lock,
+    /// In what this program prints: both.
+    Printed,
+}
 
 /// The text of a literal: printable ASCII without the backslash, and not with both quotes.
 ///
@@ -179,6 +190,9 @@ fn variable(word: &[u8]) -> Option<Token>
     if is_same(word, b"implementation_version") {
         return Some(Token::Named(Variable::ImplementationVersion));
     }
+    if is_same(word, b"extras") {
+        return Some(Token::Named(Variable::Extras));
+    }
     None
 }
 
@@ -339,4 +353,27 @@ pub fn tokens(alloc: Global, input: &[u8]) -> Result<Vec<Token>, MarkerFault>
         rest = after_space(after, true);
     }
     Ok(list)
+}
+
+// Whether a token has no reading in a dialect.
+fn is_unread(token: &Token, dialect: Dialect) -> bool
+    ensures { result ≡ Grammar.is_unread dialect token.now }
+{
+    match dialect {
+        Dialect::Document => matches!(token, Token::Named(Variable::Extras)),
+        Dialect::Lock => matches!(token, Token::Extra),
+        Dialect::Printed => false,
+    }
+}
+
+/// Whether some token has no reading in a dialect.
+pub fn has_unread(tokens: &[Token], dialect: Dialect) -> bool
+    ensures { result ≡ list_any (Grammar.is_unread dialect) tokens.now }
+{
+    for token in tokens {
+        if is_unread(token, dialect) {
+            return true;
+        }
+    }
+    false
 }

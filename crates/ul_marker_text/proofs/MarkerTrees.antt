@@ -14,9 +14,9 @@ use Rattle.ul_specifier.specs.declared.clause.Op.TheVariants.{Equal as Eq, Unequ
 use Rattle.ul_comparison.specs.Formulas.{Formula, Formulas, extra, python, python_list, text, opaque, all, any, none, more, formulas_of, IsFormula, AreFormulas, IsExtraLiteral}
 use Rattle.ul_comparison.specs.Printed.{comparison_formula}
 use Rattle.ul_marker.specs.PrintedPaths.{path_formula, paths_formula}
-use Rattle.ul_marker.specs.Reading.{marker_of}
+use Rattle.ul_marker.specs.Reading.{printed_marker_of}
 use Rattle.ul_marker.specs.Words.{tokens_of, tokens_in, front_token, front_word, word_token}
-use Rattle.ul_marker.proofs.ForCallers.{marker-formula}
+use Rattle.ul_marker.proofs.ForCallers.{printed-formula}
 use Rattle.ul_comparison.specs.Truth.{is_empty, as_asked, marker_holds}
 use Rattle.ul_comparison.specs.Worlds.{WorldFields}
 use Rattle.ul_nodes.specs.Apply.{both, either}
@@ -202,7 +202,7 @@ node_tree : (l : List ℕ) (d : Plain) (bs : Branches) → IsReduced (node l d b
 node_tree l d bs h =
     let t = node l d bs in
     let f = paths_formula (printed_paths t) in
-    let is = marker-formula (marker_text t) f (node_reads l d bs h) in
+    let is = printed-formula (marker_text t) f (node_reads l d bs h) in
     one_truth_one_tree (formula_tree f) t (formula_reduced f is) h
     (λ w x iw ia ie. paths_tree (paths_to_true t) w x is (node_paths l d bs h).rows ∙ sym (paths_truth t h w x))
 
@@ -224,12 +224,12 @@ pub nodes_one : (s t : Plain) → IsReduced s → IsReduced t → IsNoTruth s �
 nodes_one s t hs ht ns nt e =
     let a = text_reads s hs ns in
     let b = text_reads t ht nt in
-    let same : Some a.formula ≡ Some b.formula = sym a.read ∙ ap marker_of e ∙ b.read in
+    let same : Some a.formula ≡ Some b.formula = sym a.read ∙ ap printed_marker_of e ∙ b.read in
     let one : a.formula ≡ b.formula = cc in
     one_truth_one_tree s t hs ht (λ w x iw ia ie. sym (a.truth w x iw) ∙ ap (λ f. marker_holds f w x) one ∙ b.truth w x iw)
 
-star_none : marker_of (codes "*") ≡ None
-unfolding marker_of tokens_of tokens_in front_token front_word word_token
+star_none : printed_marker_of (codes "*") ≡ None
+unfolding printed_marker_of tokens_of tokens_in front_token front_word word_token
 star_none = refl
 
 star_text : marker_text (truth true) ≡ codes "*"
@@ -237,7 +237,7 @@ unfolding marker_text
 star_text = refl
 
 star_no_node : (t : Plain) → IsReduced t → IsNoTruth t → marker_text t ≡ codes "*" → ⊥
-star_no_node t h n e = let a = text_reads t h n in let p : None ≡ Some a.formula = sym star_none ∙ ap marker_of (sym e) ∙ a.read in cc
+star_no_node t h n e = let a = text_reads t h n in let p : None ≡ Some a.formula = sym star_none ∙ ap printed_marker_of (sym e) ∙ a.read in cc
 
 node_no_truth : (l : List ℕ) (d : Plain) (bs : Branches) → IsNoTruth (node l d bs)
 node_no_truth l d bs b e = cc
@@ -288,13 +288,13 @@ pub record IsReadOf (b : List ℕ) (t : Plain) : Type 0 where
 
 pub read_is : (b : List ℕ) (t : Plain) → marker_of_text b ≡ Some t → IsReadOf b t
 unfolding marker_of_text
-read_is b t e = go (marker_of b) refl e
+read_is b t e = go (printed_marker_of b) refl e
   where
-    go : (o : Option Formula) → marker_of b ≡ o → (o >>= λ f. tree_with_text b (formula_tree f)) ≡ Some t → IsReadOf b t
+    go : (o : Option Formula) → printed_marker_of b ≡ o → (o >>= λ f. tree_with_text b (formula_tree f)) ≡ Some t → IsReadOf b t
     go None p e = absurd cc
     go (Some f) p e =
         let w = with_text b (formula_tree f) t e in
-        record { reduced = subst (λ (z : Plain). IsReduced z) w.same (formula_reduced f (marker-formula b f p)); region = w.region; readable = w.readable; spelled = w.spelled }
+        record { reduced = subst (λ (z : Plain). IsReduced z) w.same (formula_reduced f (printed-formula b f p)); region = w.region; readable = w.readable; spelled = w.spelled }
 
 pub text_again : (b : List ℕ) (t : Plain) → marker_of_text b ≡ Some t → marker_text t ≡ b
 text_again b t e = (read_is b t e).spelled

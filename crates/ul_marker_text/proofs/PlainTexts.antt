@@ -18,7 +18,7 @@ use Rattle.ul_marker.specs.PrintedPaths.{path_text, paths_text}
 use Rattle.ul_comparison.specs.declared.variable.AtomKind.{AtomKind}
 use Rattle.ul_comparison.specs.declared.variable.AtomKind.TheVariants.{Contains, Within, Below, AtMost, Same}
 use Rattle.ul_comparison.specs.declared.variable.Variable.{Variable}
-use Rattle.ul_comparison.specs.declared.variable.Variable.TheVariants.{OsName, SysPlatform, PlatformMachine, PlatformPythonImplementation, PlatformRelease, PlatformSystem, PlatformVersion, PythonVersion, PythonFullVersion, ImplementationName, ImplementationVersion}
+use Rattle.ul_comparison.specs.declared.variable.Variable.TheVariants.{OsName, SysPlatform, PlatformMachine, PlatformPythonImplementation, PlatformRelease, PlatformSystem, PlatformVersion, PythonVersion, PythonFullVersion, ImplementationName, ImplementationVersion, Extras}
 use Rattle.ul_tree.specs.Comparisons.{Comparison, path_comparisons}
 use Rattle.ul_tree.specs.PathList.{Step, paths_to_true}
 use Rattle.ul_nodes.specs.Plain.{Plain, truth, node}
@@ -66,6 +66,7 @@ name_clean PythonVersion = refl
 name_clean PythonFullVersion = refl
 name_clean ImplementationName = refl
 name_clean ImplementationVersion = refl
+name_clean Extras = refl
 
 equality_clean : (b : Bool) → Clean (equality_sign b)
 equality_clean true = refl

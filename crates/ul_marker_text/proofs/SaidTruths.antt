@@ -16,10 +16,10 @@ use Rattle.ul_comparison.specs.Atoms.{has_atom}
 use Rattle.ul_comparison.specs.Formulas.{formulas_of}
 use Rattle.ul_comparison.specs.Printed.{comparison_formula}
 use Rattle.ul_marker.specs.PrintedPaths.{path_formula, paths_formula, paths_text}
-use Rattle.ul_marker.specs.Reading.{marker_of}
+use Rattle.ul_marker.specs.Reading.{printed_marker_of}
 use Rattle.ul_comparison.specs.Truth.{marker_holds, all_hold, any_holds, as_asked, is_empty}
 use Rattle.ul_comparison.specs.Worlds.{WorldFields, IsWorld}
-use Rattle.ul_marker.proofs.ForCallers.{paths-read}
+use Rattle.ul_marker.proofs.ForCallers.{dialects_agree, paths-read}
 use Rattle.ul_tree.specs.Comparisons.{Comparison, at_least, below, equals, differs, path_comparisons}
 use Rattle.ul_nodes.specs.Levels.{IsKey, IsExtra, IsAtomLevel}
 use Rattle.ul_tree.specs.PathList.{Step, paths_to_true}
@@ -170,11 +170,11 @@ unfolding marker_text
 node_text l d bs = refl
 
 -- a node's text is read as what its paths say
-pub node_reads : (l : List ℕ) (d : Plain) (bs : Branches) → IsReduced (node l d bs) → marker_of (marker_text (node l d bs)) ≡ Some (paths_formula (printed_paths (node l d bs)))
+pub node_reads : (l : List ℕ) (d : Plain) (bs : Branches) → IsReduced (node l d bs) → printed_marker_of (marker_text (node l d bs)) ≡ Some (paths_formula (printed_paths (node l d bs)))
 node_reads l d bs h =
     let n = node_paths l d bs h in
     let ps = paths_to_true (node l d bs) in
-    ap marker_of (node_text l d bs) ∙ paths-read (map printed_path ps) (paths_some ps n.some) (printed_all ps n.rows)
+    ap printed_marker_of (node_text l d bs) ∙ paths-read (map printed_path ps) (paths_some ps n.some) (printed_all ps n.rows)
 
 -- with the tree's truth
 pub text_reads : (t : Plain) → IsReduced t → IsNoTruth t → ReadsAs (marker_text t) t
@@ -182,5 +182,6 @@ text_reads (truth b) h n = absurd (n b refl)
 text_reads (node l d bs) h n = record {
   formula = paths_formula (printed_paths (node l d bs));
   read = node_reads l d bs h;
+  document = λ n. (dialects_agree.document (marker_text (node l d bs)) (paths_formula (printed_paths (node l d bs)))).1 (node_reads l d bs h, n);
   truth = λ w x i. rows_truth w x (paths_to_true (node l d bs)) i (node_paths l d bs h).rows ∙ sym (paths_truth (node l d bs) h w x);
 }

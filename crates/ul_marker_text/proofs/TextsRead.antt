@@ -7,7 +7,7 @@ use Rattle.std.proofs.lemmas.Slice.Eq.{bytes_eq-Decides}
 use Rattle.ul_comparison.specs.Formulas.{Formula}
 use Rattle.ul_comparison.specs.Printed.{comparison_formula}
 use Rattle.ul_marker.specs.PrintedPaths.{paths_formula}
-use Rattle.ul_marker.specs.Reading.{marker_of}
+use Rattle.ul_marker.specs.Reading.{printed_marker_of}
 use Rattle.ul_marker.specs.declared.printed.Comparison.{Comparison}
 use Rattle.ul_tree.specs.Fans.{fan_of, tree_of}
 use Rattle.ul_tree.specs.FirstParts.{is_false}
@@ -29,17 +29,17 @@ use Rattle.ul_marker_text.proofs.SaidTruths.{node_reads}
 use Rattle.ul_marker_text.proofs.TreeTexts.{node_paths, printed_all, paths_some}
 
 -- a tree's text is read as what its paths say
-text_formula : (spelled : List ℕ) (t : Plain) → IsNodeText spelled t → marker_of spelled ≡ Some (paths_formula (printed_paths t))
+text_formula : (spelled : List ℕ) (t : Plain) → IsNodeText spelled t → printed_marker_of spelled ≡ Some (paths_formula (printed_paths t))
 text_formula spelled (truth b) h = absurd (h.no_truth b refl)
-text_formula spelled (node l d bs) h = ap marker_of (sym h.spelled) ∙ node_reads l d bs h.reduced
+text_formula spelled (node l d bs) h = ap printed_marker_of (sym h.spelled) ∙ node_reads l d bs h.reduced
 
-pub no_formula : (spelled : List ℕ) (t : Plain) → IsNodeText spelled t → marker_of spelled ≡ None → ⊥
+pub no_formula : (spelled : List ℕ) (t : Plain) → IsNodeText spelled t → printed_marker_of spelled ≡ None → ⊥
 no_formula spelled t h e = let p : None ≡ Some (paths_formula (printed_paths t)) = sym e ∙ text_formula spelled t h in cc
 
-formula_is : (spelled : List ℕ) (t : Plain) (f : Formula) → IsNodeText spelled t → marker_of spelled ≡ Some f → f ≡ paths_formula (printed_paths t)
+formula_is : (spelled : List ℕ) (t : Plain) (f : Formula) → IsNodeText spelled t → printed_marker_of spelled ≡ Some f → f ≡ paths_formula (printed_paths t)
 formula_is spelled t f h e = let p : Some f ≡ Some (paths_formula (printed_paths t)) = sym e ∙ text_formula spelled t h in cc
 
-pub no_rows : (spelled : List ℕ) (t : Plain) (f : Formula) → IsNodeText spelled t → marker_of spelled ≡ Some f → IsNoRows f → ⊥
+pub no_rows : (spelled : List ℕ) (t : Plain) (f : Formula) → IsNodeText spelled t → printed_marker_of spelled ≡ Some f → IsNoRows f → ⊥
 no_rows spelled (truth b) f h e none = absurd (h.no_truth b refl)
 no_rows spelled (node l d bs) f h e none =
     let t = node l d bs in
@@ -51,7 +51,7 @@ abbrev pub AreRows : List (Vec Comparison Global) → Formula → Type 0
 AreRows rows f = rows_view rows ≡ map conjuncts (disjuncts f)
 
 -- the steps of the rows are the tree's paths
-rows_paths : (spelled : List ℕ) (t : Plain) (f : Formula) (rows : List (Vec Comparison Global)) → IsNodeText spelled t → marker_of spelled ≡ Some f → AreRows rows f → rows_steps rows ≡ paths_to_true t
+rows_paths : (spelled : List ℕ) (t : Plain) (f : Formula) (rows : List (Vec Comparison Global)) → IsNodeText spelled t → printed_marker_of spelled ≡ Some f → AreRows rows f → rows_steps rows ≡ paths_to_true t
 rows_paths spelled (truth b) f rows h e r = absurd (h.no_truth b refl)
 rows_paths spelled (node l d bs) f rows h e r =
     let t = node l d bs in
@@ -61,14 +61,14 @@ rows_paths spelled (node l d bs) f rows h e r =
     rows_are rows (paths_to_true t) (tree_good t [] h.reduced) n.rows view
 
 -- the tree of the rows is the tree
-pub rows_tree_is : (spelled : List ℕ) (t : Plain) (f : Formula) (rows : List (Vec Comparison Global)) → IsNodeText spelled t → marker_of spelled ≡ Some f → AreRows rows f → rows_tree rows ≡ t
+pub rows_tree_is : (spelled : List ℕ) (t : Plain) (f : Formula) (rows : List (Vec Comparison Global)) → IsNodeText spelled t → printed_marker_of spelled ≡ Some f → AreRows rows f → rows_tree rows ≡ t
 rows_tree_is spelled t f rows h e r = ap (λ z. tree_of (fan_of z)) (rows_paths spelled t f rows h e r) ∙ tree_back t [] h.reduced
 
 -- the tree is one that is read where each row has few steps, and there alone
-pub rows_readable : (spelled : List ℕ) (t : Plain) (f : Formula) (rows : List (Vec Comparison Global)) → IsNodeText spelled t → marker_of spelled ≡ Some f → AreRows rows f → AreWithin 512 (rows_steps rows) → is_readable t ≡ true
+pub rows_readable : (spelled : List ℕ) (t : Plain) (f : Formula) (rows : List (Vec Comparison Global)) → IsNodeText spelled t → printed_marker_of spelled ≡ Some f → AreRows rows f → AreWithin 512 (rows_steps rows) → is_readable t ≡ true
 rows_readable spelled t f rows h e r w = within_readable t [] h.reduced (subst (λ z. AreWithin 512 z) (rows_paths spelled t f rows h e r) w)
 
-pub readable_rows : (spelled : List ℕ) (t : Plain) (f : Formula) (rows : List (Vec Comparison Global)) → IsNodeText spelled t → marker_of spelled ≡ Some f → AreRows rows f → is_readable t ≡ true → AreWithin 512 (rows_steps rows)
+pub readable_rows : (spelled : List ℕ) (t : Plain) (f : Formula) (rows : List (Vec Comparison Global)) → IsNodeText spelled t → printed_marker_of spelled ≡ Some f → AreRows rows f → is_readable t ≡ true → AreWithin 512 (rows_steps rows)
 readable_rows spelled t f rows h e r is = subst (λ z. AreWithin 512 z) (sym (rows_paths spelled t f rows h e r)) (readable_within t is)
 
 -- what is found by two facts of it

@@ -9,7 +9,7 @@ use Rattle.ul_marker.specs.PrintedPaths.{IsPath, path_text, paths_text}
 use Rattle.ul_comparison.specs.declared.variable.AtomKind.{AtomKind}
 use Rattle.ul_comparison.specs.declared.variable.AtomKind.TheVariants.{Contains, Within, Below, AtMost, Same}
 use Rattle.ul_comparison.specs.declared.variable.Variable.{Variable}
-use Rattle.ul_comparison.specs.declared.variable.Variable.TheVariants.{OsName, SysPlatform, PlatformMachine, PlatformPythonImplementation, PlatformRelease, PlatformSystem, PlatformVersion, PythonVersion, PythonFullVersion, ImplementationName, ImplementationVersion}
+use Rattle.ul_comparison.specs.declared.variable.Variable.TheVariants.{OsName, SysPlatform, PlatformMachine, PlatformPythonImplementation, PlatformRelease, PlatformSystem, PlatformVersion, PythonVersion, PythonFullVersion, ImplementationName, ImplementationVersion, Extras}
 use Rattle.ul_nodes.specs.Apply.{keys, leaf_truth}
 use Rattle.ul_tree.specs.Comparisons.{Comparison, path_comparisons}
 use Rattle.ul_tree.specs.Fans.{fan_of, tree_of}
@@ -37,6 +37,7 @@ name_filled PythonVersion rest = tt
 name_filled PythonFullVersion rest = tt
 name_filled ImplementationName rest = tt
 name_filled ImplementationVersion rest = tt
+name_filled Extras rest = tt
 
 sides_filled : (kind : AtomKind) (v : Variable) (sign text : List ℕ) → Filled (sides kind (variable_name v) sign (quoted_text text))
 sides_filled Contains v sign text = tt

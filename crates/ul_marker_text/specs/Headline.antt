@@ -1,7 +1,8 @@
 -- The main theorem: trees and their texts are one to one, and a text says as a marker what its tree says.
 use Rattle.std.specs.Prelude.{◌≡◌, ◌≢◌, ℕ, List, Bool, Some}
 use Rattle.ul_comparison.specs.Formulas.{Formula}
-use Rattle.ul_marker.specs.Reading.{marker_of}
+use Rattle.ul_marker.specs.Parts.{asks_extras}
+use Rattle.ul_marker.specs.Reading.{marker_of, printed_marker_of}
 use Rattle.ul_comparison.specs.Truth.{marker_holds}
 use Rattle.ul_comparison.specs.Worlds.{WorldFields, IsWorld}
 use Rattle.ul_nodes.specs.Plain.{Plain, truth}
@@ -15,10 +16,12 @@ use Rattle.ul_marker_text.specs.MarkerOfText.{is_readable, IsMarker}
 abbrev pub IsNoTruth : Plain → Type 0
 IsNoTruth t = (value : Bool) → t ≢ truth value
 
--- a text that is read as a marker, which has the truth of a tree
+-- a text that is read as a printed marker, which has the truth of a tree; a document reads it likewise where the marker
+-- asks for no extra by `extras`
 pub record ReadsAs (text : List ℕ) (t : Plain) : Type 0 where
   pub formula : Formula
-  pub read : marker_of text ≡ Some formula
+  pub read : printed_marker_of text ≡ Some formula
+  pub document : asks_extras formula ≡ Bool.false → marker_of text ≡ Some formula
   pub truth : (w : WorldFields) (x : List ℕ) → IsWorld w → marker_holds formula w x ≡ tree_holds t w x
 
 -- two reduced trees with one text are one tree, `*` is the text of the tree that is true everywhere alone, and the

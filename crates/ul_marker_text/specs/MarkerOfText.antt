@@ -8,7 +8,7 @@ use Rattle.ul_version.specs.Reading.{◌>>=◌}
 use Rattle.ul_specifier.specs.declared.clause.Op.{Op}
 use Rattle.ul_specifier.specs.declared.clause.Op.TheVariants.{AtLeast, Less}
 use Rattle.ul_comparison.specs.Formulas.{Formula, Formulas, extra, python, python_list, text, opaque, all, any, none, more}
-use Rattle.ul_marker.specs.Reading.{marker_of}
+use Rattle.ul_marker.specs.Reading.{printed_marker_of}
 use Rattle.ul_comparison.specs.Truth.{is_empty}
 use Rattle.ul_tree.specs.Laws.{and_of, or_of}
 use Rattle.ul_tree.specs.Leaves.{point_tree}
@@ -70,7 +70,7 @@ tree_with_text spelled t = if is_region t && is_readable t then (if bytes_eq (ma
 
 -- the tree of a text
 unfoldable pub marker_of_text : List ℕ → Option Plain
-marker_of_text spelled = marker_of spelled >>= λ f. tree_with_text spelled (formula_tree f)
+marker_of_text spelled = printed_marker_of spelled >>= λ f. tree_with_text spelled (formula_tree f)
 
 -- a tree that is read of its text
 abbrev pub IsMarker : Plain → Type 0

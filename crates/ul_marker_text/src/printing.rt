@@ -67,7 +67,8 @@ fn text_variable(variable: Variable) -> Variable
         Variable::ImplementationName
         | Variable::PythonVersion
         | Variable::PythonFullVersion
-        | Variable::ImplementationVersion => Variable::ImplementationName,
+        | Variable::ImplementationVersion
+        | Variable::Extras => Variable::ImplementationName,
     }
 }
 

@@ -1,7 +1,7 @@
 //! The text of a tree, both ways.
 ghost use Rattle.std.specs.Prelude.{◌≡◌, ◌≢◌, ℕ, List, [], IfOk, IfErr, Err, Some, true, false, string_bytes, option_map};
 ghost use Rattle.std.specs.Str.{bytes_eq};
-ghost use Rattle.ul_marker.specs.Reading.{marker_of};
+ghost use Rattle.ul_marker.specs.Reading.{printed_marker_of};
 ghost use Rattle.ul_marker.specs.Views.{marker_view};
 ghost use Rattle.ul_marker.specs.declared.fault.MarkerFault.TheVariants.{NoReading};
 ghost use Rattle.ul_tree.specs.Paths.{is_printable as is_printable_plain};
@@ -100,9 +100,9 @@ fn tree_of_rows(alloc: Global, rows: &[Vec<Comparison<'_>>]) -> Result<Tree, Mar
 fn tree_of_marker(alloc: Global, marker: &Marker) -> Result<Tree, MarkerFault>
     ensures reduced { IfOk result IsTree }
     ensures tree { IfOk result (λ r. (text : List ℕ) (t : Plain) → IsNodeText text t
-        → marker_of text ≡ Some (marker_view marker.now) → IsFound (tree_view r) t) }
+        → printed_marker_of text ≡ Some (marker_view marker.now) → IsFound (tree_view r) t) }
     ensures refused { result ≡ Err NoReading → (text : List ℕ) (t : Plain) → IsNodeText text t
-        → marker_of text ≡ Some (marker_view marker.now) → is_readable t ≡ true → ⊥ }
+        → printed_marker_of text ≡ Some (marker_view marker.now) → is_readable t ≡ true → ⊥ }
 {
     let rows = match rows(alloc, marker) {
         Ok(rows) => rows,
@@ -117,7 +117,7 @@ fn regrouped(alloc: Global, text: &str) -> Result<Tree, MarkerFault>
     ensures tree { IfOk result (λ r. (t : Plain) → IsNodeText text.now t → IsFound (tree_view r) t) }
     ensures refused { result ≡ Err NoReading → (t : Plain) → IsNodeText text.now t → is_readable t ≡ true → ⊥ }
 {
-    match Marker::read(alloc, text) {
+    match Marker::read_printed(alloc, text) {
         Ok(marker) => {
             let tree = tree_of_marker(alloc, &marker);
             drop(marker);

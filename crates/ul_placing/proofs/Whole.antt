@@ -1,23 +1,21 @@
 -- The problem of a region, from what is known of the reached nodes.
-use Rattle.std.specs.Prelude.{Contains, slice_get, find, filter}
-use Rattle.std.specs.List.{list_any}
-use Rattle.std.proofs.Common.{◌≡◌, ℕ, suc, List, [], ◌∷◌, length, map, Bool, true, false, not, ◌&&◌, ◌||◌, cond, bytes_eq, option_map, Option, Some, None, refl, sym, ap, subst, ◌∙◌, ⊎_elim}
+use Rattle.std.specs.Prelude.{Contains, slice_get}
+use Rattle.std.proofs.Common.{◌≡◌, ℕ, suc, List, [], ◌∷◌, length, map, option_map, Option, Some, None, refl, sym, ap, subst, ◌∙◌, ⊎_elim}
 use Rattle.std.proofs.lemmas.Option.{none-some, same_Some}
 use Rattle.ul_base.specs.Nodes.{node_cmp}
 use Rattle.ul_base.specs.Reached.{Reached}
 use Rattle.ul_base.specs.declared.node.Node.{Node}
-use Rattle.ul_base.proofs.ForCallers.{some_is, bytes_eq-same, contains_first, contains_later, contains_cases, contains_from_map}
-use Rattle.ul_version.specs.Fields.{is_pre_of}
-use Rattle.ul_specifier.specs.Meaning.{names_pre_of, pins_of}
+use Rattle.ul_base.proofs.ForCallers.{some_is, contains_first, contains_later, contains_cases, contains_from_map}
+use Rattle.ul_version.specs.Fields.{Fields}
 use Rattle.ul_problem.specs.Plain.{size_in, base_in}
 use Rattle.ul_problem.specs.Problems.{AllAre, AreOneBase, Increases, IncreasesFrom, IsExtraOf, IsNodeOf, IsSingle, IsWellFormed, NodeBefore, PlaceBefore}
 use Rattle.ul_problem.specs.declared.problem.NodeFacts.{NodeFacts}
-use Rattle.ul_requirement.specs.Fields.{PackageFields, ReleaseFields, RequirementFields}
 use Rattle.ul_requirement.specs.Laws.{UnnamedNeverApplies}
 use Rattle.ul_requirement.specs.Truth.{base, base_of, with_extra}
-use Rattle.ul_index.specs.Catalogs.{Packages, releases_of, releases_in}
-use Rattle.ul_index.specs.Eligible.{directs_on, eligible, in_order, passes, passing, takes_pre}
+use Rattle.ul_index.specs.Catalogs.{Packages}
+use Rattle.ul_index.specs.Eligible.{eligible}
 use Rattle.ul_index.specs.Regions.{Region}
+use Rattle.ul_index.proofs.ForCallers.{own_eligible}
 use Rattle.ul_region.specs.Problem.{AreAt, IsAt, IsProblemOf, Leads}
 use Rattle.ul_region.specs.Truths.{PassView}
 use Rattle.ul_prepared.specs.Prepared.{AreNodesAt, HasBaseAt, IsPrepared}
@@ -37,43 +35,10 @@ use Rattle.ul_placing.proofs.Rising.{IsNodeLess, facts_rise, starts_increase}
 
 -- ---- the project has one version
 
-or_true : (b : Bool) → (b || true) ≡ true
-or_true true = refl
-or_true false = refl
-
-pre_counts : (b a : Bool) → (not b || (a || (b && true))) ≡ true
-pre_counts true a = or_true a
-pre_counts false a = refl
-
-kept_counts : (y a : Bool) → y ≡ false → (not y || a) ≡ true
-kept_counts true a e = cc
-kept_counts false a e = refl
-
-both_count : (a b : Bool) → a ≡ true → b ≡ true → (a && b) ≡ true
-both_count true b e d = d
-both_count false b e d = cc
-
--- one release counts, where it isn't yanked
-one_passes : (qs : List RequirementFields) (r : ReleaseFields) → r.yanked ≡ false → passes qs (takes_pre qs (r ∷ [])) r ≡ true
-one_passes qs r e = both_count (not (is_pre_of r.version) || takes_pre qs (r ∷ [])) (not r.yanked || list_any (λ (q : RequirementFields). pins_of q.specifiers r.version) qs)
-    (pre_counts (is_pre_of r.version) (list_any (λ (q : RequirementFields). names_pre_of q.specifiers) qs)) (kept_counts r.yanked (list_any (λ (q : RequirementFields). pins_of q.specifiers r.version) qs) e)
-
-project_releases : (project : PackageFields) (others : Packages) (r : ReleaseFields) → project.releases ≡ r ∷ [] → releases_of (project ∷ others) project.name ≡ r ∷ []
-unfolding releases_of
-project_releases project others r e = ap (λ (b : Bool). releases_in (cond b (Some project) (find (λ (q : PackageFields). bytes_eq q.name project.name) others))) (bytes_eq-same project.name) ∙ e
-
-one_passing : (c : Packages) (n : List ℕ) (r : ReleaseFields) → releases_of c n ≡ r ∷ [] → r.yanked ≡ false → passing c n ≡ r ∷ []
-unfolding passing
-one_passing c n r e kept =
-    ap (λ (rs : List ReleaseFields). filter (passes (directs_on c n) (takes_pre (directs_on c n) rs)) rs) e ∙ ap (λ (b : Bool). cond b (r ∷ []) []) (one_passes (directs_on c n) r kept)
-
-one_eligible : (c : Packages) (n : List ℕ) (r : ReleaseFields) → passing c n ≡ r ∷ [] → length (eligible c n) ≡ 1
-unfolding eligible
-one_eligible c n r e = ap (λ (rs : List ReleaseFields). length (in_order (map (λ (s : ReleaseFields). s.version) rs))) e
-
 project_single : (c : Packages) (starts : List Node) (is : IsProjectOf c starts) → length (eligible c is.project.name) ≡ 1
-project_single c starts is = one_eligible c is.project.name is.release
-    (one_passing c is.project.name is.release (subst (λ (z : Packages). releases_of z is.project.name ≡ is.release ∷ []) (sym is.first) (project_releases is.project is.others is.release is.one)) is.kept)
+project_single c starts is =
+    ap (λ (z : Packages). length (eligible z is.project.name)) is.first
+    ∙ ap (λ (vs : List Fields). length vs) (own_eligible is.project is.others is.release is.one is.kept)
 
 -- each node that is started from is on the project's name
 start_name : (c : Packages) (starts : List Node) (is : IsProjectOf c starts) (n : Node) → Contains starts n → n.name ≡ is.project.name

@@ -11,7 +11,7 @@ use Rattle.std.proofs.lemmas.List.Elements.{All-nil, All-cons, All-contains}
 use Rattle.ul_version.specs.Fields.{Fields}
 use Rattle.ul_version.specs.Order.{version_cmp}
 use Rattle.ul_requirement.specs.Fields.{ReleaseFields, VersionsDiffer, IsOtherVersion}
-use Rattle.ul_index.specs.Catalogs.{Packages, release_of, releases_of}
+use Rattle.ul_index.specs.Catalogs.{Packages, prereleases_of, release_of, releases_of}
 use Rattle.ul_index.specs.Eligible.{directs_on, eligible, in_order, increasing_with, passes, passing, takes_pre, version_at}
 use Rattle.ul_index.specs.Laws.{VersionsRise}
 use Rattle.ul_problem.specs.Problems.{Increases, IncreasesFrom, VersionBefore}
@@ -135,7 +135,7 @@ kept_fewer p rs = let e = length-filter_both p (λ (r : ReleaseFields). not (p r
 
 fewer_pass : (c : Packages) (n : List ℕ) → length (passing c n) ≤ length (releases_of c n)
 unfolding passing
-fewer_pass c n = kept_fewer (passes (directs_on c n) (takes_pre (directs_on c n) (releases_of c n))) (releases_of c n)
+fewer_pass c n = kept_fewer (passes (directs_on c n) (takes_pre (prereleases_of c n) (directs_on c n) (releases_of c n))) (releases_of c n)
 
 as_many_pass : (c : Packages) (n : List ℕ) → length (eligible c n) ≡ length (passing c n)
 unfolding eligible

@@ -1,6 +1,6 @@
 -- What `export` prints says what the lock of its file gives.
 use Rattle.std.proofs.Common.{◌≡◌, ℕ, List, Bool, true, false, if◌then◌else◌, codes, length, nat_le, Option, Some, None, Result, Ok, Err, refl, sym, subst, inl, inr, arith}
-use Rattle.ul_base.specs.Files.{FileMap}
+use Rattle.ul_files.specs.Files.{FileMap}
 use Rattle.ul_lock.specs.declared.parts.Lock.{Lock}
 use Rattle.ul_lock.specs.WellFormed.{IsWellFormed}
 use Rattle.ul_lock_write.specs.Markers.{first_over}
@@ -65,5 +65,6 @@ says_what_is_given law (asked.relock project folder workers old) m r t gives p =
 says_what_is_given law (asked.gen seed size workers) m r t gives p = tt
 says_what_is_given law (asked.env path machine words) m r t gives p = tt
 says_what_is_given law (asked.export path words) m r t gives p = of_export law path words m r t gives p
+says_what_is_given law (asked.marker path) m r t gives p = tt
 says_what_is_given law (asked.check project folder derivation) m r t gives p = tt
 says_what_is_given law (asked.verify project folder path) m r t gives p = tt

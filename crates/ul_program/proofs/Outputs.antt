@@ -1,6 +1,6 @@
 -- What is printed is the output for the words.
 use Rattle.std.proofs.Common.{◌≡◌, ◌≢◌, ◌++◌, ℕ, List, [], Bool, true, false, if◌then◌else◌, nat_eq, nat_le, length, codes, IfOk, IfSome, Option, Some, None, Result, Ok, Err, String, Global, string_bytes, refl, ap, sym, ◌∙◌, subst, arith}
-use Rattle.ul_base.specs.Files.{Told}
+use Rattle.ul_files.specs.Files.{ByReads}
 use Rattle.ul_lock.specs.declared.parts.Lock.{Lock as LockData}
 use Rattle.ul_tree.specs.Paths.{is_printable}
 use Rattle.ul_nodes.specs.Plain.{Plain}
@@ -25,7 +25,7 @@ use Rattle.ul_commands.specs.Asked.{usage}
 use Rattle.ul_commands.specs.Commands.{command}
 use Rattle.ul_commands.specs.Views.{IsAnswering, IsByWords, view}
 use Rattle.ul_commands.specs.declared.asked.Asked.{Asked}
-use Rattle.ul_commands.specs.declared.asked.Asked.TheVariants.{Usage, Lock, Why, Relock, Gen, Env, Export, Check, Verify}
+use Rattle.ul_commands.specs.declared.asked.Asked.TheVariants.{Usage, Lock, Why, Relock, Gen, Env, Export, Marker, Check, Verify}
 use Rattle.ul_program.specs.Answer.{IsAnswer, IsRead, NeedsNoFile, Prints}
 use Rattle.ul_program.specs.Exported.{SaysWhatIsGiven}
 use Rattle.ul_program.specs.Headline.{FilesSeen, IsOutput, IsOwn}
@@ -93,6 +93,7 @@ answer_plain (answer.derived path region steps) h = refusal_plain region (refusa
 answer_plain answer.none_refused h = zero_plain
 answer_plain (answer.environment text) h = zero_plain
 answer_plain (answer.exported rows) h = lock_plain (first_over (row_markers rows)) (rows_text rows)
+answer_plain (answer.canonical text) h = zero_plain
 answer_plain answer.outside h = eight_plain
 answer_plain (answer.no_extra name) h = eight_plain
 answer_plain answer.accepted h = zero_plain
@@ -104,7 +105,7 @@ answer_plain (answer.rejected_package name version) h = nine_plain
 
 -- an output that no failed read gave
 quiet : ExportsAreExact → (words : List (List ℕ)) (q : Asked) (before now : FilesSeen) (r : Result answer.Answer Refused) (s : ℕ) (t : List ℕ) → view q ≡ question words
-    → IsOwn s → s ≢ 5 → Told before.map (λ m. (command (view q) m).gives r) → Prints (printed r) s t
+    → IsOwn s → s ≢ 5 → ByReads now.reads (λ m. (command (view q) m).gives r) → Prints (printed r) s t
     → (NeedsNoFile (view q) → (command (view q) []).gives r) → (s ≡ 2 → view q ≡ usage) → now.faults ≡ before.faults
     → IsOutput words before now s t
 unfolding IsAnswer
@@ -130,7 +131,7 @@ quiet law words q before now r s t same own unfailed told prints alone two still
 
 -- a command's answer is printed
 command_output : ExportsAreExact → (words : List (List ℕ)) (q : Asked) (before now : FilesSeen) (a : Answer) (o : Output) → view q ≡ question words
-    → Told before.map (λ m. Answers answer_view (Ok a) (command (view q) m)) → now.faults ≡ before.faults → IsAnswering (answer_view a)
+    → ByReads now.reads (λ m. Answers answer_view (Ok a) (command (view q) m)) → now.faults ≡ before.faults → IsAnswering (answer_view a)
     → (NeedsNoFile (view q) → (command (view q) []).gives (Ok (answer_view a))) → output_view o ≡ output_of (answer_view a) → IsOutput words before now o.status o.text.items
 command_output law words q before now a o same told still answering alone is =
     let plain = answer_plain (answer_view a) answering in
@@ -142,7 +143,7 @@ command_output law words q before now a o same told still answering alone is =
 
 -- an answer is printed
 answer_output : ExportsAreExact → (words : List (List ℕ)) (q : Asked) (before now : FilesSeen) (a : Answer) (o : Output) → view q ≡ question words
-    → Told before.map (λ m. Answers answer_view (Ok a) (command (view q) m)) → now.faults ≡ before.faults → IsByWords q (Ok a)
+    → ByReads now.reads (λ m. Answers answer_view (Ok a) (command (view q) m)) → now.faults ≡ before.faults → IsByWords q (Ok a)
     → output_view o ≡ output_of (answer_view a) → IsOutput words before now o.status o.text.items
 answer_output law words Usage before now a o same told still by is =
     let kind : a ≡ AnswerUsage = ok_same a AnswerUsage by in
@@ -167,6 +168,8 @@ answer_output law words (Env lock machine extras) before now a o same told still
     command_output law words (Env lock machine extras) before now a o same told still by (λ n. absurd n) is
 answer_output law words (Export lock extras) before now a o same told still by is =
     command_output law words (Export lock extras) before now a o same told still by (λ n. absurd n) is
+answer_output law words (Marker file) before now a o same told still by is =
+    command_output law words (Marker file) before now a o same told still by (λ n. absurd n) is
 answer_output law words (Verify project folder lock) before now a o same told still by is =
     command_output law words (Verify project folder lock) before now a o same told still by (λ n. absurd n) is
 answer_output law words (Check project folder derivation) before now a o same told still by is =
@@ -182,12 +185,13 @@ alone_refused (Relock project folder workers old) e f is by n = absurd n
 alone_refused (Gen seed size workers) e f is by n = if_some (refused_of e) f is _ by.1.1.0
 alone_refused (Env lock machine extras) e f is by n = absurd n
 alone_refused (Export lock extras) e f is by n = absurd n
+alone_refused (Marker file) e f is by n = absurd n
 alone_refused (Check project folder derivation) e f is by n = absurd n
 alone_refused (Verify project folder lock) e f is by n = absurd n
 
 -- a refused input is printed
 refused_printed : ExportsAreExact → (words : List (List ℕ)) (q : Asked) (before now : FilesSeen) (e : Refusal) (f : Refused) (o : Output) → view q ≡ question words
-    → refused_of e ≡ Some f → Told before.map (λ m. (command (view q) m).gives (Err f)) → now.faults ≡ before.faults → IsByWords q (Err e)
+    → refused_of e ≡ Some f → ByReads now.reads (λ m. (command (view q) m).gives (Err f)) → now.faults ≡ before.faults → IsByWords q (Err e)
     → IsPlain (refused_output f).0 → output_view o ≡ refused_output f → IsOutput words before now o.status o.text.items
 refused_printed law words q before now e f o same kind told still by plain is =
     let status_is : o.status ≡ (refused_output f).0 = ap (λ x. x.0) is in
@@ -205,12 +209,13 @@ alone_failed (Relock project folder workers old) path by n = n
 alone_failed (Gen seed size workers) path by n = by.1.0
 alone_failed (Env lock machine extras) path by n = n
 alone_failed (Export lock extras) path by n = n
+alone_failed (Marker file) path by n = n
 alone_failed (Check project folder derivation) path by n = n
 alone_failed (Verify project folder lock) path by n = n
 
 -- a refusal is printed
 refusal_printed : ExportsAreExact → (words : List (List ℕ)) (q : Asked) (before now : FilesSeen) (e : Refusal) (o : Output) → view q ≡ question words
-    → Told before.map (λ m. Answers answer_view (Err e) (command (view q) m)) → Cause {T = Answer} before.faults now.faults now.last_failed (Err e)
+    → ByReads now.reads (λ m. Answers answer_view (Err e) (command (view q) m)) → Cause {T = Answer} before.faults now.faults now.last_failed (Err e)
     → IsByWords q (Err e) → IsRefusalOutput e (output_view o) → IsOutput words before now o.status o.text.items
 unfolding IsRead
 refusal_printed law words q before now (Malformed file place) o same told cause by is =
@@ -234,11 +239,11 @@ refusal_printed law words q before now (ReadFault path) o same told cause by is 
 refusal_printed law words q before now NoMemory o same told cause by is = absurd is
 
 pub answered : {E : Type 0} → ExportsAreExact → (words : List (List ℕ)) (q : Asked) (before now : FilesSeen) (a : Answer) (out : Result Output E) → view q ≡ question words
-    → Told before.map (λ m. Answers answer_view (Ok a) (command (view q) m)) → now.faults ≡ before.faults → IsByWords q (Ok a)
+    → ByReads now.reads (λ m. Answers answer_view (Ok a) (command (view q) m)) → now.faults ≡ before.faults → IsByWords q (Ok a)
     → IfOk out (λ o. output_view o ≡ output_of (answer_view a)) → IfOk out (λ o. IsOutput words before now o.status o.text.items)
 answered law words q before now a out same told still by h = if_ok out _ _ (λ o. answer_output law words q before now a o same told still by) h
 
 pub refused : {E : Type 0} → ExportsAreExact → (words : List (List ℕ)) (q : Asked) (before now : FilesSeen) (e : Refusal) (out : Result Output E) → view q ≡ question words
-    → Told before.map (λ m. Answers answer_view (Err e) (command (view q) m)) → Cause {T = Answer} before.faults now.faults now.last_failed (Err e)
+    → ByReads now.reads (λ m. Answers answer_view (Err e) (command (view q) m)) → Cause {T = Answer} before.faults now.faults now.last_failed (Err e)
     → IsByWords q (Err e) → IfOk out (λ o. IsRefusalOutput e (output_view o)) → IfOk out (λ o. IsOutput words before now o.status o.text.items)
 refused law words q before now e out same told cause by h = if_ok out _ _ (λ o. refusal_printed law words q before now e o same told cause by) h

@@ -1,10 +1,10 @@
 -- What the program answers, as a status and the bytes that are printed, from the words and the files.
 use Rattle.std.specs.Prelude.{◌≡◌, ◌⊎◌, ℕ, List, ◌++◌, Option, Some, Result}
-use Rattle.ul_base.specs.Files.{FileMap}
+use Rattle.ul_files.specs.Files.{FileMap}
 use Rattle.ul_inputs.specs.Refused.{Refused}
 use Rattle.ul_answers.specs.Answer as answer
 use Rattle.ul_answers.specs.Printed.{Output, printed}
-use Rattle.ul_commands.specs.Asked.{Asked, usage, lock, why, relock, gen, env, export, check, verify}
+use Rattle.ul_commands.specs.Asked.{Asked, usage, lock, why, relock, gen, env, export, marker, check, verify}
 use Rattle.ul_commands.specs.Commands.{command}
 use Rattle.ul_program.specs.Words.{question}
 
@@ -36,6 +36,7 @@ NeedsNoFile (relock project folder workers old) = ⊥
 NeedsNoFile (gen seed size workers) = Unit {0}
 NeedsNoFile (env path machine extras) = ⊥
 NeedsNoFile (export path extras) = ⊥
+NeedsNoFile (marker path) = ⊥
 NeedsNoFile (check project folder derivation) = ⊥
 NeedsNoFile (verify project folder path) = ⊥
 

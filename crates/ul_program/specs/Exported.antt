@@ -1,6 +1,6 @@
 -- What is printed with status 0 of `export`: lines that say what the lock of a file gives in each world that it supports.
 use Rattle.std.specs.Prelude.{◌≡◌, ℕ, List, Ok}
-use Rattle.ul_base.specs.Files.{FileMap}
+use Rattle.ul_files.specs.Files.{FileMap}
 use Rattle.ul_lock.specs.declared.parts.Lock.{Lock}
 use Rattle.ul_reach.specs.Lines.{rows_text}
 use Rattle.ul_reach.specs.declared.rows.Reached.{Reached}

@@ -1,5 +1,5 @@
 pub mod Answer
 pub mod Exported
 pub mod Headline
-pub mod Opened
 pub mod Words
+pub mod Given

@@ -4,7 +4,7 @@ use Rattle.std.specs.Char.{is_ascii_digit}
 use Rattle.std.specs.List.{list_all}
 use Rattle.std.specs.Str.{bytes_eq}
 use Rattle.std.specs.Str.Parse.{digits_value}
-use Rattle.ul_commands.specs.Asked.{Asked, usage, lock, why, relock, gen, env, export, check, verify}
+use Rattle.ul_commands.specs.Asked.{Asked, usage, lock, why, relock, gen, env, export, marker, check, verify}
 
 -- there is a first digit, and it is no zero, unless it is the only one
 abbrev pub leads_well : List ℕ → Bool
@@ -83,6 +83,11 @@ abbrev pub asked_export : List (List ℕ) → Asked
 asked_export (lock_file ∷ extras) = export lock_file extras
 asked_export _ = usage
 
+-- marker FILE
+abbrev pub asked_marker : List (List ℕ) → Asked
+asked_marker (file ∷ []) = marker file
+asked_marker _ = usage
+
 -- verify PROJECT INDEXDIR LOCK
 abbrev pub asked_verify : List (List ℕ) → Asked
 asked_verify (project ∷ folder ∷ lock_file ∷ []) = verify project folder lock_file
@@ -98,6 +103,7 @@ asked_command verb rest =
     if bytes_eq verb (codes "check") then asked_check rest else
     if bytes_eq verb (codes "gen") then asked_gen rest else
     if bytes_eq verb (codes "export") then asked_export rest else
+    if bytes_eq verb (codes "marker") then asked_marker rest else
     if bytes_eq verb (codes "verify") then asked_verify rest else usage
 
 -- what the words ask

@@ -4,7 +4,7 @@ ghost use Rattle.std.specs.Char.{is_ascii_digit};
 ghost use Rattle.std.specs.List.{list_all};
 ghost use Rattle.ul_commands.specs.Asked.{lock, relock, why};
 ghost use Rattle.ul_commands.specs.Views.{HasWorkers, view};
-ghost use Rattle.ul_program.specs.Words.{question, asked_command, asked_lock, asked_why, asked_relock, asked_env, asked_check, asked_gen, asked_export, asked_verify, generated, leads_well, is_decimal, is_number_in, number_in, seed_of, size_of, with_workers, workers_of};
+ghost use Rattle.ul_program.specs.Words.{question, asked_command, asked_lock, asked_why, asked_relock, asked_env, asked_check, asked_gen, asked_export, asked_marker, asked_verify, generated, leads_well, is_decimal, is_number_in, number_in, seed_of, size_of, with_workers, workers_of};
 
 use ul_commands::Asked;
 
@@ -32,6 +32,7 @@ fn ask_command<'a>(verb: &str, rest: &'a [String]) -> Asked<'a>
         "check" => ask_check(rest),
         "gen" => ask_gen(rest),
         "export" => ask_export(rest),
+        "marker" => ask_marker(rest),
         "verify" => ask_verify(rest),
         _ => Asked::Usage,
     }
@@ -214,6 +215,18 @@ fn ask_export(rest: &[String]) -> Asked<'_>
         [lock, extras @ ..] => Asked::Export {
             lock: lock.as_str(),
             extras,
+        },
+        _ => Asked::Usage,
+    }
+}
+
+fn ask_marker(rest: &[String]) -> Asked<'_>
+    ensures asked { view result ≡ asked_marker (map string_bytes rest.now) }
+    ensures workers { HasWorkers result }
+{
+    match rest {
+        [file] => Asked::Marker {
+            file: file.as_str(),
         },
         _ => Asked::Usage,
     }

@@ -1,11 +1,11 @@
 mod TomlReading
 mod Values
 mod EachRead
-mod Chains
 mod Parts
 mod GroupExtras
 mod ExtraMarkers
 mod GroupNames
+mod DevGroup
 mod Regions
 mod ProjectRegions
 mod NoFiles

@@ -10,20 +10,22 @@ use Rattle.ul_specifier.specs.Reading.{operator, star_clause, plain_clause, clau
 use Rattle.ul_marker.specs.Comparisons.{comparison_of, containment, extra_literal, sign_formula, versions_of, within}
 use Rattle.ul_marker.specs.Reading.{atom_at, before_close, chain_at, chain_with, each, inner_tokens, marker_of, part_at, pieces_from}
 use Rattle.ul_marker.specs.Words.{front_literal, front_sign, front_token, front_word, tokens_in, tokens_of, word_token}
-use Rattle.ul_requirement.specs.Reading.{names_of, extras_in, extras_front, front_of, specifiers_in, marker_in, tail_of, reading_of}
+use Rattle.ul_requirement.specs.Reading.{names_of, extras_in, extras_front, front_of, specifiers_in, marker_in, tail_of, marker_behind, url_marker, reading_of}
+use Rattle.ul_project.specs.DevDependencies.{dev_dependencies_at}
 use Rattle.ul_project.specs.Extras.{extras_at}
-use Rattle.ul_project.specs.GroupLists.{group_entries_at, group_entry_at, group_lists_at, groups_at}
+use Rattle.ul_project.specs.GroupLists.{group_entries_at, group_entry_at, group_lists_at}
 use Rattle.ul_project.specs.Head.{dynamic_at, head_in, name_at, python_at, version_at}
 use Rattle.ul_project.specs.Lists.{lists_in}
-use Rattle.ul_project.specs.ProjectFile.{file_in, file_of}
+use Rattle.ul_project.specs.ProjectFile.{file_in, file_of, required_in}
+use Rattle.ul_project.specs.Profiles.{profile_at, profile_of}
 use Rattle.ul_project.specs.Requirements.{bound_at, bounds_at, requirement_at, requirements_at}
 use Rattle.ul_project.specs.Results.{each_from}
-use Rattle.ul_project.specs.Settings.{all_silent, environment_at, environments_at, mode_at, prerelease_at, settings_in, strategy_at, uv_at}
+use Rattle.ul_project.specs.Settings.{all_silent, choices_in, environment_at, environments_at, listed_in, mode_at, prereleases_at, settings_in, strategy_at, strictly_silent, uv_at}
 use Rattle.ul_project.specs.Toml.{toml_of}
-use Rattle.ul_project.specs.Vectors.{FirstFaults, LaterFaults, SaidFiles, SupportedWorlds}
+use Rattle.ul_project.specs.Vectors.{FirstFaults, LaterFaults, SaidFiles, SupportedWorlds, WideFaults, WideFiles}
 
 pub said_files : SaidFiles
-unfolding is_name normal_form name_of after_word digits after_digits value_after number required_number marked_digits epoch points release pre post dev segment segments local fields_of version_of after_white before_white operator star_clause plain_clause clause_after clause_of clauses_of clause_with specifiers_of comparison_of containment extra_literal sign_formula versions_of within atom_at before_close chain_at chain_with each inner_tokens marker_of part_at pieces_from front_literal front_sign front_token front_word tokens_in tokens_of word_token names_of extras_in extras_front front_of specifiers_in marker_in tail_of reading_of is_utf8 chars toml_on_literals extras_at group_entries_at group_entry_at group_lists_at groups_at dynamic_at head_in name_at python_at version_at lists_in file_in file_of bound_at bounds_at requirement_at requirements_at each_from all_silent environment_at environments_at mode_at prerelease_at settings_in strategy_at uv_at toml_of
+unfolding is_name normal_form name_of after_word digits after_digits value_after number required_number marked_digits epoch points release pre post dev segment segments local fields_of version_of after_white before_white operator star_clause plain_clause clause_after clause_of clauses_of clause_with specifiers_of comparison_of containment extra_literal sign_formula versions_of within atom_at before_close chain_at chain_with each inner_tokens marker_of part_at pieces_from front_literal front_sign front_token front_word tokens_in tokens_of word_token names_of extras_in extras_front front_of specifiers_in marker_in tail_of marker_behind url_marker reading_of is_utf8 chars toml_on_literals extras_at group_entries_at group_entry_at group_lists_at dev_dependencies_at dynamic_at head_in name_at python_at version_at lists_in file_in file_of required_in profile_at profile_of bound_at bounds_at requirement_at requirements_at each_from all_silent choices_in environment_at environments_at listed_in mode_at prereleases_at settings_in strategy_at strictly_silent uv_at toml_of
 said_files = record {
   smallest = refl;
   extras_in_order = refl;
@@ -32,7 +34,7 @@ said_files = record {
 }
 
 pub first_faults : FirstFaults
-unfolding is_name normal_form name_of after_word digits after_digits value_after number required_number marked_digits epoch points release pre post dev segment segments local fields_of version_of after_white before_white operator star_clause plain_clause clause_after clause_of clauses_of clause_with specifiers_of comparison_of containment extra_literal sign_formula versions_of within atom_at before_close chain_at chain_with each inner_tokens marker_of part_at pieces_from front_literal front_sign front_token front_word tokens_in tokens_of word_token names_of extras_in extras_front front_of specifiers_in marker_in tail_of reading_of is_utf8 chars toml_on_literals extras_at group_entries_at group_entry_at group_lists_at groups_at dynamic_at head_in name_at python_at version_at lists_in file_in file_of bound_at bounds_at requirement_at requirements_at each_from all_silent environment_at environments_at mode_at prerelease_at settings_in strategy_at uv_at toml_of
+unfolding is_name normal_form name_of after_word digits after_digits value_after number required_number marked_digits epoch points release pre post dev segment segments local fields_of version_of after_white before_white operator star_clause plain_clause clause_after clause_of clauses_of clause_with specifiers_of comparison_of containment extra_literal sign_formula versions_of within atom_at before_close chain_at chain_with each inner_tokens marker_of part_at pieces_from front_literal front_sign front_token front_word tokens_in tokens_of word_token names_of extras_in extras_front front_of specifiers_in marker_in tail_of marker_behind url_marker reading_of is_utf8 chars toml_on_literals extras_at group_entries_at group_entry_at group_lists_at dev_dependencies_at dynamic_at head_in name_at python_at version_at lists_in file_in file_of required_in profile_at profile_of bound_at bounds_at requirement_at requirements_at each_from all_silent choices_in environment_at environments_at listed_in mode_at prereleases_at settings_in strategy_at strictly_silent uv_at toml_of
 first_faults = record {
   no_toml = refl;
   project_first = refl;
@@ -48,7 +50,7 @@ first_faults = record {
 }
 
 pub later_faults : LaterFaults
-unfolding is_name normal_form name_of after_word digits after_digits value_after number required_number marked_digits epoch points release pre post dev segment segments local fields_of version_of after_white before_white operator star_clause plain_clause clause_after clause_of clauses_of clause_with specifiers_of comparison_of containment extra_literal sign_formula versions_of within atom_at before_close chain_at chain_with each inner_tokens marker_of part_at pieces_from front_literal front_sign front_token front_word tokens_in tokens_of word_token names_of extras_in extras_front front_of specifiers_in marker_in tail_of reading_of is_utf8 chars toml_on_literals extras_at group_entries_at group_entry_at group_lists_at groups_at dynamic_at head_in name_at python_at version_at lists_in file_in file_of bound_at bounds_at requirement_at requirements_at each_from all_silent environment_at environments_at mode_at prerelease_at settings_in strategy_at uv_at toml_of
+unfolding is_name normal_form name_of after_word digits after_digits value_after number required_number marked_digits epoch points release pre post dev segment segments local fields_of version_of after_white before_white operator star_clause plain_clause clause_after clause_of clauses_of clause_with specifiers_of comparison_of containment extra_literal sign_formula versions_of within atom_at before_close chain_at chain_with each inner_tokens marker_of part_at pieces_from front_literal front_sign front_token front_word tokens_in tokens_of word_token names_of extras_in extras_front front_of specifiers_in marker_in tail_of marker_behind url_marker reading_of is_utf8 chars toml_on_literals extras_at group_entries_at group_entry_at group_lists_at dev_dependencies_at dynamic_at head_in name_at python_at version_at lists_in file_in file_of required_in profile_at profile_of bound_at bounds_at requirement_at requirements_at each_from all_silent choices_in environment_at environments_at listed_in mode_at prereleases_at settings_in strategy_at strictly_silent uv_at toml_of
 later_faults = record {
   group_keys_first = refl;
   groups_first = refl;
@@ -59,6 +61,28 @@ later_faults = record {
   overrides_first = refl;
   environments_first = refl;
   mode_first = refl;
+  prerelease_first = refl;
+}
+
+pub wide_files : WideFiles
+unfolding is_name normal_form name_of after_word digits after_digits value_after number required_number marked_digits epoch points release pre post dev segment segments local fields_of version_of after_white before_white operator star_clause plain_clause clause_after clause_of clauses_of clause_with specifiers_of comparison_of containment extra_literal sign_formula versions_of within atom_at before_close chain_at chain_with each inner_tokens marker_of part_at pieces_from front_literal front_sign front_token front_word tokens_in tokens_of word_token names_of extras_in extras_front front_of specifiers_in marker_in tail_of marker_behind url_marker reading_of is_utf8 chars toml_on_literals extras_at group_entries_at group_entry_at group_lists_at dev_dependencies_at dynamic_at head_in name_at python_at version_at lists_in file_in file_of required_in profile_at profile_of bound_at bounds_at requirement_at requirements_at each_from all_silent choices_in environment_at environments_at listed_in mode_at prereleases_at settings_in strategy_at strictly_silent uv_at toml_of
+wide_files = record {
+  addresses = refl;
+  dev_alone = refl;
+  dev_behind = refl;
+}
+
+pub wide_faults : WideFaults
+unfolding is_name normal_form name_of after_word digits after_digits value_after number required_number marked_digits epoch points release pre post dev segment segments local fields_of version_of after_white before_white operator star_clause plain_clause clause_after clause_of clauses_of clause_with specifiers_of comparison_of containment extra_literal sign_formula versions_of within atom_at before_close chain_at chain_with each inner_tokens marker_of part_at pieces_from front_literal front_sign front_token front_word tokens_in tokens_of word_token names_of extras_in extras_front front_of specifiers_in marker_in tail_of marker_behind url_marker reading_of is_utf8 chars toml_on_literals extras_at group_entries_at group_entry_at group_lists_at dev_dependencies_at dynamic_at head_in name_at python_at version_at lists_in file_in file_of required_in profile_at profile_of bound_at bounds_at requirement_at requirements_at each_from all_silent choices_in environment_at environments_at listed_in mode_at prereleases_at settings_in strategy_at strictly_silent uv_at toml_of
+wide_faults = record {
+  address_first = refl;
+  uv_first = refl;
+  unilock_first = refl;
+  profile_first = refl;
+  conflicts_first = refl;
+  dev_first = refl;
+  dev_taken = refl;
+  dev_text_first = refl;
   prerelease_first = refl;
 }
 

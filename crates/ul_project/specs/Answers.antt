@@ -10,12 +10,14 @@ use Rattle.ul_comparison.specs.Formulas.{Formula}
 use Rattle.ul_marker.specs.Views.{marker_view}
 use Rattle.ul_marker.specs.declared.marker.Marker.{Marker}
 use Rattle.ul_comparison.specs.Worlds.{IsWorld, WorldFields}
+use Rattle.ul_requirement.specs.Fields.{RequirementFields}
 use Rattle.ul_tree.specs.Joining.{truths_of}
 use Rattle.ul_tree.specs.declared.tree.Tree.{Tree}
 use Rattle.ul_project.specs.Fields.{ProjectFields}
 use Rattle.ul_project.specs.Headline.{IsOf, IsNowhere}
 use Rattle.ul_project.specs.ProjectFile.{FileFields, RequiredFields}
 use Rattle.ul_project.specs.Region.{holds_bare}
+use Rattle.ul_project.specs.Settings.{SettingsFields}
 use Rattle.ul_project.specs.Shapes.{Reading, not_toml, requirement_fault, shape, unsupported}
 use Rattle.ul_project.specs.Toml.{items_list}
 use Rattle.ul_project.specs.declared.fault.ProjectFault.{ProjectFault}
@@ -80,4 +82,12 @@ place_of (lent.Group name) = place.Group name.now
 
 -- what a file requires
 abbrev pub required_view : Required → RequiredFields
-required_view r = record { requirements = r.requirements.items; extras = r.extras.entries; groups = r.groups.items }
+required_view r = record { requirements = r.requirements.items; extras = r.extras.entries; groups = r.groups.entries }
+
+-- the requirements of the group `dev`, and what is asked of the resolver
+abbrev pub asked_view : {Z : Type 0} → Vec RequirementFields Z × SettingsFields → List RequirementFields × SettingsFields
+asked_view asked = (asked.0.items, asked.1)
+
+-- three lists of requirements
+abbrev pub listed_view : {Y Z W : Type 0} → Vec RequirementFields Y × Vec RequirementFields Z × Vec RequirementFields W → List RequirementFields × List RequirementFields × List RequirementFields
+listed_view listed = (listed.0.items, listed.1.items, listed.2.items)

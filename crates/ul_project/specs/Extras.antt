@@ -9,16 +9,17 @@ use Rattle.ul_project.specs.Results.{◌>>=◌}
 use Rattle.ul_project.specs.Shapes.{Reading, at_key, optional_table_at, shape}
 use Rattle.ul_project.specs.declared.path.Place.TheVariants.{Extra}
 use Rattle.ul_project.specs.declared.path.ProjectKey.TheVariants.{OptionalDependencies}
+use Rattle.ul_project.specs.declared.profile.Profile.{Profile}
 
 -- the list of an extra
-abbrev pub extra_list_at : List ℕ → Option Data → Reading (List RequirementFields)
-extra_list_at name value = requirements_at (Extra name) value
+abbrev pub extra_list_at : Profile → List ℕ → Option Data → Reading (List RequirementFields)
+extra_list_at profile name value = requirements_at profile (Extra name) value
 
 -- the optional dependencies: a table whose keys are names, and whose values are lists of requirements; in byte order of
 -- the extras
-unfoldable pub extras_at : Option Data → Reading (List (Named (List RequirementFields)))
-extras_at value =
-    optional_table_at (at_key OptionalDependencies) value >>= named_lists (shape (at_key OptionalDependencies)) [] extra_list_at
+unfoldable pub extras_at : Profile → Option Data → Reading (List (Named (List RequirementFields)))
+extras_at profile value =
+    optional_table_at (at_key OptionalDependencies) value >>= named_lists (shape (at_key OptionalDependencies)) [] (extra_list_at profile)
 
 -- two markers joined by `and`, where there are any
 abbrev pub joined_markers : Option Formula → Option Formula → Option Formula

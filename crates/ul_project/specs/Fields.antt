@@ -5,13 +5,14 @@ use Rattle.ul_base.specs.Names.{name_cmp}
 use Rattle.ul_comparison.specs.Formulas.{Formula, AreFormulas, formulas_of}
 use Rattle.ul_requirement.specs.Fields.{PackageFields, RequirementFields}
 use Rattle.ul_requirement.specs.declared.wish.Mode.{Mode}
+use Rattle.ul_requirement.specs.declared.wish.Prereleases.{Prereleases}
 use Rattle.ul_requirement.specs.declared.wish.Strategy.{Strategy}
 use Rattle.ul_nodes.specs.Plain.{Plain, truth}
 use Rattle.ul_tree.specs.Regions.{IsRegionTree}
 use Rattle.ul_project.specs.Groups.{GroupFields}
 
 -- a project: a package with one release, its extras, how many requirements each has, the environments that it names, the region of the worlds that it
--- supports, how versions are preferred and regions split, its groups, constraints and overrides
+-- supports, how versions are preferred, which pre-releases count, how regions are split, its groups, constraints and overrides
 pub record ProjectFields : Type 0 where
   pub «package» : PackageFields
   pub extras : List (List ℕ)
@@ -19,6 +20,7 @@ pub record ProjectFields : Type 0 where
   pub environments : List Formula
   pub region : Plain
   pub mode : Mode
+  pub prereleases : Prereleases
   pub strategy : Strategy
   pub groups : List GroupFields
   pub constraints : List RequirementFields

@@ -1,9 +1,11 @@
 pub mod Headline
 pub mod ProjectFile
+pub mod Profiles
 pub mod Head
 pub mod Requirements
 pub mod Extras
 pub mod GroupLists
+pub mod DevDependencies
 pub mod Settings
 pub mod Region
 pub mod Lists

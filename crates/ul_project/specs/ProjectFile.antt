@@ -6,20 +6,25 @@ use Rattle.toml.specs.Data.{Members, get_member}
 use Rattle.ul_base.specs.Names.{name_cmp}
 use Rattle.ul_version.specs.Fields.{Fields}
 use Rattle.ul_requirement.specs.Fields.{PackageFields, RequirementFields}
+use Rattle.ul_requirement.specs.declared.wish.Prereleases.TheVariants.{Allow}
 use Rattle.ul_nodes.specs.Plain.{Plain}
+use Rattle.ul_project.specs.DevDependencies.{groups_with}
 use Rattle.ul_project.specs.Extras.{extra_requirements, extra_size, extras_at}
 use Rattle.ul_project.specs.Fields.{ProjectFields}
-use Rattle.ul_project.specs.GroupLists.{groups_at}
+use Rattle.ul_project.specs.GroupLists.{group_lists_at}
 use Rattle.ul_project.specs.Groups.{GroupFields}
 use Rattle.ul_project.specs.Head.{HeadFields, head_in}
 use Rattle.ul_project.specs.Lists.{Named, names_of}
+use Rattle.ul_project.specs.Profiles.{profile_of}
 use Rattle.ul_project.specs.Requirements.{requirements_at}
 use Rattle.ul_project.specs.Results.{◌>>=◌, or_fault}
 use Rattle.ul_project.specs.Settings.{SettingsFields, settings_in}
 use Rattle.ul_project.specs.Shapes.{Reading, at_key, not_toml, table_at}
 use Rattle.ul_project.specs.Toml.{toml_of}
+use Rattle.ul_project.specs.declared.group.GroupEntry.{GroupEntry}
 use Rattle.ul_project.specs.declared.path.Place.TheVariants.{Key}
 use Rattle.ul_project.specs.declared.path.ProjectKey.TheVariants as key
+use Rattle.ul_project.specs.declared.profile.Profile.{Profile}
 
 -- what a file says: the name, the version and the interpreters, what the project requires, its extras, how many of the
 -- requirements are each extra's, its groups, and what is asked of the resolver
@@ -36,26 +41,51 @@ pub record IsFile (extras groups : List (List ℕ)) : Type 0 where
   pub extras_rise : IsStrictlySortedBy name_cmp extras
   pub groups_rise : IsStrictlySortedBy name_cmp groups
 
--- what a document says
+-- what a document and its table `project` require: the requirements, the lists of the extras, and those of the groups
+pub record RequiredFields : Type 0 where
+  pub requirements : List RequirementFields
+  pub extras : List (Named (List RequirementFields))
+  pub groups : List (Named (List GroupEntry))
+
+-- what they require, in the order of the checks
+unfoldable pub required_in : Profile → (document project : Members) → Reading RequiredFields
+required_in profile document project = do
+  dependencies ← requirements_at profile (Key key.Dependencies) (get_member (codes "dependencies") project)
+  extras ← extras_at profile (get_member (codes "optional-dependencies") project)
+  groups ← group_lists_at profile (names_of extras) (get_member (codes "dependency-groups") document)
+  Ok (record { requirements = dependencies; extras = extras; groups = groups })
+
+-- the file of what is required, of the requirements of the group `dev`, and of what is asked of the resolver
+abbrev pub file_with : HeadFields → RequiredFields → List RequirementFields × SettingsFields → FileFields
+file_with head required asked = record {
+  head = head;
+  requirements = required.requirements ++ extra_requirements required.extras;
+  extras = names_of required.extras;
+  sizes = map extra_size required.extras;
+  groups = groups_with asked.0 required.groups;
+  settings = asked.1;
+}
+
+-- what a document says, read by its profile
 unfoldable pub file_in : Members → Reading FileFields
 file_in document = do
   project ← table_at (at_key key.Project) (get_member (codes "project") document)
   head ← head_in project
-  dependencies ← requirements_at (Key key.Dependencies) (get_member (codes "dependencies") project)
-  extras ← extras_at (get_member (codes "optional-dependencies") project)
-  groups ← groups_at (names_of extras) (get_member (codes "dependency-groups") document)
-  settings ← settings_in document
-  Ok (record { head = head; requirements = dependencies ++ extra_requirements extras; extras = names_of extras; sizes = map extra_size extras; groups = groups; settings = settings })
+  required ← required_in (profile_of document) document project
+  asked ← settings_in (profile_of document) (names_of required.extras) document
+  Ok (file_with head required asked)
 
 -- what the bytes say
 unfoldable pub file_of : List ℕ → Reading FileFields
 file_of bytes = or_fault not_toml (toml_of bytes) >>= file_in
 
--- the project as a package with one release, which asks for no interpreters
+-- the project as a package with one release, which asks for no interpreters; which pre-releases of it count isn't looked
+-- at, since its release always does
 abbrev pub package_with : List ℕ → Fields → List RequirementFields → PackageFields
 package_with name version requirements = record {
   name = name;
   entries = 1;
+  prereleases = Allow;
   releases = record { version = version; python = []; requirements = requirements; yanked = false; files = [] } ∷ [];
 }
 
@@ -68,35 +98,9 @@ project_with region file = record {
   environments = file.settings.environments;
   region = region;
   mode = file.settings.mode;
+  prereleases = file.settings.prereleases;
   strategy = file.settings.strategy;
   groups = file.groups;
   constraints = file.settings.constraints;
   overrides = file.settings.overrides;
-}
-
--- ---- its parts
-
--- what a document and its table `project` require: the requirements, the lists of the extras, and the groups
-pub record RequiredFields : Type 0 where
-  pub requirements : List RequirementFields
-  pub extras : List (Named (List RequirementFields))
-  pub groups : List GroupFields
-
--- what they require, in the order of the checks
-unfoldable pub required_in : (document project : Members) → Reading RequiredFields
-required_in document project = do
-  dependencies ← requirements_at (Key key.Dependencies) (get_member (codes "dependencies") project)
-  extras ← extras_at (get_member (codes "optional-dependencies") project)
-  groups ← groups_at (names_of extras) (get_member (codes "dependency-groups") document)
-  Ok (record { requirements = dependencies; extras = extras; groups = groups })
-
--- the file of these parts
-abbrev pub file_with : HeadFields → RequiredFields → SettingsFields → FileFields
-file_with head required settings = record {
-  head = head;
-  requirements = required.requirements ++ extra_requirements required.extras;
-  extras = names_of required.extras;
-  sizes = map extra_size required.extras;
-  groups = required.groups;
-  settings = settings;
 }

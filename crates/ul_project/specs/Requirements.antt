@@ -6,25 +6,33 @@ use Rattle.ul_marker.specs.Parts.{asks_extra}
 use Rattle.ul_requirement.specs.Fields.{RequirementFields}
 use Rattle.ul_requirement.specs.Reading as grammar
 use Rattle.ul_requirement.specs.Reading.{reading_of}
-use Rattle.ul_project.specs.Results.{◌>>=◌, each_from}
+use Rattle.ul_project.specs.Results.{◌>>=◌, each_from, or_fault}
 use Rattle.ul_project.specs.Shapes.{Reading, optional_items_at, requirement_fault, text_at, unsupported}
 use Rattle.ul_project.specs.declared.path.Place.{Place}
 use Rattle.ul_project.specs.declared.path.ProjectPath.{ProjectPath}
 use Rattle.ul_project.specs.declared.path.ProjectPath.TheVariants.{Whole, Entry}
+use Rattle.ul_project.specs.declared.profile.Profile.{Profile}
+use Rattle.ul_project.specs.declared.profile.Profile.TheVariants.{Strict, Wide}
 
--- the requirement of a reading; one by a URL isn't supported
-abbrev pub requirement_read : ProjectPath → grammar.Reading → Reading RequirementFields
-requirement_read path (grammar.requirement q) = Ok q
-requirement_read path grammar.by_url = Err (unsupported path)
-requirement_read path grammar.unread = Err (requirement_fault path)
+-- a requirement by a URL: the profile `strict` doesn't support it; for `wide` it is what it requires
+abbrev pub address_read : Profile → ProjectPath → Option RequirementFields → Reading RequirementFields
+address_read Strict path required = Err (unsupported path)
+address_read Wide path required = or_fault (requirement_fault path) required
 
--- an entry that is a requirement: a text, not one by a URL, and then one with a reading
-unfoldable pub requirement_at : Place → ℕ → Data → Reading RequirementFields
-requirement_at place i d = text_at (Entry place i) (Some d) >>= λ text. requirement_read (Entry place i) (reading_of text)
+-- the requirement of a reading
+abbrev pub requirement_read : Profile → ProjectPath → grammar.Reading → Reading RequirementFields
+requirement_read profile path (grammar.requirement q) = Ok q
+requirement_read profile path (grammar.by_url required) = address_read profile path required
+requirement_read profile path grammar.unread = Err (requirement_fault path)
+
+-- an entry that is a requirement: a text, and then one with a reading that the profile has
+unfoldable pub requirement_at : Profile → Place → ℕ → Data → Reading RequirementFields
+requirement_at profile place i d =
+    text_at (Entry place i) (Some d) >>= λ text. requirement_read profile (Entry place i) (reading_of text)
 
 -- the requirements of an array, where there is one; the first entry that is refused answers
-unfoldable pub requirements_at : Place → Option Data → Reading (List RequirementFields)
-requirements_at place value = optional_items_at (Whole place) value >>= each_from (requirement_at place) 0
+unfoldable pub requirements_at : Profile → Place → Option Data → Reading (List RequirementFields)
+requirements_at profile place value = optional_items_at (Whole place) value >>= each_from (requirement_at profile place) 0
 
 -- ---- constraints and overrides
 
@@ -47,9 +55,9 @@ abbrev pub without_extras : ProjectPath → RequirementFields → Reading Requir
 without_extras path q = if speaks_of_extras q then Err (unsupported path) else Ok q
 
 -- an entry that is a constraint or an override: a requirement without extras whose marker asks for none
-unfoldable pub bound_at : Place → ℕ → Data → Reading RequirementFields
-bound_at place i d = requirement_at place i d >>= without_extras (Entry place i)
+unfoldable pub bound_at : Profile → Place → ℕ → Data → Reading RequirementFields
+bound_at profile place i d = requirement_at profile place i d >>= without_extras (Entry place i)
 
 -- the constraints, or the overrides, of an array, where there is one
-unfoldable pub bounds_at : Place → Option Data → Reading (List RequirementFields)
-bounds_at place value = optional_items_at (Whole place) value >>= each_from (bound_at place) 0
+unfoldable pub bounds_at : Profile → Place → Option Data → Reading (List RequirementFields)
+bounds_at profile place value = optional_items_at (Whole place) value >>= each_from (bound_at profile place) 0

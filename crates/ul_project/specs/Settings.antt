@@ -7,8 +7,12 @@ use Rattle.ul_marker.specs.Reading.{marker_of}
 use Rattle.ul_requirement.specs.Fields.{RequirementFields}
 use Rattle.ul_requirement.specs.declared.wish.Mode.{Mode}
 use Rattle.ul_requirement.specs.declared.wish.Mode.TheVariants.{Highest, Lowest, LowestDirect}
+use Rattle.ul_requirement.specs.declared.wish.Prereleases.{Prereleases}
+use Rattle.ul_requirement.specs.declared.wish.Prereleases.TheVariants.{Disallow, Allow, IfNecessary, Explicit, IfNecessaryOrExplicit}
 use Rattle.ul_requirement.specs.declared.wish.Strategy.{Strategy}
 use Rattle.ul_requirement.specs.declared.wish.Strategy.TheVariants.{Fewest, RequiresPython, Deep}
+use Rattle.ul_project.specs.DevDependencies.{dev_dependencies_in}
+use Rattle.ul_project.specs.Profiles.{profile_at}
 use Rattle.ul_project.specs.Requirements.{bounds_at}
 use Rattle.ul_project.specs.Results.{◌>>=◌, each_from, or_fault}
 use Rattle.ul_project.specs.Shapes.{Reading, at_key, items_at, optional_table_at, shape, text_at, text_or, unsupported}
@@ -18,29 +22,50 @@ use Rattle.ul_project.specs.declared.path.ProjectKey.{ProjectKey}
 use Rattle.ul_project.specs.declared.path.ProjectKey.TheVariants as key
 use Rattle.ul_project.specs.declared.path.ProjectPath.{ProjectPath}
 use Rattle.ul_project.specs.declared.path.ProjectPath.TheVariants.{Entry}
+use Rattle.ul_project.specs.declared.profile.Profile.{Profile}
+use Rattle.ul_project.specs.declared.profile.Profile.TheVariants.{Strict, Wide}
 
 -- ---- tables
 
--- `tool` is a table, and so is `tool.uv`
+-- `tool` is a table, and so are `tool.uv` and `tool.unilock`, whose profile is known
 unfoldable pub uv_at : Members → Reading Members
 uv_at document = do
   tool ← optional_table_at (at_key key.Tool) (get_member (codes "tool") document)
-  optional_table_at (at_key key.Uv) (get_member (codes "uv") tool)
+  uv ← optional_table_at (at_key key.Uv) (get_member (codes "uv") tool)
+  _ ← profile_at tool
+  Ok uv
 
 -- the key says nothing, since what it says isn't supported
 abbrev pub silent_at : ProjectKey → Option Data → Reading (Unit {0})
 silent_at k value = if says_nothing value then Ok tt else Err (unsupported (at_key k))
 
--- none of the keys that aren't supported says anything
-unfoldable pub all_silent : Members → Reading (Unit {0})
-all_silent uv = do
-  _ ← silent_at key.Sources (get_member (codes "sources") uv)
-  _ ← silent_at key.Conflicts (get_member (codes "conflicts") uv)
+-- keys that the profile `strict` doesn't support say nothing; `wide` passes them over, but for the last, which it reads
+-- elsewhere
+unfoldable pub strictly_silent : Profile → Members → Reading (Unit {0})
+strictly_silent Wide uv = Ok tt
+strictly_silent Strict uv = do
   _ ← silent_at key.Index (get_member (codes "index") uv)
   _ ← silent_at key.ExtraIndexUrl (get_member (codes "extra-index-url") uv)
   _ ← silent_at key.FindLinks (get_member (codes "find-links") uv)
   _ ← silent_at key.Workspace (get_member (codes "workspace") uv)
   silent_at key.DevDependencies (get_member (codes "dev-dependencies") uv)
+
+-- none of the keys that aren't supported says anything
+unfoldable pub all_silent : Profile → Members → Reading (Unit {0})
+all_silent profile uv = do
+  _ ← silent_at key.Sources (get_member (codes "sources") uv)
+  _ ← silent_at key.Conflicts (get_member (codes "conflicts") uv)
+  strictly_silent profile uv
+
+-- ---- lists of requirements
+
+-- the constraints, the overrides, and the requirements of the group `dev` beside these extras of the project
+unfoldable pub listed_in : Profile → List (List ℕ) → Members → Reading (List RequirementFields × List RequirementFields × List RequirementFields)
+listed_in profile extras uv = do
+  constraints ← bounds_at profile (Key key.ConstraintDependencies) (get_member (codes "constraint-dependencies") uv)
+  overrides ← bounds_at profile (Key key.OverrideDependencies) (get_member (codes "override-dependencies") uv)
+  dev ← dev_dependencies_in profile extras uv
+  Ok (constraints, overrides, dev)
 
 -- ---- environments
 
@@ -77,12 +102,26 @@ unfoldable pub mode_at : Option Data → Reading Mode
 mode_at value =
     text_or (codes "highest") (at_key key.Resolution) value >>= λ word. or_fault (shape (at_key key.Resolution)) (mode_of word)
 
--- which pre-releases count: the one rule that is supported
-unfoldable pub prerelease_at : Option Data → Reading (Unit {0})
-prerelease_at None = Ok tt
-prerelease_at (Some (string word)) =
-    if bytes_eq word (codes "if-necessary-or-explicit") then Ok tt else Err (unsupported (at_key key.Prerelease))
-prerelease_at (Some other) = Err (unsupported (at_key key.Prerelease))
+-- the pre-releases that count, by their word
+abbrev pub wide_prereleases : List ℕ → Option Prereleases
+wide_prereleases word =
+    if bytes_eq word (codes "disallow") then Some Disallow
+    else if bytes_eq word (codes "allow") then Some Allow
+    else if bytes_eq word (codes "if-necessary") then Some IfNecessary
+    else if bytes_eq word (codes "explicit") then Some Explicit
+    else if bytes_eq word (codes "if-necessary-or-explicit") then Some IfNecessaryOrExplicit
+    else None
+
+-- the same for a profile: `strict` supports one word
+abbrev pub prereleases_of : Profile → List ℕ → Option Prereleases
+prereleases_of Strict word = if bytes_eq word (codes "if-necessary-or-explicit") then Some IfNecessaryOrExplicit else None
+prereleases_of Wide word = wide_prereleases word
+
+-- which pre-releases count; where nothing is said, those that are necessary or explicit
+unfoldable pub prereleases_at : Profile → Option Data → Reading Prereleases
+prereleases_at profile None = Ok IfNecessaryOrExplicit
+prereleases_at profile (Some (string word)) = or_fault (unsupported (at_key key.Prerelease)) (prereleases_of profile word)
+prereleases_at profile (Some other) = Err (unsupported (at_key key.Prerelease))
 
 -- a strategy by its word
 abbrev pub strategy_of : List ℕ → Option Strategy
@@ -98,13 +137,13 @@ strategy_at None = Ok Fewest
 strategy_at (Some (string word)) = or_fault (unsupported (at_key key.ForkStrategy)) (strategy_of word)
 strategy_at (Some other) = Err (unsupported (at_key key.ForkStrategy))
 
--- which versions are tried first, and when a region is split; which pre-releases count is looked at between them
-unfoldable pub choices_in : Members → Reading (Mode × Strategy)
-choices_in uv = do
+-- which versions are tried first, which pre-releases count, and when a region is split
+unfoldable pub choices_in : Profile → Members → Reading (Mode × Prereleases × Strategy)
+choices_in profile uv = do
   mode ← mode_at (get_member (codes "resolution") uv)
-  _ ← prerelease_at (get_member (codes "prerelease") uv)
+  prereleases ← prereleases_at profile (get_member (codes "prerelease") uv)
   strategy ← strategy_at (get_member (codes "fork-strategy") uv)
-  Ok (mode, strategy)
+  Ok (mode, prereleases, strategy)
 
 -- ---- all of them
 
@@ -114,17 +153,26 @@ pub record SettingsFields : Type 0 where
   pub overrides : List RequirementFields
   pub environments : List Formula
   pub mode : Mode
+  pub prereleases : Prereleases
   pub strategy : Strategy
 
--- what a file asks of the resolver
-unfoldable pub settings_in : Members → Reading SettingsFields
-settings_in document = do
+-- what a file asks of the resolver, with what was read of lists, environments and words
+abbrev pub settings_with : List RequirementFields × List RequirementFields × List RequirementFields → List Formula → Mode × Prereleases × Strategy → SettingsFields
+settings_with listed environments choices = record {
+  constraints = listed.0;
+  overrides = listed.1;
+  environments = environments;
+  mode = choices.0;
+  prereleases = choices.1;
+  strategy = choices.2;
+}
+
+-- the requirements of the group `dev`, and what is asked of the resolver, for a project of these extras
+unfoldable pub settings_in : Profile → List (List ℕ) → Members → Reading (List RequirementFields × SettingsFields)
+settings_in profile extras document = do
   uv ← uv_at document
-  _ ← all_silent uv
-  constraints ← bounds_at (Key key.ConstraintDependencies) (get_member (codes "constraint-dependencies") uv)
-  overrides ← bounds_at (Key key.OverrideDependencies) (get_member (codes "override-dependencies") uv)
+  _ ← all_silent profile uv
+  listed ← listed_in profile extras uv
   environments ← environments_at (get_member (codes "environments") uv)
-  mode ← mode_at (get_member (codes "resolution") uv)
-  _ ← prerelease_at (get_member (codes "prerelease") uv)
-  strategy ← strategy_at (get_member (codes "fork-strategy") uv)
-  Ok (record { constraints = constraints; overrides = overrides; environments = environments; mode = mode; strategy = strategy })
+  choices ← choices_in profile uv
+  Ok (listed.2, settings_with listed environments choices)

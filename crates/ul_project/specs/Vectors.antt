@@ -8,6 +8,7 @@ use Rattle.ul_comparison.specs.Worlds.{WorldFields}
 use Rattle.ul_comparison.specs.declared.variable.Variable.TheVariants.{OsName}
 use Rattle.ul_requirement.specs.Fields.{RequirementFields}
 use Rattle.ul_requirement.specs.declared.wish.Mode.TheVariants.{Highest, Lowest}
+use Rattle.ul_requirement.specs.declared.wish.Prereleases.TheVariants.{Disallow, IfNecessaryOrExplicit}
 use Rattle.ul_requirement.specs.declared.wish.Strategy.TheVariants.{Fewest, Deep}
 use Rattle.ul_project.specs.ProjectFile.{file_of}
 use Rattle.ul_project.specs.Region.{is_supported}
@@ -22,7 +23,7 @@ use Rattle.ul_project.specs.declared.path.ProjectPath.TheVariants.{Whole, Entry}
 
 -- nothing is asked of the resolver
 abbrev pub plain_settings : SettingsFields
-plain_settings = record { constraints = []; overrides = []; environments = []; mode = Highest; strategy = Fewest }
+plain_settings = record { constraints = []; overrides = []; environments = []; mode = Highest; prereleases = IfNecessaryOrExplicit; strategy = Fewest }
 
 -- a requirement of a name, with a marker
 abbrev pub named_requirement : List ℕ → Option Formula → RequirementFields
@@ -59,7 +60,37 @@ pub record SaidFiles : Type 0 where
         extras = [];
         sizes = [];
         groups = [];
-        settings = record { constraints = named_requirement (codes "c") None ∷ []; overrides = []; environments = []; mode = Lowest; strategy = Deep };
+        settings = record { constraints = named_requirement (codes "c") None ∷ []; overrides = []; environments = []; mode = Lowest; prereleases = IfNecessaryOrExplicit; strategy = Deep };
+      })
+
+-- what some files of the profile `wide` say
+pub record WideFiles : Type 0 where
+  pub addresses : file_of (codes "[project]\nname = 'a'\ndependencies = [\"b[x] @ https://c/d ; os_name == 'nt'\"]\n[tool.unilock]\nprofile = 'wide'\n")
+      ≡ Ok (record {
+        head = record { name = codes "a"; version = plain (0 ∷ []); python = [] };
+        requirements = record { name = codes "b"; extras = codes "x" ∷ []; specifiers = []; marker = Some (text OsName (codes "nt") true) } ∷ [];
+        extras = [];
+        sizes = [];
+        groups = [];
+        settings = plain_settings;
+      })
+  pub dev_alone : file_of (codes "[project]\nname = 'a'\n[dependency-groups]\nx = []\n[tool.uv]\nindex = [1]\nprerelease = 'disallow'\ndev-dependencies = ['t']\n[tool.unilock]\nprofile = 'wide'\n")
+      ≡ Ok (record {
+        head = record { name = codes "a"; version = plain (0 ∷ []); python = [] };
+        requirements = [];
+        extras = [];
+        sizes = [];
+        groups = record { name = codes "dev"; entries = Needs (named_requirement (codes "t") None) ∷ [] } ∷ record { name = codes "x"; entries = [] } ∷ [];
+        settings = record plain_settings { prereleases = Disallow };
+      })
+  pub dev_behind : file_of (codes "[project]\nname = 'a'\n[dependency-groups]\nDev = ['u']\n[tool.uv]\ndev-dependencies = ['t']\n[tool.unilock]\nprofile = 'wide'\n")
+      ≡ Ok (record {
+        head = record { name = codes "a"; version = plain (0 ∷ []); python = [] };
+        requirements = [];
+        extras = [];
+        sizes = [];
+        groups = record { name = codes "dev"; entries = Needs (named_requirement (codes "u") None) ∷ Needs (named_requirement (codes "t") None) ∷ [] } ∷ [];
+        settings = plain_settings;
       })
 
 -- ---- the first of two faults
@@ -90,6 +121,18 @@ pub record LaterFaults : Type 0 where
   pub environments_first : file_of (codes "[project]\nname = 'a'\n[tool.uv]\nresolution = 1\nenvironments = 'x'\n") ≡ Err (shape (at_key key.Environments))
   pub mode_first : file_of (codes "[project]\nname = 'a'\n[tool.uv]\nresolution = 'x'\nprerelease = 1\n") ≡ Err (shape (at_key key.Resolution))
   pub prerelease_first : file_of (codes "[project]\nname = 'a'\n[tool.uv]\nprerelease = 'allow'\nfork-strategy = 1\n") ≡ Err (unsupported (at_key key.Prerelease))
+
+-- and of the profile `wide`
+pub record WideFaults : Type 0 where
+  pub address_first : file_of (codes "[project]\nname = 'a'\ndependencies = ['b', 'a @ ', 'a==']\n[tool.unilock]\nprofile = 'wide'\n") ≡ Err (requirement_fault (Entry (place.Key key.Dependencies) 1))
+  pub uv_first : file_of (codes "[project]\nname = 'a'\n[tool]\nuv = 1\nunilock = 1\n") ≡ Err (shape (at_key key.Uv))
+  pub unilock_first : file_of (codes "[project]\nname = 'a'\n[tool]\nunilock = 1\n[tool.uv]\nsources = 1\n") ≡ Err (shape (at_key key.Unilock))
+  pub profile_first : file_of (codes "[project]\nname = 'a'\n[tool.unilock]\nprofile = 'Wide'\n[tool.uv]\nsources = 1\n") ≡ Err (shape (at_key key.Profile))
+  pub conflicts_first : file_of (codes "[project]\nname = 'a'\n[tool.unilock]\nprofile = 'wide'\n[tool.uv]\nworkspace = 1\nconflicts = 1\nconstraint-dependencies = 1\n") ≡ Err (unsupported (at_key key.Conflicts))
+  pub dev_first : file_of (codes "[project]\nname = 'a'\n[tool.unilock]\nprofile = 'wide'\n[tool.uv]\ndev-dependencies = {}\nenvironments = 1\n") ≡ Err (shape (at_key key.DevDependencies))
+  pub dev_taken : file_of (codes "[project]\nname = 'a'\n[project.optional-dependencies]\nGroup_Dev = []\n[tool.unilock]\nprofile = 'wide'\n[tool.uv]\ndev-dependencies = [1]\n") ≡ Err (shape (at_key key.DevDependencies))
+  pub dev_text_first : file_of (codes "[project]\nname = 'a'\n[tool.unilock]\nprofile = 'wide'\n[tool.uv]\ndev-dependencies = ['t', 1]\nenvironments = 1\n") ≡ Err (shape (Entry (place.Key key.DevDependencies) 1))
+  pub prerelease_first : file_of (codes "[project]\nname = 'a'\n[tool.unilock]\nprofile = 'wide'\n[tool.uv]\nprerelease = 'never'\nfork-strategy = 1\n") ≡ Err (unsupported (at_key key.Prerelease))
 
 -- ---- supported worlds
 

@@ -15,7 +15,7 @@ use crate::lists::{NamedList, are_names, ordered_lists};
 use crate::path::ArrayPlace;
 use crate::requirements::requirements_at;
 use crate::shapes::{at_key, optional_table_at};
-use crate::{ProjectFault, ProjectKey};
+use crate::{Profile, ProjectFault, ProjectKey};
 use std::alloc::{AllocError, Global};
 use std::collections::BTreeMap;
 use std::marker::Model;
@@ -49,8 +49,13 @@ impl NamedList for Requirements {
 
     ghost list_at = { extra_list_at };
 
-    fn read(alloc: Global, name: &Name, value: &Value) -> Result<Requirements, ProjectFault> {
-        let list = requirements_at(alloc, ArrayPlace::Extra(name), Some(value))?;
+    fn read(
+        alloc: Global,
+        profile: Profile,
+        name: &Name,
+        value: &Value,
+    ) -> Result<Requirements, ProjectFault> {
+        let list = requirements_at(alloc, profile, ArrayPlace::Extra(name), Some(value))?;
         Ok(Requirements { list })
     }
 }
@@ -59,9 +64,10 @@ impl NamedList for Requirements {
 #[tactic(auto, unfolding(crate::specs::Extras::extras_at, crate::specs::Lists::lists_in))]
 pub(crate) fn extras_at(
     alloc: Global,
+    profile: Profile,
     value: Option<&Value>,
 ) -> Result<BTreeMap<Name, Requirements>, ProjectFault>
-    ensures { Gives (λ m. m.entries) result (Extras.extras_at (value_view value.entry)) }
+    ensures { Gives (λ m. m.entries) result (Extras.extras_at profile (value_view value.entry)) }
 {
     let Some(table) = optional_table_at(ProjectKey::OptionalDependencies, value)? else {
         return Ok(BTreeMap::new(alloc));
@@ -72,7 +78,7 @@ pub(crate) fn extras_at(
     if !named? {
         return Err(ProjectFault::Shape(at_key(ProjectKey::OptionalDependencies)));
     }
-    ordered_lists(alloc, ProjectKey::OptionalDependencies, table)
+    ordered_lists(alloc, profile, ProjectKey::OptionalDependencies, table)
 }
 
 // Two markers joined.

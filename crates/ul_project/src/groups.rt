@@ -19,7 +19,7 @@ use crate::lists::{NamedList, are_names, ordered_lists};
 use crate::path::ArrayPlace;
 use crate::requirements::requirement_at;
 use crate::shapes::{at_key, items_at, optional_table_at, value_at};
-use crate::{Group, GroupEntry, ProjectFault, ProjectKey};
+use crate::{Group, GroupEntry, Profile, ProjectFault, ProjectKey};
 use std::alloc::{AllocError, Global};
 use std::collections::BTreeMap;
 use std::marker::Model;
@@ -93,11 +93,12 @@ fn include_at(alloc: Global, group: &Name, entry: u64, table: &Table) -> Result<
 #[tactic(auto, unfolding(crate::specs::GroupLists::group_entry_at))]
 fn group_entry_at(
     alloc: Global,
+    profile: Profile,
     group: &Name,
     entry: u64,
     value: &Value,
 ) -> Result<GroupEntry, ProjectFault>
-    ensures { Gives (λ e. e) result (GroupLists.group_entry_at group.now entry (view value.now)) }
+    ensures { Gives (λ e. e) result (GroupLists.group_entry_at profile group.now entry (view value.now)) }
 {
     match value {
         Value::Table(table) => {
@@ -105,7 +106,13 @@ fn group_entry_at(
             Ok(GroupEntry::Include(name))
         }
         value => {
-            let requirement = requirement_at(alloc, ArrayPlace::Group(group), entry, value)?;
+            let requirement = requirement_at(
+                alloc,
+                profile,
+                ArrayPlace::Group(group),
+                entry,
+                value,
+            )?;
             Ok(GroupEntry::Needs(requirement))
         }
     }
@@ -114,16 +121,17 @@ fn group_entry_at(
 // The entries of a group, of the values of an array.
 fn group_entries(
     alloc: Global,
+    profile: Profile,
     group: &Name,
     items: &[Value],
 ) -> Result<Vec<GroupEntry>, ProjectFault>
     ensures { Gives list_view result
-        (each_from (GroupLists.group_entry_at group.now) 0 (items_list (items_view items.now))) }
+        (each_from (GroupLists.group_entry_at profile group.now) 0 (items_list (items_view items.now))) }
 {
     let mut list = Vec::new(alloc);
     let mut number: u64 = 0;
     for item in items {
-        list = with_read(list, group_entry_at(alloc, group, number, item))?;
+        list = with_read(list, group_entry_at(alloc, profile, group, number, item))?;
         number += 1;
     }
     Ok(list)
@@ -135,22 +143,28 @@ impl NamedList for Entries {
     ghost list_at = { group_entries_at };
 
     #[tactic(auto, unfolding(crate::specs::GroupLists::group_entries_at))]
-    fn read(alloc: Global, name: &Name, value: &Value) -> Result<Entries, ProjectFault> {
+    fn read(
+        alloc: Global,
+        profile: Profile,
+        name: &Name,
+        value: &Value,
+    ) -> Result<Entries, ProjectFault> {
         let items = items_at(alloc, ArrayPlace::Group(name), Some(value))?;
-        let list = group_entries(alloc, name, items)?;
+        let list = group_entries(alloc, profile, name, items)?;
         Ok(Entries { list })
     }
 }
 
 // The lists of the groups, in byte order of their names.
 #[tactic(auto, unfolding(crate::specs::GroupLists::group_lists_at, crate::specs::Lists::lists_in))]
-fn group_lists_at(
+pub(crate) fn group_lists_at(
     alloc: Global,
+    profile: Profile,
     extras: &BTreeMap<Name, Requirements>,
     value: Option<&Value>,
 ) -> Result<BTreeMap<Name, Entries>, ProjectFault>
     ensures { Gives (λ m. m.entries) result
-        (GroupLists.group_lists_at (names_of extras.now.entries) (value_view value.entry)) }
+        (GroupLists.group_lists_at profile (names_of extras.now.entries) (value_view value.entry)) }
 {
     let Some(table) = optional_table_at(ProjectKey::DependencyGroups, value)? else {
         return Ok(BTreeMap::new(alloc));
@@ -158,11 +172,14 @@ fn group_lists_at(
     if !are_names(alloc, extras, table)? {
         return Err(ProjectFault::Shape(at_key(ProjectKey::DependencyGroups)));
     }
-    ordered_lists(alloc, ProjectKey::DependencyGroups, table)
+    ordered_lists(alloc, profile, ProjectKey::DependencyGroups, table)
 }
 
 // Lists as groups.
-fn groups_of(alloc: Global, lists: BTreeMap<Name, Entries>) -> Result<Vec<Group>, AllocError>
+pub(crate) fn groups_of(
+    alloc: Global,
+    lists: BTreeMap<Name, Entries>,
+) -> Result<Vec<Group>, AllocError>
     ensures groups { IfOk result (λ v. v.items ≡ map GroupLists.group_of lists.entries) }
     ensures rises { IfOk result (λ v. IsStrictlySortedBy name_cmp (map (λ g. g.name) v.items)) }
 {
@@ -175,21 +192,5 @@ fn groups_of(alloc: Global, lists: BTreeMap<Name, Entries>) -> Result<Vec<Group>
         };
         groups = with_one(groups, group)?;
     }
-    Ok(groups)
-}
-
-// The groups, in byte order of their names.
-#[tactic(auto, unfolding(crate::specs::GroupLists::groups_at))]
-pub(crate) fn groups_at(
-    alloc: Global,
-    extras: &BTreeMap<Name, Requirements>,
-    value: Option<&Value>,
-) -> Result<Vec<Group>, ProjectFault>
-    ensures groups { Gives list_view result
-        (GroupLists.groups_at (names_of extras.now.entries) (value_view value.entry)) }
-    ensures rises { IfOk result (λ v. IsStrictlySortedBy name_cmp (map (λ g. g.name) v.items)) }
-{
-    let lists = group_lists_at(alloc, extras, value)?;
-    let groups = groups_of(alloc, lists)?;
     Ok(groups)
 }

@@ -1,6 +1,7 @@
 //! The project file: what a `pyproject.toml` says of a project, or the first of its faults.
 #![tactic(auto)]
 
+mod dev;
 mod extras;
 mod fault;
 mod group;
@@ -10,6 +11,7 @@ mod kept;
 pub mod laws;
 mod lists;
 mod path;
+mod profile;
 mod projects;
 mod reading;
 mod region;
@@ -22,5 +24,6 @@ pub use fault::ProjectFault;
 pub use group::{Group, GroupEntry};
 pub use lists::group_extra;
 pub use path::{Place, ProjectKey, ProjectPath};
+pub use profile::Profile;
 pub use projects::Project;
 pub use reading::project;

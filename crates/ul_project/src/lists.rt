@@ -8,9 +8,10 @@ ghost use Rattle.ul_base.specs.Names.{name_of};
 ghost use Rattle.ul_project.specs.Answers.{Gives};
 ghost use Rattle.ul_project.specs.Lists as Lists;
 ghost use Rattle.ul_project.specs.Shapes.{Reading, at_key, shape};
+ghost use Rattle.ul_project.specs.declared.profile.Profile.{Profile};
 
 use crate::shapes::at_key;
-use crate::{ProjectFault, ProjectKey};
+use crate::{Profile, ProjectFault, ProjectKey};
 use std::alloc::{AllocError, Global};
 use std::collections::{BTreeMap, BTreeSet};
 use toml::{Table, Value};
@@ -39,7 +40,7 @@ fn has_list<L: Drop>(lists: &BTreeMap<Name, L>, name: &Name) -> bool
 }
 
 // Whether the extra that a group becomes is there.
-fn is_taken<L: Drop>(
+pub(crate) fn is_taken<L: Drop>(
     alloc: Global,
     extras: &BTreeMap<Name, L>,
     group: &Name,
@@ -104,26 +105,32 @@ pub(crate) fn are_names<L: Drop>(
 
 /// A list that stands under a name.
 pub(crate) trait NamedList: Drop + Sized {
-    /// What the value at a key is read as, under the name of the key.
-    ghost list_at: { List ℕ → Option Data → Reading Self };
+    /// What a profile reads the value at a key as, under the name of the key.
+    ghost list_at: { Profile → List ℕ → Option Data → Reading Self };
 
     /// The list of a value.
-    fn read(alloc: Global, name: &Name, value: &Value) -> Result<Self, ProjectFault>
-        ensures { Gives (λ l. l) result (list_at name.now (Some (view value.now))) };
+    fn read(
+        alloc: Global,
+        profile: Profile,
+        name: &Name,
+        value: &Value,
+    ) -> Result<Self, ProjectFault>
+        ensures { Gives (λ l. l) result (list_at profile name.now (Some (view value.now))) };
 }
 
 // The name of a key, and the list there.
 fn list_at<L: NamedList>(
     alloc: Global,
+    profile: Profile,
     place: ProjectKey,
     key: &str,
     value: &Value,
 ) -> Result<(Name, L), ProjectFault>
-    ensures { Gives (λ p. p) result (Lists.list_at (shape (at_key place)) L.list_at key.now (view value.now)) }
+    ensures { Gives (λ p. p) result (Lists.list_at (shape (at_key place)) (L.list_at profile) key.now (view value.now)) }
 {
     match key_name(alloc, key)? {
         Some(name) => {
-            let list = L::read(alloc, &name, value)?;
+            let list = L::read(alloc, profile, &name, value)?;
             Ok((name, list))
         }
         None => Err(ProjectFault::Shape(at_key(place))),
@@ -133,15 +140,16 @@ fn list_at<L: NamedList>(
 // The lists of a table, in byte order of their names.
 pub(crate) fn ordered_lists<L: NamedList>(
     alloc: Global,
+    profile: Profile,
     place: ProjectKey,
     table: &Table,
 ) -> Result<BTreeMap<Name, L>, ProjectFault>
     ensures { Gives (λ m. m.entries) result
-        (Lists.ordered_lists (shape (at_key place)) L.list_at (table_view table.now)) }
+        (Lists.ordered_lists (shape (at_key place)) (L.list_at profile) (table_view table.now)) }
 {
     let mut lists = BTreeMap::new(alloc);
     for (key, value) in table.iter() {
-        let (name, list) = list_at(alloc, place, key.as_str(), value)?;
+        let (name, list) = list_at(alloc, profile, place, key.as_str(), value)?;
         drop(lists.insert(name, list)?);
     }
     Ok(lists)

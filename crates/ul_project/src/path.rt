@@ -30,6 +30,10 @@ pub enum ProjectKey {
     Tool,
     /// `tool.uv`
     Uv,
+    /// `tool.unilock`
+    Unilock,
+    /// `tool.unilock.profile`
+    Profile,
     /// `tool.uv.sources`
     Sources,
     /// `tool.uv.conflicts`
@@ -102,6 +106,8 @@ impl ProjectKey {
             ProjectKey::DependencyGroups => "dependency-groups",
             ProjectKey::Tool => "tool",
             ProjectKey::Uv => "tool.uv",
+            ProjectKey::Unilock => "tool.unilock",
+            ProjectKey::Profile => "tool.unilock.profile",
             ProjectKey::Sources => "tool.uv.sources",
             ProjectKey::Conflicts => "tool.uv.conflicts",
             ProjectKey::Index => "tool.uv.index",

@@ -4,7 +4,7 @@ use crate::Group;
 use std::marker::Model;
 use ul_base::Name;
 use ul_marker::Marker;
-use ul_requirement::{Mode, Package, Requirement, Strategy};
+use ul_requirement::{Mode, Package, Prereleases, Requirement, Strategy};
 use ul_tree::Tree;
 
 /// A project, as its file says.
@@ -25,6 +25,8 @@ pub struct Project {
     /// The worlds that the project supports.
     pub region: Tree,
     pub mode: Mode,
+    /// Which pre-releases of its dependencies count.
+    pub prereleases: Prereleases,
     pub strategy: Strategy,
     pub groups: Vec<Group>,
     /// The requirements of `tool.uv.constraint-dependencies`.
@@ -46,7 +48,7 @@ impl Model for Project {
 
     ghost coded = { Prim.hlevel (codes, formula_code, plain_code) };
 
-    ghost view = { λ p. record { «package» = p.package; extras = p.extras.items; sizes = p.sizes.items; environments = map marker_view p.environments.items; region = tree_view p.region; mode = p.mode; strategy = p.strategy; groups = p.groups.items; constraints = p.constraints.items; overrides = p.overrides.items } };
+    ghost view = { λ p. record { «package» = p.package; extras = p.extras.items; sizes = p.sizes.items; environments = map marker_view p.environments.items; region = tree_view p.region; mode = p.mode; prereleases = p.prereleases; strategy = p.strategy; groups = p.groups.items; constraints = p.constraints.items; overrides = p.overrides.items } };
 
-    ghost invariant = { λ p. IsProject (record { «package» = p.package; extras = p.extras.items; sizes = p.sizes.items; environments = map marker_view p.environments.items; region = tree_view p.region; mode = p.mode; strategy = p.strategy; groups = p.groups.items; constraints = p.constraints.items; overrides = p.overrides.items }) };
+    ghost invariant = { λ p. IsProject (record { «package» = p.package; extras = p.extras.items; sizes = p.sizes.items; environments = map marker_view p.environments.items; region = tree_view p.region; mode = p.mode; prereleases = p.prereleases; strategy = p.strategy; groups = p.groups.items; constraints = p.constraints.items; overrides = p.overrides.items }) };
 }

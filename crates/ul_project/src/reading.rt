@@ -1,26 +1,26 @@
 //! Reading project files.
 
-ghost use Rattle.std.specs.List.Sorted.{IsStrictlySortedBy};
-ghost use Rattle.std.specs.Prelude.{◌≡◌, IfOk, false, map};
+ghost use Rattle.std.specs.Prelude.{◌≡◌, IfOk, false};
 ghost use Rattle.toml.specs.View.{table_view};
 ghost use Rattle.ul_nodes.specs.Plain.{truth};
 ghost use Rattle.ul_tree.specs.Regions.{HasTruth, IsRegionTree};
 ghost use Rattle.ul_tree.specs.Views.{tree_view};
-ghost use Rattle.ul_base.specs.Names.{name_cmp};
 ghost use Rattle.ul_project.specs.Answers.{Gives, IsAnswerOf, required_view};
 ghost use Rattle.ul_project.specs.Headline.{IsAnswer, supported_by};
 ghost use Rattle.ul_project.specs.ProjectFile as ProjectFile;
 
+use crate::dev::groups_with;
 use crate::extras::{Requirements, extras_at, with_extras};
-use crate::groups::groups_at;
+use crate::groups::{Entries, group_lists_at};
 use crate::head::{Head, head_in};
 use crate::kept::read_beside;
 use crate::path::ArrayPlace;
+use crate::profile::profile_of;
 use crate::region::region;
 use crate::requirements::requirements_at;
 use crate::settings::{Settings, settings_in};
 use crate::shapes::{document, table_at, value_at};
-use crate::{Group, Project, ProjectFault, ProjectKey};
+use crate::{Group, Profile, Project, ProjectFault, ProjectKey};
 use std::alloc::{AllocError, Global};
 use std::collections::BTreeMap;
 use std::marker::Model;
@@ -29,7 +29,7 @@ use ul_base::Name;
 use ul_base::owned::{beside, with_one};
 use ul_marker::Marker;
 use ul_ranges::SharedList;
-use ul_requirement::{Package, Release, Requirement};
+use ul_requirement::{Package, Prereleases, Release, Requirement};
 use ul_specifier::Specifiers;
 use ul_tree::Tree;
 use ul_tree::part::is_false;
@@ -61,26 +61,31 @@ impl Model for File {
     ghost invariant = { λ f. IsFile f.extras.items (map (λ g. g.name) f.groups.items) };
 }
 
-/// What a file requires: its requirements, the lists of its extras, and its groups.
+/// What a file requires: its requirements, the lists of its extras, and those of its groups.
 #[derive(Drop)]
 struct Required {
     requirements: Vec<Requirement>,
     extras: BTreeMap<Name, Requirements>,
-    groups: Vec<Group>,
+    groups: BTreeMap<Name, Entries>,
 }
 
 // What a document and its table `project` require.
 #[tactic(auto, unfolding(crate::specs::ProjectFile::required_in))]
-fn required_in(alloc: Global, document: &Table, project: &Table) -> Result<Required, ProjectFault>
-    ensures required { Gives required_view result
-        (ProjectFile.required_in (table_view document.now) (table_view project.now)) }
-    ensures rises { IfOk result (λ r. IsStrictlySortedBy name_cmp (map (λ g. g.name) r.groups.items)) }
+fn required_in(
+    alloc: Global,
+    profile: Profile,
+    document: &Table,
+    project: &Table,
+) -> Result<Required, ProjectFault>
+    ensures { Gives required_view result
+        (ProjectFile.required_in profile (table_view document.now) (table_view project.now)) }
 {
     let place = ArrayPlace::Key(ProjectKey::Dependencies);
-    let requirements = requirements_at(alloc, place, value_at(project, "dependencies"))?;
-    let extras = extras_at(alloc, value_at(project, "optional-dependencies"));
+    let requirements = requirements_at(alloc, profile, place, value_at(project, "dependencies"))?;
+    let extras = extras_at(alloc, profile, value_at(project, "optional-dependencies"));
     let (requirements, extras) = read_beside(requirements, extras)?;
-    let groups = groups_at(alloc, &extras, value_at(document, "dependency-groups"));
+    let listed = value_at(document, "dependency-groups");
+    let groups = group_lists_at(alloc, profile, &extras, listed);
     let (kept, groups) = read_beside((requirements, extras), groups)?;
     let (requirements, extras) = kept;
     Ok(Required {
@@ -95,16 +100,19 @@ fn file_with(
     alloc: Global,
     head: Head,
     required: Required,
+    dev: Vec<Requirement>,
     settings: Settings,
 ) -> Result<File, AllocError>
-    requires { IsStrictlySortedBy name_cmp (map (λ g. g.name) required.groups.items) }
-    ensures { IfOk result (λ f. f ≡ ProjectFile.file_with head (required_view required) settings) }
+    ensures { IfOk result (λ f. f ≡ ProjectFile.file_with head (required_view required) (dev.items, settings)) }
 {
     let Required {
         requirements,
         extras,
         groups,
     } = required;
+    let groups = groups_with(alloc, groups, dev);
+    let (lists, groups) = beside((head, settings, requirements, extras), groups)?;
+    let (head, settings, requirements, extras) = lists;
     let listed = with_extras(alloc, requirements, extras);
     let (kept, listed) = beside((head, groups, settings), listed)?;
     let (head, groups, settings) = kept;
@@ -126,12 +134,15 @@ fn file_in(alloc: Global, document: &Table) -> Result<File, ProjectFault>
 {
     let project = table_at(ProjectKey::Project, value_at(document, "project"))?;
     let head = head_in(alloc, project)?;
-    let required = required_in(alloc, document, project);
+    let profile = profile_of(document);
+    let required = required_in(alloc, profile, document, project);
     let (head, required) = read_beside(head, required)?;
-    let settings = settings_in(alloc, document);
-    let (kept, settings) = read_beside((head, required), settings)?;
+    let extras: &BTreeMap<Name, Requirements> = &required.extras;
+    let asked = settings_in(alloc, profile, extras, document);
+    let (kept, asked) = read_beside((head, required), asked)?;
     let (head, required) = kept;
-    let file = file_with(alloc, head, required, settings)?;
+    let (dev, settings) = asked;
+    let file = file_with(alloc, head, required, dev, settings)?;
     Ok(file)
 }
 
@@ -171,6 +182,7 @@ fn package_of(
     Ok(Package {
         name,
         entries: 1,
+        prereleases: Prereleases::Allow,
         releases,
     })
 }
@@ -198,6 +210,7 @@ fn project_with(alloc: Global, region: Tree, file: File) -> Result<Project, Allo
         overrides,
         environments,
         mode,
+        prereleases,
         strategy,
     } = settings;
     Ok(Project {
@@ -207,6 +220,7 @@ fn project_with(alloc: Global, region: Tree, file: File) -> Result<Project, Allo
         environments,
         region,
         mode,
+        prereleases,
         strategy,
         groups,
         constraints,
@@ -243,7 +257,7 @@ fn project_of(alloc: Global, file: File) -> Result<Project, ProjectFault>
 ///
 /// The checks are made in this order, and the first that fails answers; other keys and tables are passed over. An
 /// absent key passes unless said otherwise. Places count from 0, and extras and groups stand in paths under their
-/// normal forms.
+/// normal forms. The profile is `wide` where `tool.unilock.profile` is that text, else `strict`.
 ///
 /// 1. `NotToml` comes exactly where `toml` doesn't read the bytes.
 /// 2. `project` is a table and `project.name` a name, and both are there; `project.version` is a version, and `0`
@@ -251,16 +265,18 @@ fn project_of(alloc: Global, file: File) -> Result<Project, ProjectFault>
 /// 3. `project.dynamic` is an array of texts; with `dependencies`, `optional-dependencies` or `requires-python` among
 ///    them it is `Unsupported`.
 /// 4. `project.requires-python` is a specifier.
-/// 5. `project.dependencies` is an array. Each entry, in order, is a text, else `Shape`; not a requirement by a URL,
-///    else `Unsupported`; and a requirement (PEP 508), else `Requirement`.
+/// 5. `project.dependencies` is an array. Each entry, in order, is a text, else `Shape`; under `strict` not a
+///    requirement by a URL, else `Unsupported`; and a requirement (PEP 508), else `Requirement`. One by a URL asks for
+///    any version of its name.
 /// 6. `project.optional-dependencies` is a table. Its keys are names of which no two have one normal form; its lists
 ///    follow, in byte order of the keys, each as in 5.
 /// 7. `dependency-groups` is a table. Its keys are names of which no two have one normal form, and `group-NAME` is no
 ///    extra of the project; its lists follow, in byte order of the keys. Each is an array, and each entry a
 ///    requirement as in 5, or a table with the one key `include-group`, whose text is a name.
-/// 8. `tool` and `tool.uv` are tables.
-/// 9. The keys of uv that aren't supported say nothing. Constraints and overrides are lists as in 5, without extras
-///    and without markers that ask for one, else `Unsupported`.
+/// 8. `tool`, `tool.uv` and `tool.unilock` are tables, and `tool.unilock.profile` is `strict` or `wide`.
+/// 9. The keys of uv that the profile doesn't support say nothing. Constraints and overrides are lists as in 5, without
+///    extras and without markers that ask for one, else `Unsupported`. Under `wide`, `tool.uv.dev-dependencies` is a list
+///    as in 5; where it has entries, `group-dev` is no extra of the project, and they follow those of the group `dev`.
 /// 10. `tool.uv.environments` is a marker or an array of markers; the empty array asks for nothing.
 /// 11. `tool.uv.resolution`, `tool.uv.prerelease` and `tool.uv.fork-strategy` are words that are known.
 /// 12. `EmptyRegion` comes exactly where all this passes and no world is supported: none whose interpreter meets

@@ -4,25 +4,31 @@ ghost use Rattle.std.specs.Prelude.{◌≡◌, ◌∷◌, [], IfErr, IfOk, map};
 ghost use Rattle.toml.specs.View.{items_view, table_view, view};
 ghost use Rattle.ul_comparison.specs.Formulas.{AreFormulas, IsFormula};
 ghost use Rattle.ul_marker.specs.Views.{marker_view, markers_view};
-ghost use Rattle.ul_project.specs.Answers.{Gives, formulas_view, members_view, value_view};
+ghost use Rattle.ul_project.specs.Answers.{Gives, asked_view, formulas_view, listed_view, members_view, value_view};
+ghost use Rattle.ul_project.specs.Lists.{names_of};
 ghost use Rattle.ul_project.specs.Results.{each_from};
 ghost use Rattle.ul_project.specs.Settings as spec;
 ghost use Rattle.ul_project.specs.Shapes.{at_key};
 ghost use Rattle.ul_project.specs.Toml.{items_list};
 
+use crate::dev::dev_dependencies_in;
+use crate::extras::Requirements;
 use crate::kept::{read_beside, with_read};
 use crate::path::ArrayPlace;
+use crate::profile::profile_at;
 use crate::requirements::bounds_at;
 use crate::shapes::{
     at_key, entry_text, items_at, optional_table_at, says_nothing, text_or, value_at, value_in,
 };
-use crate::{Place, ProjectFault, ProjectKey, ProjectPath};
+use crate::{Place, Profile, ProjectFault, ProjectKey, ProjectPath};
 use std::alloc::Global;
+use std::collections::BTreeMap;
 use std::marker::Model;
 use toml::{Table, Value};
+use ul_base::Name;
 use ul_base::owned::with_one;
 use ul_marker::{Marker, MarkerFault};
-use ul_requirement::{Mode, Requirement, Strategy};
+use ul_requirement::{Mode, Prereleases, Requirement, Strategy};
 
 /// What is asked of the resolver.
 #[derive(Drop)]
@@ -31,6 +37,7 @@ pub(crate) struct Settings {
     pub(crate) overrides: Vec<Requirement>,
     pub(crate) environments: Vec<Marker>,
     pub(crate) mode: Mode,
+    pub(crate) prereleases: Prereleases,
     pub(crate) strategy: Strategy,
 }
 
@@ -46,18 +53,20 @@ impl Model for Settings {
 
     ghost coded = { Prim.hlevel (codes, formula_code) };
 
-    ghost view = { λ s. record { constraints = s.constraints.items; overrides = s.overrides.items; environments = map marker_view s.environments.items; mode = s.mode; strategy = s.strategy } };
+    ghost view = { λ s. record { constraints = s.constraints.items; overrides = s.overrides.items; environments = map marker_view s.environments.items; mode = s.mode; prereleases = s.prereleases; strategy = s.strategy } };
 
     ghost invariant = { λ s. AreFormulas (markers_view s.environments.items) };
 }
 
-// The table `tool.uv` of a document, where there is one.
+// The table `tool.uv` of a document, where there is one; `tool.unilock` is looked at behind it.
 #[tactic(auto, unfolding(crate::specs::Settings::uv_at))]
 fn uv_at(document: &Table) -> Result<Option<&Table>, ProjectFault>
     ensures { Gives members_view result (spec.uv_at (table_view document.now)) }
 {
     let tool = optional_table_at(ProjectKey::Tool, value_at(document, "tool"))?;
-    optional_table_at(ProjectKey::Uv, value_in(tool, "uv"))
+    let uv = optional_table_at(ProjectKey::Uv, value_in(tool, "uv"))?;
+    profile_at(tool)?;
+    Ok(uv)
 }
 
 // The key says nothing.
@@ -71,13 +80,14 @@ fn silent_at(key: ProjectKey, value: Option<&Value>) -> Result<(), ProjectFault>
     }
 }
 
-// None of the keys that aren't supported says anything.
-#[tactic(auto, unfolding(crate::specs::Settings::all_silent))]
-fn all_silent(uv: Option<&Table>) -> Result<(), ProjectFault>
-    ensures { Gives (λ _. tt) result (spec.all_silent (members_view uv.entry)) }
+// None of the keys that only the profile `strict` doesn't support says anything, where it is that.
+#[tactic(auto, unfolding(crate::specs::Settings::strictly_silent))]
+fn strictly_silent(profile: Profile, uv: Option<&Table>) -> Result<(), ProjectFault>
+    ensures { Gives (λ _. tt) result (spec.strictly_silent profile (members_view uv.entry)) }
 {
-    silent_at(ProjectKey::Sources, value_in(uv, "sources"))?;
-    silent_at(ProjectKey::Conflicts, value_in(uv, "conflicts"))?;
+    if matches!(profile, Profile::Wide) {
+        return Ok(());
+    }
     silent_at(ProjectKey::Index, value_in(uv, "index"))?;
     silent_at(ProjectKey::ExtraIndexUrl, value_in(uv, "extra-index-url"))?;
     silent_at(ProjectKey::FindLinks, value_in(uv, "find-links"))?;
@@ -86,6 +96,40 @@ fn all_silent(uv: Option<&Table>) -> Result<(), ProjectFault>
         ProjectKey::DevDependencies,
         value_in(uv, "dev-dependencies"),
     )
+}
+
+// None of the keys that aren't supported says anything.
+#[tactic(auto, unfolding(crate::specs::Settings::all_silent))]
+fn all_silent(profile: Profile, uv: Option<&Table>) -> Result<(), ProjectFault>
+    ensures { Gives (λ _. tt) result (spec.all_silent profile (members_view uv.entry)) }
+{
+    silent_at(ProjectKey::Sources, value_in(uv, "sources"))?;
+    silent_at(ProjectKey::Conflicts, value_in(uv, "conflicts"))?;
+    strictly_silent(profile, uv)
+}
+
+// The constraints, the overrides, and the requirements of the group `dev`.
+#[tactic(auto, unfolding(crate::specs::Settings::listed_in))]
+fn listed_in(
+    alloc: Global,
+    profile: Profile,
+    extras: &BTreeMap<Name, Requirements>,
+    uv: Option<&Table>,
+) -> Result<(Vec<Requirement>, Vec<Requirement>, Vec<Requirement>), ProjectFault>
+    ensures { Gives listed_view result
+        (spec.listed_in profile (names_of extras.now.entries) (members_view uv.entry)) }
+{
+    let place = ArrayPlace::Key(ProjectKey::ConstraintDependencies);
+    let value = value_in(uv, "constraint-dependencies");
+    let constraints = bounds_at(alloc, profile, place, value)?;
+    let place = ArrayPlace::Key(ProjectKey::OverrideDependencies);
+    let value = value_in(uv, "override-dependencies");
+    let overrides = bounds_at(alloc, profile, place, value);
+    let (constraints, overrides) = read_beside(constraints, overrides)?;
+    let dev = dev_dependencies_in(alloc, profile, extras, uv);
+    let (bounds, dev) = read_beside((constraints, overrides), dev)?;
+    let (constraints, overrides) = bounds;
+    Ok((constraints, overrides, dev))
 }
 
 // The marker that a text at a key is.
@@ -198,14 +242,47 @@ fn mode_at(value: Option<&Value>) -> Result<Mode, ProjectFault>
     }
 }
 
+// The pre-releases that count, by their word.
+fn wide_prereleases(word: &str) -> Option<Prereleases>
+    ensures { result ≡ spec.wide_prereleases word.now }
+{
+    match word {
+        "disallow" => Some(Prereleases::Disallow),
+        "allow" => Some(Prereleases::Allow),
+        "if-necessary" => Some(Prereleases::IfNecessary),
+        "explicit" => Some(Prereleases::Explicit),
+        "if-necessary-or-explicit" => Some(Prereleases::IfNecessaryOrExplicit),
+        _ => None,
+    }
+}
+
+// The pre-releases that count by a word that a profile knows.
+fn prereleases_of(profile: Profile, word: &str) -> Option<Prereleases>
+    ensures { result ≡ spec.prereleases_of profile word.now }
+{
+    match profile {
+        Profile::Strict => {
+            if word == "if-necessary-or-explicit" {
+                Some(Prereleases::IfNecessaryOrExplicit)
+            } else {
+                None
+            }
+        }
+        Profile::Wide => wide_prereleases(word),
+    }
+}
+
 // Which pre-releases count.
-#[tactic(auto, unfolding(crate::specs::Settings::prerelease_at))]
-fn prerelease_at(value: Option<&Value>) -> Result<(), ProjectFault>
-    ensures { Gives (λ _. tt) result (spec.prerelease_at (value_view value.entry)) }
+#[tactic(auto, unfolding(crate::specs::Settings::prereleases_at))]
+fn prereleases_at(profile: Profile, value: Option<&Value>) -> Result<Prereleases, ProjectFault>
+    ensures { Gives (λ p. p) result (spec.prereleases_at profile (value_view value.entry)) }
 {
     match value {
-        None => Ok(()),
-        Some(Value::String(word)) if word.as_str() == "if-necessary-or-explicit" => Ok(()),
+        None => Ok(Prereleases::IfNecessaryOrExplicit),
+        Some(Value::String(word)) => match prereleases_of(profile, word.as_str()) {
+            Some(prereleases) => Ok(prereleases),
+            None => Err(ProjectFault::Unsupported(at_key(ProjectKey::Prerelease))),
+        },
         Some(_) => Err(ProjectFault::Unsupported(at_key(ProjectKey::Prerelease))),
     }
 }
@@ -237,39 +314,46 @@ fn strategy_at(value: Option<&Value>) -> Result<Strategy, ProjectFault>
     }
 }
 
-// Which versions are tried first, and when a region is split.
+// Which versions are tried first, which pre-releases count, and when a region is split.
 #[tactic(auto, unfolding(crate::specs::Settings::choices_in))]
-fn choices_in(uv: Option<&Table>) -> Result<(Mode, Strategy), ProjectFault>
-    ensures { Gives (λ c. c) result (spec.choices_in (members_view uv.entry)) }
+fn choices_in(
+    profile: Profile,
+    uv: Option<&Table>,
+) -> Result<(Mode, Prereleases, Strategy), ProjectFault>
+    ensures { Gives (λ c. c) result (spec.choices_in profile (members_view uv.entry)) }
 {
     let mode = mode_at(value_in(uv, "resolution"))?;
-    prerelease_at(value_in(uv, "prerelease"))?;
+    let prereleases = prereleases_at(profile, value_in(uv, "prerelease"))?;
     let strategy = strategy_at(value_in(uv, "fork-strategy"))?;
-    Ok((mode, strategy))
+    Ok((mode, prereleases, strategy))
 }
 
-// What a file asks of the resolver, in the order of the checks.
+// The requirements of the group `dev`, and what a file asks of the resolver, in the order of the checks.
 #[tactic(auto, unfolding(crate::specs::Settings::settings_in))]
-pub(crate) fn settings_in(alloc: Global, document: &Table) -> Result<Settings, ProjectFault>
-    ensures { Gives (λ s. s) result (spec.settings_in (table_view document.now)) }
+pub(crate) fn settings_in(
+    alloc: Global,
+    profile: Profile,
+    extras: &BTreeMap<Name, Requirements>,
+    document: &Table,
+) -> Result<(Vec<Requirement>, Settings), ProjectFault>
+    ensures { Gives asked_view result
+        (spec.settings_in profile (names_of extras.now.entries) (table_view document.now)) }
 {
     let uv = uv_at(document)?;
-    all_silent(uv)?;
-    let place = ArrayPlace::Key(ProjectKey::ConstraintDependencies);
-    let constraints = bounds_at(alloc, place, value_in(uv, "constraint-dependencies"))?;
-    let place = ArrayPlace::Key(ProjectKey::OverrideDependencies);
-    let overrides = bounds_at(alloc, place, value_in(uv, "override-dependencies"));
-    let (constraints, overrides) = read_beside(constraints, overrides)?;
+    all_silent(profile, uv)?;
+    let listed = listed_in(alloc, profile, extras, uv)?;
     let environments = environments_at(alloc, value_in(uv, "environments"));
-    let (bounds, environments) = read_beside((constraints, overrides), environments)?;
-    let (lists, choices) = read_beside((bounds, environments), choices_in(uv))?;
-    let ((constraints, overrides), environments) = lists;
-    let (mode, strategy) = choices;
-    Ok(Settings {
+    let (listed, environments) = read_beside(listed, environments)?;
+    let (kept, choices) = read_beside((listed, environments), choices_in(profile, uv))?;
+    let ((constraints, overrides, dev), environments) = kept;
+    let (mode, prereleases, strategy) = choices;
+    let settings = Settings {
         constraints,
         overrides,
         environments,
         mode,
+        prereleases,
         strategy,
-    })
+    };
+    Ok((dev, settings))
 }

@@ -6,3 +6,5 @@ mod OfRepeated
 mod OfEndings
 mod OfExports
 mod OfRegions
+mod OfRelocks
+mod OfMarkers

@@ -1,7 +1,7 @@
 -- What is asked and answered, by the status.
-use Rattle.std.proofs.Common.{◌≡◌, ℕ, List, Bool, true, false, cond, Option, Some, None, Result, Ok, Err, refl, sym, subst, inl, inr}
+use Rattle.std.proofs.Common.{◌≡◌, ◌∙◌, ℕ, List, Bool, true, false, true≢false, cond, nat_eq, eq-eqb, Option, Some, None, Result, Ok, Err, refl, sym, ap, subst, inl, inr}
 use Rattle.std.specs.Prelude.{codes, length, nat_le}
-use Rattle.ul_base.specs.Files.{FileMap}
+use Rattle.ul_files.specs.Files.{FileMap}
 use Rattle.ul_tree.specs.Paths.{is_printable}
 use Rattle.ul_nodes.specs.Plain.{Plain}
 use Rattle.ul_inputs.specs.Inputs.{GoesOn, Said, said_on, text_bytes}
@@ -44,6 +44,13 @@ no_zero (limit name number) s = absurd (cc)
 pub no_one : (e : Refused) → 1 ≡ (refused_output e).0 → ⊥
 no_one (malformed file place) s = absurd (cc)
 no_one (limit name number) s = absurd (cc)
+
+-- an answer that has one status isn't an answer with another
+pub other_status : (k n : ℕ) (a b : Result answers.Answer Refused) → nat_eq k n ≡ false → (printed b).0 ≡ n
+    → k ≡ (printed a).0 → a ≡ b → ⊥
+other_status k n a b differ is status same =
+    let both : k ≡ n = status ∙ (ap (λ (x : Result answers.Answer Refused). (printed x).0) same ∙ is) in
+    true≢false (sym (eq-eqb k n both) ∙ differ)
 
 -- with status 0 no input was refused
 pub on_zero : {A : Type 0} (first : Said A) (next : A → Said answers.Answer) (a : Result answers.Answer Refused)

@@ -1,7 +1,6 @@
 -- How `lock` and `why` end where their inputs are read.
-use Rattle.std.proofs.Common.{◌≡◌, ◌≢◌, ◌∙◌, ◌⊎◌, ℕ, List, Bool, true, false, cond, Option, Some, None, Result, Ok, refl, sym, ap, subst, inl, inr}
+use Rattle.std.proofs.Common.{◌≡◌, ◌∙◌, ◌⊎◌, ℕ, List, Bool, true, false, cond, Option, Some, None, Result, refl, sym, ap, subst, inl, inr}
 use Rattle.std.specs.Prelude.{codes, length, nat_le}
-use Rattle.ul_base.specs.Files.{FileMap}
 use Rattle.ul_requirement.specs.declared.wish.Strategy.TheVariants.{Deep}
 use Rattle.ul_nodes.specs.Plain.{Plain}
 use Rattle.ul_tree.specs.Paths.{is_printable}
@@ -12,7 +11,7 @@ use Rattle.ul_lock_write.specs.Markers.{first_over, markers_of}
 use Rattle.ul_lock_write.specs.Texts.{lock_text}
 use Rattle.ul_inputs.specs.Inputs.{text_bytes}
 use Rattle.ul_inputs.specs.Refused.{Refused, limit}
-use Rattle.ul_inputs.specs.Resolutions.{IsResolution, ResolutionFields, resolution_in}
+use Rattle.ul_inputs.specs.Resolutions.{IsResolution, ResolutionFields}
 use Rattle.ul_given.specs.Given.{GivenIsResolution}
 use Rattle.ul_answers.specs.Answer as answers
 use Rattle.ul_answers.specs.Printed.{Output, lock_output, output_of, printed, refusal_output, refused_output}
@@ -22,8 +21,6 @@ use Rattle.ul_commands.specs.Locking.{LocksFor, RefusedWhere, answer_where}
 use Rattle.ul_commands.specs.Questions.{IsForked, question_of, too_many_forks}
 use Rattle.ul_commands.specs.Reasons.{DerivedWhere, GivesReason}
 use Rattle.ul_command_laws.specs.Complete.{InputsAreAnswered}
-use Rattle.ul_program.specs.Answer.{IsAnswer}
-use Rattle.ul_program.specs.Words.{question}
 use Rattle.ul_promises.specs.Endings.{DeepRefusesNoFork, EndsByOne, IsServedEverywhere, LocksEnd, ReasonsEnd, limit_line}
 use Rattle.ul_promises.proofs.OfAnswers.{asked_answer, no_one}
 use Rattle.ul_promises.proofs.OfLocks.{lock_not_one}

@@ -1,6 +1,6 @@
 -- What `export` prints.
-use Rattle.std.proofs.Common.{◌≡◌, ◌∙◌, ℕ, List, Option, Some, None, Result, Ok, sym, ap, subst}
-use Rattle.ul_base.specs.Files.{FileMap}
+use Rattle.std.proofs.Common.{◌≡◌, ◌∙◌, ℕ, List, Option, Some, None, Result, Ok, ap, subst, refl}
+use Rattle.ul_files.specs.Files.{FileMap}
 use Rattle.ul_lock.specs.declared.parts.Lock.{Lock}
 use Rattle.ul_lock_write.specs.Markers.{first_over}
 use Rattle.ul_reach.specs.Lines.{row_markers, rows_text}
@@ -17,7 +17,7 @@ use Rattle.ul_commands.specs.Commands.{command}
 use Rattle.ul_command_laws.specs.Complete.{LocksWithinLimits}
 use Rattle.ul_command_laws.specs.Exports.{ExportsOfFiles, ExportsOfVerifiedFiles}
 use Rattle.ul_promises.specs.Exports.{ExportsAreRight, VerifiedExportsAreRight}
-use Rattle.ul_promises.proofs.OfAnswers.{asked_answer, on_zero, written_is}
+use Rattle.ul_promises.proofs.OfAnswers.{asked_answer, on_zero, other_status, written_is}
 use Rattle.ul_promises.proofs.OfFiles.{accepted_file}
 use Rattle.ul_promises.proofs.OfLocks.{printed_lock}
 
@@ -36,7 +36,7 @@ for_words l words None a text h status e =
     let rows = h.rows in
     let zero = status ∙ ap (λ (b : Found). (printed b).0) h.is in
     record { rows = rows; is = h.is; same = e ∙ (ap (λ (b : Found). (printed b).1) h.is ∙ written_is (first_over (row_markers rows)) (rows_text rows) zero) }
-for_words l words (Some word) a text h status e = let bad : 0 ≡ 8 = status ∙ ap (λ (b : Found). (printed b).0) h in absurd (cc)
+for_words l words (Some word) a text h status e = absurd (other_status 0 8 a _ refl refl status h)
 
 printed_rows : (path : List ℕ) (words : List (List ℕ)) (m : FileMap) (a : Found) (text : List ℕ)
     → (command (export path words) m).gives a → 0 ≡ (printed a).0 → text ≡ (printed a).1 → PrintsRows a text

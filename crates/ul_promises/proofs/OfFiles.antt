@@ -1,6 +1,6 @@
 -- What `verify` accepts, and what `env` prints of lock files.
 use Rattle.std.proofs.Common.{◌≡◌, ◌∙◌, ℕ, List, [], Bool, true, false, Option, Some, None, Result, Ok, refl, ap, sym, subst, inl, inr}
-use Rattle.ul_base.specs.Files.{FileMap}
+use Rattle.ul_files.specs.Files.{FileMap}
 use Rattle.ul_comparison.specs.Machines.{MachineFields, world_of}
 use Rattle.ul_project.specs.Fields.{ProjectFields}
 use Rattle.ul_lock.specs.declared.parts.Lock.{Lock}
@@ -27,7 +27,7 @@ use Rattle.ul_command_laws.specs.Reasons.{AcceptedAreUnserved}
 use Rattle.ul_command_laws.specs.Statuses.{EndsRightly, StatusesOfFiles, StatusesOfVerifiedFiles}
 use Rattle.ul_command_laws.specs.Verified.{EnvironmentsOfVerifiedFiles, VerifiedFilesAreSound}
 use Rattle.ul_promises.specs.Promises.{AcceptedAreRight, EnvironmentsAreRight, VerifiedAreRight, VerifiedEnvironmentsAreRight}
-use Rattle.ul_promises.proofs.OfAnswers.{asked_answer, on_zero}
+use Rattle.ul_promises.proofs.OfAnswers.{asked_answer, on_zero, other_status}
 use Rattle.ul_promises.proofs.OfLocks.{printed_lock}
 
 -- ---- `env`
@@ -41,11 +41,11 @@ record PrintsEnvironment (a : Result answers.Answer Refused) (text : List ℕ) :
 for_words : (l : Lock) (x : MachineFields) (words : List (List ℕ)) (other : Option (List ℕ)) (a : Result answers.Answer Refused) (text : List ℕ)
     → GivesFor l x words other a → 0 ≡ (printed a).0 → text ≡ (printed a).1 → PrintsEnvironment a text
 for_words l x words None a text h status e = record { lines = h.text; is = h.is; same = e ∙ ap (λ b. (printed b).1) h.is }
-for_words l x words (Some word) a text h status e = let bad : 0 ≡ 8 = status ∙ ap (λ (b : Result answers.Answer Refused). (printed b).0) h in absurd (cc)
+for_words l x words (Some word) a text h status e = absurd (other_status 0 8 a _ refl refl status h)
 
 for_machine : (supported : Bool) (l : Lock) (x : MachineFields) (words : List (List ℕ)) (a : Result answers.Answer Refused) (text : List ℕ)
     → GivesWhere supported l x words a → 0 ≡ (printed a).0 → text ≡ (printed a).1 → PrintsEnvironment a text
-for_machine false l x words a text h status e = let bad : 0 ≡ 8 = status ∙ ap (λ (b : Result answers.Answer Refused). (printed b).0) h in absurd (cc)
+for_machine false l x words a text h status e = absurd (other_status 0 8 a _ refl refl status h)
 for_machine true l x words a text h status e = for_words l x words (first_other l words) a text h status e
 
 printed_environment : (path machine : List ℕ) (words : List (List ℕ)) (m : FileMap) (a : Result answers.Answer Refused) (text : List ℕ)
@@ -92,9 +92,9 @@ environments_are_right limits lines statuses words others before now bytes text 
 -- the answer with status 0 is that the lock is verified
 verified_is : (r : ResolutionFields) (l : Lock) (a : Result answers.Answer Refused) → IsVerifyAnswer r l a → 0 ≡ (printed a).0 → a ≡ Ok answers.verified
 verified_is r l a (inl h) status = h.is
-verified_is r l a (inr (inl h)) status = let bad : 0 ≡ 9 = status ∙ ap (λ (b : Result answers.Answer Refused). (printed b).0) h.is in absurd (cc)
-verified_is r l a (inr (inr (inl h))) status = let bad : 0 ≡ 9 = status ∙ ap (λ (b : Result answers.Answer Refused). (printed b).0) h.is in absurd (cc)
-verified_is r l a (inr (inr (inr h))) status = let bad : 0 ≡ 9 = status ∙ ap (λ (b : Result answers.Answer Refused). (printed b).0) h.is in absurd (cc)
+verified_is r l a (inr (inl h)) status = absurd (other_status 0 9 a _ refl refl status h.is)
+verified_is r l a (inr (inr (inl h))) status = absurd (other_status 0 9 a _ refl refl status h.is)
+verified_is r l a (inr (inr (inr h))) status = absurd (other_status 0 9 a _ refl refl status h.is)
 
 -- what `verify` read, and that it accepted it
 pub record Accepts (project folder path : List ℕ) (m : FileMap) : Type 0 where
@@ -157,7 +157,7 @@ verified_environments_are_right lines statuses words others m bytes text project
 -- the answer with status 0 is that the derivation is accepted
 accepted_is : (r : ResolutionFields) (x : Proof) (a : Result answers.Answer Refused) → IsCheckAnswer r x a → 0 ≡ (printed a).0 → a ≡ Ok answers.accepted
 accepted_is r x a (inl h) status = h.is
-accepted_is r x a (inr h) status = let bad : 0 ≡ 9 = status ∙ ap (λ (b : Result answers.Answer Refused). (printed b).0) h.is in absurd (cc)
+accepted_is r x a (inr h) status = absurd (other_status 0 9 a _ refl refl status h.is)
 
 pub accepted_are_right : AcceptedAreUnserved → AcceptedAreRight
 accepted_are_right law words m bytes project folder derivation q is =

@@ -1,6 +1,6 @@
 -- What `lock` prints.
 use Rattle.std.proofs.Common.{◌≡◌, ◌++◌, ◌∙◌, ◌≤◌, ℕ, List, Bool, true, false, length, Option, Some, None, Result, Ok, refl, ap, sym, subst}
-use Rattle.ul_base.specs.Files.{FileMap}
+use Rattle.ul_files.specs.Files.{FileMap}
 use Rattle.ul_tree.specs.Paths.{is_printable}
 use Rattle.ul_lock.specs.declared.parts.Lock.{Lock}
 use Rattle.ul_lock_write.specs.Markers.{first_over, markers_of}
@@ -23,7 +23,7 @@ use Rattle.ul_command_laws.specs.Complete.{LocksWithinLimits}
 use Rattle.ul_command_laws.specs.Verified.{LocksAreVerified}
 use Rattle.ul_command_laws.specs.WellFormed.{LocksAreWellFormed}
 use Rattle.ul_promises.specs.Promises.{IsFirstRefused, LocksAreRight, PrintedAreVerified, RefusalsAreRight, TellsCore}
-use Rattle.ul_promises.proofs.OfAnswers.{asked_answer, is_answer, no_one, on_one, on_zero, refusal_is, written_is, written_not_one}
+use Rattle.ul_promises.proofs.OfAnswers.{asked_answer, is_answer, no_one, on_one, on_zero, other_status, refusal_is, written_is, written_not_one}
 
 -- ---- with status 0
 
@@ -118,7 +118,7 @@ by_region laws given unserved project folder old m r a bytes gave all fork forke
       unserved = unserved r fork.path fork.region h.lines (given project folder old m r gave) (subst (IsLockAnswer r) h.is all);
     }
 by_region laws given unserved project folder old m r a bytes gave all fork forked false h status e =
-    let bad : 1 ≡ 4 = status ∙ ap (λ (x : Result answers.Answer Refused). (printed x).0) h in absurd (cc)
+    absurd (other_status 1 4 a _ refl refl status h)
 
 by_forks : ForkLaws → GivenIsResolution → RefusedAreUnserved → (project folder : List ℕ) (old : Option (List ℕ)) (m : FileMap) (r : ResolutionFields)
     (a : Result answers.Answer Refused) (bytes : List ℕ)

@@ -1,6 +1,6 @@
 -- What `why` prints, and that `check` accepts it.
-use Rattle.std.proofs.Common.{◌≡◌, ◌∙◌, ◌≤◌, ℕ, length, List, Bool, true, false, Option, Some, Result, Ok, ap, subst}
-use Rattle.ul_base.specs.Files.{FileMap}
+use Rattle.std.proofs.Common.{◌≡◌, ◌∙◌, ◌≤◌, ℕ, length, List, Bool, true, false, Option, Some, Result, Ok, ap, subst, refl}
+use Rattle.ul_files.specs.Files.{FileMap}
 use Rattle.ul_nodes.specs.Plain.{Plain}
 use Rattle.ul_tree.specs.Paths.{is_printable}
 use Rattle.ul_generations.specs.Generations.{leaves_are, refused_at, too_many}
@@ -18,7 +18,7 @@ use Rattle.ul_command_laws.specs.Reasons.{FilesAreAccepted, reason_text}
 use Rattle.ul_command_laws.specs.Refusals.{ReasonsOfFiles}
 use Rattle.ul_promises.specs.Promises.{IsFirstRefused, PrintedAreAccepted, ReasonsAreRight}
 use Rattle.ul_promises.proofs.OfLocks.{first_refused}
-use Rattle.ul_promises.proofs.OfAnswers.{asked_answer, is_answer, no_one, on_one, refusal_is}
+use Rattle.ul_promises.proofs.OfAnswers.{asked_answer, is_answer, no_one, on_one, other_status, refusal_is}
 
 -- the answer is a fork with the lines of a derivation, and these are its bytes
 pub record PrintsReason (project folder : List ℕ) (old : Option (List ℕ)) (m : FileMap) (a : Result answers.Answer Refused) (bytes : List ℕ) : Type 0 where
@@ -48,13 +48,13 @@ by_region project folder old m r a bytes laws gave fork forked true h status e =
   first = first_refused laws r fork forked;
 }
 by_region project folder old m r a bytes laws gave fork forked false h status e =
-    let bad : 1 ≡ 4 = status ∙ ap (λ (x : Result answers.Answer Refused). (printed x).0) h in absurd (cc)
+    absurd (other_status 1 4 a _ refl refl status h)
 
 by_forks : (project folder : List ℕ) (old : Option (List ℕ)) (m : FileMap) (r : ResolutionFields) (a : Result answers.Answer Refused) (bytes : List ℕ)
     → ForkLaws → (resolution_in project folder old m).gives (Ok r) → (forked : TreeAnswer) → IsForked r forked → GivesReason r forked a
     → 1 ≡ (printed a).0 → bytes ≡ (printed a).1 → PrintsReason project folder old m a bytes
 by_forks project folder old m r a bytes laws gave (leaves_are ls) forked h status e =
-    let bad : 1 ≡ 0 = status ∙ ap (λ (x : Result answers.Answer Refused). (printed x).0) h in absurd (cc)
+    absurd (other_status 1 0 a _ refl refl status h)
 by_forks project folder old m r a bytes laws gave (refused_at fork) forked h status e =
     by_region project folder old m r a bytes laws gave fork forked (is_printable fork.region) h status e
 by_forks project folder old m r a bytes laws gave (too_many n) forked h status e = absurd (no_one too_many_forks (status ∙ ap (λ x. (printed x).0) h))

@@ -1,21 +1,18 @@
 -- Two runs print the same.
-use Rattle.std.proofs.Common.{◌≡◌, ◌≢◌, ◌∙◌, ◌⊎◌, ℕ, List, [], Bool, true, false, cond, Option, Result, Ok, Err, refl, sym, ap, subst, inl, inr}
+use Rattle.std.proofs.Common.{◌≡◌, ◌≢◌, ◌∙◌, ◌⊎◌, ℕ, List, [], Bool, true, false, cond, Result, Ok, Err, refl, sym, ap, subst, inl, inr}
 use Rattle.std.specs.Prelude.{codes}
-use Rattle.ul_base.specs.Files.{FileMap}
 use Rattle.ul_tree.specs.Paths.{is_printable}
 use Rattle.ul_nodes.specs.Plain.{Plain}
 use Rattle.ul_forks.specs.Headline.{ForkLaws}
 use Rattle.ul_inputs.specs.Refused.{Refused, limit}
 use Rattle.ul_answers.specs.Answer as answers
 use Rattle.ul_answers.specs.Printed.{printed, refusal_output, refused_output}
-use Rattle.ul_commands.specs.Asked.{Asked, why}
-use Rattle.ul_commands.specs.Commands.{command}
+use Rattle.ul_commands.specs.Asked.{why}
 use Rattle.ul_command_laws.specs.Answers.{AnswersAreEqual, AnswersAreOne, SameAnswer, without_steps}
 use Rattle.ul_command_laws.specs.Reasons.{reason_text}
-use Rattle.ul_program.specs.Answer.{IsAnswer}
 use Rattle.ul_program.specs.Words.{question}
 use Rattle.ul_promises.specs.Promises.{WorkersChangeNothing}
-use Rattle.ul_promises.specs.Repeated.{ReasonsPrintTheSame, RunsPrintTheSame, TellOneReason}
+use Rattle.ul_promises.specs.Repeated.{ReasonsPrintTheSame, RunsPrintTheSame}
 use Rattle.ul_promises.proofs.OfAnswers.{asked_answer}
 use Rattle.ul_promises.proofs.OfReasons.{printed_reason}
 
@@ -54,6 +51,7 @@ kind (Ok (answers.derived p t x)) = inr (record { path = p; region = t; steps = 
 kind (Ok answers.none_refused) = inl refl
 kind (Ok (answers.environment x)) = inl refl
 kind (Ok (answers.exported rows)) = inl refl
+kind (Ok (answers.canonical x)) = inl refl
 kind (Ok answers.outside) = inl refl
 kind (Ok (answers.no_extra x)) = inl refl
 kind (Ok answers.accepted) = inl refl

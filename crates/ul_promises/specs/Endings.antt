@@ -1,7 +1,7 @@
 -- How `lock` and `why` end where their inputs are read.
 use Rattle.std.specs.Prelude.{◌≡◌, ◌≢◌, ◌⊎◌, ◌++◌, ℕ, List, true, codes, Option, Ok}
 use Rattle.std.specs.Fmt.{decimal}
-use Rattle.ul_base.specs.Files.{FileMap}
+use Rattle.ul_files.specs.Files.{FileMap}
 use Rattle.ul_comparison.specs.Worlds.{WorldFields, IsWorld}
 use Rattle.ul_requirement.specs.declared.wish.Strategy.TheVariants.{Deep}
 use Rattle.ul_tree.specs.Regions.{region_of}

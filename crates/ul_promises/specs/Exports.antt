@@ -1,6 +1,6 @@
 -- What `export` prints of a lock that `lock` printed or `verify` accepted.
 use Rattle.std.specs.Prelude.{◌≡◌, ℕ, List, None, Option, Ok, Some}
-use Rattle.ul_base.specs.Files.{FileMap, content}
+use Rattle.ul_files.specs.Files.{FileMap, content}
 use Rattle.ul_lock.specs.declared.parts.Lock.{Lock}
 use Rattle.ul_lock_write.specs.Texts.{lock_text}
 use Rattle.ul_reach.specs.Lines.{rows_text}

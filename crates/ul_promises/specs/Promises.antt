@@ -1,7 +1,7 @@
 -- What the program promises, over the words, the files, a status and the bytes that are printed. `IsAnswer words m status
 -- bytes` says that a status and bytes are an answer to the words on the files; by its headline `run` gives no others.
 use Rattle.std.specs.Prelude.{◌≡◌, ◌≤◌, ◌↔◌, ℕ, List, ◌++◌, Bool, true, codes, length, Option, Some, None, Ok}
-use Rattle.ul_base.specs.Files.{FileMap, content}
+use Rattle.ul_files.specs.Files.{FileMap, content}
 use Rattle.ul_version.specs.Fields.{Fields}
 use Rattle.ul_comparison.specs.Atoms.{AtomFields}
 use Rattle.ul_comparison.specs.Machines.{MachineFields, world_of}

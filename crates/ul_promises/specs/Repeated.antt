@@ -1,6 +1,6 @@
 -- Two runs print the same, whatever their numbers of workers.
 use Rattle.std.specs.Prelude.{◌≡◌, ◌≢◌, ℕ, List, Bool, Option}
-use Rattle.ul_base.specs.Files.{FileMap}
+use Rattle.ul_files.specs.Files.{FileMap}
 use Rattle.ul_nodes.specs.Plain.{Plain}
 use Rattle.ul_commands.specs.Asked.{why}
 use Rattle.ul_command_laws.specs.Answers.{AsksNoReason}

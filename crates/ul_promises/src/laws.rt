@@ -1,11 +1,15 @@
-//! The promises of `lock`, `why`, `check`, `verify` and `env`, as they end with a status and print bytes. None of these
-//! functions does anything but name the laws that it rests on.
+//! The promises of `lock`, `relock`, `why`, `check`, `verify`, `env`, `export` and `marker`, as they end with a status
+//! and print bytes. None of these functions does anything but name the laws that it rests on.
 ghost use Rattle.ul_promises.specs.Endings.{DeepRefusesNoFork, LocksEnd, ReasonsEnd};
 ghost use Rattle.ul_promises.specs.Exports.{ExportsAreRight, VerifiedExportsAreRight};
+ghost use Rattle.ul_promises.specs.Markers.{MarkersAreCanonical};
+ghost use Rattle.ul_promises.specs.Relocked.{OldLocksDoNoHarm, OneForkIsLockedAgain, RefusalsAreOfNone};
+ghost use Rattle.ul_promises.specs.Relocked.{RelocksAreRight, RelocksAreVerified, RightLocksStay};
 ghost use Rattle.ul_promises.specs.Repeated.{ReasonsPrintTheSame, RunsPrintTheSame};
-ghost use Rattle.ul_promises.specs.Promises.{AcceptedAreRight, EnvironmentsAreRight, LocksAreRight, PrintedAreAccepted};
-ghost use Rattle.ul_promises.specs.Promises.{PrintedAreVerified, QuestionsAreAnswered, ReasonsAreRight, RefusalsAreRight};
-ghost use Rattle.ul_promises.specs.Promises.{RegionsAreDecided, VerifiedAreRight, VerifiedEnvironmentsAreRight, WorkersChangeNothing};
+ghost use Rattle.ul_promises.specs.Promises.{AcceptedAreRight, EnvironmentsAreRight, LocksAreRight};
+ghost use Rattle.ul_promises.specs.Promises.{PrintedAreAccepted, PrintedAreVerified, QuestionsAreAnswered};
+ghost use Rattle.ul_promises.specs.Promises.{ReasonsAreRight, RefusalsAreRight, RegionsAreDecided};
+ghost use Rattle.ul_promises.specs.Promises.{VerifiedAreRight, VerifiedEnvironmentsAreRight, WorkersChangeNothing};
 
 /// What `lock` prints with status 0 is the text of a lock that is right in every world.
 pub fn locks_are_right()
@@ -78,6 +82,44 @@ pub fn exports_are_right()
     ul_command_laws::laws::exports_are_right();
 }
 
+/// What `lock` or `relock` printed with status 0, put into a file, is printed by `relock` with that file, byte for byte;
+/// and what `relock` prints is verified, and right in every world.
+pub fn right_locks_stay()
+    ensures stay { RightLocksStay }
+    ensures verified { RelocksAreVerified }
+    ensures right { RelocksAreRight }
+{
+    laws_relock::laws::printed_are_settled();
+    laws_relock::laws::settled_texts();
+    laws_relock::laws::settled_locks();
+}
+
+/// An old lock does no harm: with one that is read `relock` has status 0 where `lock` without it has, and what it
+/// refuses, `lock` refuses without it by the same bytes.
+pub fn old_locks_do_no_harm()
+    ensures zero { OldLocksDoNoHarm }
+    ensures one { RefusalsAreOfNone }
+{
+    laws_relock::laws::old_locks_are_harmless();
+}
+
+/// A lock of one fork that `lock` printed is printed again by `lock` with it as the old lock.
+pub fn one_fork_is_locked_again()
+    ensures { OneForkIsLockedAgain }
+{
+    laws_relock::laws::one_fork_printed();
+    laws_relock::laws::level_versions();
+    ul_existence::laws::given_is_askable();
+}
+
+/// What `marker` prints of a file with status 0 has a line for each line of it, which says the same in each world; and
+/// two of its lines are equal exactly where theirs are true in the same worlds.
+pub fn markers_are_canonical()
+    ensures { MarkersAreCanonical }
+{
+    ul_canonical::laws::canonical_markers();
+}
+
 /// No selection serves the region of a derivation that `check` accepts.
 pub fn accepted_are_right()
     ensures { AcceptedAreRight }
@@ -128,8 +170,8 @@ pub fn questions_are_answered()
     ul_existence::laws::answers_exist();
 }
 
-/// Of what files give each region is decided: it has a best selection exactly where some selection serves it, an outcome, and
-/// a fork answer.
+/// Of what files give each region is decided: it has a best selection exactly where some selection serves it, an
+/// outcome, and a fork answer.
 pub fn regions_are_decided()
     ensures { RegionsAreDecided }
 {

@@ -21,3 +21,5 @@ pub use Rattle.ul_region.proofs.AskedLists.{asked_may, asked_applied, asked_firm
 -- a walk over the requirements of a row
 pub use Rattle.ul_region.proofs.AskedFacts.{asked_at}
 pub use Rattle.ul_region.proofs.Firsts.{fails, item_in}
+-- the formulas of markers that are joined
+pub use Rattle.ul_region.proofs.MarkerFacts.{view_all, view_any}

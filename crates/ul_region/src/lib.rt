@@ -17,5 +17,6 @@ pub use asking::{asked_at, fit_at};
 pub use at_node::AtNode;
 pub use by_extra::ByExtra;
 pub use in_region::InRegion;
+pub use markers::diagram_of;
 pub use rows::{Asked, Row, Truths};
 pub use truths::{fit_truth, truth_at};

@@ -79,7 +79,7 @@ fn both_or_either<R: Wait>(
 ///
 /// Only for want of memory.
 #[cycle(diagram_of)]
-pub(crate) fn diagram_of<R: Wait>(
+pub fn diagram_of<R: Wait>(
     rt: &R,
     alloc: Global,
     algebra: &mut Algebra<'_>,

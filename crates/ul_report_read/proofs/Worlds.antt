@@ -14,7 +14,7 @@ use Rattle.ul_comparison.specs.Worlds.{IsWorld, WorldFields, text_at}
 use Rattle.ul_comparison.specs.declared.variable.AtomKind.{AtomKind}
 use Rattle.ul_comparison.specs.declared.variable.AtomKind.TheVariants.{Contains, Within, Below, AtMost, Same}
 use Rattle.ul_comparison.specs.declared.variable.Variable.{Variable}
-use Rattle.ul_comparison.specs.declared.variable.Variable.TheVariants.{OsName, SysPlatform, PlatformMachine, PlatformPythonImplementation, PlatformRelease, PlatformSystem, PlatformVersion, PythonVersion, PythonFullVersion, ImplementationName, ImplementationVersion}
+use Rattle.ul_comparison.specs.declared.variable.Variable.TheVariants.{OsName, SysPlatform, PlatformMachine, PlatformPythonImplementation, PlatformRelease, PlatformSystem, PlatformVersion, PythonVersion, PythonFullVersion, ImplementationName, ImplementationVersion, Extras}
 use Rattle.ul_report.specs.Texts.{python_part, text_part, text_variables, truth_part, world_text}
 use Rattle.ul_report_read.proofs.Cutting.{has_join}
 use Rattle.ul_report_read.proofs.TokenLaws.{number_has}
@@ -155,6 +155,7 @@ name_clean PythonVersion = refl
 name_clean PythonFullVersion = refl
 name_clean ImplementationName = refl
 name_clean ImplementationVersion = refl
+name_clean Extras = refl
 
 sign_clean : (k : AtomKind) → Clean (kind_sign k true)
 sign_clean Contains = refl

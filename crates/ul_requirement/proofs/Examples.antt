@@ -6,8 +6,8 @@ use Rattle.ul_specifier.specs.Reading.{operator, star_clause, plain_clause, clau
 use Rattle.ul_marker.specs.Comparisons.{comparison_of, containment, extra_literal, sign_formula, versions_of, within}
 use Rattle.ul_marker.specs.Reading.{atom_at, before_close, chain_at, chain_with, each, inner_tokens, marker_of, part_at, pieces_from}
 use Rattle.ul_marker.specs.Words.{front_literal, front_sign, front_token, front_word, tokens_in, tokens_of, word_token}
-use Rattle.ul_requirement.specs.Reading.{names_of, extras_in, extras_front, front_of, specifiers_in, marker_in, tail_of, reading_of}
-use Rattle.ul_requirement.specs.Vectors.{Addresses, MayBeTrue, NoReadings, Readings, Truths}
+use Rattle.ul_requirement.specs.Reading.{names_of, extras_in, extras_front, front_of, specifiers_in, marker_in, tail_of, marker_behind, url_marker, reading_of}
+use Rattle.ul_requirement.specs.Vectors.{Addresses, MayBeTrue, NoAddresses, NoReadings, Readings, Truths}
 
 pub readings : Readings
 unfolding is_name normal_form name_of after_white before_white after_word digits after_digits value_after number required_number marked_digits epoch points release pre post dev segment segments local fields_of version_of operator star_clause plain_clause clause_after clause_of clauses_of clause_with specifiers_of comparison_of containment extra_literal sign_formula versions_of within atom_at before_close chain_at chain_with each inner_tokens marker_of part_at pieces_from front_literal front_sign front_token front_word tokens_in tokens_of word_token names_of extras_in extras_front front_of specifiers_in marker_in tail_of reading_of
@@ -24,12 +24,24 @@ readings = record {
 }
 
 pub addresses : Addresses
-unfolding is_name normal_form name_of after_white before_white after_word digits after_digits value_after number required_number marked_digits epoch points release pre post dev segment segments local fields_of version_of operator star_clause plain_clause clause_after clause_of clauses_of clause_with specifiers_of comparison_of containment extra_literal sign_formula versions_of within atom_at before_close chain_at chain_with each inner_tokens marker_of part_at pieces_from front_literal front_sign front_token front_word tokens_in tokens_of word_token names_of extras_in extras_front front_of specifiers_in marker_in tail_of reading_of
+unfolding is_name normal_form name_of after_white before_white after_word digits after_digits value_after number required_number marked_digits epoch points release pre post dev segment segments local fields_of version_of operator star_clause plain_clause clause_after clause_of clauses_of clause_with specifiers_of comparison_of containment extra_literal sign_formula versions_of within atom_at before_close chain_at chain_with each inner_tokens marker_of part_at pieces_from front_literal front_sign front_token front_word tokens_in tokens_of word_token names_of extras_in extras_front front_of specifiers_in marker_in tail_of marker_behind url_marker reading_of
 addresses = record {
   plain = refl;
   extras = refl;
+  marked = refl;
+  semicolon_in_url = refl;
+  semicolon_behind_tab = refl;
+}
+
+pub no_addresses : NoAddresses
+unfolding is_name normal_form name_of after_white before_white after_word digits after_digits value_after number required_number marked_digits epoch points release pre post dev segment segments local fields_of version_of operator star_clause plain_clause clause_after clause_of clauses_of clause_with specifiers_of comparison_of containment extra_literal sign_formula versions_of within atom_at before_close chain_at chain_with each inner_tokens marker_of part_at pieces_from front_literal front_sign front_token front_word tokens_in tokens_of word_token names_of extras_in extras_front front_of specifiers_in marker_in tail_of marker_behind url_marker reading_of
+no_addresses = record {
   nothing_behind = refl;
+  blank_behind = refl;
   line_behind = refl;
+  two_urls = refl;
+  no_marker = refl;
+  line_before_marker = refl;
 }
 
 pub no_readings : NoReadings

@@ -5,7 +5,7 @@ use Rattle.std.proofs.lemmas.Bool.{or_parts}
 use Rattle.std.proofs.lemmas.List.{drop_all, drop_more}
 use Rattle.ul_base.specs.Names.{is_name}
 use Rattle.ul_comparison.specs.Formulas.{Formula, extra, python, python_list, text, opaque, all, any, Formulas, none, more}
-use Rattle.ul_comparison.specs.Truth.{all_hold, any_holds, as_asked, equals_extra, is_empty, marker_holds}
+use Rattle.ul_comparison.specs.Truth.{all_hold, any_holds, as_asked, is_empty, marker_holds}
 use Rattle.ul_comparison.specs.Worlds.{WorldFields}
 use Rattle.ul_marker.specs.Views.{marker_view, markers_view}
 use Rattle.ul_marker.specs.declared.marker.Marker.{Marker}

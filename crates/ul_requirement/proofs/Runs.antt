@@ -42,7 +42,7 @@ no_name xs other_bytes = elim (cases_Bool (has_ends xs && list_all is_name_byte 
 
 -- ---- parts of a text whose bytes all pass a test
 
-all-after : (p test : ℕ → Bool) (xs : List ℕ) → list_all p xs ≡ true → list_all p (after_all test xs) ≡ true
+pub all-after : (p test : ℕ → Bool) (xs : List ℕ) → list_all p xs ≡ true → list_all p (after_all test xs) ≡ true
 all-after p test [] h = refl
 all-after p test (x ∷ xs) h = elim (cases_Bool (test x)) [
   | inl skipped ↦ rw skipped (all-after p test xs (and_parts (p x) (list_all p xs) h).1)

@@ -1,23 +1,23 @@
 -- A text is read as what the grammar spells it as.
-use Rattle.std.proofs.Common.{◌≡◌, ◌&&◌, ℕ, List, [], ◌∷◌, ◌++◌, length, drop, take, refl, sym, ap, subst, ◌∙◌, arith, Bool, true, false, true≢false, Option, Some, None, inl, inr, ⊎_elim}
-use Rattle.std.specs.Prelude.{◌==◌, ◌-◌, nat_eq, codes}
+use Rattle.std.proofs.Common.{◌≡◌, ◌&&◌, ℕ, suc, List, [], ◌∷◌, ◌++◌, length, drop, take, refl, sym, ap, subst, ◌∙◌, arith, Bool, true, false, true≢false, Option, Some, None, inl, inr, ⊎_elim}
+use Rattle.std.specs.Prelude.{◌==◌, ◌+◌, ◌-◌, ◌⊎◌, nat_eq, codes}
 use Rattle.std.proofs.lemmas.Bool.{and_parts, cases_Bool, eqb-true}
 use Rattle.std.proofs.lemmas.List.{drop_at, length-append, take-append-drop, take_at}
 use Rattle.std.proofs.lemmas.Slice.Eq.{bytes_eq-Decides}
 use lib.Pointwise.{pointwise}
 use Rattle.std.specs.List.{ends_with, list_all, list_any, slice_split}
 use Rattle.ul_base.specs.Names.{has_ends, is_name, is_name_byte, name_of}
-use Rattle.ul_version.specs.Ascii.{after_all, before_end, begins, comma, is_blank, is_white, left_bracket, left_parenthesis, right_bracket, right_parenthesis, run_length, semicolon, text_between}
+use Rattle.ul_version.specs.Ascii.{after_all, at_sign, before_end, begins, comma, is_blank, is_white, left_bracket, left_parenthesis, right_bracket, right_parenthesis, run_length, semicolon, text_between}
 use Rattle.ul_version.specs.Reading.{◌>>=◌}
-use Rattle.ul_version.proofs.ForCallers.{bind_some, cond_some}
+use Rattle.ul_version.proofs.ForCallers.{after_all-drop, bind_some, cond_some, run-all}
 use Rattle.ul_specifier.specs.Clauses.{ClauseFields}
 use Rattle.ul_specifier.specs.Reading.{clauses_of, specifiers_of}
 use Rattle.ul_comparison.specs.Formulas.{Formula}
 use Rattle.ul_marker.specs.Reading.{marker_of}
 use Rattle.ul_requirement.specs.Fields.{RequirementFields}
-use Rattle.ul_requirement.specs.Grammar.{AreExtraNames, AreExtras, bracketed, no_extras, AreNames, AreSpecifiers, bare, enclosed, IsAddress, IsFront, IsTail, Spells}
+use Rattle.ul_requirement.specs.Grammar.{AreExtraNames, AreExtras, bracketed, no_extras, AreNames, AreSpecifiers, bare, enclosed, HasMarker, IsAddress, IsFront, IsTail, IsUrlTail, Spells, SpellsByUrl}
 use Rattle.ul_requirement.specs.Laws.{ReadingIsGrammar, SpelledOnce}
-use Rattle.ul_requirement.specs.Reading.{Front, Reading, by_url, cut_at, extras_front, extras_in, front_of, is_address, is_inner_byte, marker_in, name_set, names_in, names_of, parts_at, parts_read, reading_behind, reading_of, reading_with, requirement, specifiers_in, tail_of, unread}
+use Rattle.ul_requirement.specs.Reading.{Front, IsByUrl, Reading, address_of, address_with, by_url, cut_at, extras_front, extras_in, front_of, is_address, is_inner_byte, is_url_byte, marker_behind, marker_in, name_set, names_in, names_of, parts_at, parts_read, read_address, reading_behind, reading_of, reading_with, requirement, specifiers_in, tail_of, unread, url_marker}
 use Rattle.ul_requirement.proofs.Cutting.{cut-is, cut-not, cut-of, cut-without, run-ends, run-of}
 
 -- ---- names
@@ -208,17 +208,23 @@ tail_from text s m t = ⊎_elim
 
 abbrev of_reading : RequirementFields → Reading → RequirementFields
 of_reading q (requirement r) = r
-of_reading q by_url = q
+of_reading q (by_url o) = q
 of_reading q unread = q
+
+abbrev of_address : RequirementFields → Reading → RequirementFields
+of_address q (requirement r) = q
+of_address q (by_url None) = q
+of_address q (by_url (Some r)) = r
+of_address q unread = q
 
 abbrev is_read : Reading → Bool
 is_read (requirement q) = true
-is_read by_url = false
+is_read (by_url q) = false
 is_read unread = false
 
 abbrev is_address_read : Reading → Bool
 is_address_read (requirement q) = false
-is_address_read by_url = true
+is_address_read (by_url q) = true
 is_address_read unread = false
 
 -- what a reading by its front says
@@ -234,7 +240,7 @@ with_tail f q (Some p) e = (p, refl, ap (of_reading q) e)
 behind_of : (o : Option Front) (q : RequirementFields) → reading_behind o ≡ requirement q → Behind o q
 behind_of None q e = absurd (true≢false (sym (ap is_read e)))
 behind_of (Some f) q e = elim (cases_Bool (is_address f.rest)) [
-  | inl address ↦ let url : by_url ≡ requirement q = rw address at e in absurd (true≢false (sym (ap is_read url)))
+  | inl address ↦ let url : by_url (address_of f) ≡ requirement q = rw address at e in absurd (true≢false (sym (ap is_read url)))
   | inr other ↦
       let read : reading_with f (tail_of f.rest) ≡ requirement q = rw other at e in
       let (p, tail, same) = with_tail f q (tail_of f.rest) read in
@@ -257,13 +263,13 @@ unfolding reading_of
 spelled_from text q s =
     rw (front_from (text_between is_white text) q.name q.extras s.behind s.is_front, s.no_address, tail_from s.behind q.specifiers q.marker s.is_tail) refl
 
-tail_no_address : (f : Front) (o : Option (List ClauseFields × Option Formula)) → reading_with f o ≡ by_url → ⊥
-tail_no_address f None e = true≢false (sym (ap is_address_read e))
-tail_no_address f (Some p) e = true≢false (sym (ap is_address_read e))
+tail_no_address : (f : Front) (o : Option (List ClauseFields × Option Formula)) (u : Option RequirementFields) → reading_with f o ≡ by_url u → ⊥
+tail_no_address f None u e = true≢false (sym (ap is_address_read e))
+tail_no_address f (Some p) u e = true≢false (sym (ap is_address_read e))
 
-address_behind : (text : List ℕ) (o : Option Front) → front_of (text_between is_white text) ≡ o → reading_behind o ≡ by_url → IsAddress text
-address_behind text None front e = absurd (true≢false (sym (ap is_address_read e)))
-address_behind text (Some f) front e = elim (cases_Bool (is_address f.rest)) [
+address_behind : (text : List ℕ) (o : Option Front) (u : Option RequirementFields) → front_of (text_between is_white text) ≡ o → reading_behind o ≡ by_url u → IsAddress text
+address_behind text None u front e = absurd (true≢false (sym (ap is_address_read e)))
+address_behind text (Some f) u front e = elim (cases_Bool (is_address f.rest)) [
   | inl address ↦ record {
     name = f.name;
     extras = f.extras;
@@ -271,25 +277,126 @@ address_behind text (Some f) front e = elim (cases_Bool (is_address f.rest)) [
     is_front = front_to (text_between is_white text) f front;
     is_address = address;
   }
-  | inr other ↦ let read : reading_with f (tail_of f.rest) ≡ by_url = rw other at e in absurd (tail_no_address f (tail_of f.rest) read)
+  | inr other ↦ let read : reading_with f (tail_of f.rest) ≡ by_url u = rw other at e in absurd (tail_no_address f (tail_of f.rest) u read)
 ]
 
-address_to : (text : List ℕ) → reading_of text ≡ by_url → IsAddress text
+address_to : (text : List ℕ) → IsByUrl (reading_of text) → IsAddress text
 unfolding reading_of
-address_to text e = address_behind text (front_of (text_between is_white text)) refl e
+address_to text (u, e) = address_behind text (front_of (text_between is_white text)) u refl e
 
-address_from : (text : List ℕ) → IsAddress text → reading_of text ≡ by_url
+address_from : (text : List ℕ) → IsAddress text → IsByUrl (reading_of text)
 unfolding reading_of
-address_from text a = rw (front_from (text_between is_white text) a.name a.extras a.behind a.is_front, a.is_address) refl
+address_from text a = (
+  address_of (record { name = a.name; extras = a.extras; rest = a.behind }),
+  rw (front_from (text_between is_white text) a.name a.extras a.behind a.is_front, a.is_address) refl,
+)
+
+-- ---- what a URL serves
+
+marker_to : (text : List ℕ) (m : Option Formula) → marker_behind text ≡ Some m → ((text ≡ []) × (m ≡ None)) ⊎ HasMarker text [] m
+unfolding marker_behind marker_in
+marker_to [] m e = let same : None ≡ m = cc e in inl (refl, sym same)
+marker_to (b ∷ text) m e = elim (cases_Bool (b == semicolon)) [
+  | inl here ↦
+      let read : (marker_of text >>= λ f. Some (Some f)) ≡ Some m = rw here at e in
+      let (f, formula, one) = bind_some (marker_of text) _ _ read in
+      let same : Some f ≡ m = cc one in
+      inr (text, f, ap (λ c. c ∷ text) (eqb-true b semicolon here), formula, sym same)
+  | inr other ↦ let none : None ≡ Some m = rw other at e in absurd (cc none)
+]
+
+marker_from : (text : List ℕ) (m : Option Formula) → ((text ≡ []) × (m ≡ None)) ⊎ HasMarker text [] m → marker_behind text ≡ Some m
+unfolding marker_behind marker_in
+marker_from text m h = ⊎_elim (λ h. rw (h.0, h.1) refl) (λ h. rw (h.2, h.3, h.4) refl) h
+
+run-some : (test : ℕ → Bool) (xs : List ℕ) → begins test xs ≡ true → take (run_length test xs) xs ≡ [] → ⊥
+run-some test [] h none = true≢false (sym h)
+run-some test (x ∷ xs) h none =
+    let n : ℕ = run_length test xs in
+    let up : n + 1 ≡ suc n = omega arith in
+    let some : x ∷ take n xs ≡ [] = rw (h, up) at none in
+    cc some
+
+begins-run : (test : ℕ → Bool) (xs ys : List ℕ) → list_all test xs ≡ true → (xs ≡ [] → ⊥) → begins test (xs ++ ys) ≡ true
+begins-run test [] ys h some = absurd (some refl)
+begins-run test (x ∷ xs) ys h some = (and_parts (test x) (list_all test xs) h).0
+
+url_to : (text : List ℕ) (m : Option Formula) → url_marker text ≡ Some m → IsUrlTail text m
+unfolding url_marker
+url_to text m e =
+    let (tests, read) = cond_some (list_all is_inner_byte text && begins is_url_byte text) _ _ e in
+    let both = and_parts (list_all is_inner_byte text) (begins is_url_byte text) tests in
+    let n : ℕ = run_length is_url_byte text in
+    let behind : marker_behind (after_all is_blank (drop n text)) ≡ Some m = rw (after_all-drop is_url_byte text) read in
+    record {
+      url = take n text;
+      after_url = drop n text;
+      inner = both.0;
+      spelled = sym (take-append-drop n text);
+      is_url = run-all is_url_byte text;
+      not_empty = run-some is_url_byte text both.1;
+      longest = run-ends is_url_byte text;
+      is_marker = marker_to (after_all is_blank (drop n text)) m behind;
+    }
+
+url_from : (text : List ℕ) (m : Option Formula) → IsUrlTail text m → url_marker text ≡ Some m
+unfolding url_marker
+url_from text m t =
+    let begin : begins is_url_byte text ≡ true = ap (begins is_url_byte) t.spelled ∙ begins-run is_url_byte t.url t.after_url t.is_url t.not_empty in
+    let after : after_all is_url_byte text ≡ t.after_url =
+    ap (after_all is_url_byte) t.spelled ∙ sym (after_all-drop is_url_byte (t.url ++ t.after_url)) ∙ (run-of is_url_byte t.url t.after_url t.is_url t.longest).1 in
+    rw (t.inner, begin, after) (marker_from (after_all is_blank t.after_url) m t.is_marker)
+
+-- the text behind `@` in front
+sign_first : (text : List ℕ) → is_address text ≡ true → text ≡ at_sign ∷ drop 1 text
+sign_first [] h = absurd (true≢false (sym h))
+sign_first (b ∷ text) h = ap (λ c. c ∷ text) (eqb-true b at_sign h)
+
+by_url_behind : (text : List ℕ) (o : Option Front) (q : RequirementFields) → front_of (text_between is_white text) ≡ o → reading_behind o ≡ by_url (Some q) → SpellsByUrl text q
+by_url_behind text None q front e = absurd (true≢false (sym (ap is_address_read e)))
+by_url_behind text (Some f) q front e = elim (cases_Bool (is_address f.rest)) [
+  | inl address ↦
+      let read : by_url (address_of f) ≡ by_url (Some q) = rw address at e in
+      let (m, marked, some) = bind_some (url_marker (after_all is_blank (drop 1 f.rest))) _ _ (ap read_address read) in
+      let same : address_with f m ≡ q = cc some in
+      subst (SpellsByUrl text) same (record {
+        after_sign = drop 1 f.rest;
+        is_front = subst (IsFront (text_between is_white text) f.name f.extras) (sign_first f.rest address) (front_to (text_between is_white text) f front);
+        no_specifiers = refl;
+        is_tail = url_to (after_all is_blank (drop 1 f.rest)) m marked;
+      })
+  | inr other ↦ let read : reading_with f (tail_of f.rest) ≡ by_url (Some q) = rw other at e in absurd (tail_no_address f (tail_of f.rest) (Some q) read)
+]
+
+by_url_to : (text : List ℕ) (q : RequirementFields) → reading_of text ≡ by_url (Some q) → SpellsByUrl text q
+unfolding reading_of
+by_url_to text q e = by_url_behind text (front_of (text_between is_white text)) q refl e
+
+abbrev by_url_with : RequirementFields → List ClauseFields → Reading
+by_url_with q specifiers = by_url (Some (record { name = q.name; extras = q.extras; specifiers = specifiers; marker = q.marker }))
+
+by_url_from : (text : List ℕ) (q : RequirementFields) → SpellsByUrl text q → reading_of text ≡ by_url (Some q)
+unfolding reading_of
+by_url_from text q s =
+    let read : reading_behind (front_of (text_between is_white text)) ≡ by_url_with q [] =
+    rw (front_from (text_between is_white text) q.name q.extras (at_sign ∷ s.after_sign) s.is_front, url_from (after_all is_blank s.after_sign) q.marker s.is_tail) refl in
+    read ∙ ap (by_url_with q) (sym s.no_specifiers)
+
+-- `@` behind the name and the extras makes a text one by a URL
+pub front_address : (text input : List ℕ) (f : Front) → input ≡ text_between is_white text → front_of input ≡ Some f → is_address f.rest ≡ true → IsByUrl (reading_of text)
+unfolding reading_of
+front_address text input f is front address = (address_of f, rw (← is, front, address) refl)
 
 pub reading_is_grammar : ReadingIsGrammar
 reading_is_grammar = record {
   requirements = λ text q. (spelled_to text q, spelled_from text q);
   addresses = λ text. (address_to text, address_from text);
+  by_urls = λ text q. (by_url_to text q, by_url_from text q);
 }
 
 pub spelled_once : SpelledOnce
 spelled_once = record {
   one = λ text q r s t. ap (of_reading q) (sym (spelled_from text q s) ∙ spelled_from text r t);
-  alone = λ text q s a. true≢false (ap is_read (sym (spelled_from text q s) ∙ address_from text a));
+  one_by_url = λ text q r s t. ap (of_address q) (sym (by_url_from text q s) ∙ by_url_from text r t);
+  alone = λ text q s a. let (u, e) = address_from text a in true≢false (ap is_read (sym (spelled_from text q s) ∙ e));
 }

@@ -12,7 +12,7 @@ use Rattle.ul_marker.specs.declared.fault.MarkerFault.{MarkerFault}
 use Rattle.ul_marker.specs.declared.fault.MarkerFault.TheVariants as marker
 use Rattle.ul_marker.specs.declared.marker.Marker.{Marker}
 use Rattle.ul_requirement.specs.Fields.{RequirementFields}
-use Rattle.ul_requirement.specs.Reading.{Front, Reading, requirement, by_url, unread}
+use Rattle.ul_requirement.specs.Reading.{Front, IsByUrl, Reading, requirement, unread}
 use Rattle.ul_requirement.specs.declared.fault.PartFault.{PartFault}
 use Rattle.ul_requirement.specs.declared.fault.PartFault.TheVariants as part
 use Rattle.ul_requirement.specs.declared.fault.ReqFault.{ReqFault}
@@ -21,7 +21,7 @@ use Rattle.ul_requirement.specs.declared.fault.ReqFault.TheVariants.{Url, NoRead
 -- the reading of a text, want of memory aside
 abbrev pub IsReading : Result RequirementFields ReqFault → Reading → Type 0
 IsReading (Ok q) reading = reading ≡ requirement q
-IsReading (Err Url) reading = reading ≡ by_url
+IsReading (Err Url) reading = IsByUrl reading
 IsReading (Err NoReading) reading = reading ≡ unread
 IsReading (Err NoMemory) reading = Unit {0}
 

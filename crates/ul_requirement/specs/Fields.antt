@@ -13,6 +13,7 @@ use Rattle.ul_version.specs.Order.{version_cmp}
 use Rattle.ul_specifier.specs.Clauses.{ClauseFields}
 use Rattle.ul_comparison.specs.Formulas.{Formula, IsFormula}
 use Rattle.ul_requirement.specs.declared.wish.Mode.{Mode}
+use Rattle.ul_requirement.specs.declared.wish.Prereleases.{Prereleases}
 use Rattle.ul_requirement.specs.declared.wish.Strategy.{Strategy}
 
 -- a requirement of PEP 508: a name with extras, the clauses that a version has to meet, and a marker
@@ -74,10 +75,12 @@ pub record ReleaseFields : Type 0 where
 pub record IsRelease (r : ReleaseFields) : Type 0 where
   pub files : FilesRise r.files
 
--- a package: its usable releases, in the order of its document
+-- a package: how many releases its document lists, which of its pre-releases count, and its usable releases, in the order
+-- of the document
 pub record PackageFields : Type 0 where
   pub name : List ℕ
   pub entries : ℕ
+  pub prereleases : Prereleases
   pub releases : List ReleaseFields
 
 -- another release has another version

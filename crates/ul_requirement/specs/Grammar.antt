@@ -1,9 +1,10 @@
 -- The grammar of requirements as a relation between a text and the requirement that it spells (PEP 508, "Grammar"):
 --     requirement = name [extras] [specifiers | "(" specifiers ")"] [";" marker]
---     address     = name [extras] "@" ..
+--     address     = name [extras] "@" url [blank ";" marker]
 --     extras      = "[" [name *("," name)] "]"
 -- Each definition is one rule. Blanks, which are space and tab, may stand between all parts, and white space of any
--- kind at the ends of the text. A requirement by a URL is an address here, whatever stands behind the `@`.
+-- kind at the ends of the text. A text with `@` behind the name or the extras is one by a URL, whatever follows; what it
+-- requires is told where it is an address.
 use Rattle.std.specs.Prelude.{◌≡◌, ◌⊎◌, ℕ, ◌==◌, true, false, List, [], ◌∷◌, ◌++◌, Option, Some, None}
 use Rattle.std.specs.List.{list_all, list_any, slice_split}
 use Rattle.ul_base.specs.Names.{is_name_byte, name_of}
@@ -13,7 +14,7 @@ use Rattle.ul_specifier.specs.Reading.{specifiers_of}
 use Rattle.ul_comparison.specs.Formulas.{Formula}
 use Rattle.ul_marker.specs.Reading.{marker_of}
 use Rattle.ul_requirement.specs.Fields.{RequirementFields}
-use Rattle.ul_requirement.specs.Reading.{is_inner_byte, name_set}
+use Rattle.ul_requirement.specs.Reading.{is_inner_byte, is_url_byte, name_set}
 
 -- a byte stands in front of a text
 abbrev pub IsFirstByte : ℕ → List ℕ → Type 0
@@ -90,3 +91,22 @@ pub record IsAddress (text : List ℕ) : Type 0 where
   pub behind : List ℕ
   pub is_front : IsFront (text_between is_white text) name extras behind
   pub is_address : IsFirstByte at_sign behind
+
+-- url [blank ";" marker], of printable ASCII and tabs: the URL is the longest run of its bytes, so that the semicolon
+-- stands behind a blank
+pub record IsUrlTail (text : List ℕ) (marker : Option Formula) : Type 0 where
+  pub url : List ℕ
+  pub after_url : List ℕ
+  pub inner : list_all is_inner_byte text ≡ true
+  pub spelled : text ≡ url ++ after_url
+  pub is_url : list_all is_url_byte url ≡ true
+  pub not_empty : url ≡ [] → ⊥
+  pub longest : begins is_url_byte after_url ≡ false
+  pub is_marker : ((after_all is_blank after_url ≡ []) × (marker ≡ None)) ⊎ HasMarker (after_all is_blank after_url) [] marker
+
+-- a text spells a requirement by a URL, and this is what it requires: any version of the name
+pub record SpellsByUrl (text : List ℕ) (q : RequirementFields) : Type 0 where
+  pub after_sign : List ℕ
+  pub is_front : IsFront (text_between is_white text) q.name q.extras (at_sign ∷ after_sign)
+  pub no_specifiers : q.specifiers ≡ []
+  pub is_tail : IsUrlTail (after_all is_blank after_sign) q.marker

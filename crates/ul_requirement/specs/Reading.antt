@@ -1,8 +1,9 @@
 -- What the texts of requirements are read as (PEP 508, "Grammar"):
 --     requirement = name ["[" [name *("," name)] "]"] [specifiers | "(" specifiers ")"] [";" marker]
 -- Space and tab may stand between all parts, and white space of any kind at the ends of the text. Empty
--- parentheses are beyond PEP 508. Where `@` follows the name or the extras, the requirement is one by a URL.
-use Rattle.std.specs.Prelude.{ℕ, ◌==◌, ◌&&◌, ◌||◌, nat_le, Bool, List, [], ◌∷◌, fold, take, drop, codes, Option, Some, None, if◌then◌else◌}
+-- parentheses are beyond PEP 508. Where `@` follows the name or the extras, the requirement is one by a URL:
+--     address = name ["[" [name *("," name)] "]"] "@" url [blank ";" marker]
+use Rattle.std.specs.Prelude.{◌≡◌, ℕ, ◌==◌, ◌&&◌, ◌||◌, nat_le, nat_lt, Bool, List, [], ◌∷◌, fold, take, drop, codes, Option, Some, None, if◌then◌else◌}
 use Rattle.std.specs.BTreeSet.{insert_key}
 use Rattle.std.specs.List.{list_all, slice_split}
 use Rattle.ul_base.specs.Names.{is_name_byte, name_cmp, name_of}
@@ -14,10 +15,11 @@ use Rattle.ul_comparison.specs.Formulas.{Formula}
 use Rattle.ul_marker.specs.Reading.{marker_of}
 use Rattle.ul_requirement.specs.Fields.{RequirementFields}
 
--- what a text is read as: a requirement, one by a URL, or nothing
+-- what a text is read as: a requirement; one by a URL, with what it requires where its text has the form of an address;
+-- or nothing
 pub data Reading : Type 0 where
   requirement : RequirementFields → Reading
-  by_url : Reading
+  by_url : Option RequirementFields → Reading
   unread : Reading
 
 -- ---- the name
@@ -108,6 +110,30 @@ parts_read p = specifiers_in (text_between is_blank p.0) >>= λ s. marker_in p.1
 unfoldable pub tail_of : List ℕ → Option (List ClauseFields × Option Formula)
 tail_of text = if list_all is_inner_byte text then parts_read (parts_of text) else None
 
+-- ---- a URL and a marker
+
+-- a byte of a URL: printable ASCII, but no space
+abbrev pub is_url_byte : ℕ → Bool
+is_url_byte b = nat_lt space b && nat_le b tilde
+
+-- the marker behind a URL and blanks: none where nothing follows, else that behind a semicolon
+unfoldable pub marker_behind : List ℕ → Option (Option Formula)
+marker_behind [] = Some None
+marker_behind (b ∷ text) = if b == semicolon then marker_in (Some text) else None
+
+-- the marker behind a URL, which is the longest run of its bytes; so a semicolon that begins a marker has a blank before it
+unfoldable pub url_marker : List ℕ → Option (Option Formula)
+url_marker text =
+    if list_all is_inner_byte text && begins is_url_byte text then marker_behind (after_all is_blank (after_all is_url_byte text)) else None
+
+-- the requirement by a URL of a name and extras: it has no specifiers
+abbrev pub address_with : Front → Option Formula → RequirementFields
+address_with f marker = record { name = f.name; extras = f.extras; specifiers = []; marker = marker }
+
+-- the requirement by a URL of a name and extras, and of the text behind them, which begins with `@`
+abbrev pub address_of : Front → Option RequirementFields
+address_of f = url_marker (after_all is_blank (drop 1 f.rest)) >>= λ marker. Some (address_with f marker)
+
 -- ---- the whole text
 
 -- the text begins with `@`
@@ -122,7 +148,7 @@ reading_with f (Some t) = requirement (record { name = f.name; extras = f.extras
 -- what a text is read as by what stands in front
 abbrev pub reading_behind : Option Front → Reading
 reading_behind None = unread
-reading_behind (Some f) = if is_address f.rest then by_url else reading_with f (tail_of f.rest)
+reading_behind (Some f) = if is_address f.rest then by_url (address_of f) else reading_with f (tail_of f.rest)
 
 -- what a text is read as
 unfoldable pub reading_of : List ℕ → Reading
@@ -131,8 +157,18 @@ reading_of text = reading_behind (front_of (text_between is_white text))
 -- the requirement of a reading
 abbrev pub read_requirement : Reading → Option RequirementFields
 read_requirement (requirement q) = Some q
-read_requirement by_url = None
+read_requirement (by_url q) = None
 read_requirement unread = None
+
+-- the requirement of a reading by a URL
+abbrev pub read_address : Reading → Option RequirementFields
+read_address (requirement q) = None
+read_address (by_url q) = q
+read_address unread = None
+
+-- the reading is one by a URL, whatever stands behind the `@`
+abbrev pub IsByUrl : Reading → Type 0
+IsByUrl reading = (q : Option RequirementFields) × (reading ≡ by_url q)
 
 -- the requirement that a text spells
 abbrev pub requirement_of : List ℕ → Option RequirementFields

@@ -7,7 +7,7 @@ use Rattle.ul_specifier.specs.declared.clause.Op.{Op}
 use Rattle.ul_specifier.specs.declared.clause.Op.TheVariants.{Equal, AtLeast, Less}
 use Rattle.ul_comparison.specs.Formulas.{Formula, extra, python, text, all, any, formulas_of}
 use Rattle.ul_comparison.specs.Worlds.{WorldFields}
-use Rattle.ul_comparison.specs.declared.variable.Variable.TheVariants.{OsName}
+use Rattle.ul_comparison.specs.declared.variable.Variable.TheVariants.{OsName, SysPlatform}
 use Rattle.ul_requirement.specs.Fields.{RequirementFields}
 use Rattle.ul_requirement.specs.Reading.{reading_of, requirement, by_url, unread}
 use Rattle.ul_requirement.specs.Truth.{applies_at, base, may_apply, targets, with_extra}
@@ -41,12 +41,23 @@ pub record Readings : Type 0 where
   pub last_comma : reading_of (codes "a>=1,") ≡ requirement (asks (codes "a") [] (clause AtLeast (1 ∷ []) false ∷ []) None)
   pub marker_alone : reading_of (codes "a ;os_name=='a'") ≡ requirement (asks (codes "a") [] [] (Some on_a))
 
--- texts of requirements by a URL
+-- texts of requirements by a URL, and what they require
 pub record Addresses : Type 0 where
-  pub plain : reading_of (codes "a @ https://x/y") ≡ by_url
-  pub extras : reading_of (codes "a[b]@x") ≡ by_url
-  pub nothing_behind : reading_of (codes "a@") ≡ by_url
-  pub line_behind : reading_of (codes "a@\nb") ≡ by_url
+  pub plain : reading_of (codes "a @ https://x/y") ≡ by_url (Some (asks (codes "a") [] [] None))
+  pub extras : reading_of (codes "a[b]@x") ≡ by_url (Some (asks (codes "a") (codes "b" ∷ []) [] None))
+  pub marked : reading_of (codes "a @ https://example.org/a-1.whl ; sys_platform == 'win32'")
+      ≡ by_url (Some (asks (codes "a") [] [] (Some (text SysPlatform (codes "win32") true))))
+  pub semicolon_in_url : reading_of (codes "a @ u;os_name=='a'") ≡ by_url (Some (asks (codes "a") [] [] None))
+  pub semicolon_behind_tab : reading_of (codes "a @ u\t;os_name=='a'") ≡ by_url (Some (asks (codes "a") [] [] (Some on_a)))
+
+-- and those that have no such form
+pub record NoAddresses : Type 0 where
+  pub nothing_behind : reading_of (codes "a@") ≡ by_url None
+  pub blank_behind : reading_of (codes "a @ ") ≡ by_url None
+  pub line_behind : reading_of (codes "a@\nb") ≡ by_url None
+  pub two_urls : reading_of (codes "a @ u v") ≡ by_url None
+  pub no_marker : reading_of (codes "a @ u ;") ≡ by_url None
+  pub line_before_marker : reading_of (codes "a @ u\n;os_name=='a'") ≡ by_url None
 
 -- texts without a reading
 pub record NoReadings : Type 0 where

@@ -140,6 +140,7 @@ impl Package {
         Ok(Package {
             name,
             entries: self.entries,
+            prereleases: self.prereleases,
             releases,
         })
     }

@@ -15,4 +15,4 @@ pub use fault::ReqFault;
 pub use package::{FileEntry, Package, Release};
 pub use requirement::Requirement;
 pub use same::{same_requirements, same_specifiers};
-pub use wish::{Mode, Strategy, Wish};
+pub use wish::{Mode, Prereleases, Strategy, Wish};

@@ -2,7 +2,7 @@
 ghost use Rattle.std.specs.Prelude.{◌≡◌};
 ghost use Rattle.ul_requirement.specs.Fields.{VersionsDiffer};
 
-use crate::Requirement;
+use crate::{Prereleases, Requirement};
 use std::marker::Model;
 use ul_base::Name;
 use ul_ranges::SharedList;
@@ -69,6 +69,8 @@ pub struct Package {
     pub name: Name,
     /// How many releases the document lists, unusable ones included.
     pub entries: u64,
+    /// Which of its pre-releases count.
+    pub prereleases: Prereleases,
     pub releases: Vec<Release>,
 }
 
@@ -81,9 +83,9 @@ impl Model for Package {
 
     ghost coded = { Prim.hlevel (codes, formula_code) };
 
-    ghost view = { λ p. record { name = p.name; entries = p.entries; releases = p.releases.items } };
+    ghost view = { λ p. record { name = p.name; entries = p.entries; prereleases = p.prereleases; releases = p.releases.items } };
 
-    ghost invariant = { λ p. IsPackage (record { name = p.name; entries = p.entries; releases = p.releases.items }) };
+    ghost invariant = { λ p. IsPackage (record { name = p.name; entries = p.entries; prereleases = p.prereleases; releases = p.releases.items }) };
 }
 
 impl Package {

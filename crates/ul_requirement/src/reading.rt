@@ -1,6 +1,6 @@
 //! Reading requirements from their texts.
 
-ghost use Rattle.std.specs.Prelude.{◌≡◌, ◌≤◌, ◌<◌, ◌==◌, ℕ, ◌≢◌, IfOk, IfSome, IsTrue, length, slice_index};
+ghost use Rattle.std.specs.Prelude.{◌≡◌, ◌≤◌, ◌<◌, ◌==◌, ℕ, ◌≢◌, IfOk, IfSome, IsTrue, drop, length, slice_index};
 ghost use Rattle.std.specs.List.{list_all, slice_split};
 ghost use Rattle.std.specs.List.Sorted.{IsStrictlySortedBy};
 ghost use Rattle.ul_base.specs.Names as Names;
@@ -47,6 +47,20 @@ impl ByteClass for InnerByte {
 
     fn has(&self, byte: u8) -> bool {
         (b' ' <= byte && byte <= b'~') || byte == b'\t'
+    }
+}
+
+/// The bytes of a URL: printable ASCII, but no space.
+#[derive(Clone, Copy, Drop)]
+struct UrlByte;
+
+impl ByteClass for UrlByte {
+    ghost use Rattle.ul_requirement.specs.Reading.{is_url_byte};
+
+    ghost has = { λ _ byte. is_url_byte byte };
+
+    fn has(&self, byte: u8) -> bool {
+        b' ' < byte && byte <= b'~'
     }
 }
 
@@ -242,6 +256,66 @@ fn tail(alloc: Global, input: &[u8]) -> Result<(Specifiers, Option<Marker>), Par
     Ok((specifiers, marker))
 }
 
+// The marker behind a URL and blanks.
+#[tactic(auto, unfolding(crate::specs::Reading::marker_behind))]
+fn marker_behind(alloc: Global, input: &[u8]) -> Result<Option<Marker>, PartFault>
+    requires { IsTrue (list_all spec.is_inner_byte input.now) }
+    ensures marker { Reads optional_marker result (spec.marker_behind input.now) }
+    ensures valid { IfOk result (λ m. MayBeFormula (optional_marker m)) }
+{
+    let [byte, text @ ..] = input else {
+        return Ok(None);
+    };
+    if *byte != b';' {
+        return Err(PartFault::NoReading);
+    }
+    marker_in(alloc, Some(text))
+}
+
+// The marker behind a URL.
+#[tactic(auto, unfolding(crate::specs::Reading::url_marker))]
+fn url_marker(alloc: Global, input: &[u8]) -> Result<Option<Marker>, PartFault>
+    ensures marker { Reads optional_marker result (spec.url_marker input.now) }
+    ensures valid { IfOk result (λ m. MayBeFormula (optional_marker m)) }
+{
+    if !is_run(&InnerByte, input) {
+        return Err(PartFault::NoReading);
+    }
+    if !begins(&UrlByte, input) {
+        return Err(PartFault::NoReading);
+    }
+    marker_behind(alloc, after_run(&Blank, after_run(&UrlByte, input)))
+}
+
+// The text behind its first byte.
+fn after_first(input: &[u8]) -> &[u8]
+    ensures { result.now ≡ drop 1 input.now }
+{
+    match input {
+        [_, rest @ ..] => rest,
+        [] => input,
+    }
+}
+
+// The requirement by a URL that a text without white space at its ends spells.
+fn address(alloc: Global, input: &[u8]) -> Result<Requirement, PartFault>
+    ensures { Reads (λ q. q) result (spec.read_address (spec.reading_behind (spec.front_of input.now))) }
+{
+    let (name, extras, rest) = front(alloc, input)?;
+    if !begins(&Only { byte: b'@' }, rest) {
+        return Err(PartFault::NoReading);
+    }
+    let marker = url_marker(alloc, after_run(&Blank, after_first(rest)))?;
+    Ok(Requirement {
+        name,
+        extras,
+        specifiers: Specifiers {
+            clauses: Vec::new(alloc),
+        },
+        marker,
+    })
+}
+
 impl Requirement {
     /// The requirement that a text spells, by the grammar of PEP 508.
     ///
@@ -266,5 +340,21 @@ impl Requirement {
             specifiers,
             marker,
         })
+    }
+
+    /// What a text by a URL requires: any version of its name, with its extras, where its marker holds.
+    ///
+    /// There is none where the text isn't one by a URL, and none where it hasn't the form of PEP 508: behind `@` a URL
+    /// stands, which is one or more printable bytes of ASCII without space, and behind that there may be a semicolon,
+    /// before which space or tab stands, with a marker. The only error is want of memory.
+    #[tactic(auto, unfolding(crate::specs::Reading::reading_of))]
+    pub fn by_url(alloc: Global, text: &str) -> Result<Option<Requirement>, AllocError>
+        ensures { IfOk result (λ q. q ≡ spec.read_address (spec.reading_of text.now)) }
+    {
+        match address(alloc, trimmed(&White, text.as_bytes())) {
+            Ok(requirement) => Ok(Some(requirement)),
+            Err(PartFault::NoReading) => Ok(None),
+            Err(PartFault::NoMemory) => Err(AllocError),
+        }
     }
 }

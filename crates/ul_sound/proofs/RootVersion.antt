@@ -1,34 +1,18 @@
 -- The project has one eligible version.
-use Rattle.std.proofs.Common.{◌≡◌, ◌⊎◌, ℕ, List, [], ◌∷◌, filter, find, length, Bool, true, false, cond, Contains, Some, sym, ap, ◌∙◌, subst, inl, inr, bytes_eq, arith}
-use Rattle.ul_base.proofs.ForCallers.{contains_first, contains_later, contains_cases, only_one, none_in, bytes_eq-same}
+use Rattle.std.proofs.Common.{◌≡◌, ℕ, List, [], ◌∷◌, find, length, cond, Contains, Some, sym, ap, ◌∙◌, subst, bytes_eq, arith}
+use Rattle.ul_base.proofs.ForCallers.{only_one, none_in, bytes_eq-same}
 use Rattle.ul_version.specs.Fields.{Fields}
 use Rattle.ul_requirement.specs.Fields.{ReleaseFields, PackageFields}
 use Rattle.ul_index.specs.Catalogs.{Packages, releases_of, releases_in}
-use Rattle.ul_index.specs.Eligible.{eligible, passing, passes, takes_pre, directs_on}
+use Rattle.ul_index.specs.Eligible.{eligible, passing}
 use Rattle.ul_index.specs.Laws.{EligibleSame}
+use Rattle.ul_index.proofs.ForCallers.{passing_in}
 use Rattle.ul_sound.specs.Leaves.{Begins}
-
-from_cond : {A : Type 0} (b : Bool) (z x : A) (zs ys : List A) → (Contains ys x → Contains zs x) → Contains (cond b (z ∷ ys) ys) x → Contains (z ∷ zs) x
-from_cond true z x zs ys later m = from_cases (contains_cases z ys x m)
-  where
-    from_cases : (x ≡ z) ⊎ Contains ys x → Contains (z ∷ zs) x
-    from_cases (inl e) = subst (Contains (z ∷ zs)) (sym e) (contains_first z zs)
-    from_cases (inr r) = contains_later z zs x (later r)
-from_cond false z x zs ys later m = contains_later z zs x (later m)
-
-filter_in : {A : Type 0} (test : A → Bool) (xs : List A) (x : A) → Contains (filter test xs) x → Contains xs x
-filter_in test [] x m = absurd (none_in x m)
-filter_in test (z ∷ zs) x m = from_cond (test z) z x zs (filter test zs) (filter_in test zs x) m
 
 one_of : {A : Type 0} (xs : List A) (x y : A) → length xs ≡ 1 → Contains xs x → Contains xs y → x ≡ y
 one_of [] x y e h k = absurd (none_in x h)
 one_of (z ∷ []) x y e h k = only_one z x h ∙ sym (only_one z y k)
 one_of (z ∷ a ∷ zs) x y e h k = absurd (omega (arith, e))
-
--- a release that counts is one of the name's
-passing_in : (c : Packages) (n : List ℕ) (r : ReleaseFields) → Contains (passing c n) r → Contains (releases_of c n) r
-unfolding passing
-passing_in c n r m = filter_in (passes (directs_on c n) (takes_pre (directs_on c n) (releases_of c n))) (releases_of c n) r m
 
 first_releases : (c : Packages) (n : List ℕ) (b : Begins c n) → releases_of c n ≡ b.first.releases
 unfolding releases_of

@@ -42,7 +42,7 @@ In l [] = ⊥
 In l (j ∷ js) = (l ≡ j) ⊎ In l js
 
 abbrev mutual
-  Among : List (List ℕ) → Plain → Type 0
+  pub Among : List (List ℕ) → Plain → Type 0
   Among ls (truth b) = Unit {0}
   Among ls (node l d bs) = In l ls × Among ls d × AmongAll ls bs
 
@@ -51,7 +51,7 @@ abbrev mutual
   AmongAll ls (branch k c rest) = Among ls c × AmongAll ls rest
 
 abbrev mutual
-  levels : Plain → List (List ℕ) → List (List ℕ)
+  pub levels : Plain → List (List ℕ) → List (List ℕ)
   levels (truth b) ls = ls
   levels (node l d bs) ls = l ∷ levels d (levels_in bs ls)
 
@@ -78,7 +78,7 @@ mutual
   more_all (branch k c rest) ls ks f h = (more c ls ks f h.0, more_all rest ls ks f h.1)
 
 mutual
-  among : (t : Plain) (ls : List (List ℕ)) → Among (levels t ls) t
+  pub among : (t : Plain) (ls : List (List ℕ)) → Among (levels t ls) t
   among (truth b) ls = tt
   among (node l d bs) ls =
       let ks = levels d (levels_in bs ls) in (
@@ -152,7 +152,7 @@ among_apply op (suc n) ls (node l d bs) (node k e cs) x y = among_at op n ls (by
     go Equal = x.0
     go Greater = y.0
 
-among_union : (bs : Branches) (ls : List (List ℕ)) (t : Plain) → AmongAll ls bs → Among ls t → Among ls (union_in bs t)
+pub among_union : (bs : Branches) (ls : List (List ℕ)) (t : Plain) → AmongAll ls bs → Among ls t → Among ls (union_in bs t)
 among_union done ls t x y = y
 among_union (branch k c rest) ls t x y = among_union rest ls (or_of t c) x.1 (among_apply either (suc (size t + size c)) ls t c y x.0)
 
@@ -162,7 +162,7 @@ one_if_less Less = 1
 one_if_less Equal = 0
 one_if_less Greater = 0
 
-abbrev later : List ℕ → List (List ℕ) → ℕ
+abbrev pub later : List ℕ → List (List ℕ) → ℕ
 later l [] = 0
 later l (j ∷ js) = one_if_less (text_cmp l j) + later l js
 
@@ -178,7 +178,7 @@ fewer : (l k : List ℕ) (ls : List (List ℕ)) → text_cmp l k ≡ Less → la
 fewer l k [] e = omega arith
 fewer l k (j ∷ js) e = let p = one_fewer l k j e in let q = fewer l k js e in omega (arith, p, q)
 
-later_less : (l k : List ℕ) (ls : List (List ℕ)) → text_cmp l k ≡ Less → In k ls → later k ls < later l ls
+pub later_less : (l k : List ℕ) (ls : List (List ℕ)) → text_cmp l k ≡ Less → In k ls → later k ls < later l ls
 later_less l k [] e h = absurd h
 later_less l k (j ∷ js) e (inl q) =
     let p = ap one_if_less (sym (ap (text_cmp k) q) ∙ cmp_itself k) in

@@ -22,6 +22,7 @@ pub use Rattle.ul_tree.proofs.SimplifySteps.{piece_outside, piece_inside, piece_
 pub use Rattle.ul_tree.proofs.SimplifySteps.{result_reduced, results_reduced, simpler_reduced}
 pub use Rattle.ul_tree.proofs.Settled.{filled_fit, own_fits, earliest_fits, latest_fits}
 pub use Rattle.ul_tree.proofs.Lowering.{lowers_itself, lowers_union, union_step, joined_or, union_joined, halves_joined, one_part, no_branches}
+pub use Rattle.ul_tree.proofs.LevelsLeft.{HasLevelsOf, levels_left, has_own_levels, union_has_levels, union_leaves_fewer}
 pub use Rattle.ul_tree.proofs.Exists.{simplify_laws}
 -- ---- trees of one comparison
 pub use Rattle.ul_tree.proofs.Leaves.{turned, text_below, mark_eq, extra_reduced, text_reduced, opaque_reduced}

@@ -12,7 +12,7 @@ use Rattle.ul_comparison.specs.Formulas.{IsExtraLiteral}
 use Rattle.ul_comparison.specs.Truth.{as_asked, equals_extra, is_empty}
 use Rattle.ul_comparison.specs.Worlds.{WorldFields, text_at}
 use Rattle.ul_comparison.specs.declared.variable.Variable.{Variable}
-use Rattle.ul_comparison.specs.declared.variable.Variable.TheVariants.{OsName, SysPlatform, PlatformMachine, PlatformPythonImplementation, PlatformRelease, PlatformSystem, PlatformVersion, PythonVersion, PythonFullVersion, ImplementationName, ImplementationVersion}
+use Rattle.ul_comparison.specs.declared.variable.Variable.TheVariants.{OsName, SysPlatform, PlatformMachine, PlatformPythonImplementation, PlatformRelease, PlatformSystem, PlatformVersion, PythonVersion, PythonFullVersion, ImplementationName, ImplementationVersion, Extras}
 use Rattle.ul_nodes.specs.Plain.{truth, text_cmp, carries, by_order, holds_of}
 use Rattle.ul_nodes.specs.Levels.{extra_level, text_level, atom_level, IsKey, IsExtra}
 use Rattle.ul_nodes.specs.Reduced.{IsReduced}
@@ -94,6 +94,7 @@ text_below PythonVersion h = absurd (true≢false (sym h))
 text_below PythonFullVersion h = absurd (true≢false (sym h))
 text_below ImplementationName h = omega arith
 text_below ImplementationVersion h = absurd (true≢false (sym h))
+text_below Extras h = absurd (true≢false (sym h))
 
 pub text_reduced : (v : Variable) (literal : List ℕ) (equal : Bool) → is_text v ≡ true → is_literal literal ≡ true → IsReduced (point_tree (text_level v) literal equal)
 text_reduced v literal equal is text = pointed_reduced (text_level v) literal equal refl (text_below v is, text)

@@ -29,6 +29,7 @@ pub mod Unions
 pub mod Settled
 pub mod Simplified
 pub mod Exists
+pub mod LevelsLeft
 pub mod Lowering
 pub mod PartRegions
 pub mod SimplifySteps

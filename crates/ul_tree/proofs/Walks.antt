@@ -8,7 +8,7 @@ use Rattle.ul_comparison.specs.Worlds.{WorldFields, IsWorld, IsAfter}
 use Rattle.ul_comparison.specs.declared.variable.AtomKind.{AtomKind}
 use Rattle.ul_comparison.specs.declared.variable.AtomKind.TheVariants.{Contains, Within, Below, AtMost, Same}
 use Rattle.ul_comparison.specs.declared.variable.Variable.{Variable}
-use Rattle.ul_comparison.specs.declared.variable.Variable.TheVariants.{OsName, SysPlatform, PlatformMachine, PlatformPythonImplementation, PlatformRelease, PlatformSystem, PlatformVersion, PythonVersion, PythonFullVersion, ImplementationName, ImplementationVersion}
+use Rattle.ul_comparison.specs.declared.variable.Variable.TheVariants.{OsName, SysPlatform, PlatformMachine, PlatformPythonImplementation, PlatformRelease, PlatformSystem, PlatformVersion, PythonVersion, PythonFullVersion, ImplementationName, ImplementationVersion, Extras}
 use Rattle.ul_nodes.specs.Levels.{IsKey, IsAtomLevel, extra_level, atom_level}
 use Rattle.ul_nodes.specs.Plain.{Plain, truth, node, Branches, done, branch, text_cmp, carries, carried_part, holds_of}
 use Rattle.ul_nodes.specs.Reduced.{IsReduced, Fits, FitsAll}
@@ -33,6 +33,7 @@ variable_back PythonVersion = refl
 variable_back PythonFullVersion = refl
 variable_back ImplementationName = refl
 variable_back ImplementationVersion = refl
+variable_back Extras = refl
 
 pub kind_back : (k : AtomKind) → kind_of (kind_number k) ≡ k
 kind_back Contains = refl

@@ -6,7 +6,7 @@ use Rattle.ul_comparison.specs.Worlds.{WorldFields, IsWorld}
 use Rattle.ul_comparison.specs.declared.variable.AtomKind.{AtomKind}
 use Rattle.ul_comparison.specs.declared.variable.AtomKind.TheVariants.{Contains, Within, Below, AtMost, Same}
 use Rattle.ul_comparison.specs.declared.variable.Variable.{Variable}
-use Rattle.ul_comparison.specs.declared.variable.Variable.TheVariants.{OsName, SysPlatform, PlatformMachine, PlatformPythonImplementation, PlatformRelease, PlatformSystem, PlatformVersion, PythonVersion, PythonFullVersion, ImplementationName, ImplementationVersion}
+use Rattle.ul_comparison.specs.declared.variable.Variable.TheVariants.{OsName, SysPlatform, PlatformMachine, PlatformPythonImplementation, PlatformRelease, PlatformSystem, PlatformVersion, PythonVersion, PythonFullVersion, ImplementationName, ImplementationVersion, Extras}
 use Rattle.ul_nodes.specs.Levels.{IsExtra}
 use Rattle.ul_nodes.specs.Plain.{Plain, truth, node, Branches, done, branch, carries}
 use Rattle.ul_nodes.specs.Reduced.{IsReduced}
@@ -81,7 +81,8 @@ variable_of (suc (suc (suc (suc (suc (suc zero)))))) = PlatformVersion
 variable_of (suc (suc (suc (suc (suc (suc (suc zero))))))) = PythonVersion
 variable_of (suc (suc (suc (suc (suc (suc (suc (suc zero)))))))) = PythonFullVersion
 variable_of (suc (suc (suc (suc (suc (suc (suc (suc (suc zero))))))))) = ImplementationName
-variable_of (suc (suc (suc (suc (suc (suc (suc (suc (suc (suc n)))))))))) = ImplementationVersion
+variable_of (suc (suc (suc (suc (suc (suc (suc (suc (suc (suc zero)))))))))) = ImplementationVersion
+variable_of (suc (suc (suc (suc (suc (suc (suc (suc (suc (suc (suc n))))))))))) = Extras
 
 -- the kind at a place in the order of kinds
 abbrev pub kind_of : ℕ → AtomKind

@@ -106,15 +106,10 @@ fn lowered(alloc: Global, region: &Tree, level: Level<'_>) -> Result<Option<Tree
         return Ok(None);
     }
     let mut made = union(alloc, region)?;
-    for _ in 0..usize::MAX {
-        if !is_above(&made, level) {
-            return Ok(Some(made));
-        }
+    while is_above(&made, level) {
         made = union_from(alloc, made)?;
     }
-    // Each turn takes a level away: no tree that fits in memory has so many.
-    drop(made);
-    Err(AllocError)
+    Ok(Some(made))
 }
 
 // The earlier of two levels, where there are.

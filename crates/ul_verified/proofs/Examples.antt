@@ -15,7 +15,7 @@ use Rattle.ul_requirement.specs.Truth.{applies_at, base, meets, targets, true_wi
 use Rattle.ul_specifier.specs.Meaning.{meets_clause}
 use Rattle.ul_nodes.specs.Plain.{truth}
 use Rattle.ul_tree.specs.Sample.{empty_world}
-use Rattle.ul_index.specs.Catalogs.{Packages, is_fit, is_fit_in, release_of, releases_of, requirements, requirements_in}
+use Rattle.ul_index.specs.Catalogs.{Packages, is_fit, is_fit_in, prereleases_of, release_of, releases_of, requirements, requirements_in}
 use Rattle.ul_index.specs.Eligible.{eligible, passing}
 use Rattle.ul_lock.specs.declared.parts.Edge.{Edge}
 use Rattle.ul_lock.specs.declared.parts.Lock.{Lock}
@@ -34,11 +34,11 @@ asked qs xs = record { world = record { major = omega arith; minor = omega arith
 -- ---- what the catalogs say
 
 eligible_demo : IsEligible catalog demo one
-unfolding eligible passing releases_of
+unfolding eligible passing prereleases_of releases_of
 eligible_demo = (one, (0, omega arith, refl), same one)
 
 eligible_is : eligible catalog other ≡ one_zero ∷ two ∷ []
-unfolding eligible passing releases_of version_cmp release_cmp padded_release
+unfolding eligible passing prereleases_of releases_of version_cmp release_cmp padded_release
 eligible_is = refl
 
 eligible_one : Contains (eligible catalog other) one_zero

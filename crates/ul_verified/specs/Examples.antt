@@ -7,6 +7,7 @@ use Rattle.ul_specifier.specs.declared.clause.Op.TheVariants.{AtLeast, Less}
 use Rattle.ul_requirement.specs.Fields.{PackageFields, ReleaseFields, RequirementFields}
 use Rattle.ul_requirement.specs.Truth.{base}
 use Rattle.ul_requirement.specs.declared.wish.Mode.TheVariants.{Highest}
+use Rattle.ul_requirement.specs.declared.wish.Prereleases.TheVariants.{IfNecessaryOrExplicit}
 use Rattle.ul_requirement.specs.declared.wish.Strategy.TheVariants.{Fewest}
 use Rattle.ul_nodes.specs.Plain.{truth}
 use Rattle.ul_index.specs.Catalogs.{Packages}
@@ -62,7 +63,7 @@ release_at v python qs = record { version = v; python = python; requirements = q
 
 -- a package of this name with these releases, each an entry of its index document
 abbrev pub package_of : List ℕ → List ReleaseFields → PackageFields
-package_of n rs = record { name = n; entries = length rs; releases = rs }
+package_of n rs = record { name = n; entries = length rs; prereleases = IfNecessaryOrExplicit; releases = rs }
 
 -- the project's package, with these requirements
 abbrev pub own : List RequirementFields → PackageFields
@@ -79,6 +80,7 @@ project_of qs xs =
       region = truth true;
       mode = Highest;
       strategy = Fewest;
+      prereleases = IfNecessaryOrExplicit;
       groups = [];
       constraints = [];
       overrides = [];

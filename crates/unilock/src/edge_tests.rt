@@ -1,12 +1,16 @@
 // The edge: real files, and readers and writers that give and take a little, are interrupted or fail.
-use crate::words_of;
+use crate::tests::cells;
 use std::alloc::{AllocError, Global};
+use std::env::Args;
 use std::io::{ErrorKind, Read, Write};
 use std::process::Abort;
+use std::sync::Wait;
+use std::thread::Threads;
 use std::{fs, io};
-use ul_base::{Files, ReadRefused, Sink, SinkRefused};
-use ul_edge::{Counted, read_all, write_all};
-use ul_program::{FolderFiles, OutSink};
+use ul_base::Open;
+use ul_edge::{Counted, OpenedFiles, Opener, read_all, read_opened, write_all};
+use ul_files::{Files, MemFiles, MemSink, ReadRefused, Sink, SinkRefused};
+use ul_program::{Folder, OutSink, ended};
 
 const TEXT: &[u8] = b"a text of thirty bytes to move";
 
@@ -231,17 +235,90 @@ fn are_kept<R: fs::Files, F: Files>(rt: &R, alloc: Global, files: &mut F) -> boo
 
 #[test]
 fn reads_real_files(rt: HostRuntime) {
-    let mut files = FolderFiles::new(&rt, rt.alloc());
+    let mut files = OpenedFiles::new(rt.alloc(), Folder::of(&rt));
     assert!(rt; are_kept(&rt, rt.alloc(), &mut files));
 }
 
-// Whether words that are no text are no words, and want of memory is told.
-fn are_no_words(alloc: Global) -> bool {
-    let no_memory = words_of(alloc, Err(io::Error::from(ErrorKind::OutOfMemory))).is_err();
-    match words_of(alloc, Err(io::Error::from(ErrorKind::InvalidData))) {
-        Ok(words) => no_memory && words.is_empty(),
-        Err(_) => false,
+// Whether a file that was to be opened is told so, and its failure is counted.
+fn is_told(
+    alloc: Global,
+    opened: io::Result<Giving<'_>>,
+    wanted: Result<Option<&[u8]>, ReadRefused>,
+    count: u64,
+) -> bool {
+    let mut faults = 0;
+    let told = read_opened(alloc, opened, 30, &mut faults);
+    let is_wanted = match (&told, &wanted) {
+        (Ok(Some(bytes)), Ok(Some(given))) => bytes.as_slice() == *given,
+        (Ok(None), Ok(None)) => true,
+        (Err(refused), Err(fault)) => refused == fault,
+        _ => false,
+    };
+    is_wanted && faults == count
+}
+
+fn opened<'a>(turns: &'a str, left: &'a [u8]) -> io::Result<Giving<'a>> {
+    Ok(Giving {
+        turns: Turns { turns },
+        left,
+    })
+}
+
+fn unopened<'a>(kind: ErrorKind) -> io::Result<Giving<'a>> {
+    Err(io::Error::from(kind))
+}
+
+#[test]
+fn tells_what_was_opened(rt: HostRuntime) {
+    let alloc = rt.alloc();
+    let failed = ReadRefused::Failed;
+    assert!(rt; is_told(alloc, opened("3 interrupt 1", TEXT), Ok(Some(TEXT)), 0));
+    assert!(rt; is_told(alloc, opened("", b"\r\n"), Ok(Some(b"\r\n")), 0));
+    assert!(rt; is_told(alloc, opened("", b""), Ok(Some(b"")), 0));
+    assert!(rt; is_told(alloc, opened("", &[b'x'; 31]), Err(ReadRefused::TooLong), 0));
+    assert!(rt; is_told(alloc, opened("3 fail", TEXT), Err(failed), 1));
+    assert!(rt; is_told(alloc, unopened(ErrorKind::NotFound), Ok(None), 0));
+    assert!(rt; is_told(alloc, unopened(ErrorKind::PermissionDenied), Err(failed), 1));
+}
+
+// Opens the text at `p` and a reader of it that fails at `q`, and finds nothing at another path.
+#[derive(Drop)]
+struct Paths<'a> {
+    text: &'a [u8],
+}
+
+impl<'a> Opener for Paths<'a> {
+    ghost use Rattle.std.specs.Prelude.{⊤};
+
+    type File = Giving<'a>;
+
+    ghost opens = { λ _ _ _. ⊤ };
+
+    fn open(&self, path: &str) -> io::Result<Giving<'a>> {
+        match path {
+            "p" => opened("3 interrupt 1", self.text),
+            "q" => opened("3 fail", self.text),
+            _ => unopened(ErrorKind::NotFound),
+        }
     }
+}
+
+// Whether a path of files has these bytes.
+fn has_bytes<F: Files>(files: &mut F, path: &str, wanted: &[u8]) -> bool {
+    match files.read(path, 30) {
+        Ok(Some(bytes)) => bytes.as_slice() == wanted,
+        _ => false,
+    }
+}
+
+#[test]
+fn reads_what_is_opened_at_the_path(rt: HostRuntime) {
+    let mut files = OpenedFiles::new(rt.alloc(), Paths { text: TEXT });
+    assert!(rt; has_bytes(&mut files, "p", TEXT) && has_bytes(&mut files, "p", TEXT));
+    assert!(rt; is_refused(&mut files, "q"));
+    assert!(rt;
+        matches!(files.read(" p", 30), Ok(None)) && matches!(files.read("p ", 30), Ok(None))
+    );
 }
 
 fn listed(alloc: Global, line: &str) -> Result<Vec<String>, AllocError> {
@@ -252,17 +329,62 @@ fn listed(alloc: Global, line: &str) -> Result<Vec<String>, AllocError> {
     Ok(words)
 }
 
-// Whether the words are those behind the program's name.
-fn are_words(alloc: Global) -> Result<bool, AllocError> {
-    let given = listed(alloc, "unilock lock p.toml")?;
-    let words = words_of(alloc, Ok(given.into_iter()))?;
-    match words.as_slice() {
-        [first, _] => Ok(first.as_str() == "lock"),
-        _ => Ok(false),
+// What arguments end with over no files: the status, a blank and the first word that is printed.
+fn end_of<R: Threads + Wait + Sync>(
+    rt: &R,
+    alloc: Global,
+    arguments: io::Result<Args>,
+) -> Result<String, AllocError> {
+    let mut files = MemFiles::of(alloc, Vec::new(alloc), Vec::new(alloc));
+    let mut out = MemSink::of(alloc, Vec::new(alloc));
+    let status = ended(rt, alloc, arguments, &mut files, &mut out, &Open);
+    let printed = str::from_utf8(out.bytes().as_slice()).unwrap_or("no text");
+    let (first, _) = cells(printed, " ");
+    let told = format!(in alloc; "{status} {first}")?;
+    Ok(told)
+}
+
+// Whether arguments end so.
+fn ends_so<R: Threads + Wait + Sync>(
+    rt: &R,
+    alloc: Global,
+    arguments: io::Result<Args>,
+    wanted: &str,
+) -> bool {
+    match end_of(rt, alloc, arguments) {
+        Ok(told) => told.as_str() == wanted,
+        Err(_) => false,
+    }
+}
+
+// Whether a line of arguments does.
+fn is_ended<R: Threads + Wait + Sync>(rt: &R, alloc: Global, line: &str, wanted: &str) -> bool {
+    match listed(alloc, line) {
+        Ok(given) => ends_so(rt, alloc, Ok(given.into_iter()), wanted),
+        Err(_) => false,
     }
 }
 
 #[test]
-fn words_that_are_no_text_are_no_words(rt: HostRuntime) {
-    assert!(rt; are_no_words(rt.alloc()) && matches!(are_words(rt.alloc()), Ok(true)));
+fn answers_the_arguments_behind_the_name(rt: HostRuntime) {
+    let alloc = rt.alloc();
+    assert!(rt; is_ended(&rt, alloc, "unilock verify p.toml ix l", "3 malformed:"));
+    assert!(rt; is_ended(&rt, alloc, "verify p.toml ix l", "2 usage:"));
+    assert!(rt; is_ended(&rt, alloc, "unilock", "2 usage:"));
+    assert!(rt;
+        ends_so(
+            &rt,
+            alloc,
+            Err(io::Error::from(ErrorKind::InvalidData)),
+            "2 usage:"
+        )
+    );
+    assert!(rt;
+        ends_so(
+            &rt,
+            alloc,
+            Err(io::Error::from(ErrorKind::OutOfMemory)),
+            "7 "
+        )
+    );
 }

@@ -6,7 +6,7 @@ use std::alloc::{AllocError, Global};
 use std::process::Abort;
 use std::sync::Wait;
 use std::thread::Threads;
-use ul_base::{MemFiles, MemSink, Sink, SinkRefused};
+use ul_files::{MemFiles, MemSink, Sink, SinkRefused};
 
 /// The files of all cases, and the cases, up to `~`: which read fails, counted from 0, or after how many bytes the write
 /// does; the words; `=` with the status, and what is printed.
@@ -42,6 +42,11 @@ dependencies = [
 ~
 read 0
 export m gpu
+=5
+read fault: m
+~
+read 0
+marker m
 =5
 read fault: m
 ~
@@ -138,6 +143,8 @@ fn printed_of_blanks<R: Threads + Wait + Sync>(
 // How many blanks a file has, its path, the words, and what is printed.
 const LENGTHS: &str = "16777217 p.toml|lock p.toml ix 1|4\nlimit: file-bytes 16777216\n#\
     16777217 p.toml|verify p.toml ix l|4\nlimit: file-bytes 16777216\n#\
+    16777217 f|marker f|4\nlimit: file-bytes 16777216\n#\
+    16777216 f|marker f|3\nmalformed: f: line 1\n#\
     67108865 l|export l gpu|4\nlimit: text-bytes 67108864\n";
 
 fn is_length<R: Threads + Wait + Sync>(rt: &R, alloc: Global, row: &str) -> bool {
@@ -178,5 +185,30 @@ fn writes_once(rt: HostRuntime) {
         "lock x.toml ix 1",
     ] {
         assert!(rt; is_written_once(&rt, rt.alloc(), words), "{words}");
+    }
+}
+
+// How many files words read over the files of the cases, and the words.
+const READS: &str =
+    "1 export l|2 env l m|3 lock p.toml ix 1|4 lock p.toml ix 1 l|4 verify p.toml ix l|2 check p.toml ix m";
+
+// Whether the words make so many reads: the last of them fails where it is told to, and there is none behind it.
+fn makes_reads<R: Threads + Wait + Sync>(rt: &R, alloc: Global, row: &str) -> bool {
+    let (count, words) = cells(row, " ");
+    let count = count.parse::<u64>().unwrap_or(0);
+    let (group, _) = group_of(FAULTS);
+    let given = whole_case(alloc, &group, words, "1");
+    let last = printed_of_read(rt, alloc, given.as_str(), count.saturating_sub(1));
+    let behind = printed_of_read(rt, alloc, given.as_str(), count);
+    last.as_str().starts_with("5\n")
+        && !behind.as_str().starts_with("5\n")
+        && !behind.as_str().is_empty()
+}
+
+// So a file that gives its bytes once alone, as `/dev/stdin`, is answered as any other.
+#[test]
+fn reads_each_file_once(rt: HostRuntime) {
+    for row in READS.split('|') {
+        assert!(rt; makes_reads(&rt, rt.alloc(), row), "{row}");
     }
 }

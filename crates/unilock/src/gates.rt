@@ -5,7 +5,8 @@ use std::process::Abort;
 use std::sync::Wait;
 use std::sync::atomic::{AtomicU64, Ordering};
 use std::thread::Threads;
-use ul_base::{Gate, MemSink};
+use ul_base::Gate;
+use ul_files::MemSink;
 use ul_program::run;
 
 // A gate whose second and third entries wait for each other.

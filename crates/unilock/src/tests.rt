@@ -3,6 +3,7 @@ use crate::choice_rows::CHOICES;
 use crate::deep_rows::DEEP_FORKS;
 use crate::export_rows::EXPORTS;
 use crate::fork_rows::FORKS;
+use crate::marker_rows::MARKERS;
 use crate::refusal_rows::REFUSALS;
 use crate::relock_rows::RELOCKED;
 use crate::verify_rows::VERIFIED;
@@ -12,7 +13,8 @@ use std::fmt::Write;
 use std::process::Abort;
 use std::sync::Wait;
 use std::thread::Threads;
-use ul_base::{MemFiles, MemSink, Open};
+use ul_base::Open;
+use ul_files::{MemFiles, MemSink};
 use ul_program::run;
 
 /// Puts a piece. One that finds no memory is left out, and then what is told isn't what is wanted: so what puts pieces
@@ -272,6 +274,12 @@ fn verifies_locks(rt: HostRuntime) {
 #[test]
 fn keeps_locks_that_are_right(rt: HostRuntime) {
     let wrong = wrong_case(&rt, rt.alloc(), RELOCKED);
+    assert!(rt; wrong.is_empty(), "{wrong}");
+}
+
+#[test]
+fn tells_canonical_markers(rt: HostRuntime) {
+    let wrong = wrong_case(&rt, rt.alloc(), MARKERS);
     assert!(rt; wrong.is_empty(), "{wrong}");
 }
 

@@ -1,15 +1,17 @@
-use Rattle.std.proofs.Common.{◌∙◌}
 use Rattle.ul_answers.specs.Views.{view}
 use Rattle.ul_commands.specs.Checking.{check_with, proof_at}
 use Rattle.ul_inputs.proofs.ForCallers.{goes_on, refuses}
 use Rattle.ul_commands.proofs.commands.check_on.Goals as goal
 
 pub returns-in-Ok-clause-told : goal.returns-in-Ok-clause-told
-returns-in-Ok-clause-told g c m e =
+returns-in-Ok-clause-told g c m a =
     goes_on view c.check_with-answer.result c.in-Ok.proof (proof_at c.args.derivation.now m) (λ x. check_with c.args.folder.now c.args.project x m)
-    (c.in-Ok.ensures.told m e) (c.check_with-answer.ensures.told m (c.in-Ok.ensures.same ∙ e))
+    (c.in-Ok.ensures.told m (c.check_with-answer.ensures.grown m a)) (c.check_with-answer.ensures.told m a)
 
 pub returns-in-Err-clause-told : goal.returns-in-Err-clause-told
-returns-in-Err-clause-told g c m e =
+returns-in-Err-clause-told g c m a =
     refuses (λ x. x) view c.in-Err.refusal (proof_at c.args.derivation.now m) (λ x. check_with c.args.folder.now c.args.project x m)
-    (c.in-Err.ensures.told m e)
+    (c.in-Err.ensures.told m a)
+
+pub returns-in-Ok-clause-grown : goal.returns-in-Ok-clause-grown
+returns-in-Ok-clause-grown g c m a = c.in-Ok.ensures.grown m (c.check_with-answer.ensures.grown m a)

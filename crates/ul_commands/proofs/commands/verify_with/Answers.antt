@@ -9,16 +9,16 @@ use Rattle.ul_commands.proofs.Answering.{verify_answers}
 use Rattle.ul_commands.proofs.commands.verify_with.Goals as goal
 
 pub returns-in_err-resolution-clause-told : goal.returns-in_err-resolution-clause-told
-returns-in_err-resolution-clause-told g c m e =
+returns-in_err-resolution-clause-told g c m a =
     let p = err_from_is_err_and c.from_residual.result c.from_residual.ensures.1 in
-    let told = c.in_err-resolution.ensures.told m e in
+    let told = c.in_err-resolution.ensures.told m a in
     rw (p.1, p.2) (refuses view answer_view c.in_err-resolution.field-0.0
     (resolution_with c.args.folder.now c.args.project [] m) (λ x. answer (IsVerifyAnswer x c.args.lock.now) m)
     (rw c.new.ensures.items at told))
 
 pub returns-clause-told : goal.returns-clause-told
-returns-clause-told g c m e =
-    let told = c.in_ok-resolution.ensures.told m e in
+returns-clause-told g c m a =
+    let told = c.in_ok-resolution.ensures.told m a in
     goes_on answer_view c.verify-answer.result (view c.in_ok-resolution.resolution)
     (resolution_with c.args.folder.now c.args.project [] m) (λ x. answer (IsVerifyAnswer x c.args.lock.now) m)
     (rw c.new.ensures.items at told) c.verify-answer.ensures

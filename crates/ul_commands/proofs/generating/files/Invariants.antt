@@ -1,5 +1,5 @@
 use Rattle.std.proofs.Common.{◌≡◌, ◌∷◌}
-use Rattle.ul_base.specs.Files.{files_of}
+use Rattle.ul_files.specs.Files.{files_of}
 use Rattle.ul_gen.specs.Texts.{project_text}
 use Rattle.ul_commands.specs.Generating.{documents_below, project_path}
 use Rattle.ul_commands.proofs.generating.files.Given as goal

@@ -32,4 +32,5 @@ returns c =
         verdicts = c.verdict_exists.ensures;
         no_extra = c.no_extra.ensures;
       };
+      trees = c.truth_trees.ensures;
     })

@@ -24,7 +24,7 @@ returns-clause-found c =
     package_made c.args.found c.args.extras.items c.args.sizes.items c.args.lists.items _ _ _ (one c) (made c)
     (rw c.in_ok-name.ensures.1 at c.release_with-extended.ensures.release) in
     rw (c.in_ok-kept.ensures.0, c.in_ok-name.ensures.0)
-    (λ i. record { name = (c.found.view_is i).name; entries = (c.found.view_is i).entries; releases = releases i })
+    (λ i. record { name = (c.found.view_is i).name; entries = (c.found.view_is i).entries; prereleases = (c.found.view_is i).prereleases; releases = releases i })
 
 pub returns-clause-one : goal.returns-clause-one
 returns-clause-one c = ap length (made c)

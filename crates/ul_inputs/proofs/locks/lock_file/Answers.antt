@@ -7,14 +7,14 @@ use Rattle.ul_inputs.proofs.LockFaults.{well_formed_in}
 use Rattle.ul_inputs.proofs.locks.lock_file.Goals as goal
 
 pub returns-in_err-bytes-clause-told : goal.returns-in_err-bytes-clause-told
-returns-in_err-bytes-clause-told g c m e =
+returns-in_err-bytes-clause-told g c m a =
     let p = err_from_is_err_and c.from_residual.result c.from_residual.ensures.1 in
-    rw (p.1, p.2) (refuses {T = Vec ℕ Global} (λ (v : Vec ℕ Global). v.items) (λ x. x) c.in_err-bytes.field-0.0 (large_file c.args.path.now m) (λ x. lock_said c.args.path.now x m) (c.in_err-bytes.ensures.told m e))
+    rw (p.1, p.2) (refuses {T = Vec ℕ Global} (λ (v : Vec ℕ Global). v.items) (λ x. x) c.in_err-bytes.field-0.0 (large_file c.args.path.now m) (λ x. lock_said c.args.path.now x m) (c.in_err-bytes.ensures.told m a))
 
 pub returns-clause-told : goal.returns-clause-told
-returns-clause-told g c m e =
+returns-clause-told g c m a =
     goes_on (λ x. x) c.lock_in.result c.in_ok-bytes.bytes.items (large_file c.args.path.now m) (λ x. lock_said c.args.path.now x m)
-    (c.in_ok-bytes.ensures.told m e) (rw (← c.deref.ensures.value) c.lock_in.ensures)
+    (c.in_ok-bytes.ensures.told m a) (rw (← c.deref.ensures.value) c.lock_in.ensures)
 
 pub returns-clause-well_formed : goal.returns-clause-well_formed
 returns-clause-well_formed g c = well_formed_in _ _ c.lock_in.result c.lock_in.ensures

@@ -8,7 +8,7 @@ use Rattle.ul_load.proofs.FaultCauses.{cause_on, no_failed_path, same_count}
 use Rattle.ul_load.proofs.loading.follow.Goals as goal
 
 pub returns-in_err-name-clause-told : goal.returns-in_err-name-clause-told
-returns-in_err-name-clause-told g c m e =
+returns-in_err-name-clause-told g c m a =
     let p = err_from_is_err_and c.from_residual.result c.from_residual.ensures.1 in
     rw (p.1, p.2) tt
 
@@ -21,10 +21,10 @@ pub package_at-requires : goal.package_at-requires
 package_at-requires g c = c.requires.kept.bytes
 
 pub returns-in_err-found-clause-told : goal.returns-in_err-found-clause-told
-returns-in_err-found-clause-told g c m e =
+returns-in_err-found-clause-told g c m a =
     let s = progress_view c.args.progress.now in
     let p = err_from_is_err_and c.from_residual-in_err-found.result c.from_residual-in_err-found.ensures.1 in
-    rw (p.1, p.2) (step_refuses _ (package_at m c.args.folder.now (next_name s) s.bytes) (λ found. within (progress_with s found)) (rw c.in_ok-name.ensures at (c.in_err-found.ensures.told m e)))
+    rw (p.1, p.2) (step_refuses _ (package_at m c.args.folder.now (next_name s) s.bytes) (λ found. within (progress_with s found)) (rw c.in_ok-name.ensures at (c.in_err-found.ensures.told m a)))
 
 pub returns-in_err-found-clause-same : goal.returns-in_err-found-clause-same
 returns-in_err-found-clause-same g c = c.in_err-found.ensures.same
@@ -46,10 +46,10 @@ pub add-requires-clause-is : goal.add-requires-clause-is
 add-requires-clause-is g c = rw c.in_ok-name.ensures at c.in_ok-found.ensures.next
 
 pub returns-clause-told : goal.returns-clause-told
-returns-clause-told g c m e =
+returns-clause-told g c m a =
     let s = progress_view c.args.progress.now in
     step_gives (λ u. progress_view c.add.new.self) c.add.result (package_at m c.args.folder.now (next_name s) s.bytes) (λ found. within (progress_with s found)) c.in_ok-found.found
-    (rw c.in_ok-name.ensures at (c.in_ok-found.ensures.told m e)) c.add.ensures.told
+    (rw c.in_ok-name.ensures at (c.in_ok-found.ensures.told m a)) c.add.ensures.told
 
 pub returns-clause-same : goal.returns-clause-same
 returns-clause-same g c = c.in_ok-found.ensures.same
@@ -65,3 +65,6 @@ returns-clause-kept g c = c.add.ensures.kept
 
 pub returns-clause-first : goal.returns-clause-first
 returns-clause-first g c = c.add.ensures.first
+
+pub returns-clause-one : goal.returns-clause-one
+returns-clause-one g c = c.add.ensures.one

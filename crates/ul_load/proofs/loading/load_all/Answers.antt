@@ -5,12 +5,13 @@ use Rattle.ul_load.specs.Loading.{beginning_of}
 use Rattle.ul_load.specs.Views.{progress_view}
 use Rattle.ul_index.specs.Catalogs.{Packages}
 use Rattle.ul_load.proofs.FaultCauses.{cause_from, same_count}
+use Rattle.ul_load.proofs.Growth.{has_first}
 use Rattle.ul_load.proofs.Loads.{begin_refuses, follow_refuses, loaded_whole}
 use Rattle.ul_load.proofs.Turns.{loads_first, loads_on}
 use Rattle.ul_load.proofs.loading.load_all.Goals as goal
 
 pub returns-in_err-progress-clause-told : goal.returns-in_err-progress-clause-told
-returns-in_err-progress-clause-told g c m e =
+returns-in_err-progress-clause-told g c m a =
     let b = beginning_of c.args.project.now (map marker_view c.args.environments.now) c.args.constraints.now c.args.overrides.now in
     let p = err_from_is_err_and c.from_residual.result c.from_residual.ensures.1 in
     rw (p.1, p.2) (begin_refuses m c.args.folder.now b c.in_err-progress.field-0.0 c.in_err-progress.ensures.told c.in_err-progress.ensures.bytes)
@@ -18,36 +19,40 @@ returns-in_err-progress-clause-told g c m e =
 pub loop-turn-init : goal.loop-turn-init
 loop-turn-init g c = record {
   files = refl;
+  grown = λ m a. a;
   faults = refl;
   kept = c.in_ok-progress.ensures.kept;
+  turns = omega (arith, has_first _ _ c.in_ok-progress.ensures.first);
   first = c.in_ok-progress.ensures.first;
-  value = λ m e.
+  value = λ m a.
       loads_first m c.args.folder.now (beginning_of c.args.project.now (map marker_view c.args.environments.now) c.args.constraints.now c.args.overrides.now)
       (progress_view c.in_ok-progress.progress) c.in_ok-progress.ensures.told;
 }
 
 pub returns-then-not-has_next-clause-told : goal.returns-then-not-has_next-clause-told
-returns-then-not-has_next-clause-told g c m e =
+returns-then-not-has_next-clause-told g c m a =
     let b = beginning_of c.args.project.now (map marker_view c.args.environments.now) c.args.constraints.now c.args.overrides.now in
     rw c.in_ok-catalog.ensures
-    (loaded_whole m c.args.folder.now b (progress_view c.loop-turn.progress) c.has_next.result c.has_next.ensures (search rules) (c.loop-turn.invariant.value m e))
+    (loaded_whole m c.args.folder.now b (progress_view c.loop-turn.progress) c.has_next.result c.has_next.ensures (search rules) (c.loop-turn.invariant.value m a))
 
 pub returns-in_err-follow-clause-told : goal.returns-in_err-follow-clause-told
-returns-in_err-follow-clause-told g c m e =
+returns-in_err-follow-clause-told g c m a =
     let b = beginning_of c.args.project.now (map marker_view c.args.environments.now) c.args.constraints.now c.args.overrides.now in
     let p = err_from_is_err_and c.from_residual-in_err-follow.result c.from_residual-in_err-follow.ensures.1 in
     rw (p.1, p.2) (follow_refuses m c.args.folder.now b (progress_view c.loop-turn.progress) c.in_err-follow.field-0.0 c.loop-turn.invariant.kept (search rules)
-    (c.in_err-follow.ensures.told m (c.loop-turn.invariant.files ∙ e)) c.in_err-follow.ensures.failed (c.loop-turn.invariant.value m e))
+    (c.in_err-follow.ensures.told m a) c.in_err-follow.ensures.failed (c.loop-turn.invariant.value m (c.in_err-follow.ensures.grown m a)))
 
 pub loop-turn-preserved : goal.loop-turn-preserved
 loop-turn-preserved g c = record {
   files = c.in_ok-follow.ensures.same ∙ c.loop-turn.invariant.files;
+  grown = λ m a. c.loop-turn.invariant.grown m (c.in_ok-follow.ensures.grown m a);
   faults = c.in_ok-follow.ensures.cause ∙ c.loop-turn.invariant.faults;
   kept = c.in_ok-follow.ensures.kept;
+  turns = omega (arith, c.in_ok-follow.ensures.one, c.loop-turn.invariant.turns);
   first = c.in_ok-follow.ensures.first _ c.loop-turn.invariant.first;
-  value = λ m e.
+  value = λ m a.
       loads_on m c.args.folder.now (beginning_of c.args.project.now (map marker_view c.args.environments.now) c.args.constraints.now c.args.overrides.now)
-      (progress_view c.loop-turn.progress) _ (search rules) (c.in_ok-follow.ensures.told m (c.loop-turn.invariant.files ∙ e)) (c.loop-turn.invariant.value m e);
+      (progress_view c.loop-turn.progress) _ (search rules) (c.in_ok-follow.ensures.told m a) (c.loop-turn.invariant.value m (c.in_ok-follow.ensures.grown m a));
 }
 
 pub returns-then-not-has_next-clause-first : goal.returns-then-not-has_next-clause-first
@@ -60,7 +65,7 @@ returns-in_err-progress-clause-cause g c =
     rw (p.1, p.2) (same_count {T = Packages} _ _ _ (Err c.in_err-progress.field-0.0) refl c.in_err-progress.ensures.bytes)
 
 pub returns-in_err-catalog-clause-told : goal.returns-in_err-catalog-clause-told
-returns-in_err-catalog-clause-told g c m e =
+returns-in_err-catalog-clause-told g c m a =
     let p = err_from_is_err_and c.from_residual-in_err-catalog.result c.from_residual-in_err-catalog.ensures.1 in
     rw (p.1, p.2) (tt, tt)
 
@@ -83,14 +88,8 @@ returns-in_err-follow-clause-cause g c =
     let p = err_from_is_err_and c.from_residual-in_err-follow.result c.from_residual-in_err-follow.ensures.1 in
     rw (p.1, p.2) (cause_from (Unit {0}) Packages _ _ _ _ c.in_err-follow.field-0.0 c.loop-turn.invariant.faults c.in_err-follow.ensures.cause)
 
-pub returns-clause-same : goal.returns-clause-same
-returns-clause-same g c = c.loop-turn.invariant.files
-
-pub returns-clause-told : goal.returns-clause-told
-returns-clause-told g c m e = (tt, tt)
-
-pub returns-clause-cause : goal.returns-clause-cause
-returns-clause-cause g c = omega (arith, c.loop-turn.invariant.faults)
-
 pub follow-requires-clause-kept : goal.follow-requires-clause-kept
 follow-requires-clause-kept g c = c.loop-turn.invariant.kept
+
+pub returns-in_err-follow-clause-grown : goal.returns-in_err-follow-clause-grown
+returns-in_err-follow-clause-grown g c m a = c.loop-turn.invariant.grown m (c.in_err-follow.ensures.grown m a)

@@ -1,5 +1,5 @@
-use Rattle.std.proofs.Common.{◌≡◌, Some, map}
-use Rattle.ul_base.specs.Files.{FileMap}
+use Rattle.std.proofs.Common.{◌≡◌, ◌≤◌, ◌+◌, length, map}
+use Rattle.ul_files.specs.Files.{Agrees, FileMap, Remembers}
 use Rattle.ul_marker.specs.Views.{marker_view}
 use Rattle.ul_load.specs.Begun.{BeginsWith}
 use Rattle.ul_load.specs.Loading.{beginning_of}
@@ -11,9 +11,11 @@ use Rattle.ul_load.proofs.loading.load_all.Given as goal
 abbrev pub invariant-loop-turn : goal.invariant-loop-turn
 invariant-loop-turn g l = record {
   files : g.F.Files.map l.files ≡ g.F.Files.map l.fn.files;
+  grown : Remembers (g.F.Files.reads l.fn.files) (g.F.Files.reads l.files);
   faults : g.F.Files.faults l.files ≡ g.F.Files.faults l.fn.files;
   kept : IsProgress (progress_view l.progress);
   first : BeginsWith l.project (progress_view l.progress).packages;
-  value : (m : FileMap) → g.F.Files.map l.fn.files ≡ Some m
+  turns : l._turn + 1 ≤ length (progress_view l.progress).packages;
+  value : (m : FileMap) → Agrees m (g.F.Files.reads l.files)
       → IsLoading m l.folder (beginning_of l.project (map marker_view l.environments) l.constraints l.overrides) (progress_view l.progress);
 }

@@ -1,5 +1,5 @@
-use Rattle.ul_marker.proofs.ReadingExamples.{readings, no_readings}
+use Rattle.ul_marker.proofs.ReadingExamples.{locked_readings, readings, no_readings}
 use Rattle.ul_marker.proofs.laws.readings.Goals as goal
 
 pub returns : goal.returns
-returns c = record { read = readings; not_read = no_readings }
+returns c = record { read = readings; locked = locked_readings; not_read = no_readings }

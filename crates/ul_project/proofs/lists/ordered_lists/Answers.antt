@@ -13,7 +13,7 @@ entries_view m = m.entries
 pub returns-in_err-name : goal.returns-in_err-name
 returns-in_err-name g c =
     let p = err_from_is_err_and c.from_residual.result c.from_residual.ensures.1 in
-    let read = g.L.NamedList.list_at in
+    let read = g.L.NamedList.list_at c.args.profile in
     let no = shape (at_key c.args.place) in
     rw (p.1, p.2)
     (Gives-err (λ l. l) entries_view c.in_err-name.field-0.0 _ _
@@ -24,7 +24,7 @@ returns-in_err-name g c =
 
 pub loop-key-preserved : goal.loop-key-preserved
 loop-key-preserved g c =
-    let read = g.L.NamedList.list_at in
+    let read = g.L.NamedList.list_at c.args.profile in
     let no = shape (at_key c.args.place) in
     c.loop-key.invariant
     ∙ ap (λ es. put_behind c.loop-key.lists.entries (lists_in no read (members_view es))) c.in-Some.ensures.steps
@@ -33,7 +33,7 @@ loop-key-preserved g c =
 
 pub returns : goal.returns
 returns g c =
-    let read = g.L.NamedList.list_at in
+    let read = g.L.NamedList.list_at c.args.profile in
     let no = shape (at_key c.args.place) in
     c.loop-key.invariant
     ∙ ap (λ es. put_behind c.loop-key.lists.entries (lists_in no read (members_view es))) c.in-None.ensures.steps.0

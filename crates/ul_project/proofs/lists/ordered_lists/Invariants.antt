@@ -7,5 +7,5 @@ use Rattle.ul_project.proofs.lists.ordered_lists.Given as goal
 
 abbrev pub invariant-loop-key : goal.invariant-loop-key
 invariant-loop-key g l =
-    ordered_lists (shape (at_key l.place)) g.L.NamedList.list_at (members_view l.table.entries)
-    ≡ put_behind l.lists.entries (lists_in (shape (at_key l.place)) g.L.NamedList.list_at (members_view l.key-iterator))
+    ordered_lists (shape (at_key l.place)) (g.L.NamedList.list_at l.profile) (members_view l.table.entries)
+    ≡ put_behind l.lists.entries (lists_in (shape (at_key l.place)) (g.L.NamedList.list_at l.profile) (members_view l.key-iterator))

@@ -10,4 +10,4 @@ use Rattle.ul_project.proofs.requirements.requirements.Given as goal
 abbrev pub invariant-loop-item : goal.invariant-loop-item
 invariant-loop-item l =
     (l.number ≡ l.item-index)
-    × (each_from (requirement_at (place_of l.place)) 0 (items_list (items_view l.items)) ≡ behind l.list.items (each_from (requirement_at (place_of l.place)) l.number (items_list (items_view (drop l.item-index l.items)))))
+    × (each_from (requirement_at l.profile (place_of l.place)) 0 (items_list (items_view l.items)) ≡ behind l.list.items (each_from (requirement_at l.profile (place_of l.place)) l.number (items_list (items_view (drop l.item-index l.items)))))

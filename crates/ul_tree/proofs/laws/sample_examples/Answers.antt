@@ -28,7 +28,7 @@ returns c = record {
     (
       (3 * 2 ^ 64 + 8 * 2 ^ 32, refl, omega arith, omega arith),
       tt,
-      (refl, tt, tt, ((omega arith, refl), tt, (refl, tt, tt, (((ubuntu, record { literal = refl; kind = refl }, refl), refl), tt, tt, holds_not, tt)), (λ e. cc), tt)),
+      (refl, tt, tt, ((omega arith, refl), tt, (refl, tt, tt, (((ubuntu, record { literal = refl; kind = refl; stands = refl }, refl), refl), tt, tt, holds_not, tt)), (λ e. cc), tt)),
       (λ e. cc),
       tt,
     ),

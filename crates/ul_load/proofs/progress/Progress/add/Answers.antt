@@ -3,7 +3,7 @@ use Rattle.ul_requirement.specs.Fields.{PackageFields}
 use Rattle.ul_load.specs.Loading.{most_packages}
 use Rattle.ul_load.specs.Progressing.{IsProgress}
 use Rattle.ul_load.specs.Views.{progress_view}
-use Rattle.ul_load.proofs.Growth.{grows, keeps_first, ok_then}
+use Rattle.ul_load.proofs.Growth.{grows, keeps_first, ok_then, package_more}
 use Rattle.ul_load.proofs.progress.Progress.add.Goals as goal
 
 pub returns-clause-kept : goal.returns-clause-kept
@@ -20,4 +20,10 @@ pub returns-clause-first : goal.returns-clause-first
 returns-clause-first c =
     ok_then c.check.result _ _
     (λ names. keeps_first (progress_view c.args.self.now) (c.args.size, c.args.found) _ c.in_ok-note.ensures)
+    c.check.ensures.names
+
+pub returns-clause-one : goal.returns-clause-one
+returns-clause-one c =
+    ok_then c.check.result _ _
+    (λ names. package_more (progress_view c.args.self.now) (c.args.size, c.args.found) _ c.in_ok-note.ensures)
     c.check.ensures.names

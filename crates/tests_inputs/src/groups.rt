@@ -1,0 +1,5 @@
+//! Tests of expanded groups and adjusted catalogs.
+
+mod adjusted;
+mod expanded;
+mod texts;

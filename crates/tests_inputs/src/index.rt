@@ -1,0 +1,5 @@
+//! Tests of requirements, index documents and eligible releases.
+
+mod documents;
+mod packages;
+mod requirement;

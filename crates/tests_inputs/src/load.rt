@@ -1,0 +1,6 @@
+//! Tests of loading.
+
+mod files;
+mod limits;
+mod rows;
+mod told;

@@ -1,0 +1,7 @@
+//! Tests of project files, and of groups, constraints and overrides.
+
+mod files;
+mod sizes;
+mod told;
+mod well_known;
+mod wide;

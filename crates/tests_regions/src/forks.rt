@@ -1,0 +1,6 @@
+//! Tests of the fork answer over a catalog.
+
+mod asked;
+mod gates;
+mod rows;
+mod size;

@@ -1,0 +1,5 @@
+use Rattle.std.specs.Prelude.{◌<◌, All}
+use Rattle.tests_solver.proofs.problem_texts.set.Given as goal
+
+abbrev pub invariant-loop-k : goal.invariant-loop-k
+invariant-loop-k l = All (λ m. m < l.size) l.members.items

@@ -1,0 +1,5 @@
+//! Tests of the texts of trees.
+
+mod large;
+mod outcomes;
+mod tables;

@@ -1,0 +1,6 @@
+//! Tests of the algebra of diagrams.
+
+mod markers;
+mod parity;
+mod texts;
+mod trees;

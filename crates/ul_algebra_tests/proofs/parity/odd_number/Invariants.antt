@@ -1,6 +1,0 @@
-use Rattle.ul_interner.specs.Known.{Knows}
-use Rattle.ul_algebra.specs.Answers.{IsDiagram}
-use Rattle.ul_algebra_tests.proofs.parity.odd_number.Given as goal
-
-abbrev pub invariant-loop-step : goal.invariant-loop-step
-invariant-loop-step g l = record { knows : Knows l.initial.algebra l.algebra; diagram : IsDiagram l.algebra l.odd }

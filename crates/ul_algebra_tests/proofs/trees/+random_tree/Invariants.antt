@@ -1,4 +1,0 @@
-use Rattle.ul_algebra_tests.proofs.trees.+random_tree.Given as goal
-
-abbrev pub decreases-random_tree : goal.decreases-random_tree
-decreases-random_tree l = l.depth

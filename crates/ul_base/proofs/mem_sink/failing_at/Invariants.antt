@@ -1,7 +1,0 @@
-use Rattle.std.proofs.Common.{◌≡◌, drop}
-use Rattle.ul_base.specs.MemSink.{bytes_before}
-use Rattle.ul_base.proofs.mem_sink.failing_at.Given as goal
-
--- nothing stands before the index
-abbrev pub invariant-loop-pair : goal.invariant-loop-pair
-invariant-loop-pair l = bytes_before (drop l.pair-index l.failing) l.call ≡ bytes_before l.failing l.call

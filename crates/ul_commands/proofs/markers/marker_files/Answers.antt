@@ -1,0 +1,21 @@
+use Rattle.std.proofs.Common.{ℕ, Vec, Global}
+use Rattle.std.proofs.lemmas.Result.{err_from_is_err_and}
+use Rattle.ul_answers.specs.Views.{view}
+use Rattle.ul_inputs.specs.Inputs.{answer, small_file}
+use Rattle.ul_inputs.proofs.ForCallers.{goes_on, refuses}
+use Rattle.ul_commands.specs.Markers.{IsMarkerAnswer}
+use Rattle.ul_commands.proofs.Answering.{marker_answers}
+use Rattle.ul_commands.proofs.markers.marker_files.Goals as goal
+
+pub returns-in_err-bytes-clause-told : goal.returns-in_err-bytes-clause-told
+returns-in_err-bytes-clause-told g c m a =
+    let p = err_from_is_err_and c.from_residual.result c.from_residual.ensures.1 in
+    rw (p.1, p.2) (refuses {T = Vec ℕ Global} (λ (v : Vec ℕ Global). v.items) view c.in_err-bytes.field-0.0 (small_file c.args.path.now m) (λ x. answer (IsMarkerAnswer c.args.path.now x) m) (c.in_err-bytes.ensures.told m a))
+
+pub returns-clause-told : goal.returns-clause-told
+returns-clause-told g c m a =
+    goes_on view c.markers_in-answer.result c.in_ok-bytes.bytes.items (small_file c.args.path.now m) (λ x. answer (IsMarkerAnswer c.args.path.now x) m)
+    (c.in_ok-bytes.ensures.told m a) (rw (← c.deref.ensures.value) c.markers_in-answer.ensures)
+
+pub returns-clause-answering : goal.returns-clause-answering
+returns-clause-answering g c = marker_answers c.args.path.now c.deref.result.now c.markers_in-answer.result c.markers_in-answer.ensures

@@ -1,0 +1,5 @@
+pub mod ForCallers
+pub mod Agreeing
+pub mod Memory
+pub mod ListedFiles
+mod Walks

@@ -1,0 +1,9 @@
+pub mod Causes
+pub mod Files
+pub mod Records
+pub mod MemFiles
+pub mod ReadsHere
+pub mod ListedFiles
+pub mod Sinks
+pub mod MemSink
+pub mod Examples

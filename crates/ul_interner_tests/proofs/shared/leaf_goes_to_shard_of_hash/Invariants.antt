@@ -1,5 +1,0 @@
-use Rattle.std.proofs.Common.{◌≡◌}
-use Rattle.ul_interner_tests.proofs.shared.leaf_goes_to_shard_of_hash.Given as goal
-
-abbrev pub invariant-loop-number : goal.invariant-loop-number
-invariant-loop-number g l = l.pass.table ≡ l.initial.pass.table

@@ -1,5 +1,0 @@
-use Rattle.std.proofs.Common.{◌≡◌, All, length}
-use Rattle.ul_interner_tests.proofs.shared.makers.Given as goal
-
-abbrev pub invariant-loop : goal.invariant-loop
-invariant-loop l = (l.pass.table ≡ l.interner) × (length l.all.items ≡ l.counter) × All (λ m. m.pass.table ≡ l.interner) l.all.items

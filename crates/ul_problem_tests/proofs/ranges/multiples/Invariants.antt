@@ -1,6 +1,0 @@
-use Rattle.std.proofs.Common.{◌<◌}
-use Rattle.std.specs.Prelude.{All}
-use Rattle.ul_problem_tests.proofs.ranges.multiples.Given as goal
-
-abbrev pub invariant-loop-k : goal.invariant-loop-k
-invariant-loop-k l = All (λ m. m < l.size) l.members.items

@@ -1,5 +1,0 @@
-use Rattle.ul_trail.specs.Propagation.{IsTrailOf}
-use Rattle.ul_solver_tests.proofs.runs.begun.Given as goal
-
-abbrev pub invariant-loop-node : goal.invariant-loop-node
-invariant-loop-node l = IsTrailOf l.problem l.trail

@@ -1,5 +1,0 @@
-use Rattle.ul_trail.specs.Propagation.{IsTrailOf}
-use Rattle.ul_solver_tests.proofs.runs.pass.Given as goal
-
-abbrev pub invariant-loop-place : goal.invariant-loop-place
-invariant-loop-place l = IsTrailOf l.problem l.trail

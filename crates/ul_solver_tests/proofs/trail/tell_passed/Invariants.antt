@@ -1,5 +1,0 @@
-use Rattle.ul_trail.specs.Propagation.{IsTrailOf}
-use Rattle.ul_solver_tests.proofs.trail.tell_passed.Given as goal
-
-abbrev pub invariant-loop : goal.invariant-loop
-invariant-loop l = IsTrailOf l.problem l.trail

@@ -1,5 +1,0 @@
-use Rattle.std.specs.Prelude.{◌<◌, All}
-use Rattle.ul_test_problems.proofs.set.Given as goal
-
-abbrev pub invariant-loop-k : goal.invariant-loop-k
-invariant-loop-k l = All (λ m. m < l.size) l.members.items
