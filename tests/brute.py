@@ -70,7 +70,12 @@ class Brute:
             usable = sorted(self.catalog.get(name, []), key=lambda it: it.version.key)
             clauses = [it for wanted in self.directs if wanted.name == name for it in wanted.clauses]
             is_named = any(it.op != "!=" and it.version.is_pre for it in clauses)
-            with_pre = is_named or all(it.version.is_pre for it in usable)
+            mode = self.project.prereleases
+            with_pre = (
+                mode == "allow"
+                or ("explicit" in mode and is_named)
+                or (mode.startswith("if-necessary") and all(it.version.is_pre for it in usable))
+            )
             pinned = {it.version.key for it in clauses if it.op == "==" and not it.star}
             is_project = name == self.project.name
             self._eligible[name] = [

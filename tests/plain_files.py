@@ -22,6 +22,13 @@ REQUIREMENT = re.compile(
 )
 
 
+# A requirement by a URL: a name, extras, the URL and a marker.
+BY_URL = re.compile(
+    r"[ \t]*([A-Za-z0-9._-]+)[ \t]*(?:\[([^\]]*)\])?[ \t]*@[ \t]*[!-~]+(?:[ \t]+;(.*)|[ \t]*)",
+    re.S,
+)
+
+
 class Requirement(NamedTuple):
     name: str
     extras: tuple
@@ -46,6 +53,15 @@ def requirement(text: str) -> Requirement:
     return Requirement(normal_name(found[1]), extras, specifiers(specs), read)
 
 
+def wide_requirement(text: str) -> Requirement:
+    """What a text asks for in a project of the wide profile: one by a URL is on its name, without specifiers."""
+    found = BY_URL.fullmatch(text.strip(ALL_SPACE))
+    if found is None:
+        return requirement(text)
+    front = f"{found[1]}[{found[2]}]" if found[2] is not None else found[1]
+    return requirement(front if found[3] is None else f"{front};{found[3]}")
+
+
 # Project files.
 
 
@@ -59,6 +75,7 @@ class Project(NamedTuple):
     extras: tuple
     environments: tuple
     mode: str
+    prereleases: str
     strategy: str
     constraints: tuple
     overrides: tuple
@@ -66,14 +83,19 @@ class Project(NamedTuple):
 
 def project(text: str) -> Project:
     given = tomllib.loads(text)
-    table, uv = given["project"], given.get("tool", {}).get("uv", {})
+    tools = given.get("tool", {})
+    table, uv = given["project"], tools.get("uv", {})
+    is_wide = tools.get("unilock", {}).get("profile") == "wide"
+    read_one = wide_requirement if is_wide else requirement
     lists = {normal_name(name): list(it) for name, it in table.get("optional-dependencies", {}).items()}
-    groups = {normal_name(name): it for name, it in given.get("dependency-groups", {}).items()}
+    groups = {normal_name(name): list(it) for name, it in given.get("dependency-groups", {}).items()}
+    if is_wide and uv.get("dev-dependencies"):
+        groups.setdefault("dev", []).extend(uv["dev-dependencies"])
     for name in groups:
         lists[f"group-{name}"] = expanded(groups, name, set())
-    requirements = [requirement(it) for it in table.get("dependencies", [])]
+    requirements = [read_one(it) for it in table.get("dependencies", [])]
     for name in sorted(lists):
-        for read in map(requirement, lists[name]):
+        for read in map(read_one, lists[name]):
             requirements.append(read._replace(marker=("and", read.marker, ("extra", name))))
     environments = uv.get("environments", [])
     return Project(
@@ -84,9 +106,10 @@ def project(text: str) -> Project:
         tuple(sorted(lists)),
         tuple(marker(it) for it in ([environments] if isinstance(environments, str) else environments)),
         uv.get("resolution", "highest"),
+        uv.get("prerelease", "if-necessary-or-explicit"),
         uv.get("fork-strategy", "fewest"),
-        tuple(map(requirement, uv.get("constraint-dependencies", []))),
-        tuple(map(requirement, uv.get("override-dependencies", []))),
+        tuple(map(read_one, uv.get("constraint-dependencies", []))),
+        tuple(map(read_one, uv.get("override-dependencies", []))),
     )
 
 
