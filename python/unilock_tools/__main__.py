@@ -12,6 +12,7 @@ COMMANDS = {
     "add": "add requirements to a project file, and lock it",
     "remove": "remove requirements from a project file, and lock it",
     "verify": "judge a lock by a project and an index, its files too",
+    "judge": "judge a lock that another tool wrote",
     "index": "make an index folder from a package index or from wheels",
     "requirements": "print a lock's requirements with hashes",
     "sync": "bring a virtual environment to what a lock gives",

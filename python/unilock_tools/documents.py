@@ -14,6 +14,7 @@ from typing import Any, Dict, Iterable, Iterator, List, NamedTuple, Optional, Tu
 
 from . import archives, console, places
 from .archives import Metadata, Refused, sha256_of
+from .building import Builder
 from .readings import requirement_fault
 from .versions import NAME, Key, normal_name, specifiers_fault, version
 
@@ -40,6 +41,7 @@ class Release:
     first: object
     files: Dict[str, File] = field(default_factory=dict)
     yanked: bool = False
+    reason: str = ""
 
 
 class Projects:
@@ -71,10 +73,10 @@ class Projects:
             if has > most:
                 raise console.Refused(f"there are more than {most:,} {what}; `--newest N` takes fewer releases", 4)
 
-    def add_file(self, path: Path) -> None:
+    def add_file(self, path: Path, builder: Optional[Builder] = None) -> None:
         if not archives.FILE_NAME.match(path.name):
             raise Refused(path, "its name has a byte that no lock can hold")
-        metadata = archives.file_metadata(path)
+        metadata = metadata_of(path, builder)
         try:
             summed = sha256_of(path)
         except OSError as fault:
@@ -105,6 +107,17 @@ class Projects:
                     yield f"{name} {release.metadata.version} can't be used: {fault}"
 
 
+def metadata_of(path: Path, builder: Optional[Builder]) -> Metadata:
+    """The metadata of a file, of a build where it has none that are certain and a build is wanted."""
+    try:
+        return archives.file_metadata(path)
+    except archives.Uncertain:
+        if builder is None or not builder.wants(archives.sdist_parts(path.name)[0]):
+            raise
+    with path.open("rb") as stream:
+        return builder.metadata(path, path.name, stream)
+
+
 def release_fault(metadata: Metadata) -> Optional[str]:
     """The first text of a release that the program doesn't read; such a release is passed over."""
     return unusable(metadata.version, metadata.requires_python, metadata.requires_dist)
@@ -132,7 +145,7 @@ def document_of(name: str, releases: Dict[Key, Release]) -> Document:
         if release.metadata.requires_dist:
             entry["requires_dist"] = list(release.metadata.requires_dist)
         if release.yanked:
-            entry["yanked"] = True
+            entry["yanked"] = release.reason or True
         if release.files:
             entry["files"] = [file_entry(it) for _, it in sorted(release.files.items())]
         listed.append(entry)
@@ -222,3 +235,31 @@ def releases_of(document: Optional[Document]) -> List[Tuple[str, Document]]:
             seen.add(read.key)
             found.append((spelled, entry))
     return found
+
+
+class Held:
+    """The documents of an index folder, each read when it is first asked for."""
+
+    def __init__(self, folder: str) -> None:
+        self.folder = folder
+        self.documents: Dict[str, Optional[Document]] = {}
+        self.entries: Dict[Tuple[str, str], Optional[Document]] = {}
+
+    def document(self, name: str) -> Optional[Document]:
+        if name not in self.documents:
+            self.documents[name] = load(self.folder, name)
+        return self.documents[name]
+
+    def release(self, name: str, spelled: str) -> Optional[Document]:
+        """The entry of a release that can be used, by any spelling of its version."""
+        if (name, spelled) not in self.entries:
+            wanted = version(spelled)
+            found = releases_of(self.document(name)) if wanted is not None else []
+            same = (entry for other, entry in found if key_of(other) == key_of(spelled))
+            self.entries[name, spelled] = next(same, None)
+        return self.entries[name, spelled]
+
+
+def key_of(spelled: str) -> Optional[Key]:
+    found = version(spelled)
+    return None if found is None else found.key

@@ -22,6 +22,9 @@ EDGE = re.compile(
 FILE = re.compile(r'    \{ file = "([^"]*)", hash = "sha256:([0-9a-f]{64})" \},\Z')
 LIST = re.compile(r"(files|dependencies|resolution-markers|[a-z0-9-]+) = \[(\])?\Z")
 CONFLICT = re.compile(r"(<{7}|>{7}|\|{7})( |\Z)|={7}\Z")
+BLOCK_HEAD = re.compile(
+    r'(\[\[package\]\]\nname = "[^"]*"\nversion = "[^"]*")(?:\nfiles = \[\n(?:    \{ file = .*\n)+\])?'
+)
 FILE_FORM = '{ file = "FILE", hash = "sha256:HEX" },'
 EDGE_FORM = '{ name = "NAME", version = "VERSION" }, (before the end also extra = "NAME" and marker = "MARKER")'
 
@@ -294,11 +297,9 @@ def block_key(block: str) -> Tuple[str, str]:
 
 def with_files(block: str, files: Sequence[Tuple[str, str]]) -> str:
     """A package's block with these files in the place of its own."""
-    bare = re.sub(r"\nfiles = \[\n(?:    .*\n)+\]", "", block)
     lines = "".join(f'    {{ file = "{name}", hash = "sha256:{summed}" }},\n' for name, summed in files)
-    head = bare.split("\n", 3)
-    first, rest = "\n".join(head[:3]), "".join(f"\n{it}" for it in head[3:])
-    return first + (f"\nfiles = [\n{lines}]" if lines else "") + rest
+    listed = f"\nfiles = [\n{lines}]" if lines else ""
+    return BLOCK_HEAD.sub(lambda found: found[1] + listed, block, count=1)
 
 
 def edge_order(edge: Edge) -> Tuple[str, Tuple[object, ...], str]:
@@ -306,25 +307,39 @@ def edge_order(edge: Edge) -> Tuple[str, Tuple[object, ...], str]:
     return edge.name, version_of(edge.version).key, edge.extra or ""
 
 
+def quoted(marker: str) -> str:
+    escaped = marker.replace('"', '\\"')
+    return f'"{escaped}"'
+
+
 def edge_line(edge: Edge) -> str:
-    marker = edge.marker.replace('"', '\\"')
     parts = [f'name = "{edge.name}"', f'version = "{edge.version}"']
     parts += [f'extra = "{edge.extra}"'] if edge.extra else []
-    parts += [f'marker = "{marker}"'] if edge.marker else []
+    parts += [f"marker = {quoted(edge.marker)}"] if edge.marker else []
     return f"    {{ {', '.join(parts)} }},\n"
 
 
-def root_block(root: Package) -> str:
-    """The block of a lock's root, which has no files."""
-    text = f'[[package]]\nname = "{root.name}"\nversion = "{root.version}"'
-    if root.edges:
-        text += "\ndependencies = [\n" + "".join(map(edge_line, root.edges)) + "]"
-    if root.extras:
+def package_block(package: Package) -> str:
+    """The block of a package, its edges and extras in the order in which they stand in it."""
+    text = f'[[package]]\nname = "{package.name}"\nversion = "{package.version}"'
+    if package.edges:
+        text += "\ndependencies = [\n" + "".join(map(edge_line, package.edges)) + "]"
+    if package.extras:
         text += "\n\n[package.optional-dependencies]"
-    for extra in sorted(root.extras):
-        lines = "".join(map(edge_line, root.extras[extra]))
+    for extra in sorted(package.extras):
+        lines = "".join(map(edge_line, package.extras[extra]))
         text += f"\n{extra} = [\n{lines}]" if lines else f"\n{extra} = []"
-    return text
+    return with_files(text, package.files)
+
+
+def lock_text(lock: Lock) -> str:
+    """The text of a lock, its packages in the order in which they stand in it."""
+    head = ["version = 2", f'root = "{lock.root}"']
+    if lock.supported:
+        head.append(f"supported-markers = {quoted(lock.supported)}")
+    if lock.forks:
+        head += ["resolution-markers = [", *(f"    {quoted(it)}," for it in lock.forks), "]"]
+    return "\n\n".join(["\n".join(head), *map(package_block, lock.packages)]) + "\n"
 
 
 def changes(old: Optional[Lock], new: Lock) -> List[str]:

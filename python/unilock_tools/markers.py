@@ -7,6 +7,7 @@ membership in a list of versions. Standard library alone.
 
 from __future__ import annotations
 
+import difflib
 import operator
 import re
 from typing import Any, Callable, Dict, Iterator, List, Mapping, NamedTuple, Optional, Tuple, Union
@@ -134,7 +135,8 @@ class _Reader:
 def variable_of(token: Token) -> str:
     name = OLD_SPELLINGS.get(token[1], token[1])
     if token[0] != "word" or name not in VARIABLES:
-        raise NoMarker(f"`{token[1]}` is no variable of a marker")
+        near = difflib.get_close_matches(token[1], VARIABLES, 1) if token[0] == "word" else []
+        raise NoMarker(f"`{token[1]}` is no variable of a marker" + (f"; is `{near[0]}` meant?" if near else ""))
     return name
 
 
@@ -176,6 +178,12 @@ def read(text: str) -> Marker:
     if left is not None:
         raise NoMarker(f"the marker isn't read from `{shortened(left[1])}` on")
     return found
+
+
+def all_of(found: List[Optional[Marker]]) -> Optional[Marker]:
+    """The marker that holds where all of these do; one that is absent holds everywhere."""
+    parts = [it for it in found if it is not None]
+    return Join("and", parts) if len(parts) > 1 else parts[0] if parts else None
 
 
 def atoms(marker: Optional[Marker]) -> Iterator[Atom]:

@@ -63,7 +63,7 @@ def with_root(text: str, lock: Lock, root: Package) -> str:
     head, *blocks = locks.blocks_of(text.rstrip("\n"))
     key, reached = (root.name, root.version), reachable(lock)
     kept = [it for it in blocks if locks.block_key(it) in reached]
-    return "\n\n".join([head, *(locks.root_block(root) if locks.block_key(it) == key else it for it in kept)]) + "\n"
+    return "\n\n".join([head, *(locks.package_block(root) if locks.block_key(it) == key else it for it in kept)]) + "\n"
 
 
 def reachable(lock: Lock) -> Set[Tuple[str, str]]:

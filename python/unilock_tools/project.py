@@ -7,7 +7,9 @@ from __future__ import annotations
 
 from typing import Any, Dict, Iterator, List, NamedTuple, Optional, Set
 
+from . import profile
 from .console import Refused
+from .marker_texts import ALWAYS, every, of_bound, some
 from .readings import Requirement, requirement_of
 from .vendored import toml_of
 from .versions import NoReading, normal_name, specifiers_fault
@@ -60,9 +62,14 @@ class Project:
             yield from self._group(group, group, groups, [], set())
 
     def groups(self) -> Dict[str, List[Any]]:
-        """The dependency groups (PEP 735) by their normal names."""
+        """The dependency groups (PEP 735) by their normal names, `dev` with uv's development dependencies."""
         found = self.tables.get("dependency-groups", {})
-        return {normal_name(it): found[it] for it in found} if isinstance(found, dict) else {}
+        groups = {normal_name(it): found[it] for it in found} if isinstance(found, dict) else {}
+        more = self.settings.get("dev-dependencies")
+        if profile.is_wide(self.tables) and isinstance(more, list) and more:
+            before = groups.get("dev", [])
+            groups["dev"] = [*before, *more] if isinstance(before, list) else before
+        return groups
 
     def _group(
         self, group: str, of: str, groups: Dict[str, List[Any]], open_: List[str], done: Set[str]
@@ -102,6 +109,30 @@ class Project:
         """The extras, those that groups become among them."""
         declared = self.tables["project"].get("optional-dependencies", {})
         return sorted({normal_name(it) for it in declared} | {f"group-{it}" for it in self.groups()})
+
+    @property
+    def prereleases(self) -> str:
+        """The mode by which pre-releases count; one that isn't known is refused by the program."""
+        return str(self.settings.get("prerelease", "if-necessary-or-explicit"))
+
+    def asks_prereleases(self, name: str) -> bool:
+        """Whether the pre-releases of a name count whatever else there is."""
+        named = any(it.op != "!=" and it.version.is_pre for one in self.direct(name) for it in one.clauses)
+        return self.prereleases == "allow" or ("explicit" in self.prereleases and named)
+
+    @property
+    def needs_prereleases(self) -> bool:
+        """Whether those of a name count that has nothing else."""
+        return self.prereleases == "allow" or self.prereleases.startswith("if-necessary")
+
+    def environments(self) -> List[str]:
+        """The markers of `tool.uv.environments`; none where all are supported."""
+        listed = self.settings.get("environments", [])
+        return [str(it) for it in ([listed] if isinstance(listed, str) else listed)]
+
+    def supported(self) -> str:
+        """The marker of the environments that the project supports."""
+        return every([of_bound(self.requires_python), some(self.environments() or [ALWAYS])])
 
     def bounds(self, name: str) -> List[Requirement]:
         """Requirements on a name that hold in every world: no release that fails one is ever chosen."""

@@ -15,6 +15,8 @@ from .readings import Requirement, requirement_of
 from .versions import Clause, NoReading, Version, meets, specifiers_of, version
 from .worlds import Machine, Node, Walked
 
+# What is said of a lock that is wrong, though none of the machines shows it.
+ELSEWHERE = "what is wrong shows on machines that aren't among those looked at"
 LOWER = (">=", ">", "~=", "==")
 
 
@@ -53,13 +55,10 @@ def lower_holds(op: str, limit: Version, found: Version) -> bool:
 class Judge:
     """Looks for what is wrong with a lock of a project by an index folder."""
 
-    def __init__(self, project: Project, index: str, lock: Lock) -> None:
-        self.project, self.index, self.lock = project, index, lock
-        self.held: Dict[str, Optional[Dict[str, Any]]] = {}
-        self.releases: Dict[Tuple[str, str], Optional[Dict[str, Any]]] = {}
+    def __init__(self, project: Project, index: str, lock: Lock, wide: bool = False) -> None:
+        self.project, self.held, self.lock = project, documents.Held(index), lock
         self.asked: Dict[Tuple[str, str], List[Wanted]] = {}
-        listed = project.settings.get("environments", [])
-        self.environments = [str(it) for it in ([listed] if isinstance(listed, str) else listed)]
+        self.environments = project.environments()
         own = [str(it.requirement.text.partition(";")[2]).strip() for it in project.requirements]
         texts = {*worlds.marker_texts(lock), *self.environments, *own}
         for package in lock.packages:
@@ -67,22 +66,15 @@ class Judge:
             texts |= {f"python_full_version >= '{it.version.text()}'" for it in self.bound(package)}
         self.walks = [
             (machine, Walked(lock, machine))
-            for machine in worlds.machines(texts, project.requires_python)
+            for machine in worlds.machines(texts, project.requires_python, wide)
             if worlds.is_supported(machine, self.environments)
         ]
 
     def document(self, name: str) -> Optional[Dict[str, Any]]:
-        if name not in self.held:
-            self.held[name] = documents.load(self.index, name)
-        return self.held[name]
+        return self.held.document(name)
 
     def release(self, package: Package) -> Optional[Dict[str, Any]]:
-        key = (package.name, package.version)
-        if key not in self.releases:
-            found = documents.releases_of(self.document(package.name))
-            same = [entry for spelled, entry in found if same_version(spelled, package.version)]
-            self.releases[key] = same[0] if same else None
-        return self.releases[key]
+        return self.held.release(package.name, package.version)
 
     def texts(self, package: Package) -> List[str]:
         entry = self.release(package) if package.name != self.lock.root else None
@@ -97,7 +89,7 @@ class Judge:
             return []
 
     def wanted(self, package: Package) -> List[Wanted]:
-        """The requirements of a package, but those on names that the project overrides."""
+        """The requirements of a package, as the project's overrides make them."""
         key = (package.name, package.version)
         if key not in self.asked:
             self.asked[key] = self.read(package)
@@ -111,8 +103,19 @@ class Judge:
             for text in self.texts(package):
                 read = requirement_of(text)
                 found += [Wanted(read, extra, f"`{text}`") for extra in ["", *package.extras]]
-        overridden = {it.requirement.name for it in self.project.overrides}
-        return [it for it in found if it.requirement.name not in overridden]
+        return [it for one in found for it in self.overridden(one)]
+
+    def overridden(self, wanted: Wanted) -> List[Wanted]:
+        """A requirement as the project's overrides of its name make it: with their specifiers, and both markers."""
+        found = []
+        for placed in self.project.overrides:
+            read, one = wanted.requirement, placed.requirement
+            if one.name == read.name:
+                marker = markers.all_of([read.marker, one.marker])
+                place = f"{wanted.place}, which `{one.text}` overrides ({placed.place})"
+                requirement = read._replace(clauses=one.clauses, marker=marker)
+                found.append(wanted._replace(requirement=requirement, place=place))
+        return found or [wanted]
 
     def eligible(self, package: Package) -> Optional[str]:
         """Why no requirement may take this version, where none may."""
@@ -129,10 +132,13 @@ class Judge:
             reason = f" ({yanked})" if isinstance(yanked, str) and yanked else ""
             return f"{what} is yanked{reason}, and the project doesn't ask for `=={package.version}`"
         read = version(package.version)
-        named = any(clause.op != "!=" and clause.version.is_pre for it in direct for clause in it.clauses)
         known = [version(spelled) for spelled, _ in documents.releases_of(self.document(package.name))]
-        if read is not None and read.is_pre and not named and any(it is not None and not it.is_pre for it in known):
-            return f"{what} is a pre-release, and no requirement of the project names one"
+        others = any(it is not None and not it.is_pre for it in known)
+        passed_over = others or not self.project.needs_prereleases
+        if read is not None and read.is_pre and passed_over and not self.project.asks_prereleases(package.name):
+            why = "no requirement of the project names one"
+            mode = self.project.prereleases
+            return f"{what} is a pre-release, and {why if 'explicit' in mode else f'the mode is {mode}'}"
         return None
 
     def at(self, package: Package, machine: Machine, walked: Walked) -> Optional[str]:
@@ -152,21 +158,38 @@ class Judge:
         asked = [
             it
             for it in self.wanted(package)
-            if Node(package.name, package.version, it.extra or None) in nodes
-            and markers.truth(it.requirement.marker, worlds.known_values(machine, it.extra)) is not False
+            if Node(package.name, package.version, it.extra or None) in nodes and self.is_asked(package, it, machine)
         ]
         for one in asked:
             fault = self.unmet(one, nodes, walked)
             if fault is not None:
                 by = one.place if package.name != self.lock.root else f"`{one.requirement.text}` ({one.place})"
                 return f"{what} requires {by}, and {where} the lock gives {fault}"
-        names = {it.requirement.name for it in [*asked]} | {it.requirement.name for it in self.project.overrides}
+        return self.unasked(package, asked, nodes, walked, where)
+
+    def unasked(
+        self, package: Package, asked: List[Wanted], nodes: List[Node], walked: Walked, where: str
+    ) -> Optional[str]:
+        """An edge that holds there and that none of the requirements asks for."""
+        what = "the project" if package.name == self.lock.root else f"{package.name} {package.version}"
         for node in nodes:
+            mine = [it.requirement for it in asked if it.extra == (node.extra or "")]
+            targets = {(it.name, extra) for it in mine for extra in ["", *it.extras]}
             for edge in walked.edges[node]:
-                if edge.name not in names and edge.name != package.name:
+                if (edge.name, edge.extra or "") not in targets:
+                    asks = f"{what}[{node.extra}]" if node.extra else what
+                    needless = f"{edge.name}[{edge.extra}]" if edge.extra else edge.name
                     given = f"the lock gives it {edge.name} {edge.version}"
-                    return f"{what} doesn't require {edge.name} {where}, and {given}"
+                    return f"{asks} doesn't require {needless} {where}, and {given}"
         return None
+
+    def is_asked(self, package: Package, wanted: Wanted, machine: Machine) -> bool:
+        """Whether a requirement may be true there: of an extra what it adds, and not what holds without it."""
+        marker = wanted.requirement.marker
+        if wanted.extra and package.name != self.lock.root:
+            if markers.truth(marker, worlds.known_values(machine, "")) is True:
+                return False
+        return markers.truth(marker, worlds.known_values(machine, wanted.extra)) is not False
 
     def unmet(self, wanted: Wanted, nodes: List[Node], walked: Walked) -> Optional[str]:
         """What the lock gives in the place of what a requirement asks for, where it isn't that."""
@@ -243,7 +266,7 @@ class Judge:
         found = {f"{it.name} {it.version}": it.text for it in self.faults()}
         # A package that nobody asks for is the fault of the one that has an edge to it.
         near = [text for text in found.values() if f" {rejected}" in text]
-        others = [*near, *found.values(), "what is wrong shows on machines that aren't among those looked at"]
+        others = [*near, *found.values(), ELSEWHERE]
         return found.get(rejected, others[0])
 
     def file_faults(self) -> Iterator[str]:

@@ -8,6 +8,7 @@ comparisons of locks are made by them; what is right and what isn't is the progr
 from __future__ import annotations
 
 from functools import lru_cache
+from itertools import combinations
 from typing import Dict, Iterable, List, Mapping, NamedTuple, Optional, Set, Tuple
 
 from . import markers, versions
@@ -16,6 +17,9 @@ from .machine import IMPLEMENTATIONS, PLATFORMS
 from .markers import Atom, Join, Marker, NoMarker
 
 Machine = Dict[str, str]
+SYSTEM = ("os_name", "sys_platform", "platform_system")
+# Of those that differ from usual ones so many are looked at, with each interpreter.
+MOST_MACHINES = 2_000
 
 
 class Node(NamedTuple):
@@ -63,13 +67,19 @@ def pythons(atoms: Iterable[Atom], bound: str) -> List[str]:
     return list(found.values())
 
 
-def machines(texts: Iterable[str], bound: str) -> List[Machine]:
-    """The machines by which markers with these texts, under this bound on the interpreter, are told apart."""
+def machines(texts: Iterable[str], bound: str, wide: bool = False) -> List[Machine]:
+    """The machines by which markers with these texts, under this bound on the interpreter, are told apart; `wide` also
+    those on which two values differ from what is usual, on each platform."""
     atoms = {atom for text in set(texts) for atom in markers.atoms(marker_of(text))}
     usual = [machine_of(platform, "3.12.0") for platform in PLATFORMS]
     known = {(key, value) for machine in usual for key, value in machine.items()}
     asked = sorted({(it.variable, it.literal) for it in atoms if it.variable in markers.TEXTS and not it.contains})
     others = [{**usual[0], variable: literal} for variable, literal in asked if (variable, literal) not in known]
+    if wide:
+        # The usual systems are there already, each with its own values.
+        free = [it for it in asked if it not in known or it[0] not in SYSTEM]
+        pairs = [dict(it) for it in [*combinations(free, 1), *combinations(free, 2)]]
+        others += [{**machine, **pair} for machine in usual for pair in pairs][:MOST_MACHINES]
     found = []
     for point in pythons(atoms, bound):
         short = ".".join(point.split(".")[:2])
@@ -80,14 +90,13 @@ def machines(texts: Iterable[str], bound: str) -> List[Machine]:
 
 def described(machine: Machine) -> str:
     """A machine in a sentence: `Linux, Python 3.12`."""
-    named = {found[1]: found[2] for found in PLATFORMS.values()}
-    platform = named.get(machine["sys_platform"], machine["sys_platform"] or "no platform")
-    usual = machine_of("linux", machine["python_full_version"])
-    others = [
-        f"{key} {machine[key]}"
-        for key in markers.TEXTS
-        if platform == "Linux" and machine[key] != usual[key]
-    ]
+    keys = {found[1]: key for key, found in PLATFORMS.items()}
+    platform = machine["sys_platform"]
+    if platform not in keys:
+        return f"{platform or 'no platform'}, Python {machine['python_full_version']}"
+    usual = machine_of(keys[platform], machine["python_full_version"])
+    others = [f"{key} {machine[key]}" for key in markers.TEXTS if machine[key] != usual[key]]
+    platform = usual["platform_system"]
     return ", ".join([platform, *others, f"Python {machine['python_full_version']}"])
 
 
