@@ -94,6 +94,13 @@ class Browser:
     def width(self, pixels: int, height: int = 900) -> None:
         self.call("Emulation.setDeviceMetricsOverride", width=pixels, height=height, deviceScaleFactor=1, mobile=False)
 
+    def processor_time(self) -> float:
+        """The processor seconds of the processes that show pages, which other work on the machine changes little."""
+        session, self.session = self.session, ""
+        found = self.call("SystemInfo.getProcessInfo")["processInfo"]
+        self.session = session
+        return sum(float(it["cpuTime"]) for it in found if it["type"] == "renderer")
+
     def picture(self) -> bytes:
         return base64.b64decode(self.call("Page.captureScreenshot", format="png")["data"])
 

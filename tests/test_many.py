@@ -3,15 +3,19 @@ cluster of workers of which one is lost."""
 
 from __future__ import annotations
 
+import io
 import json
 import os
 import shutil
 import socket
 import subprocess
 import sys
+import tarfile
+import tempfile
 import time
 from pathlib import Path
 from typing import Callable
+from unittest import mock
 
 from making import PYTHON, Folder, skip
 from unilock_tools import many
@@ -92,11 +96,13 @@ class Rows(Projects):
         self.assertEqual(self.rows("verify", "all", "--state", "state"), first)
         self.assertEqual(self.called(), 3)
         # A changed lock is judged anew, and so is what was cut off while it was written.
-        self.write("all/a/unilock.lock", "wrong")
         kept = (self.top / "state").read_text(encoding="utf-8")
+        last = Path(json.loads(kept.splitlines()[-1])["folder"]).name
+        changed = next(it for it in "abc" if it != last)
+        self.write(f"all/{changed}/unilock.lock", "broken")
         self.write("state", kept[:-5])
         again = self.rows("verify", "all", "--state", "state")
-        self.assertEqual(again["a"][0], "wrong")
+        self.assertEqual(again[changed][0], "failed")
         self.assertEqual(self.called(), 5)
 
     def test_a_changed_index_is_judged_anew(self) -> None:
@@ -135,10 +141,48 @@ class Rows(Projects):
         task = many.Task("verify", str(folder), digest, 5, files)
         room = self.top / "room"
         room.mkdir()
-        placed, index = many.placed(task, archive, room)
-        self.addCleanup(shutil.rmtree, index)
-        self.assertEqual((Path(index) / "a.json").read_text(encoding="utf-8"), "{}")
-        self.assertEqual((Path(placed) / "unilock.lock").read_text(encoding="utf-8"), "right")
+        with mock.patch.object(tempfile, "tempdir", str(self.top)):
+            # Without its archive, the job goes back to whoever has it.
+            self.assertEqual(many.done(task).result, many.LACKING)
+            many.keep_index(digest, archive)
+            many.keep_index(digest, archive)
+            kept = many.kept_at(digest)
+            self.assertEqual((kept / "a.json").read_text(encoding="utf-8"), "{}")
+            self.assertEqual(sorted(it.name for it in self.top.glob("unilock-*")), [kept.name])
+            # A file, or what somebody else made, is no folder that was kept.
+            shutil.rmtree(kept)
+            kept.write_text("{}")
+            self.assertFalse(many.is_kept(digest))
+            with self.assertRaises(OSError):
+                many.keep_index(digest, archive)
+        self.assertEqual((Path(many.placed(task, room)) / "unilock.lock").read_text(encoding="utf-8"), "right")
+
+    def test_an_archive_with_other_files_is_refused(self) -> None:
+        held = io.BytesIO()
+        with tarfile.open(fileobj=held, mode="w:gz") as archive:
+            archive.addfile(tarfile.TarInfo("../a.json"))
+        with mock.patch.object(tempfile, "tempdir", str(self.top)):
+            with self.assertRaisesRegex(ValueError, "has a member '../a.json'"):
+                many.keep_index("0", held.getvalue())
+            self.assertFalse(many.is_kept("0"))
+
+    def test_locks_of_other_tools(self) -> None:
+        for name, lock in [("a", "uv.lock"), ("b", "poetry.lock"), ("c", "unilock.lock")]:
+            self.write(f"all/{name}/pyproject.toml", "[project]\n")
+            self.write(f"all/{name}/{lock}", "")
+        self.write("all/b/requirements.txt", "")
+        found = many.projects([str(self.top / "all")], "judge")
+        self.assertEqual([it.name for it in found], ["a", "b"])
+        self.assertEqual([it.name for it in many.projects([str(self.top / "all")], "verify")], ["c"])
+        words = many.command("judge", str(found[1]), "ix")
+        self.assertEqual(words[-4:], ["judge", f"{found[1]}/poetry.lock", f"{found[1]}/pyproject.toml", "ix"])
+        with self.assertRaisesRegex(many.Refused, "a lock of another tool"):
+            many.projects([str(self.top / "all" / "c")], "judge")
+
+    def test_files_are_sent_to_a_cluster_alone(self) -> None:
+        self.project("a", "right")
+        self.tool("verify", "a", "--send", status=2)
+        self.tool("lock", "a", "--send", "--scheduler", "tcp://127.0.0.1:1", status=2)
 
 
 def cluster_python() -> str | None:
@@ -163,15 +207,19 @@ class Cluster(Projects):
         with socket.socket() as held:
             held.bind(("127.0.0.1", 0))
             self.port = held.getsockname()[1]
-        room = self.top / "room"
-        room.mkdir()
-        self.environ = {**self.environment(), "PYTHONPATH": str(PYTHON), "TMPDIR": str(room)}
+        self.rooms = 0
+        self.environ = {**self.environment(), "PYTHONPATH": str(PYTHON)}
         self.started("dask_scheduler", "--host", "127.0.0.1", "--port", str(self.port), "--no-dashboard")
         self.workers = [self.worker() for _ in range(2)]
 
     def started(self, module: str, *words: str) -> subprocess.Popen[bytes]:  # type: ignore[override]
+        """Each has a folder for temporary files of its own, as on a machine of its own."""
+        self.rooms += 1
+        room = self.top / f"room{self.rooms}"
+        room.mkdir()
         line = [self.python, "-m", f"distributed.cli.{module}", *words]
-        made = subprocess.Popen(line, cwd=self.top, env=self.environ, stdout=subprocess.DEVNULL, stderr=subprocess.DEVNULL)
+        environ = {**self.environ, "TMPDIR": str(room)}
+        made = subprocess.Popen(line, cwd=self.top, env=environ, stdout=subprocess.DEVNULL, stderr=subprocess.DEVNULL)
         self.addCleanup(made.wait)
         self.addCleanup(made.kill)
         return made
@@ -196,6 +244,8 @@ class Cluster(Projects):
         """All projects are verified, though something happens when the first job has begun."""
         for number in range(count):
             self.project(f"all/{number:02}", "wrong" if number % 10 == 3 else "right")
+        # One has an index of its own, the others share one.
+        self.write("all/00/ix/b.json", "{}")
         program = Path(str(self.program))
         program.write_text(program.read_text(encoding="utf-8").replace("case $(cat", "sleep 0.3\ncase $(cat"), encoding="utf-8")
         words = ["verify", "all", "--send", "--json", "--scheduler", f"tcp://127.0.0.1:{self.port}"]

@@ -56,9 +56,15 @@ class Words(unittest.TestCase):
         machines = show.machines_told(locks.read(text, "lock"))
         self.assertEqual({it["machine"].partition(",")[0] for it in machines}, {"Linux"})
 
+    def test_machines_with_the_same_versions_share_them(self) -> None:
+        found = show.shared(show.machines_told(locks.load(str(WEB_APP))))
+        at = {it["machine"]: found["selections"][it["selection"]] for it in found["machines"]}
+        self.assertEqual(at, {it["machine"]: it["versions"] for it in show.machines_told(locks.load(str(WEB_APP)))})
+        self.assertEqual((len(found["machines"]), len(found["selections"])), (15, 4))
+
     def test_why_a_package_is_there(self) -> None:
-        ways = show.path_to_root(locks.read(lock_of({"demo": ["a"], "a": ["b"], "b": []}), "lock"))
-        self.assertEqual(ways["b", "1"], ["demo 1", "a 1", "b 1"])
+        before = show.ways_from_root(locks.read(lock_of({"demo": ["a"], "a": ["b"], "b": ["c"], "c": []}), "lock"))
+        self.assertEqual(before, {("demo", "1"): "", ("a", "1"): "demo 1", ("b", "1"): "a 1", ("c", "1"): "b 1"})
 
     def test_nothing_of_the_data_ends_the_script(self) -> None:
         text = show.embedded({"a": "</script><b>&amp;"})
@@ -69,6 +75,13 @@ class Words(unittest.TestCase):
         text = "no selection serves this fork\nfork: 0\nregion: sys_platform == 'win32'\nworld: x\ncore: 1\nq 1 needs z {}\n"
         told = show.refusal_told(text)
         self.assertEqual((told["region"], told["needs"]), ("on Windows", [["q 1", "z {}"]]))
+
+
+class Streams(Folder):
+    def test_a_page_on_standard_output(self) -> None:
+        done = self.ran("show", WEB_APP, "-o", "-")
+        self.assertTrue(done.stdout.startswith("<!DOCTYPE html>"))
+        self.assertEqual((done.stderr, list(self.top.iterdir())), ("", []))
 
 
 class Pages(Folder):
@@ -132,6 +145,42 @@ class Pages(Folder):
         page.value("document.getElementById('tab-changes').click()")
         self.assertIn("pytest 8.1.1 -> 8.1.2", self.text())
 
+    def test_markers_that_change(self) -> None:
+        other = WEB_APP.read_text(encoding="utf-8").replace("sys_platform == 'win32'", "os_name == 'nt'")
+        page = self.shown(WEB_APP, self.write("other.lock", other))
+        page.value("document.getElementById('tab-changes').click()")
+        self.assertIn("needs colorama 0.4.6 where os_name == 'nt', no longer where sys_platform == 'win32'", self.text())
+
+    def test_the_graph_of_a_small_lock(self) -> None:
+        page = self.shown(WEB_APP)
+        page.value("document.getElementById('tab-graph').click()")
+        places = page.value(
+            "Object.fromEntries([...document.querySelectorAll('svg g')].map((it) =>"
+            " [it.getAttribute('aria-label'), Number(it.querySelector('rect').getAttribute('x'))]))"
+        )
+        self.assertEqual(len(places), 10)
+        # What a package needs stands to the right of it.
+        self.assertLess(places["web-app 1.2.0"], places["fastapi 0.110.0"])
+        self.assertLess(places["pytest 8.1.1"], places["colorama 0.4.6"])
+        self.assertEqual(page.value("document.querySelectorAll('svg path').length"), 11)
+
+    def test_a_graph_with_a_cycle(self) -> None:
+        page = self.shown(self.write("cycle.lock", lock_of({"a": ["b"], "b": ["a"], "demo": ["a", "b"]})))
+        page.value("document.getElementById('tab-graph').click()")
+        self.assertEqual(page.value("document.querySelectorAll('svg g').length"), 3)
+        self.assertEqual(page.value("document.querySelectorAll('svg path').length"), 4)
+
+    def test_what_is_handed_in(self) -> None:
+        refusal = "no selection serves this fork\nfork: 0\nregion: sys_platform == 'win32'\nworld: x\ncore: 1\n"
+        words = ["--refusal", self.write("refusal", refusal + "q 1 needs <b>z</b> {}\n")]
+        words += ["--outdated", self.write("outdated", '{"packages": [{"name": "a<i>", "newest": "2"}]}')]
+        words += ["--coverage", self.write("coverage", '{"rows": [{"package": "a", "musl": "nothing"}]}')]
+        page = self.shown(WEB_APP, *words)
+        for tab, text in [("refusal", "q 1\nneeds\n<b>z</b> {}"), ("outdated", "a<i>"), ("coverage", "nothing")]:
+            page.value(f"document.getElementById('tab-{tab}').click()")
+            self.assertIn(text, self.text())
+        self.assertEqual(page.value("document.querySelectorAll('#page b, #page i').length"), 0)
+
     def test_no_text_of_a_lock_becomes_markup(self) -> None:
         hostile = "<script>window.broken=1</script><img src=x onerror=window.broken=2>.whl"
         page = self.shown(self.write("hostile.lock", lock_of({"a": [], "demo": ["a"]}, hostile)))
@@ -148,14 +197,34 @@ class Pages(Folder):
         self.assertEqual(len(self.rows()), 2001)
         took = "(() => { const begun = performance.now(); show('packages'); return performance.now() - begun; })()"
         self.assertLess(page.value(took), 5000, "some 50 milliseconds where nothing else runs")
+        painted = "performance.getEntriesByName('first-contentful-paint')"
+        page.wait_for(f"{painted}.length > 0")
+        # The whole process of the page, from its start; where nothing else runs the clock shows little more.
+        self.assertLess(page.processor_time(), 3, "some half a second where nothing else runs")
+        self.assertEqual(page.value("document.getElementById('tab-graph')"), None)
 
     def test_narrow_and_dark(self) -> None:
         self.browser.width(400)
         page = self.shown(WEB_APP)
         self.assertLessEqual(page.value("document.documentElement.scrollWidth"), 400)
+        # The picture isn't made smaller: its letters are as large as those of a wide page.
+        self.assertGreaterEqual(page.value("document.querySelector('svg text').getBoundingClientRect().height"), 12)
         page.call("Emulation.setEmulatedMedia", features=[{"name": "prefers-color-scheme", "value": "dark"}])
         self.assertEqual(page.value("getComputedStyle(document.body).backgroundColor"), "rgb(20, 23, 26)")
         self.assertTrue(page.picture().startswith(b"\x89PNG"))
+
+
+    def test_on_paper_all_packages_stand(self) -> None:
+        page = self.shown(WEB_APP)
+        page.call("Emulation.setEmulatedMedia", media="print")
+        page.value("dispatchEvent(new Event('beforeprint'))")
+        text = self.text(".paper")
+        for line in ["colorama 0.4.6\t\tweb-app 1.2.0", "colorama 0.4.6 (on Windows); iniconfig 2.0.0"]:
+            self.assertIn(line, text)
+        self.assertEqual(page.value("getComputedStyle(document.querySelector('.columns')).display"), "none")
+        page.value("dispatchEvent(new Event('afterprint'))")
+        self.assertEqual(page.value("document.querySelector('.paper').children.length"), 0)
+        self.assertTrue(page.call("Page.printToPDF", printBackground=True)["data"].startswith("JVBER"))
 
 
 if __name__ == "__main__":

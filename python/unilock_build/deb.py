@@ -117,11 +117,15 @@ def entries(top: Path, origin: Origin, program: Path) -> list[Entry]:
 
 
 def pack(out: Path, top: Path = TOP) -> Path:
+    program = built_program(top)
+    return write(out, top, origin_of(top), program)
+
+
+def write(out: Path, top: Path, origin: Origin, program: Path) -> Path:
+    """Writes the package of a program; one commit with one program has one package."""
     maker = shutil.which("dpkg-deb")
     if maker is None:
         raise FileNotFoundError("dpkg-deb isn't on the path")
-    program = built_program(top)
-    origin = origin_of(top)
     out.mkdir(parents=True, exist_ok=True)
     path = out / f"unilock_{origin.version}_amd64.deb"
     with tempfile.TemporaryDirectory() as held:
@@ -131,7 +135,8 @@ def pack(out: Path, top: Path = TOP) -> Path:
             placed.parent.mkdir(parents=True, exist_ok=True)
             placed.write_bytes(entry.body)
             placed.chmod(0o755 if entry.is_program else 0o644)
-        room.chmod(0o755)
+        for folder in [room, *(it for it in room.rglob("*") if it.is_dir())]:
+            folder.chmod(0o755)
         words = [maker, "--root-owner-group", "--build", str(room), str(path)]
         environment = {**os.environ, "SOURCE_DATE_EPOCH": str(seconds_of(top))}
         subprocess.run(words, check=True, stdout=subprocess.DEVNULL, env=environment)

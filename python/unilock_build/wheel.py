@@ -72,6 +72,17 @@ def project_lines(top: Path, list_name: str) -> list[str]:
     return [json.loads(it) for it in re.findall(r'^\s*("(?:[^"\\]|\\.)*"),?\s*$', listed, re.M)]
 
 
+def extra_lines(top: Path) -> list[str]:
+    """The extras of python/pyproject.toml and what they require, as lines of metadata."""
+    text = (top / "python" / "pyproject.toml").read_text(encoding="utf-8")
+    table = text.partition("[project.optional-dependencies]\n")[2].partition("\n[")[0]
+    found = []
+    for extra, listed in re.findall(r"^([a-z]+) = (\[.*\])$", table, re.M):
+        found += [f"Provides-Extra: {extra}"]
+        found += [f'Requires-Dist: {it}; extra == "{extra}"' for it in json.loads(listed)]
+    return found
+
+
 def required_python(top: Path) -> str:
     text = (top / "python" / "pyproject.toml").read_text(encoding="utf-8")
     found = re.search(r'^requires-python = "([^"]+)"', text, re.M)
@@ -85,10 +96,10 @@ def metadata(top: Path, origin: Origin) -> bytes:
         f"Version: {origin.version}",
         "Summary: One lock for a Python project, for all its platforms and interpreters, by a proved resolver",
         "License: MIT",
-        "License-File: LICENSE",
         f"Requires-Python: {required_python(top)}",
         *(f"Classifier: {it}" for it in project_lines(top, "classifiers")),
         *(f"Requires-Dist: {it}" for it in project_lines(top, "dependencies")),
+        *extra_lines(top),
         "Description-Content-Type: text/markdown",
     ]
     return ("\n".join(head) + "\n\n" + (top / "README.md").read_text(encoding="utf-8")).encode()

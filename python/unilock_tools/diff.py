@@ -1,8 +1,8 @@
 """Says in words what differs between two locks: packages added and removed, versions, extras, edges with their
 markers, files.
 
-Needs the standard library alone. Status: 0 the locks are the same in all this; 1 they differ, or a lock can't be read;
-2 the words aren't right.
+Needs the standard library alone, and `rich` for colours and columns. Status: 0 the locks are the same in all this; 1
+they differ, or a lock can't be read; 2 the words aren't right.
 """
 
 from __future__ import annotations
@@ -10,8 +10,9 @@ from __future__ import annotations
 import argparse
 from typing import Any, Dict, Iterator, List, Optional, Tuple
 
-from . import console, locks
+from . import console, locks, terminal
 from .locks import Lock, Package
+from .terminal import Part, Screen
 
 
 def parser() -> console.Parser:
@@ -20,6 +21,7 @@ def parser() -> console.Parser:
     made.add_argument("new", metavar="NEW", help="the newer lock")
     made.add_argument("--versions", action="store_true", help="say only which packages and versions differ")
     console.add_json(made)
+    terminal.add_color(made)
     return made
 
 
@@ -79,9 +81,29 @@ def difference(old: Lock, new: Lock, versions_alone: bool) -> List[str]:
     return lines
 
 
-def as_object(old: Lock, new: Lock, lines: List[str]) -> Dict[str, Any]:
-    versions = [{name: [it.version for it in found] for name, found in lock.by_name().items()} for lock in (old, new)]
-    before, after = versions
+def show_columns(screen: Screen, old: Lock, new: Lock, lines: List[str]) -> None:
+    """Shows the packages that differ as a table, and what else differs below it."""
+    versions = locks.changes(old, new)
+    changed = [it for it in as_object(old, new, [])["packages"] if it["name"] != new.root]
+    if changed:
+        screen.table(["package", "old", "new"], (row_of(it["name"], it["old"], it["new"]) for it in changed))
+    for line in lines[len(versions) :]:
+        head, mark, rest = line.partition(": ")
+        screen.line(Part(head + mark, "name"), Part(rest, "bad" if "ANOTHER HASH" in rest else ""))
+
+
+def row_of(name: str, old: List[str], new: List[str]) -> List[Part]:
+    kind = "changed" if old and new else "good" if new else "bad"
+    return [Part(name, kind), Part(", ".join(old), "quiet"), Part(", ".join(new), "version")]
+
+
+def versions_in(lock: Optional[Lock]) -> Dict[str, List[str]]:
+    found = {} if lock is None else lock.by_name()
+    return {name: [it.version for it in packages] for name, packages in found.items()}
+
+
+def as_object(old: Optional[Lock], new: Lock, lines: List[str]) -> Dict[str, Any]:
+    before, after = versions_in(old), versions_in(new)
     names = sorted(it for it in set(before) | set(after) if before.get(it) != after.get(it))
     packages = [{"name": it, "old": before.get(it, []), "new": after.get(it, [])} for it in names]
     return {"packages": packages, "lines": lines}
@@ -90,8 +112,11 @@ def as_object(old: Lock, new: Lock, lines: List[str]) -> Dict[str, Any]:
 def run(asked: argparse.Namespace) -> int:
     old, new = locks.load(asked.old), locks.load(asked.new)
     lines = difference(old, new, asked.versions)
+    screen = Screen(asked.color)
     if asked.json:
         console.print_object(as_object(old, new, lines))
+    elif screen.has_columns:
+        show_columns(screen, old, new, lines)
     else:
         for line in lines:
             print(line)

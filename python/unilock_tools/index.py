@@ -6,7 +6,8 @@ Of files, OUT/NAME.json is written for each project, NAME in its normal form (PE
 version: its requirements, its bound on the interpreter, and the name and SHA-256 of each of its files. All files of
 one version make one entry; where their metadata differ they are refused, since a lock for all platforms needs one
 answer. A source distribution counts where its PKG-INFO has metadata 2.2 or later and neither its requirements nor its
-bound are dynamic (PEP 643); otherwise it is refused.
+bound are dynamic (PEP 643); otherwise it is refused, or built where --build names its project (or with --build-all) and
+the library `build` is installed. A build runs the project's code, and what it says is kept by the file's hash.
 
 From a project, the package index is asked for all that its requirements can reach: each release that the project's
 own bounds, --newest and --before allow. Names of which files are given are taken from these alone. A release speaks
@@ -19,28 +20,32 @@ A release that unilock will not be able to use is kept and warned of, with the e
 OUT is written anew as a whole: into a fresh folder beside it, which then takes its place. Only a folder that this
 command made (a file .unilock-index in it says so), or an empty one, is replaced.
 
-A user and a password of --index-url, or of the server's line in .netrc, are sent to that server alone and written
-nowhere. An answer that is cut off, or that doesn't say that it is a page of the Simple API, is refused.
+The package index is that of --index-url, or of UNILOCK_INDEX_URL, the project file (`tool.uv.index-url`),
+PIP_INDEX_URL, UV_INDEX_URL or pip's configuration, the first that there is; else PyPI. A user and a password in its
+address, in .netrc or in the system's keyring (the library `keyring`) are sent to that server alone and written nowhere.
+An answer that is cut off, or that doesn't say that it is a page of the Simple API, is refused.
 
-Needs the library `requests` to ask a server. Status: 0 written; 1 a file is refused; 2 the words aren't right; 3 the
-project file can't be read; 4 more packages, releases or text than the program reads; 5 a server fails; 130
-interrupted.
+Needs the library `requests` to ask a server, and `rich` for a bar of progress. Status: 0 written; 1 a file is refused;
+2 the words aren't right; 3 the project file can't be read; 4 more packages, releases or text than the program reads; 5
+a server fails; 130 interrupted.
 """
 
 from __future__ import annotations
 
 import argparse
+import contextlib
 import os
+import sys
 from pathlib import Path
 from typing import List, Optional
 
-from . import console, documents, folders, project, walk
+from . import building, console, documents, folders, index_settings, project, terminal, walk
 from .archives import Refused
+from .building import Builder
 from .cache import Cache, usual_folder
 from .documents import Projects
 from .simple import Client
-
-SERVER = "https://pypi.org/simple/"
+from .terminal import Meter, Part
 
 
 def parser() -> console.Parser:
@@ -62,9 +67,11 @@ def parser() -> console.Parser:
     )
     made.add_argument("--skip", action="store_true", help="pass a file over that can't be taken, with a warning")
     made.add_argument("--quiet", "-q", action="store_true", help="say nothing of what was done, nor warnings")
+    terminal.add_color(made)
+    building.add_words(made)
     server = made.add_argument_group("from a package index")
     server.add_argument(
-        "--index-url", metavar="URL", help=f"its Simple API (the environment's UNILOCK_INDEX_URL, or {SERVER})"
+        "--index-url", metavar="URL", help="its Simple API, where not the one that the settings of uv and pip name"
     )
     server.add_argument("--newest", metavar="N", type=int, help="at most so many releases of each package, the newest")
     server.add_argument(
@@ -95,11 +102,11 @@ def judged(asked: argparse.Namespace) -> None:
             raise console.Refused(f"--{name} {getattr(asked, name)}: at most {most:g}", 2)
 
 
-def from_files(paths: List[Path], skip: bool) -> "tuple[Projects, List[str]]":
+def from_files(paths: List[Path], skip: bool, builder: Optional[Builder]) -> "tuple[Projects, List[str]]":
     gathered, passed = Projects(), []
     for path in documents.files_in(paths):
         try:
-            gathered.add_file(path)
+            gathered.add_file(path, builder)
         except Refused as fault:
             if not skip:
                 raise
@@ -107,18 +114,25 @@ def from_files(paths: List[Path], skip: bool) -> "tuple[Projects, List[str]]":
     return gathered, passed
 
 
-def from_server(asked: argparse.Namespace, path: Path, gathered: Projects) -> List[str]:
-    read = project.load(str(path))
-    cache = Cache(None if asked.no_cache else asked.cache or usual_folder())
-    url = asked.index_url or os.environ.get("UNILOCK_INDEX_URL") or SERVER
-    client = Client(url, cache, asked.tries, asked.timeout, deadline=asked.deadline)
+def from_server(asked: argparse.Namespace, path: Path, gathered: Projects, builder: Optional[Builder]) -> List[str]:
+    read, cache = project.load(str(path)), cache_of(asked)
+    source = index_settings.source(asked.index_url, read.tables)
+    client = Client(source.url, cache, asked.tries, asked.timeout, deadline=asked.deadline, builder=builder)
     choice = walk.Choice(asked.newest, None if asked.before is None else walk.instant(asked.before))
-    walking = walk.Walk(client, read, choice, gathered, asked.jobs)
-    walking.run(it.requirement for it in read.requirements)
+    shown: contextlib.AbstractContextManager[Optional[Meter]] = contextlib.nullcontext()
     if not asked.quiet:
-        fetcher = client.fetcher
-        console.say(f"index: {console.counted(fetcher.asked, 'request')}, {fetcher.bytes / 1e6:.1f} MB")
-    return [*walking.warnings(), *([cache.fault] if cache.fault else [])]
+        shown = Meter("index", "look-up", asked.color)
+    with shown as meter:
+        walking = walk.Walk(client, read, choice, gathered, asked.jobs, meter)
+        walking.run(it.requirement for it in read.requirements)
+    if not asked.quiet:
+        console.say(f"index: {client.fetcher.told()}{source.shown()}")
+    passed = index_settings.passed_over(asked.index_url, read.tables)
+    return [*walking.warnings(), *passed, *([cache.fault] if cache.fault else [])]
+
+
+def cache_of(asked: argparse.Namespace) -> Cache:
+    return Cache(None if asked.no_cache else asked.cache or usual_folder())
 
 
 def run(asked: argparse.Namespace) -> int:
@@ -127,15 +141,18 @@ def run(asked: argparse.Namespace) -> int:
     if len(projects) > 1:
         raise console.Refused("two project files: one folder is made for one project", 2)
     folders.prepared(asked.out)
-    gathered, warned = from_files([it for it in asked.sources if it.suffix != ".toml"], asked.skip)
+    builder = building.of_words(asked, cache_of(asked), asked.index_url)
+    gathered, warned = from_files([it for it in asked.sources if it.suffix != ".toml"], asked.skip, builder)
     for mark in asked.yanked:
         gathered.mark_yanked(mark)
     for path in projects:
-        warned += from_server(asked, path, gathered)
+        warned += from_server(asked, path, gathered, builder)
+    warned += [] if builder is None else builder.warnings()
     folders.replace_folder(asked.out, gathered.documents())
     if not asked.quiet:
+        screen = terminal.Screen(asked.color, sys.stderr)
         for text in [*warned, *gathered.warnings()]:
-            console.say(f"index: warning: {console.escaped(text)}")
+            screen.line(Part("index: warning: ", "changed"), Part(console.escaped(text)))
         if projects:
             releases = sum(len(it) for it in gathered.releases.values())
             packages = console.counted(len(gathered.releases), "package")

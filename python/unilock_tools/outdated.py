@@ -4,8 +4,8 @@ Newer is the newest release that can be used, isn't yanked and is no pre-release
 is). Where the project file stands beside the lock, or --project names it, its own requirements count among what holds a
 package back; so does its bound on Python, where an interpreter that the lock supports doesn't keep it.
 
-Needs the standard library; with a project file a reader of TOML. Status: 0 nothing is newer; 1 something is; 2 the
-words aren't right; 3 the lock or the index can't be read.
+Needs the standard library; with a project file a reader of TOML; `rich` for colours and columns. Status: 0 nothing is
+newer; 1 something is; 2 the words aren't right; 3 the lock or the index can't be read.
 """
 
 from __future__ import annotations
@@ -14,23 +14,28 @@ import argparse
 import os
 from typing import Iterator, List, NamedTuple, Optional, Tuple
 
-from . import console, documents, locks, markers, project, worlds
+from . import chosen, console, documents, folders, locks, markers, own_index, project, terminal, worlds
+from .called import command
 from .console import Refused
 from .locks import Lock, Package
 from .machine import PLATFORMS
 from .readings import Requirement, requirement_of
+from .terminal import Part, Screen
 from .verdicts import bound_holds
 from .versions import NoReading, Version, meets, specifiers_of, version, version_of
 
 
 def parser() -> console.Parser:
     made = console.Parser("outdated", __doc__)
-    made.add_argument("lock", metavar="LOCK", help="the lock")
-    made.add_argument("index", metavar="INDEX", nargs="?", help="the index folder (`ix` beside the lock)")
+    made.add_argument("lock", metavar="LOCK", nargs="?", default=chosen.USUAL, help=f"the lock ({chosen.USUAL})")
+    made.add_argument(
+        "index", metavar="INDEX", nargs="?", help="the index folder (`ix` beside the lock, or what `lock` keeps there)"
+    )
     made.add_argument(
         "--project", metavar="PROJECT", help="the project file (pyproject.toml beside the lock, where it is there)"
     )
     console.add_json(made)
+    terminal.add_color(made)
     return made
 
 
@@ -107,6 +112,10 @@ class Newer(NamedTuple):
         held = f"  ({'; '.join(self.held_by)})" if self.held_by else ""
         return f"{self.name} {self.version} -> {self.newest}{held}"
 
+    def row(self) -> List[Part]:
+        held = Part("; ".join(self.held_by), "changed") if self.held_by else Part("nothing", "good")
+        return [Part(self.name, "name"), Part(self.version, "quiet"), Part(self.newest, "version"), held]
+
 
 def newer(lock: Lock, index: str, read: Optional[project.Project]) -> Iterator[Newer]:
     holders = Holders(lock, index, read)
@@ -121,9 +130,12 @@ def newer(lock: Lock, index: str, read: Optional[project.Project]) -> Iterator[N
 
 def run(asked: argparse.Namespace) -> int:
     beside = os.path.dirname(asked.lock)
-    index = asked.index or os.path.join(beside, "ix")
+    index = asked.index or own_index.usual(beside)
     if not os.path.isdir(index):
         raise Refused(f"{index}: there is no such folder", 3)
+    if folders.is_of_tried(index):
+        whole = f"`{command('index')} pyproject.toml ix` makes a folder of all"
+        console.say(f"outdated: {index} has the releases that were tried alone; {whole}")
     usual = os.path.join(beside, "pyproject.toml")
     path = asked.project or (usual if os.path.isfile(usual) else None)
     try:
@@ -131,8 +143,11 @@ def run(asked: argparse.Namespace) -> int:
         found = list(newer(lock, index, None if path is None else project.load(path)))
     except (NoReading, Refused) as fault:
         raise Refused(str(fault) if isinstance(fault, Refused) else f"{asked.lock}: {fault}", 3) from None
+    screen = Screen(asked.color)
     if asked.json:
         console.print_object({"packages": [it._asdict() for it in found]})
+    elif found and screen.has_columns:
+        screen.table(["package", "locked", "newest", "held back by"], (it.row() for it in found))
     else:
         for one in found:
             print(one.line())

@@ -20,7 +20,7 @@ from collections import deque
 from pathlib import Path
 from typing import Any, Iterator, Mapping
 
-from . import console, locks, markers
+from . import console, diff, locks, markers
 from .console import Refused
 from .locks import Edge, Lock, Package
 from .machine import PLATFORMS
@@ -139,25 +139,24 @@ def walked(lock: Lock, machine: Mapping[str, str]) -> dict[str, str] | None:
     return {name: version for name, version, _ in seen if name != lock.root}
 
 
-def path_to_root(lock: Lock) -> dict[tuple[str, str], list[str]]:
-    """For each package a shortest way from the root, as texts `name version`."""
+def ways_from_root(lock: Lock) -> dict[tuple[str, str], str]:
+    """For each package the one before it on a shortest way from the root, as `name version`; nothing for the root."""
     known = {(it.name, it.version): it for it in lock.packages}
     root = lock.root_package()
-    ways: dict[tuple[str, str], list[str]] = {(root.name, root.version): [f"{root.name} {root.version}"]}
+    before = {(root.name, root.version): ""}
     todo = deque([root])
     while todo:
         package = todo.popleft()
-        way = ways[package.name, package.version]
         for _, edge in package.all_edges():
             key = (edge.name, edge.version)
-            if key not in ways:
-                ways[key] = [*way, f"{edge.name} {edge.version}"]
+            if key not in before:
+                before[key] = f"{package.name} {package.version}"
                 todo.append(known[key])
-    return ways
+    return before
 
 
 def packages_told(lock: Lock) -> Iterator[dict[str, Any]]:
-    ways = path_to_root(lock)
+    before = ways_from_root(lock)
     for package in lock.packages:
         edges = [
             {
@@ -176,7 +175,7 @@ def packages_told(lock: Lock) -> Iterator[dict[str, Any]]:
             "extras": list(package.extras),
             "files": [{"file": file, "hash": digest} for file, digest in package.files],
             "edges": edges,
-            "why": ways.get((package.name, package.version), []),
+            "before": before.get((package.name, package.version), ""),
         }
 
 
@@ -190,6 +189,17 @@ def machines_told(lock: Lock) -> list[dict[str, Any]]:
     return found
 
 
+def shared(machines: list[dict[str, Any]]) -> dict[str, Any]:
+    """The machines, each with the number of its selection of versions: most have the same."""
+    selections: list[dict[str, str]] = []
+    rows = []
+    for one in machines:
+        if one["versions"] not in selections:
+            selections.append(one["versions"])
+        rows.append({"machine": one["machine"], "selection": selections.index(one["versions"])})
+    return {"machines": rows, "selections": selections}
+
+
 def told(lock: Lock, other: Lock | None, more: Mapping[str, Any]) -> dict[str, Any]:
     """All that the page shows, as data."""
     root = lock.root_package()
@@ -198,8 +208,8 @@ def told(lock: Lock, other: Lock | None, more: Mapping[str, Any]) -> dict[str, A
         "supported": where(lock.supported) or "every environment",
         "forks": [{"marker": it, "where": where(it)} for it in lock.forks],
         "packages": list(packages_told(lock)),
-        "machines": machines_told(lock),
-        "changes": None if other is None else locks.changes(lock, other),
+        **shared(machines_told(lock)),
+        "changes": None if other is None else diff.difference(lock, other, False),
         **more,
     }
 
@@ -250,9 +260,10 @@ def parser() -> console.Parser:
     made = console.Parser("show", __doc__)
     made.add_argument("lock", metavar="LOCK", help="the lock")
     made.add_argument("other", metavar="OTHER", nargs="?", help="another lock: what changes from LOCK to OTHER")
-    made.add_argument("-o", "--out", metavar="FILE", required=True, help="the page")
+    made.add_argument("-o", "--out", metavar="FILE", required=True, help="the page (`-`: standard output)")
     made.add_argument("--refusal", metavar="FILE", help="a refusal, as `unilock lock` prints it")
     made.add_argument("--outdated", metavar="FILE", help="what `outdated --json` printed")
+    made.add_argument("--coverage", metavar="FILE", help="what has files for what, as JSON with `rows`")
     return made
 
 
@@ -262,9 +273,11 @@ def run(asked: argparse.Namespace) -> int:
     more = {
         "refusal": None if asked.refusal is None else refusal_told(console.text_of(asked.refusal)),
         "outdated": handed_in(asked.outdated),
+        "coverage": handed_in(asked.coverage),
     }
-    console.write_beside(asked.out, page(told(lock, other, more)).encode())
-    console.say(f"{asked.out} is written: {console.counted(len(lock.packages), 'package')}")
+    console.put(page(told(lock, other, more)), asked.out)
+    if asked.out != "-":
+        console.say(f"{asked.out} is written: {console.counted(len(lock.packages), 'package')}")
     return 0
 
 

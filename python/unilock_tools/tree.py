@@ -7,8 +7,8 @@ where.
 --dot prints the graph in the text form of Graphviz; --picture FILE has Graphviz's program `dot` draw it (.svg, .png,
 .pdf).
 
-Needs the standard library alone. Status: 0 printed; 1 the lock can't be read, has no such package or isn't for the
-machine, or `dot` isn't there; 2 the words aren't right.
+Needs the standard library alone, and `rich` for colours. Status: 0 printed; 1 the lock can't be read, has no such
+package or isn't for the machine, or `dot` isn't there; 2 the words aren't right.
 """
 
 from __future__ import annotations
@@ -20,9 +20,10 @@ import subprocess
 import sys
 from typing import Any, Dict, Iterator, List, NamedTuple, Optional, Set, Tuple
 
-from . import chosen, console, locks, markers
+from . import chosen, console, locks, markers, terminal
 from .console import Refused
 from .locks import Lock
+from .terminal import Part
 from .versions import normal_name
 
 Node = Tuple[str, str, Optional[str]]
@@ -37,7 +38,7 @@ class Arrow(NamedTuple):
 
 def parser() -> console.Parser:
     made = console.Parser("tree", __doc__)
-    made.add_argument("lock", metavar="LOCK", help="the lock")
+    made.add_argument("lock", metavar="LOCK", nargs="?", default=chosen.USUAL, help=f"the lock ({chosen.USUAL})")
     made.add_argument("machine", metavar="MACHINE", nargs="?", help="a machine file")
     made.add_argument(
         "--extra",
@@ -52,6 +53,7 @@ def parser() -> console.Parser:
     made.add_argument("--dot", action="store_true", help="print the graph in Graphviz's text form")
     made.add_argument("--picture", metavar="FILE", help="have Graphviz draw the graph")
     console.add_json(made)
+    terminal.add_color(made)
     return made
 
 
@@ -108,7 +110,7 @@ class Graph:
         return found
 
 
-def lines_below(tops: List[Node], arrows: Dict[Node, List[Arrow]], depth: Optional[int]) -> Iterator[str]:
+def lines_below(tops: List[Node], arrows: Dict[Node, List[Arrow]], depth: Optional[int]) -> Iterator[List[Part]]:
     """The lines of a tree, drawn as directories are."""
     shown: Set[Node] = set()
     left: List[Tuple[Node, str, str, str, int]] = [(it, "", "", "", 0) for it in reversed(tops)]
@@ -116,7 +118,7 @@ def lines_below(tops: List[Node], arrows: Dict[Node, List[Arrow]], depth: Option
         node, head, rest, marker, level = left.pop()
         below = arrows.get(node, [])
         cut = bool(below) and node in shown
-        yield head + text_of(node) + (f" ; {marker}" if marker else "") + (" (*)" if cut else "")
+        yield [Part(head, "quiet"), *parts_of(node, marker), Part(" (*)" if cut else "", "quiet")]
         if cut or (depth is not None and level >= depth):
             continue
         shown.add(node)
@@ -124,6 +126,11 @@ def lines_below(tops: List[Node], arrows: Dict[Node, List[Arrow]], depth: Option
             last = number == len(below)
             branch, beside = ("└── ", "    ") if last else ("├── ", "│   ")
             left.append((arrow.to, rest + branch, rest + beside, arrow.marker, level + 1))
+
+
+def parts_of(node: Node, marker: str) -> List[Part]:
+    name, _, version = text_of(node).rpartition(" ")
+    return [Part(name, "name"), Part(f" {version}", "version"), Part(f" ; {marker}" if marker else "", "where")]
 
 
 def as_object(tops: List[Node], arrows: Dict[Node, List[Arrow]]) -> Dict[str, Any]:
@@ -183,14 +190,14 @@ def tops_of(graph: Graph, name: str) -> List[Node]:
     return found
 
 
-def printed(text: str) -> None:
-    """Prints lines, with plain letters where standard output can't show the others."""
-    encoding = sys.stdout.encoding or "ascii"
+def shown_by(encoding: str, part: Part) -> Part:
+    """A part of a line, with plain letters where an encoding has no others."""
     try:
-        text.encode(encoding)
+        part.text.encode(encoding)
+        return part
     except UnicodeEncodeError:
-        text = text.translate({ord("└"): "`", ord("├"): "|", ord("─"): "-", ord("│"): "|"})
-    print(text)
+        plain = {ord("└"): "`", ord("├"): "|", ord("─"): "-", ord("│"): "|"}
+        return Part(part.text.translate(plain), part.kind)
 
 
 def run(asked: argparse.Namespace) -> int:
@@ -214,8 +221,9 @@ def run(asked: argparse.Namespace) -> int:
     if asked.json:
         console.print_object(as_object(tops, arrows))
         return 0
+    screen, encoding = terminal.Screen(asked.color), sys.stdout.encoding or "ascii"
     for line in lines_below(tops, arrows, asked.depth):
-        printed(line)
+        screen.line(*(shown_by(encoding, it) for it in line))
     return 0
 
 

@@ -8,7 +8,6 @@ Pages and metadata are asked for side by side; what is gathered doesn't depend o
 from __future__ import annotations
 
 import re
-import sys
 import time
 from concurrent.futures import FIRST_COMPLETED, Future, ThreadPoolExecutor, wait
 from dataclasses import dataclass, field
@@ -22,6 +21,7 @@ from .pages import Listed, ListedRelease, Passed, ProjectPage
 from .project import Project
 from .readings import Requirement, requirement_of
 from .simple import Client
+from .terminal import Meter
 from .versions import NoReading, Version, meets, version
 
 # The names that the program meets at most.
@@ -102,21 +102,21 @@ class Allowed(NamedTuple):
     later: List[ListedRelease]
 
 
-def allowed(
-    found: List[ListedRelease], bounds: List[Requirement], direct: List[Requirement], choice: Choice
-) -> Allowed:
-    """The releases that a project can use.
+def allowed(found: List[ListedRelease], project: Project, name: str, choice: Choice) -> Allowed:
+    """The releases of a name that a project can use.
 
-    The program passes a pre-release over unless a direct requirement names one or all usable releases are such. So
-    they are left aside, and one final release that can be used is kept even where the bounds refuse all.
+    The program passes a pre-release over where the project's mode doesn't ask for it, unless all usable releases are such
+    and the mode takes them then. So they are left aside, and one final release that can be used is kept even where the
+    bounds refuse all.
     """
-    named = any(it.op != "!=" and it.version.is_pre for one in direct for it in one.clauses)
-    within = [it for it in found if all(meets(one.clauses, it.version) for one in bounds)]
-    final = [it for it in within if named or not it.version.is_pre]
+    direct, asked = project.direct(name), project.asks_prereleases(name)
+    within = [it for it in found if all(meets(one.clauses, it.version) for one in project.bounds(name))]
+    final = [it for it in within if asked or not it.version.is_pre]
     if choice.newest is not None:
         kept = [it for it in final if not it.yanked][: choice.newest]
         final = kept + [it for it in final if it.yanked and any(pins(one, it.version) for one in direct)]
-    later = [] if named else [it for it in within if it.version.is_pre][: choice.newest]
+    is_left = project.needs_prereleases and not asked
+    later = [it for it in within if it.version.is_pre][: choice.newest] if is_left else []
     taken = {it.version.key for it in final}
     others = [it for it in found if not it.version.is_pre and it.version.key not in taken]
     return Allowed(final, others, later)
@@ -132,8 +132,17 @@ Job = Callable[[], object]
 class Walk:
     """The walk of one project through one server."""
 
-    def __init__(self, client: Client, project: Project, choice: Choice, known: Projects, jobs: int) -> None:
+    def __init__(
+        self,
+        client: Client,
+        project: Project,
+        choice: Choice,
+        known: Projects,
+        jobs: int,
+        meter: Optional[Meter] = None,
+    ) -> None:
         self.client, self.project, self.choice, self.gathered = client, project, choice, known
+        self.meter = meter
         self.local = set(known.releases)
         self.reached: Dict[str, Reached] = {}
         self.passed: Dict[Tuple[str, str], List[str]] = {}
@@ -144,7 +153,7 @@ class Walk:
         self.pool = ThreadPoolExecutor(max_workers=jobs)
         self.open: Dict["Future[object]", Callable[[object], None]] = {}
         self.begun = time.monotonic()
-        self.shown = 0.0
+        self.started = 0
 
     def run(self, roots: Iterable[Requirement]) -> None:
         """Walks until nothing is left to be asked for."""
@@ -163,11 +172,11 @@ class Walk:
             for job in self.open:
                 job.cancel()
             self.pool.shutdown(wait=not self.open)
-            self.clear()
         if self.absent and not self.known and not self.gathered.releases:
             raise console.Refused(f"{sorted(self.absent)[0]}, nor any other that is asked for", 5)
 
     def start(self, job: Job, then: Callable[[object], None]) -> None:
+        self.started += 1
         self.open[self.pool.submit(job)] = then
 
     def follow(self, by: str, requirement: Requirement) -> None:
@@ -223,9 +232,7 @@ class Walk:
             listed = uploaded_before(name, listed, self.choice.before)
         if not listed:
             self.absent.append(f"{no_release(name, found)}; {one.by} requires it")
-        taken, one.finals, one.later = allowed(
-            listed, self.project.bounds(name), self.project.direct(name), self.choice
-        )
+        taken, one.finals, one.later = allowed(listed, self.project, name, self.choice)
         self.take(name, taken)
 
     def take(self, name: str, taken: List[ListedRelease]) -> None:
@@ -263,7 +270,7 @@ class Walk:
     def keep(self, name: str, listed: ListedRelease, metadata: Metadata) -> None:
         one = self.reached[name]
         release = self.gathered.add(listed.files[0].name, metadata)
-        release.yanked = listed.yanked
+        release.yanked, release.reason = listed.yanked, listed.reason
         release.files = files_of(listed)
         for file in left_out(listed):
             self.files.setdefault((name, file.fault), []).append(file.file)
@@ -290,19 +297,14 @@ class Walk:
             self.take(name, later)
 
     def progress(self) -> None:
-        now = time.monotonic()
-        if console.is_terminal() and now - self.shown > 0.1:
-            self.shown = now
-            releases = sum(len(it) for it in self.gathered.releases.values())
-            megabytes = self.client.fetcher.bytes / 1e6
-            text = f"{len(self.reached)} packages, {releases} releases, {len(self.open)} open, {megabytes:.1f} MB"
-            sys.stderr.write(f"\r\x1b[Kindex: {text}")
-            sys.stderr.flush()
-
-    def clear(self) -> None:
-        if self.shown:
-            sys.stderr.write("\r\x1b[K")
-            sys.stderr.flush()
+        """Shows how far the walk is; what is left is what is known of so far."""
+        if self.meter is None:
+            return
+        releases = sum(len(it) for it in self.gathered.releases.values())
+        megabytes = self.client.fetcher.bytes / 1e6
+        rate = megabytes / max(0.001, time.monotonic() - self.begun)
+        more = f"{console.counted(len(self.reached), 'package')}, {console.counted(releases, 'release')}"
+        self.meter.show(self.started - len(self.open), self.started, f"{more}, {megabytes:.1f} MB, {rate:.1f} MB/s")
 
     def warnings(self) -> List[str]:
         """What was passed over, one line for each package and cause."""

@@ -32,6 +32,14 @@ for (const one of data.packages)
     const known = users.get(title(edge));
     if (known) known.push({ from: one, edge });
   }
+
+// A shortest way from the root, which says why a package is there.
+function way(one) {
+  const steps = [];
+  for (let at = one; at; at = packages.get(at.before)) steps.unshift(title(at));
+  return steps;
+}
+
 let chosen = data.packages.find((one) => title(one) === data.root) || data.packages[0];
 
 // ---- one package
@@ -60,7 +68,7 @@ function details() {
   const files = one.files.map((file) =>
     element("tr", {}, element("td", {}, file.file), element("td", {}, element("code", {}, file.hash))));
   const why = [];
-  one.why.forEach((step, at) => why.push(at ? " → " : "", link(step)));
+  way(one).forEach((step, at) => why.push(at ? " → " : "", link(step)));
   return element("section", { "aria-live": "polite" },
     element("h2", {}, title(one)),
     element("p", { class: "dim" }, "Why it is there: ", ...why),
@@ -68,39 +76,90 @@ function details() {
     edgeTable("Needs", needs), edgeTable("Needed by", needed), edgeTable("Files", files));
 }
 
-// ---- the graph: a package with its neighbours; a click goes on from there
+// ---- graphs: cells in columns, and arrows between them; a click on a cell goes to its package
 
 const SHOWN = 12;
+const WIDE = 190, TALL = 24, STEP = 32, APART = 255, INSET = 28;
+const narrow = matchMedia("(max-width: 700px)");
 
-function box(name, x, y, here) {
-  const short = name.length > 26 ? `${name.slice(0, 25)}…` : name;
+const shortened = (text, most) => (text.length > most ? `${text.slice(0, most - 1)}…` : text);
+
+function box({ text, name, here, x, y }) {
+  if (!name) return drawn("text", { x: x + 8, y: y + 16 }, text);
   const go = () => choose(packages.get(name));
-  return drawn("g", { role: "button", tabindex: "0", "aria-label": name, onclick: go, onkeydown: (event) => { if (event.key === "Enter") go(); } },
-    drawn("rect", { class: here ? "box here" : "box", x, y, width: 190, height: 24, rx: 5 }),
-    drawn("text", { x: x + 8, y: y + 16 }, short));
+  const onkeydown = (event) => { if (event.key === "Enter") go(); };
+  return drawn("g", { role: "button", tabindex: "0", "aria-label": name, onclick: go, onkeydown },
+    drawn("rect", { class: here ? "box here" : "box", x, y, width: WIDE, height: TALL, rx: 5 }),
+    drawn("text", { x: x + 8, y: y + 16 }, shortened(name, 26)));
 }
 
+// Below one another the arrows go down and in, as in a tree of folders; beside one another they are curves.
+function arrow(from, to, stacked) {
+  const height = to.y + TALL / 2;
+  if (stacked) return drawn("path", { d: `M ${from.x + 12} ${from.y + TALL} V ${height} H ${to.x}` });
+  const [x, y] = [from.x + WIDE, from.y + TALL / 2];
+  const bend = to.x > x ? (x + to.x) / 2 : x + 60;
+  return drawn("path", { d: `M ${x} ${y} C ${bend} ${y} ${to.x > x ? bend : to.x - 60} ${height} ${to.x} ${height}` });
+}
+
+function graph(columns, arrows, stacked, label) {
+  const tallest = Math.max(...columns.map((cells) => cells.length));
+  let row = 0;
+  columns.forEach((cells, at) => cells.forEach((cell, number) => {
+    cell.x = 2 + at * (stacked ? INSET : APART);
+    cell.y = 4 + (stacked ? STEP * row++ : (tallest - cells.length) * STEP / 2 + number * STEP);
+  }));
+  const width = (columns.length - 1) * (stacked ? INSET : APART) + WIDE + 4;
+  const height = (stacked ? row : tallest) * STEP;
+  const parts = [...arrows.map(([from, to]) => arrow(from, to, stacked)), ...columns.flat().map(box)];
+  return drawn("svg", { viewBox: `0 0 ${width} ${height}`, width, height, role: "img", "aria-label": label }, ...parts);
+}
+
+// A package with its neighbours: from there one goes on.
 function picture(one) {
-  const before = [...new Set(users.get(title(one)).map(({ from }) => title(from)))];
-  const after = [...new Set(one.edges.map(title))];
-  const rows = Math.max(1, Math.min(SHOWN, before.length), Math.min(SHOWN, after.length));
-  const height = rows * 32 + 16;
-  const middle = height / 2 - 12;
-  const parts = [];
-  const column = (names, x) => {
-    const first = names.slice(0, SHOWN);
-    first.forEach((name, at) => {
-      const y = height / 2 - first.length * 16 + at * 32 + 4;
-      const [x1, y1, x2, y2] = x === 0 ? [190, y + 12, 255, middle + 12] : [445, middle + 12, 510, y + 12];
-      parts.push(drawn("path", { d: `M ${x1} ${y1} C ${(x1 + x2) / 2} ${y1} ${(x1 + x2) / 2} ${y2} ${x2} ${y2}` }));
-      parts.push(box(name, x, y, false));
-    });
-    if (names.length > SHOWN) parts.push(drawn("text", { x: x + 8, y: height - 2 }, `and ${names.length - SHOWN} more`));
+  const cells = (names) => {
+    const found = names.slice(0, SHOWN).map((name) => ({ name }));
+    if (names.length > SHOWN) found.push({ text: `and ${names.length - SHOWN} more` });
+    return found;
   };
-  column(before, 0);
-  column(after, 510);
-  parts.push(box(title(one), 255, middle, true));
-  return drawn("svg", { viewBox: `0 0 700 ${height}`, role: "img", "aria-label": `${title(one)} with what needs it and what it needs` }, ...parts);
+  const before = cells([...new Set(users.get(title(one)).map(({ from }) => title(from)))]);
+  const after = cells([...new Set(one.edges.map(title))]);
+  const here = { name: title(one), here: true };
+  const arrows = [...before.filter((it) => it.name).map((it) => [it, here]), ...after.filter((it) => it.name).map((it) => [here, it])];
+  const label = `${title(one)} with what needs it and what it needs`;
+  return element("div", { class: "scroll picture" }, graph([before, [here], after], arrows, narrow.matches, label));
+}
+
+// All packages, each to the right of those that need it, where they don't need one another. Beyond some, neighbours alone
+// can be read.
+const DRAWN = 60;
+
+function needsOf(name) {
+  return [...new Set(packages.get(name).edges.map(title))].filter((it) => packages.has(it));
+}
+
+function depths() {
+  const order = [], seen = new Set(), depth = new Map();
+  const visit = (name) => {
+    if (seen.has(name)) return;
+    seen.add(name);
+    needsOf(name).forEach(visit);
+    order.unshift(name);
+  };
+  [data.root, ...packages.keys()].filter((it) => packages.has(it)).forEach(visit);
+  const at = new Map(order.map((name, number) => [name, number]));
+  for (const name of order)
+    for (const to of needsOf(name))
+      if (at.get(to) > at.get(name)) depth.set(to, Math.max(depth.get(to) || 0, (depth.get(name) || 0) + 1));
+  return depth;
+}
+
+function graphView() {
+  const depth = depths(), columns = [];
+  const cells = new Map([...packages.keys()].map((name) => [name, { name, here: name === data.root }]));
+  for (const [name, cell] of cells) (columns[depth.get(name) || 0] ||= []).push(cell);
+  const arrows = [...packages.keys()].flatMap((name) => needsOf(name).map((to) => [cells.get(name), cells.get(to)]));
+  return element("div", { class: "scroll picture" }, graph(columns, arrows, false, "all packages"));
 }
 
 // ---- the list of packages, searched as one types
@@ -154,19 +213,20 @@ function packagesView() {
 
 // ---- tables
 
-function table(head, rows) {
-  return element("div", { class: "scroll" }, element("table", { class: "grid" },
+function table(head, rows, more = "") {
+  return element("div", { class: `scroll sheet ${more}` }, element("table", { class: "grid" },
     element("thead", {}, element("tr", {}, ...head.map((text) => element("th", { scope: "col" }, text)))),
     element("tbody", {}, ...rows)));
 }
 
 function machinesView() {
-  const names = [...new Set(data.packages.map((one) => one.name))].filter((name) => data.machines.some((one) => one.versions[name]));
+  const given = new Set(data.selections.flatMap(Object.keys));
+  const names = [...new Set(data.packages.map((one) => one.name))].filter((name) => given.has(name));
   const rows = names.map((name) => {
-    const versions = data.machines.map((one) => one.versions[name] || "");
+    const versions = data.machines.map((one) => data.selections[one.selection][name] || "");
     return element("tr", {}, element("th", { scope: "row" }, name), ...versions.map((version) => element("td", {}, version)));
   });
-  return table(["Package", ...data.machines.map((one) => one.machine)], rows);
+  return table(["Package", ...data.machines.map((one) => one.machine)], rows, "wide");
 }
 
 function forksView() {
@@ -183,17 +243,12 @@ function changesView() {
 function refusalView() {
   const { needs, region, lines } = data.refusal;
   const names = [...new Set(needs.map(([from]) => from))];
-  const height = needs.length * 34 + 20;
-  const parts = [];
-  needs.forEach(([from, need], at) => {
-    const y = 10 + at * 34;
-    parts.push(drawn("path", { d: `M 300 ${y + 12} L 360 ${y + 12}` }),
-      drawn("rect", { class: "box", x: 10, y, width: 290, height: 24, rx: 5 }), drawn("text", { x: 18, y: y + 16 }, from),
-      drawn("rect", { class: "box here", x: 360, y, width: 330, height: 24, rx: 5 }), drawn("text", { x: 368, y: y + 16 }, need));
-  });
+  const rows = needs.map(([from, need]) => element("li", {},
+    element("span", { class: "box" }, from), element("span", { class: "dim" }, "needs"), element("span", { class: "box here" }, need)));
   return element("div", {},
-    element("p", {}, `No choice of versions serves: ${region}. These needs alone clash (${names.length} releases); without any one of them something would serve.`),
-    drawn("svg", { viewBox: `0 0 700 ${height}`, role: "img", "aria-label": "the needs that clash" }, ...parts),
+    element("p", {}, `No choice of versions serves: ${region}. These needs alone clash (${names.length} releases); `
+      + "without any one of them something would serve."),
+    element("ul", { class: "needs", "aria-label": "the needs that clash" }, ...rows),
     element("pre", {}, lines.join("\n")));
 }
 
@@ -204,13 +259,32 @@ function handedView(rows) {
   return table(keys, listed.map((row) => element("tr", {}, ...keys.map((key) => element("td", {}, text(row[key]))))));
 }
 
+// ---- on paper all packages stand, since nobody can choose one there
+
+const paper = element("section", { class: "paper" });
+
+function printed(one) {
+  const needs = one.edges.map((edge) => title(edge) + (edge.of ? ` [${edge.of}]` : "")
+    + (edge.where ? ` (${edge.where})` : "") + (edge.for ? ` for its extra ${edge.for}` : ""));
+  return element("tr", {}, element("th", { scope: "row" }, title(one)), element("td", {}, needs.join("; ")),
+    element("td", {}, way(one).slice(0, -1).join(" → ")));
+}
+
+addEventListener("beforeprint", () => {
+  if (shown === "packages") paper.replaceChildren(table(["Package", "Needs", "Why it is there"], data.packages.map(printed)));
+});
+addEventListener("afterprint", () => paper.replaceChildren());
+
 // ---- the page
 
 const views = new Map([["packages", ["Packages", packagesView]], ["machines", ["By machine", machinesView]], ["forks", ["Forks", forksView]]]);
+if (data.packages.length <= DRAWN) views.set("graph", ["Graph", graphView]);
 if (data.projects) { views.clear(); views.set("projects", ["Projects", () => handedView(data.projects)]); }
 if (data.changes) views.set("changes", ["Changes", changesView]);
 if (data.refusal) views.set("refusal", ["Refusal", refusalView]);
 if (data.outdated) views.set("outdated", ["Outdated", () => handedView(data.outdated)]);
+if (data.coverage) views.set("coverage", ["Coverage", () => handedView(data.coverage)]);
+narrow.addEventListener("change", () => { if (shown === "packages") pane.replaceChildren(details()); });
 
 let shown = "";
 const body = element("div", { id: "view" });
@@ -226,6 +300,6 @@ function show(key) {
 document.title = `${data.root} · unilock`;
 page.append(element("header", {}, element("h1", {}, data.root),
   element("div", { class: "dim" }, data.projects ? `${data.projects.length} projects`
-    : `${data.packages.length} packages, ${data.forks.length || 1} ${data.forks.length > 1 ? "forks" : "fork"}; for ${data.supported}`)), tabs, body);
+    : `${data.packages.length} packages, ${data.forks.length || 1} ${data.forks.length > 1 ? "forks" : "fork"}; for ${data.supported}`)), tabs, body, paper);
 // The head is painted before the rows of a large lock are made.
-setTimeout(() => show([...views.keys()][0]), 0);
+requestAnimationFrame(() => setTimeout(() => show([...views.keys()][0]), 0));
