@@ -107,9 +107,10 @@ class Folder(unittest.TestCase):
         main = importlib.import_module(f"unilock_tools.{words[0]}").main
         before = os.getcwd()
         streams = [io.TextIOWrapper(io.BytesIO(text), encoding="utf-8") for text in (into.encode(), b"", b"")]
+        # A slow program isn't stopped before it has tried all ways out.
         with mock.patch.dict(os.environ, self.environment(), clear=True), mock.patch.multiple(
             sys, stdin=streams[0], stdout=streams[1], stderr=streams[2]
-        ):
+        ), mock.patch("unilock_tools.hints.SECONDS", 3600.0):
             os.chdir(self.top)
             try:
                 status = main(words[1:])

@@ -11,6 +11,7 @@ from typing import List
 from making import PROGRAM, TOP, Folder, document, want_program
 
 START = '[project]\nname = "demo"\nrequires-python = ">=3.9"\n'
+STRICT = '[tool.unilock]\nprofile = "strict"\n'
 ERRORS = [
     ('[projet]\nname = "x"\n', "error: project: there is no table [project]"),
     ('[project]\nname = "-x"\n', "error: project.name (line 2): wanted: a text that is a name"),
@@ -37,15 +38,19 @@ ERRORS = [
         "error: tool.uv.resolution (line 5): it is \"newest\"; supported: highest, lowest, lowest-direct",
     ),
     (START + '[tool.uv]\nfork-strategy = "most"\n', "supported: fewest, requires-python, deep"),
-    (START + '[tool.uv]\nprerelease = "allow"\n', "supported: if-necessary-or-explicit"),
+    (START + '[tool.uv]\nprerelease = "all"\n', "supported: disallow, allow, if-necessary, explicit"),
+    (START + '[tool.uv]\nprerelease = "allow"\n' + STRICT, "supported: if-necessary-or-explicit"),
     (
         START + '[tool.uv]\nenvironments = ["os == \'nt\'"]\n',
         "error: tool.uv.environments[0]: `os` is no variable of a marker",
     ),
     (START + "[tool.uv.sources]\na = { path = '.' }\n", "error: tool.uv.sources: "),
-    (START + "[[tool.uv.index]]\nurl = 'x'\n", "error: tool.uv.index: several indexes aren't supported"),
     (
-        START + '[tool.uv]\ndev-dependencies = ["a"]\n',
+        START + "[[tool.uv.index]]\nurl = 'x'\n" + STRICT,
+        "error: tool.uv.index: one index is asked: the one that is listed alone",
+    ),
+    (
+        START + '[tool.uv]\ndev-dependencies = ["a"]\n' + STRICT,
         "error: tool.uv.dev-dependencies: it isn't supported; [dependency-groups] is",
     ),
 ]
@@ -72,7 +77,8 @@ class Doctor(Folder):
     def test_the_program_refuses_each_error_and_no_sound_file(self) -> None:
         want_program(self)
         (self.top / "ix").mkdir()
-        for text, _ in ERRORS:
+        one = START + "[[tool.uv.index]]\nurl = 'x'\ndefault = true\n"
+        for text in [one, *(text for text, _ in ERRORS)]:
             self.write("pyproject.toml", text)
             done = subprocess.run(
                 [str(PROGRAM), "lock", "pyproject.toml", "ix", "1"],
@@ -124,6 +130,10 @@ class Doctor(Folder):
         )
         self.assertEqual(said[-1], "note: no index folder was looked at; `tools/index` makes one")
         self.assertIn("tool.poetry.dependencies", self.found(START + "[tool.poetry.dependencies]\na = '*'\n")[0])
+
+    def test_the_index_of_the_project(self) -> None:
+        said = self.found(START + "[[tool.uv.index]]\nurl = 'x'\ndefault = true\n", status=0)
+        self.assertEqual(said[0], "note: tool.uv.index: the lock is by the index folder alone; the tools ask this index")
 
     def test_names_without_a_document(self) -> None:
         needs = ["urlib3", "never; python_version < '3'", "side; extra == 's'"]

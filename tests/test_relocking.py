@@ -132,6 +132,23 @@ class Relocked(Folder):
         self.assertEqual(locks.load(str(self.lock)).package("q", "1").files, [("p-1.whl", SUM), ("q-1.whl", SUM[::-1])])
         self.stays()
 
+    def test_new_files_of_a_locked_release_do_not_make_a_lock_stale(self) -> None:
+        self.project("q", "r; sys_platform == 'win32'")
+        self.index("q 1\nr 1\n")
+        one, other = ({"file": f"q-1-{it}.whl", "sha256": SUM} for it in "ab")
+        self.write("ix/q.json", document("q", {"version": "1", "files": [one]}))
+        self.ran("lock")
+        self.write("ix/q.json", document("q", {"version": "1", "files": [one, other]}))
+        self.write("ix/r.json", document("r", {"version": "1", "files": [other]}))
+        said = self.printed("lock", "--check")
+        self.assertEqual(said, ["unilock.lock is current: 2 packages (the index has 2 more files of them)"])
+        # One that is gone, has another hash, or stands beside another change counts.
+        for files in ([other], [{**one, "sha256": SUM[::-1]}, other]):
+            self.write("ix/q.json", document("q", {"version": "1", "files": files}))
+            self.ran("lock", "--check", status=1)
+        self.write("ix/q.json", document("q", {"version": "1", "files": [one, other], "requires_dist": ["r"]}))
+        self.ran("lock", "--check", status=1)
+
     def test_the_least_change_is_taken_and_its_cause_is_said(self) -> None:
         """Where `a 1` is gone, the lock that keeps `b 1` and `c 1` is taken, and not the newest of all."""
         self.project("a", "b", "c")

@@ -98,7 +98,7 @@ class Forms(Served):
             self.index(server)
             entries = self.document("alpha")
             self.assertEqual([it.get("requires_python") for it in entries], [">=3.6", None])
-            self.assertEqual([it.get("yanked") for it in entries], [None, True])
+            self.assertEqual([it.get("yanked") for it in entries], [None, "it was wrong"])
             self.assertEqual(entries[0]["requires_dist"], ["gamma<0.4"])
             file = entries[0]["files"][0]
             self.assertEqual(file["sha256"], sha256(self.wheels / "alpha-1.2-py3-none-any.whl"))

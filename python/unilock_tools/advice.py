@@ -34,12 +34,21 @@ WHEEL_PLATFORMS = {"linux": ("linux", "manylinux", "musllinux"), "macos": ("maco
 REQUIREMENT = re.compile(
     r"\s*([A-Za-z0-9][A-Za-z0-9._-]*?)(\s*\[[^\]]*\])?\s*\(?\s*([~^=@<>!]*)\s*v?([0-9][^;\s)]*)\)?\s*(;.*)?\Z"
 )
+# A requirement whose operator has no version behind it.
+WITHOUT_VERSION = re.compile(r"\s*([A-Za-z0-9][A-Za-z0-9._-]*?)(\s*\[[^\]]*\])?\s*[~^=@<>!]+\s*(;.*)?\Z")
 
 
 def meant(text: str) -> Optional[str]:
-    """The requirement that is likely meant by a text that has no reading: `flask=3.0`, `flask^3.0`, `flask 3.0`."""
+    """The requirement that is likely meant by a text that has no reading: `flask=3.0`, `flask^3.0`, `flask 3.0`,
+    `flask>=`."""
+    if requirement_fault(text) is None:
+        return None
+    bare = WITHOUT_VERSION.match(text)
+    if bare is not None:
+        made = f"{bare[1]}{(bare[2] or '').strip()}" + (f"; {bare[3][1:].strip()}" if bare[3] else "")
+        return made if requirement_fault(made) is None else None
     found = REQUIREMENT.match(text)
-    if found is None or requirement_fault(text) is None:
+    if found is None:
         return None
     name, extras, operator, spelled, marker = found[1], (found[2] or "").strip(), found[3], found[4], found[5] or ""
     read = version(spelled)
@@ -119,10 +128,12 @@ def index_slips(wanted: Project, index: str) -> Iterator[str]:
         if not found or one.name == wanted.name:
             continue
         known = [(version_of(spelled), entry) for spelled, entry in found]
-        yield from (f"{placed.place}: {text}" for text in release_slips(placed, known))
+        yield from (f"{placed.place}: {text}" for text in release_slips(wanted, placed, known))
 
 
-def release_slips(placed: Placed, known: List[Tuple[Version, Dict[str, Any]]]) -> Iterator[str]:
+def release_slips(
+    wanted: Project, placed: Placed, known: List[Tuple[Version, Dict[str, Any]]]
+) -> Iterator[str]:
     one = placed.requirement
     for extra in one.extras:
         if not any(asks_for(text, extra) for _, entry in known for text in entry.get("requires_dist") or []):
@@ -134,10 +145,11 @@ def release_slips(placed: Placed, known: List[Tuple[Version, Dict[str, Any]]]) -
         if pinned and (yanked is True or isinstance(yanked, str)):
             reason = f": {yanked}" if isinstance(yanked, str) and yanked else ""
             yield f"{one.name} {read.text()}, which it pins, is yanked{reason}"
-    named = any(it.version.is_pre and it.op != "!=" for it in one.clauses)
-    if met and not named and all(read.is_pre for read, _ in met) and any(not read.is_pre for read, _ in known):
+    asked = wanted.asks_prereleases(one.name)
+    if met and not asked and all(read.is_pre for read, _ in met) and any(not read.is_pre for read, _ in known):
         newest = max((read for read, _ in met), key=lambda it: it.key).text()
-        yield f"only pre-releases meet `{one.text}`; `{one.name}>={newest}` takes them"
+        way = f"; `{one.name}>={newest}` takes them" if "explicit" in wanted.prereleases else ""
+        yield f"only pre-releases meet `{one.text}`{way}"
 
 
 def asks_for(text: str, extra: str) -> bool:

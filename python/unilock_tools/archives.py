@@ -48,6 +48,13 @@ class Refused(console.Refused):
         super().__init__(f"{console.escaped(str(path))}: {self.fault}")
 
 
+class Uncertain(Refused):
+    """A source distribution of which only a build tells what it requires."""
+
+    def __init__(self, path: object, fault: str, name: str) -> None:
+        super().__init__(path, f"{fault}; `--build {normal_name(name)}` builds it, which runs its code")
+
+
 class TooMuch(Exception):
     """A reader of an archive asks for more than such an archive has."""
 
@@ -282,13 +289,21 @@ def wheel_metadata(path: object, file: str, body: bytes) -> Metadata:
 def sdist_metadata(path: object, file: str, body: bytes) -> Metadata:
     """The metadata of a source distribution, where they are the same in whatever is built of it."""
     metadata, message = metadata_in(path, decoded(path, body, "PKG-INFO"))
+    same_release(path, metadata, *sdist_parts(file))
     edition = re.fullmatch(r"([0-9]{1,4})\.([0-9]{1,4})", one_of(path, message, "Metadata-Version") or "")
     if edition is None or (int(edition[1]), int(edition[2])) < (2, 2):
-        raise Refused(path, "its metadata are older than 2.2, so a build may change its requirements")
+        older = "its metadata are older than 2.2, so a build may change its requirements"
+        raise Uncertain(path, older, metadata.name)
     dynamic = {str(it).strip().lower() for it in message.get_all("Dynamic") or []}
     for key in ("requires-dist", "requires-python"):
         if key in dynamic:
-            raise Refused(path, f"its {key} is dynamic, so only a build tells it")
+            raise Uncertain(path, f"its {key} is dynamic, so only a build tells it", metadata.name)
+    return metadata
+
+
+def built_metadata(path: object, file: str, body: bytes) -> Metadata:
+    """The metadata that a build of a source distribution tells."""
+    metadata, _ = metadata_in(path, decoded(path, body, "what its build tells"))
     same_release(path, metadata, *sdist_parts(file))
     return metadata
 
@@ -302,6 +317,8 @@ def file_metadata(path: Path) -> Metadata:
         sdist_parts(path.name)
         with path.open("rb") as stream:
             return sdist_metadata(path, path.name, sdist_body(path, stream))
+    except Uncertain:
+        raise
     except Refused as fault:
         # The parts of a file name are refused by the name alone; the path says where it stands.
         raise Refused(path, fault.fault) from None

@@ -14,6 +14,9 @@ from .console import Refused
 from .locks import Lock
 from .versions import normal_name
 
+USUAL = "unilock.lock"
+# The status of `env` and `export` where a lock isn't for the machine, or has no such extra.
+OUTSIDE = 8
 LINE = re.compile(r"([a-z0-9-]+)(?:\[([a-z0-9,-]+)\])?==([^ ]+)(?: ; (.+))?\Z")
 
 
@@ -31,9 +34,10 @@ class Pick(NamedTuple):
 
 
 def add_words(made: console.Parser) -> None:
-    """The words that several commands have: the lock, the root's extras and its groups."""
-    made.add_argument("lock", metavar="LOCK", help="the lock")
-    made.add_argument("extras", metavar="EXTRA", nargs="*", help="extras of the project")
+    """The words that several commands have: the lock, the root's extras and its groups. `settled` reads them."""
+    made.add_argument(
+        "words", metavar="[LOCK] [EXTRA]", nargs="*", help=f"the lock ({USUAL}), and extras of the project"
+    )
     made.add_argument(
         "--group",
         metavar="NAME",
@@ -43,6 +47,14 @@ def add_words(made: console.Parser) -> None:
     )
 
 
+def settled(asked: argparse.Namespace) -> argparse.Namespace:
+    """The words with `lock` and `extras`: the first is the lock where it looks like one or is a file's name."""
+    first = asked.words[:1]
+    is_lock = first and (first[0].endswith(".lock") or os.path.isfile(first[0]) or os.path.dirname(first[0]))
+    asked.lock, asked.extras = (first[0], asked.words[1:]) if is_lock else (USUAL, asked.words)
+    return asked
+
+
 def extras_of(asked: argparse.Namespace) -> List[str]:
     return [*asked.extras, *(f"group-{normal_name(it)}" for it in asked.group)]
 
@@ -50,9 +62,9 @@ def extras_of(asked: argparse.Namespace) -> List[str]:
 def fault_of(answered: program.Answer, lock: Lock, path: str) -> Refused:
     """What the program refused of a lock, in words."""
     text = program.fault_text(answered)
-    if answered.status == 8 and text == "outside":
+    if answered.status == OUTSIDE and text == "outside":
         text = f"{path} isn't for this machine: it supports {lock.supported or 'all'}"
-    elif answered.status == 8:
+    elif answered.status == OUTSIDE:
         word = text.partition(": ")[2]
         known = ", ".join(lock.root_package().extras) or "none"
         text = f"{path} has no extra {word} (it has: {known})"

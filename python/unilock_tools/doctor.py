@@ -19,7 +19,9 @@ import difflib
 import os
 from typing import Any, Dict, Iterator, List, NamedTuple, Optional, Set, Tuple
 
-from . import advice, console, documents, keys, markers, places, poetry, printing
+from . import (
+    advice, console, documents, index_settings, keys, markers, own_index, places, poetry, printing, profile,
+)  # fmt: skip
 from .called import command
 from .console import Refused
 from .project import Project
@@ -104,7 +106,7 @@ class Doctor:
                 yield self.error(place, places.wrong_requirement(entry))
             elif not isinstance(entry, (str, dict)):
                 yield self.error(place, "it isn't a text")
-        for key in keys.REFUSED:
+        for key in keys.REFUSED_BY_WIDE if profile.is_wide(self.tables) else keys.REFUSED:
             if self.settings.get(key) not in (None, [], {}):
                 yield Finding("error", f"tool.uv.{key}: {places.UNSUPPORTED['tool.uv.' + key]}")
         yield from self.choices()
@@ -131,7 +133,7 @@ class Doctor:
     def choices(self) -> Iterator[Finding]:
         for key, known in [
             ("resolution", ["highest", "lowest", "lowest-direct"]),
-            ("prerelease", ["if-necessary-or-explicit"]),
+            ("prerelease", keys.PRERELEASES if profile.is_wide(self.tables) else keys.PRERELEASES[-1:]),
             ("fork-strategy", ["fewest", "requires-python", "deep"]),
         ]:
             if key in self.settings and self.settings[key] not in known:
@@ -153,9 +155,9 @@ class Doctor:
         lists += [
             (f"dependency-groups.{it}", found) for it, found in table(self.tables.get("dependency-groups")).items()
         ]
-        lists += [
-            (f"tool.uv.{it}", self.settings.get(it)) for it in ("constraint-dependencies", "override-dependencies")
-        ]
+        read = ["constraint-dependencies", "override-dependencies"]
+        read += ["dev-dependencies"] if profile.is_wide(self.tables) else []
+        lists += [(f"tool.uv.{it}", self.settings.get(it)) for it in read]
         for place, found in lists:
             for number, entry in enumerate(listed(found)):
                 yield f"{place}[{number}]", entry
@@ -181,6 +183,11 @@ class Doctor:
         for key, found in self.settings.items():
             if keys.PASSED_OVER.get(key) and found not in ([], {}):
                 yield Finding("note", f"tool.uv.{key}: it is passed over; {keys.PASSED_OVER[key]}")
+        is_asked = index_settings.is_one_default(self.tables)
+        for key, what in keys.PASSED_OVER_BY_WIDE.items():
+            if profile.is_wide(self.tables) and self.settings.get(key) not in (None, [], {}):
+                told = "the tools ask this index" if key == "index" and is_asked else what
+                yield Finding("note", f"tool.uv.{key}: the lock is by the index folder alone; {told}")
         poetry = table(table(self.tables.get("tool")).get("poetry"))
         if poetry.get("dependencies"):
             yield Finding("warning", "tool.poetry.dependencies: it is passed over; project.dependencies is read")
@@ -274,7 +281,7 @@ def specifiers(text: str) -> List[Clause]:
 
 
 def run(asked: argparse.Namespace) -> int:
-    usual = os.path.join(os.path.dirname(asked.project), "ix")
+    usual = own_index.usual(os.path.dirname(asked.project))
     index = asked.index or (usual if os.path.isdir(usual) else None)
     if index is not None and not os.path.isdir(index):
         raise Refused(f"{index}: there is no such folder", 3)

@@ -12,7 +12,7 @@ import tempfile
 from pathlib import Path
 from typing import Any, Callable, List, NamedTuple
 
-from . import advice, console, lock, project, vendored, verdicts
+from . import advice, console, lock, own_index, project, vendored, verdicts
 from .called import command
 from .console import Refused
 from .readings import requirement_of
@@ -39,6 +39,8 @@ def add_words(made: console.Parser) -> None:
     place.add_argument("--optional", metavar="EXTRA", help="in the list of this extra")
     made.add_argument("--frozen", action="store_true", help="change the project file alone, and don't lock")
     made.add_argument("--workers", metavar="N", type=int, default=cores(), help="threads, 1 to 64 (%(default)s)")
+    own_index.add_words(made)
+    made.set_defaults(beside=None)
 
 
 def place_of(asked: argparse.Namespace) -> List[str]:
@@ -105,18 +107,27 @@ def changed(asked: argparse.Namespace, change: Change) -> int:
     if asked.frozen:
         write()
         return 0
-    beside = os.path.dirname(asked.project)
-    index = asked.index or os.path.join(beside, "ix")
-    path = asked.lock or os.path.join(beside, "unilock.lock")
     with tempfile.TemporaryDirectory(prefix="unilock-") as held:
         copy = Path(held) / Path(asked.project).name
         copy.write_bytes(made.text.encode("utf-8"))
         try:
-            refuse_absent(str(copy), asked.project, index)
-            words = [str(copy), index, "--lock", path, "--workers", str(asked.workers)]
-            return lock.run(lock.parser().read(words), write)
+            return lock.run(words_of_lock(asked, copy), write)
         except Refused as fault:
             raise Refused(str(fault).replace(str(copy), asked.project), fault.status) from None
+
+
+def words_of_lock(asked: argparse.Namespace, copy: Path) -> argparse.Namespace:
+    """The words of `lock` that lock a changed copy of the project file, by the index that the project has."""
+    beside = os.path.dirname(asked.project)
+    words = [str(copy), "--lock", asked.lock or os.path.join(beside, "unilock.lock"), "--workers", str(asked.workers)]
+    found = lock.parser().read(words)
+    found.index, found.beside = asked.index, beside or "."
+    for word in own_index.WORDS:
+        setattr(found, word, getattr(asked, word))
+    if not own_index.is_wanted(found):
+        found.index = asked.index or os.path.join(beside, "ix")
+        refuse_absent(str(copy), asked.project, found.index)
+    return found
 
 
 def refuse_absent(copy: str, path: str, index: str) -> None:

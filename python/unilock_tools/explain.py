@@ -17,7 +17,9 @@ import argparse
 import os
 from typing import Iterator, List, Optional
 
-from . import console, hints, locks, places, printing, program, project, refusal, sentences, verdicts
+from . import (
+    console, hints, locks, own_index, places, printing, program, project, refusal, sentences, verdicts
+)  # fmt: skip
 from .console import Refused
 from .relocking import Files, cores
 
@@ -73,7 +75,7 @@ def refusal_lines(text: str, files: Files, kept: bool) -> Iterator[str]:
 
 
 def run(asked: argparse.Namespace) -> int:
-    index = asked.index or os.path.join(os.path.dirname(asked.project), "ix")
+    index = asked.index or own_index.usual(os.path.dirname(asked.project))
     lines = sentences_of(console.text_of(asked.text), asked, index) if asked.text is not None else answer(asked, index)
     if asked.json:
         console.print_object({"sentences": list(lines)})

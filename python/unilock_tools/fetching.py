@@ -1,7 +1,8 @@
 """Requests to a server: tried again where they fail for a while, and bounded in size and time.
 
 A user and a password of the server's address stay in memory: they are sent to that server alone, and stand in no
-address that is printed, kept or written. Other servers' come from .netrc, as `requests` reads it. A request has one
+address that is printed, kept or written. Other servers' come from .netrc, as `requests` reads it; what the index wants
+and nobody names, from the system's keyring. A request has one
 deadline for all its tries and redirects, from the search for the server's address to the last byte. What is read is
 counted before it is held: as it was sent, by the length that the server tells, and as it is decompressed.
 """
@@ -20,7 +21,7 @@ from contextlib import closing
 from typing import IO, Any, Callable, Dict, Iterator, NamedTuple, Optional, Tuple, Type, Union
 from urllib.parse import unquote, urlsplit
 
-from . import __version__, archives, pages
+from . import __version__, archives, console, keyrings, pages
 from .console import Refused
 from .pages import fault_of, shown
 from .vendored import library
@@ -95,6 +96,7 @@ class Fetcher:
         except ValueError:
             raise Refused(f"{shown(url)}: it is no address of a server", 2) from None
         self.origin, self.secret = origin_of(self.url), secret_of(url)
+        self.keyring = keyrings.Keyring(self.url)
         self.tries, self.timeout, self.wait, self.deadline = tries, timeout, wait, deadline
         self.requests: Any = library("requests")
         faults = self.requests.exceptions
@@ -136,6 +138,10 @@ class Fetcher:
                 return found
             fault = f"{found.status} {found.reason}"
         raise fault_of(url, f"{fault} ({self.tries} tries)")
+
+    def told(self) -> str:
+        """How much was asked."""
+        return f"{console.counted(self.asked, 'request')}, {self.bytes / 1e6:.1f} MB"
 
     def count(self, size: int) -> None:
         with self.lock:
@@ -190,19 +196,26 @@ class Fetcher:
         """The answer at the end of an address's redirects, each asked with what belongs to its server alone."""
         coded = "identity" if into is not None or "Range" in headers else "gzip"
         for _ in range(MOST_HOPS):
-            given = session.get(
-                url,
-                headers={**headers, "Accept-Encoding": coded},
-                auth=self.secret if origin_of(url) == self.origin else None,
-                timeout=self.timeout,
-                stream=True,
-                allow_redirects=False,
-            )
+            given = self.answered(session, url, {**headers, "Accept-Encoding": coded})
             with closing(given):
                 if given.status_code not in REDIRECTED or "Location" not in given.headers:
                     return self.received(given, url, most, into, stop, coded == "gzip")
                 url = redirected(url, given.headers["Location"])
         raise fault_of(url, f"it is redirected more than {MOST_HOPS} times")
+
+    def answered(self, session: Any, url: str, headers: Headers) -> Any:
+        """The answer to one request. Where the index wants a password that isn't known, the keyring is asked for it."""
+        own = origin_of(url) == self.origin
+        words = {"headers": headers, "timeout": self.timeout, "stream": True, "allow_redirects": False}
+        given = session.get(url, auth=self.secret if own else None, **words)
+        if given.status_code != 401 or not own:
+            return given
+        found = self.keyring.secret(self.secret)
+        if found is None or found == self.secret:
+            return given
+        given.close()
+        self.secret = found
+        return session.get(url, auth=found, **words)
 
     def received(
         self, given: Any, url: str, most: int, into: Optional[File], stop: threading.Event, decoded: bool

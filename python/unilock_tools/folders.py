@@ -23,10 +23,17 @@ from typing import IO, Any, Callable, Dict, Iterator, Optional, Tuple, TypeVar
 from .archives import Refused
 
 MARK = ".unilock-index"
+# Where `lock` keeps what it tried, beside a project without an index folder.
+OWN = Path(".unilock") / "ix"
 EXCHANGE = 2
 HERE = -100
 READS = 5
 Made = TypeVar("Made")
+
+
+def is_of_tried(folder: str) -> bool:
+    """Whether a folder has the releases that were tried alone, and not all that an index has."""
+    return Path(folder).parts[-2:] == OWN.parts
 
 
 def replace_folder(out: Path, documents: Dict[str, Dict[str, Any]]) -> None:

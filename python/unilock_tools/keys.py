@@ -18,10 +18,20 @@ READ = {
     "tool.uv.override-dependencies": "",
     "tool.uv.environments": "",
     "tool.uv.resolution": "highest, lowest or lowest-direct",
-    "tool.uv.prerelease": "if-necessary-or-explicit alone",
+    "tool.uv.prerelease": "under the strict profile if-necessary-or-explicit alone",
     "tool.uv.fork-strategy": "fewest (the default), requires-python or deep",
 }
+# What the strict profile refuses; the wide one refuses the first two alone, reads the last one and passes the others
+# over.
 REFUSED = ["sources", "conflicts", "index", "extra-index-url", "find-links", "workspace", "dev-dependencies"]
+REFUSED_BY_WIDE = ["sources", "conflicts"]
+PASSED_OVER_BY_WIDE = {
+    "index": "`tools/index --index-url URL` reads one server",
+    "extra-index-url": "`tools/index --index-url URL` reads one server",
+    "find-links": "`tools/index FOLDER OUT` reads a folder of wheels",
+    "workspace": "the other members aren't locked",
+}
+PRERELEASES = ["disallow", "allow", "if-necessary", "explicit", "if-necessary-or-explicit"]
 PASSED_OVER = {
     "exclude-newer": "`tools/index --before DATE` leaves newer files out of the index",
     "exclude-newer-package": "`tools/index --before DATE` leaves newer files out of the index, for all packages",
@@ -30,7 +40,7 @@ PASSED_OVER = {
     "dependency-groups": "a group's own requires-python isn't looked at",
     "required-environments": "the lock holds for all environments; whether each has a wheel isn't looked at",
     "exclude-dependencies": "all dependencies are locked",
-    "index-url": "`tools/index --index-url URL` reads a server",
+    "index-url": "`tools/lock`, `tools/index` and `tools/sync` ask it; the program asks no network",
     "index-strategy": "there is one index",
     "no-index": "the program asks no network",
     "no-build": "nothing is built",

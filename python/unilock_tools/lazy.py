@@ -22,12 +22,12 @@ from concurrent.futures import ThreadPoolExecutor
 from dataclasses import dataclass, field
 from pathlib import Path
 
-from . import archives, console, documents, locks, markers, program, walk
+from . import archives, console, documents, locks, markers, program, usual_names, walk
 from .archives import Metadata
 from .documents import Document, Projects
 from .pages import ListedRelease, Passed, ProjectPage
 from .project import Project
-from .readings import Requirement
+from .readings import Requirement, requirement_of
 from .refusal import CORE
 from .simple import Client
 from .versions import Key, version
@@ -65,7 +65,8 @@ class Locked:
 
 
 class Lazy:
-    """One project and one server. `old` is a lock whose versions are tried first."""
+    """One project and one server. `old` is a lock whose versions are tried first; with `keep` it stays where it is
+    right, and where it leads to nothing it is left out."""
 
     def __init__(
         self,
@@ -75,11 +76,14 @@ class Lazy:
         workers: int = 1,
         old: Path | None = None,
         jobs: int = 16,
+        keep: bool = True,
     ) -> None:
         self.client, self.project, self.choice = client, project, choice
         self.workers, self.old, self.jobs = workers, old, jobs
+        self.word = "relock" if keep and old is not None else "lock"
         self.names: dict[str, Name] = {}
         self.absent: list[str] = []
+        self.pages = 0
 
     # ---- what is known
 
@@ -97,13 +101,15 @@ class Lazy:
                 kept = self.answered(Path(held), known)
                 wanted = [] if kept.body == working.body else self.differing(working, kept)
                 if not wanted:
+                    if kept.status == 1 and self.reach_alike():
+                        known = self.known()
                     return Locked(kept, known, self.warnings())
                 self.fetch(wanted)
         raise console.Refused("the lock didn't come to rest", 70)
 
     def kept_by_old(self) -> list[tuple[str, ListedRelease]]:
         """The releases that an old lock has, as far as their names are reached already."""
-        if self.old is None or not self.old.is_file():
+        if self.old is None:
             return []
         lock = locks.load(str(self.old))
         pairs = [(it.name, it.version) for it in lock.packages if it.name != lock.root]
@@ -167,12 +173,24 @@ class Lazy:
             self.read_all(newest)
             todo = [it for name in sorted(fresh | again) for it in self.required_by(name)]
 
+    def reach_alike(self) -> bool:
+        """Reads names that are like those which the server doesn't have and the project requires, so that they can be
+        tried in their place. Whether there are some."""
+        own = {it.requirement.name for it in self.project.requirements} - {self.project.name}
+        absent = [name for name in sorted(own) if not self.names[name].listed]
+        told, known = list(self.absent), set(self.names)
+        self.reach((name, requirement_of(it)) for name in absent for it in usual_names.alike(name, known - {name}))
+        # That the server doesn't have such a name either is nothing to tell.
+        self.absent = told
+        return set(self.names) != known
+
     def reach_names(self, names: set[str]) -> None:
         fresh = sorted(names - set(self.names))
         if len(self.names) + len(fresh) > walk.MOST_PACKAGES:
             raise console.Refused(f"more than {walk.MOST_PACKAGES:,} packages are reached", 4)
         with ThreadPoolExecutor(self.jobs) as pool:
             for name, page in zip(fresh, pool.map(self.client.page, fresh)):
+                self.pages += page is not None
                 left = [] if page is None else list(page.passed)
                 self.names[name] = Name(listed=self.listed(name, page), left=left)
 
@@ -190,7 +208,7 @@ class Lazy:
     def permitted(self, name: str) -> list[ListedRelease]:
         """The unknown releases that the project's own bounds permit, final ones first, the newest first."""
         unknown = self.names[name].unknown()
-        taken, finals, later = walk.allowed(unknown, self.project.bounds(name), self.project.direct(name), self.choice)
+        taken, finals, later = walk.allowed(unknown, self.project, name, self.choice)
         return [*taken, *later] or finals
 
     def fetch(self, wanted: list[tuple[str, ListedRelease]]) -> None:
@@ -235,7 +253,7 @@ class Lazy:
                 metadata = one.known.get(release.version.key)
                 if metadata is not None:
                     made = gathered.add(release.files[0].name, metadata)
-                    made.yanked = release.yanked
+                    made.yanked, made.reason = release.yanked, release.reason
                     made.files = walk.files_of(release)
         return gathered
 
@@ -259,14 +277,14 @@ class Lazy:
             path, text = index / f"{name}.json", json.dumps(document)
             if not path.exists() or path.read_text(encoding="utf-8") != text:
                 path.write_text(text, encoding="utf-8")
-        words = [self.project.path, str(index), str(self.workers)]
-        if self.old is None or not self.old.is_file():
-            return program.answer(["lock", *words])
-        return program.answer(["lock", *words, str(self.old)])
+        old = [] if self.old is None else [str(self.old)]
+        return program.answer([self.word, self.project.path, str(index), str(self.workers), *old])
 
     def warnings(self) -> list[str]:
         """What isn't there or was passed over, of the names that were reached and the releases that are known."""
         lines = sorted(self.absent)
+        if lines and not self.pages:
+            lines.append(f"the server has no project that is asked for; is {self.client.url} that of a package index?")
         for name in sorted(self.names):
             one = self.names[name]
             known = [it for it in one.listed if it.version.key in one.known]
@@ -280,7 +298,8 @@ class Lazy:
                     fault = walk.NO_HASH
                 if fault is not None:
                     lines.append(f"{name} {release.version.text()}: {fault}")
-        return [*lines, *self.projects().warnings()]
+        built = [] if self.client.builder is None else self.client.builder.warnings()
+        return [*lines, *built, *self.projects().warnings()]
 
 
 def unknown_entry(release: ListedRelease) -> Document:
@@ -289,7 +308,7 @@ def unknown_entry(release: ListedRelease) -> Document:
     if release.requires_python is not None:
         entry["requires_python"] = release.requires_python
     if release.yanked:
-        entry["yanked"] = True
+        entry["yanked"] = release.reason or True
     files = walk.files_of(release)
     if files:
         entry["files"] = [documents.file_entry(it) for _, it in sorted(files.items())]

@@ -20,11 +20,15 @@ from __future__ import annotations
 
 import argparse
 import os
+import sys
 import tempfile
 from pathlib import Path
 from typing import Callable, Dict, Iterator, List, NamedTuple, Optional
 
-from . import advice, console, diff, explain, folders, locks, own_index, places, program, project, relocking, verdicts
+from . import (
+    advice, console, diff, explain, folders, locks, own_index, places, printing, program, project,
+    relocking, verdicts,
+)  # fmt: skip
 from .called import command, named
 from .console import Refused
 from .relocking import Change, Files, cores
@@ -57,13 +61,16 @@ def parser() -> console.Parser:
     made.add_argument(
         "--check",
         action="store_true",
-        help="write nothing; status 1 where the lock isn't current, 4 where nothing serves",
+        help="write nothing; status 1 where the lock isn't current, 4 where nothing serves; files that the index has "
+        "gained of locked releases don't count",
     )
     made.add_argument(
         "--workers", metavar="N", type=int, default=cores(), help="threads, 1 to 64 (the machine's cores: %(default)s)"
     )
     made.add_argument("--quiet", "-q", action="store_true", help="don't say what changed")
+    console.add_json(made)
     own_index.add_words(made)
+    made.set_defaults(beside=None)
     return made
 
 
@@ -107,7 +114,7 @@ def fault_of(answered: program.Answer, files: Files, lock: str) -> Refused:
     return Refused(text, answered.status)
 
 
-def stale(files: Files) -> List[str]:
+def stale(files: Files, named: str) -> List[str]:
     """That the index folder lacks names that the project asks for, as one that is older than they are does."""
     try:
         names = verdicts.absent_names(project.load(files.project), files.folder)
@@ -115,7 +122,7 @@ def stale(files: Files) -> List[str]:
         return []
     if not names:
         return []
-    again = f"`{command('index')} {files.project} {files.folder}` makes it anew"
+    again = f"`{command('index')} {named} {files.folder}` makes it anew"
     return [f"stale index: {files.folder} has no document of {', '.join(names)}; {again}"]
 
 
@@ -146,9 +153,10 @@ def upgraded(files: Files, known: locks.Lock, pins: Dict[str, Optional[str]]) ->
     return answered
 
 
-def answer(asked: argparse.Namespace, files: Files, path: str, old: Old) -> Change:
+def answer(
+    asked: argparse.Namespace, files: Files, path: str, old: Old, pins: Dict[str, Optional[str]]
+) -> Change:
     """The lock that the words ask for, with what was wrong with the old one."""
-    pins = pins_of(asked.upgrade_package)
     for name in pins:
         if old.lock is None or name not in old.lock.by_name():
             console.say(f"lock: {path} has no package {name} to upgrade")
@@ -179,23 +187,52 @@ def told(old: Optional[locks.Lock], new: locks.Lock, change: Change) -> Iterator
         yield from (f"rejected: {it.name} {it.version}: {it.text}" for it in reasons.values())
 
 
+def more_files(old: Old, text: str, new: locks.Lock) -> int:
+    """How many files a lock has more than the old one, where nothing else differs: files that the index has gained of
+    the releases that are locked. 0 where something else differs."""
+    if old.lock is None or old.body is None:
+        return 0
+    before, after = ({(it.name, it.version): it.files for it in lock.packages} for lock in (old.lock, new))
+    if any(not set(files) <= set(after.get(key, [])) for key, files in before.items()):
+        return 0
+    head, *blocks = locks.blocks_of(text)
+    same = "\n\n".join([head, *(locks.with_files(it, before.get(locks.block_key(it), [])) for it in blocks)])
+    is_same = same == locks.in_form(old.body.decode("utf-8", "replace"))[0]
+    return sum(map(len, after.values())) - sum(map(len, before.values())) if is_same else 0
+
+
 def lock_path(asked: argparse.Namespace) -> str:
     found: str = asked.lock or os.path.join(os.path.dirname(asked.project), "unilock.lock")
     return found
 
 
-def paths(asked: argparse.Namespace) -> Files:
-    """The files of the call, each of which is there."""
+def judged(asked: argparse.Namespace) -> None:
+    """Refuses words that nothing can be done by."""
     if not 1 <= asked.workers <= 64:
         raise Refused(f"--workers {asked.workers}: 1 to 64", 2)
     if not os.path.isfile(asked.project):
         raise Refused(f"{asked.project}: there is no such file", 3)
+    advice.refuse_own_name(asked.project)
+
+
+def refuse_unread(asked: argparse.Namespace) -> None:
+    """Refuses a project file that the program doesn't read, before a package index is asked."""
+    with tempfile.TemporaryDirectory(prefix="unilock-") as empty:
+        answered = Files(asked.project, empty, 1).locked()
+        if answered.status not in (0, 1):
+            raise fault_of(answered, Files(asked.project, empty, 1), lock_path(asked))
+
+
+def files_of(asked: argparse.Namespace, old: Old, pins: Dict[str, Optional[str]]) -> Files:
+    """The files of the call, the index folder among them, which a package index is asked for where none is named."""
     if own_index.is_wanted(asked):
-        index = own_index.folder_for(asked, lock_path(asked), asked.workers, asked.quiet)
+        refuse_unread(asked)
+        kept = own_index.Kept(lock_path(asked), old.lock, pins, asked.upgrade)
+        index = own_index.folder_for(asked, kept)
     else:
-        index = asked.index or os.path.join(os.path.dirname(asked.project), "ix")
+        index = asked.index or str(own_index.beside(asked) / "ix")
     if not os.path.isdir(index):
-        makes = f"`{command('index')} {asked.project} {index}` makes it"
+        makes = f"`{command('index')} {asked.named} {index}` makes it"
         raise Refused(f"{index}: there is no such folder; {makes}", 3)
     return Files(asked.project, index, asked.workers)
 
@@ -206,26 +243,46 @@ def refuse(answered: program.Answer, asked: argparse.Namespace, files: Files, ke
     if answered.status != 1:
         raise fault_of(answered, files, lock_path(asked))
     console.say(f"lock: {program.fault_text(answered)} ({'; '.join(answered.text.splitlines()[1:3])})")
-    for line in [*explain.refusal_lines(answered.text, files, kept), *stale(files)]:
-        console.say(line)
+    by_folder = [] if own_index.is_wanted(asked) else stale(files, asked.named)
+    lines = [*explain.refusal_lines(answered.text, files, kept), *by_folder]
+    for line in lines:
+        console.say(printing.wrapped(line, sys.stderr))
+    if asked.json:
+        console.print_object({"lock": lock_path(asked), "state": "refused", "sentences": lines})
     return NOTHING_SERVES if asked.check else 1
+
+
+def tell(asked: argparse.Namespace, state: str, old: Old, new: locks.Lock, lines: List[str], more: str = "") -> None:
+    """Says what became of the lock: current, not current or written, with what changed."""
+    path, count = lock_path(asked), len(new.packages) - 1
+    if asked.json:
+        differing = [it for it in diff.as_object(old.lock, new, [])["packages"] if it["name"] != new.root]
+        console.print_object({"lock": path, "state": state, "count": count, "packages": differing, "lines": lines})
+    elif not asked.quiet:
+        for line in [*lines, f"{path} is {state}: {console.counted(count, 'package')}{more}"]:
+            print(line)
 
 
 def run(asked: argparse.Namespace, ready: Callable[[], None] = lambda: None) -> int:
     """Locks as the words ask for; `ready` is called when the lock is there, before it is written."""
-    files = paths(asked)
-    advice.refuse_own_name(asked.project)
-    path = lock_path(asked)
+    words = {"lock": lock_path(asked), "beside": str(own_index.beside(asked)), "named": asked.project}
+    return locked(argparse.Namespace(**{**vars(asked), **words}), ready)
+
+
+def locked(asked: argparse.Namespace, ready: Callable[[], None]) -> int:
+    judged(asked)
+    path, pins = lock_path(asked), pins_of(asked.upgrade_package)
     old = old_lock(path, asked.upgrade)
-    change = folders.read_whole(files.folder, lambda: answer(asked, files, path, old))
+    files = files_of(asked, old, pins)
+    change = folders.read_whole(files.folder, lambda: answer(asked, files, path, old, pins))
     if change.answer.status != 0:
         return refuse(change.answer, asked, files, bool(asked.upgrade_package and old.lock))
     new = locks.read(change.answer.text, path)
-    packages = console.counted(len(new.packages) - 1, "package")
     ready()
-    if change.answer.body == old.body:
-        if not asked.quiet:
-            print(f"{path} is current: {packages}")
+    gained = more_files(old, change.answer.text, new) if asked.check else 0
+    if change.answer.body == old.body or gained:
+        more = f" (the index has {console.counted(gained, 'more file')} of them)" if gained else ""
+        tell(asked, "current", old, new, [], more)
         return 0
     lines = list(told(old.lock, new, change))
     if not asked.check:
@@ -233,9 +290,7 @@ def run(asked: argparse.Namespace, ready: Callable[[], None] = lambda: None) -> 
         if not asked.quiet:
             for warning in advice.warnings(files.project, files.folder, new):
                 console.say(f"warning: {warning}")
-    if not asked.quiet:
-        print("\n".join(lines))
-        print(f"{path} {'is not current' if asked.check else 'is written'}: {packages}")
+    tell(asked, "not current" if asked.check else "written", old, new, lines)
     return NOT_CURRENT if asked.check else 0
 
 

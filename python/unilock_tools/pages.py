@@ -23,17 +23,21 @@ HTML_FORMS = (HTML_FORM, "text/html", "application/xhtml+xml")
 ACCEPTED = f"{JSON_FORM}, {HTML_FORM};q=0.2, text/html;q=0.01"
 MOST_FILES = 200_000
 MOST_SIZE = 1 << 53
+MOST_REASON = 300
 SHA256 = re.compile(r"[0-9a-fA-F]{64}\Z")
 # How the name of a distribution's file ends, of those that are read and of older ones.
 DISTRIBUTION = re.compile(
     r"\.(?:whl|tar\.gz|zip|egg|exe|msi|rpm|deb|dmg|tgz|tar\.(?:bz2|xz|Z)|tar)\s*\Z", re.IGNORECASE
 )
+# How a page in HTML begins, comments aside.
+HTML_START = re.compile(r"[\ufeff\s]*(?:<\?xml[^>]*>\s*)?<(?:!doctype|html)[\s/>]", re.IGNORECASE)
 # What is kept as it stands where an address is written with plain letters.
 KEPT = "%/:=&?~#+!$,;'@()*[]"
 
 
 class Listed(NamedTuple):
-    """A file as a page lists it. `metadata` is None without a metadata file, else its SHA-256 or the empty text."""
+    """A file as a page lists it. `metadata` is None without a metadata file, else its SHA-256 or the empty text;
+    `reason` says why it is yanked, where the page does."""
 
     name: str
     url: str
@@ -43,6 +47,7 @@ class Listed(NamedTuple):
     metadata: Optional[str]
     uploaded: Optional[str]
     size: Optional[int]
+    reason: str = ""
 
 
 @dataclass
@@ -56,6 +61,11 @@ class ListedRelease:
     def yanked(self) -> bool:
         """Whether all its files are: a release counts as withdrawn where nothing else is left of it (PEP 592)."""
         return all(it.yanked for it in self.files)
+
+    @property
+    def reason(self) -> str:
+        """Why it is yanked, as the first of its files that says it does."""
+        return next((it.reason for it in self.files if it.reason), "") if self.yanked else ""
 
     @property
     def counted(self) -> List[Listed]:
@@ -136,8 +146,9 @@ class HtmlPage(HTMLParser):
 
     def __init__(self, url: str) -> None:
         super().__init__()
-        self.base = url
-        self.anchors: List[Anchor] = []
+        self.url = url
+        self.base: Optional[str] = None
+        self.marks: List[Dict[str, Optional[str]]] = []
         self.links = 0
         self.edition = ""
         self.title = ""
@@ -148,15 +159,20 @@ class HtmlPage(HTMLParser):
         found = dict(attrs)
         self.ended = False
         self.in_title = tag == "title"
-        if tag == "base" and found.get("href"):
-            self.base = urljoin(self.base, found["href"] or "")
+        if tag == "base" and self.base is None and found.get("href"):
+            self.base = urljoin(self.url, found["href"] or "")
         elif tag == "meta" and found.get("name") == "pypi:repository-version":
             self.edition = found.get("content") or ""
         self.links += tag == "a"
         if tag == "a" and len(found) != len(attrs):
             raise ValueError("a link has an attribute twice, so two links may have become one")
         if tag == "a" and found.get("href"):
-            self.anchors.append(Anchor(self.base, found))
+            self.marks.append(found)
+
+    @property
+    def anchors(self) -> List[Anchor]:
+        """The links that lead anywhere. The first base of a page is that of all its links, as HTML and pip have it."""
+        return [Anchor(self.base or self.url, it) for it in self.marks]
 
     def handle_data(self, data: str) -> None:
         if self.in_title:
@@ -231,6 +247,7 @@ def json_file(url: str, entry: Dict[str, Any]) -> Listed:
         metadata=(hash_in(stated, "its metadata") or "") if stated else None,
         uploaded=text_at(entry, "upload-time", "upload time"),
         size=size if sized else None,
+        reason=reason_in(entry.get("yanked")),
     )
 
 
@@ -250,7 +267,13 @@ def html_file(anchor: Anchor, url: str) -> Listed:
         metadata=(hash_of_text(told[0] or "", "its metadata") or "") if told and told[0] != "false" else None,
         uploaded=None,
         size=None,
+        reason=reason_in(marks.get("data-yanked")),
     )
+
+
+def reason_in(mark: object) -> str:
+    """The reason in a mark of a yanked file, in one short line."""
+    return " ".join(mark.split())[:MOST_REASON] if isinstance(mark, str) else ""
 
 
 def file_name(anchor: Anchor) -> str:
@@ -309,17 +332,21 @@ def html_anchors(url: str, project: str, form: str, body: bytes) -> List[Anchor]
         page.feed(text)
     except (AssertionError, ValueError) as fault:
         raise fault_of(url, f"the page is no HTML: {fault}") from None
+    bare = without_comments(text)
+    if not HTML_START.match(bare):
+        raise fault_of(url, "the page doesn't begin with <!DOCTYPE html> or <html>, so it was cut off")
     if not page.ended:
         raise fault_of(url, "the page doesn't end with </html>, so it was cut off")
-    if page.links != len(re.findall(r"<a[\s/>]", without_comments(text), re.IGNORECASE)):
+    if page.links != len(re.findall(r"<a[\s/>]", bare, re.IGNORECASE)):
         raise fault_of(url, "the page has a tag or a comment that isn't closed, with a link behind it")
     if page.edition and not re.fullmatch(r"1\.[0-9]{1,9}", page.edition):
         raise fault_of(url, f"the page is of edition {page.edition[:40]!r} of the Simple API")
     titled = re.fullmatch(r"Links for (.+)", page.title.strip())
     says = page.edition or form == HTML_FORM or (titled is not None and normal_name(titled[1].strip()) == project)
-    if not says and not any(DISTRIBUTION.search(file_name(it)) for it in page.anchors):
+    anchors = page.anchors
+    if not says and not any(DISTRIBUTION.search(file_name(it)) for it in anchors):
         raise fault_of(url, "the page has no files, and nothing in it says that it is one of the Simple API")
-    return page.anchors
+    return anchors
 
 
 def version_in(file: str, project: str) -> Version:
@@ -369,6 +396,9 @@ class Gathered:
         self.releases.setdefault(found.key, ListedRelease(found)).files.append(file)
 
     def page(self) -> ProjectPage:
+        for entry in self.passed:
+            if entry.file in self.names:
+                raise fault_of(self.url, f"of two entries of the file {entry.file} one can't be taken: {entry.fault}")
         return ProjectPage([self.releases[key] for key in sorted(self.releases, reverse=True)], self.passed)
 
 

@@ -45,16 +45,21 @@ SHAPES = {
     "name": "a text `name`",
     "versions": "a list `versions`",
 }
+ONE_INDEX = (
+    "one index is asked: the one that is listed alone with `default = true`, or that of index-url in [tool.uv] or of "
+    "--index-url"
+)
 UNSUPPORTED = {
     "project.dynamic": "what it names is read from the file alone: nothing is built to learn it",
     "tool.uv.sources": "sources (paths, git, URLs, ..) aren't supported; requirements are met from one index folder",
     "tool.uv.conflicts": "declared conflicts aren't supported; all extras and groups are locked together",
-    "tool.uv.index": "several indexes aren't supported; `tools/index --index-url URL` reads one",
-    "tool.uv.extra-index-url": "several indexes aren't supported; `tools/index --index-url URL` reads one",
+    "tool.uv.index": ONE_INDEX,
+    "tool.uv.extra-index-url": ONE_INDEX,
     "tool.uv.find-links": "find-links isn't supported; `tools/index FOLDER OUT` reads a folder of wheels",
     "tool.uv.workspace": "workspaces aren't supported",
     "tool.uv.dev-dependencies": "it isn't supported; [dependency-groups] is",
-    "tool.uv.prerelease": "only \"if-necessary-or-explicit\" is supported, which is the default",
+    "tool.uv.prerelease": "one of \"disallow\", \"allow\", \"if-necessary\", \"explicit\" and \"if-necessary-or-explicit\" (the default); "
+    "the strict profile reads the last one alone",
     "tool.uv.fork-strategy": "only \"fewest\" (the default), \"requires-python\" and \"deep\" are supported",
 }
 
@@ -168,6 +173,11 @@ def at_line(text: str, number: int) -> str:
     return told + (quoted_line(text, number) or f": it ends before line {number}")
 
 
+def ended(text: str) -> str:
+    """A sentence with its end, which a question has already."""
+    return text if text.endswith("?") else f"{text}."
+
+
 def malformed(path: str, place: str) -> List[str]:
     """`malformed: PATH: PLACE` in sentences."""
     if place == "absent":
@@ -195,10 +205,10 @@ def malformed(path: str, place: str) -> List[str]:
     number = line_of(text, value)
     where = f"{path}: {rest}" + (f" (line {number})" if number else "")
     if word == "requirement" and isinstance(value, str):
-        return [f"{where}: {wrong_requirement(value)}."]
+        return [f"{where}: {ended(wrong_requirement(value))}"]
     if word == "unsupported":
         reason = UNSUPPORTED.get(rest) or (wrong_requirement(value) if isinstance(value, str) else "it isn't supported")
-        return [f"{where}: {reason}."]
+        return [f"{where}: {ended(reason)}"]
     if word == "shape":
         has = "it isn't there" if value is None else f"it is {shown(value)}"
         lines = poetry.project_lines(tables) if rest == "project" and isinstance(tables, dict) else []

@@ -6,6 +6,7 @@ import re
 import shutil
 import sys
 import textwrap
+from typing import Optional, TextIO
 
 from .called import named
 
@@ -13,13 +14,14 @@ from .called import named
 LEAD = re.compile(r"- |\d+\. |")
 
 
-def wrapped(line: str) -> str:
-    """A sentence wrapped by the width of the terminal that standard output is; as it stands where it is none.
+def wrapped(line: str, stream: Optional[TextIO] = None) -> str:
+    """A sentence wrapped by the width of the terminal that a stream is, standard output if none is named; as it stands
+    where that is no terminal.
 
     A line that is set in is one to be copied, and stays whole.
     """
     line = named(line)
-    if not sys.stdout.isatty() or line.startswith("    ") or "\n" in line:
+    if not (stream or sys.stdout).isatty() or line.startswith("    ") or "\n" in line:
         return line
     lead = LEAD.match(line)
     inset = " " * (len(lead[0]) if lead and lead[0] else 2)

@@ -169,5 +169,5 @@ def run(asked: argparse.Namespace) -> int:
 
 
 def main(words: Optional[List[str]] = None) -> int:
-    asked = parser().read(words)
+    asked = chosen.settled(parser().read(words))
     return console.ended("pylock", lambda: run(asked))

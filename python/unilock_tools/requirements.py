@@ -38,5 +38,5 @@ def run(asked: argparse.Namespace) -> int:
 
 
 def main(words: Optional[List[str]] = None) -> int:
-    asked = parser().read(words)
+    asked = chosen.settled(parser().read(words))
     return console.ended("requirements", lambda: run(asked))

@@ -6,7 +6,7 @@ import difflib
 from pathlib import Path
 from typing import Any, Dict, Iterator, List, Optional, Tuple
 
-from . import documents, markers
+from . import documents, folders, markers
 from .project import Project
 from .readings import Requirement, requirement_of
 from .refusal import Base, Cut, Need, Node, Python, Refusal, Step, Term, used
@@ -116,9 +116,9 @@ class Teller:
         for _, it in self.behind(need, need.versions[0]):
             met = [spelled for spelled, _ in known if meets(it.clauses, read(spelled))]
             if not met:
-                reasons.append(
-                    f"no version of {name} meets `{it.specifiers}`: the index has {listed([it for it, _ in known])}"
-                )
+                has = "of those that were tried, it" if folders.is_of_tried(self.index) else "the index"
+                versions = listed([spelled for spelled, _ in known])
+                reasons.append(f"no version of {name} meets `{it.specifiers}`: {has} has {versions}")
             else:
                 reasons += [self.passed_over(name, spelled) for spelled in met[:3] if self.passed_over(name, spelled)]
         return (
@@ -135,8 +135,11 @@ class Teller:
         """Why a version that a requirement allows isn't chosen from."""
         entry = self.release(name, spelled)
         found = read(spelled)
-        if found.is_pre:
-            return f"{name} {spelled} is a pre-release, which counts only where a requirement of the project names one"
+        if found.is_pre and not self.project.asks_prereleases(name):
+            mode = self.project.prereleases
+            names = "counts only where a requirement of the project names one"
+            why = names if "explicit" in mode else f"doesn't count under the mode {mode}"
+            return f"{name} {spelled} is a pre-release, which {why}"
         yanked = entry.get("yanked")
         if yanked is True or isinstance(yanked, str):
             return f"{name} {spelled} is yanked, which counts only where the project asks for `=={spelled}`"

@@ -12,6 +12,7 @@ address and is asked for anew each time, but sent again only where it changed.
 
 from __future__ import annotations
 
+import contextlib
 import hashlib
 import io
 import re
@@ -21,7 +22,9 @@ from urllib.parse import urljoin
 
 from . import archives, pages
 from .archives import MOST_METADATA, Metadata
+from .building import Builder
 from .cache import Cache, Entry
+from .console import Refused
 from .fetching import Answer, Fetcher, File, Headers
 from .pages import Listed, ListedRelease, ProjectPage, fault_of, shown
 
@@ -90,8 +93,10 @@ class Client:
         timeout: float = 30,
         wait: float = 0.5,
         deadline: float = 300,
+        builder: Optional[Builder] = None,
     ) -> None:
         self.fetcher = Fetcher(url, tries, timeout, wait, deadline)
+        self.builder = builder
         self.url = self.fetcher.url
         self.cache = cache
 
@@ -101,13 +106,13 @@ class Client:
         The page is kept with the server's mark of it, and sent again only where it changed.
         """
         url = urljoin(self.url, name + "/")
-        kept = self.cache.get("pages", url)
-        try:
-            found = self.kept_or_answered(kept, url, {"Accept": pages.ACCEPTED}, MOST_PAGE)
-        except archives.Refused as fault:
-            raise fault_of(url, fault.fault) from None
+        found = self.page_answer(url, self.cache.get("pages", url))
         if isinstance(found, Entry):
-            return pages.read_page(name, found.fact("url"), found.fact("form"), found.body)
+            with contextlib.suppress(Refused):
+                return pages.read_page(name, found.fact("url"), found.fact("form"), found.body)
+            # What is kept has no reading, as where another version of the tools kept it.
+            found = self.page_answer(url, None)
+        assert isinstance(found, Answer), "nothing that is kept was offered"
         if found.status == 404:
             return None
         if found.status != 200:
@@ -115,6 +120,12 @@ class Client:
         page = pages.read_page(name, found.url, found.form, found.body)
         self.keep("pages", url, found)
         return page
+
+    def page_answer(self, url: str, kept: Optional[Entry]) -> Union[Entry, Answer]:
+        try:
+            return self.kept_or_answered(kept, url, {"Accept": pages.ACCEPTED}, MOST_PAGE)
+        except archives.Refused as fault:
+            raise fault_of(url, fault.fault) from None
 
     def keep(self, kind: str, key: str, found: Answer, body: Optional[bytes] = None) -> None:
         """Keeps a whole answer under its address, where the server marks it."""
@@ -141,12 +152,19 @@ class Client:
         """The metadata of a release, as the file that speaks for it has them.
 
         archives.Refused where the file can't be taken, so that the release is passed over; console.Refused with
-        status 5 where the server fails.
+        status 5 where the server fails. A source distribution of which only a build tells is built where that is
+        wanted.
         """
         return self.file_metadata(release.speaker)
 
     def file_metadata(self, file: Listed) -> Metadata:
-        return metadata_in(file, self.metadata_body(file))
+        try:
+            return metadata_in(file, self.metadata_body(file))
+        except archives.Uncertain:
+            if self.builder is None or not self.builder.wants(archives.sdist_parts(file.name)[0]):
+                raise
+        with self.whole(file, self.fetcher.ask(file.url, {}, MOST_FILE, tempfile.TemporaryFile)) as held:
+            return self.builder.metadata(shown(file.url), file.name, held)
 
     def metadata_body(self, file: Listed) -> bytes:
         """The bytes of a file's metadata: those of the metadata file where there is one, else those inside it."""

@@ -7,6 +7,7 @@ inside another package is taken.
 from __future__ import annotations
 
 import importlib
+import importlib.util
 from types import ModuleType
 from typing import Any, Dict
 
@@ -22,8 +23,15 @@ def library(name: str) -> ModuleType:
         raise Refused(f"the library {top} isn't installed; `pip install {top}` installs it", 3) from None
 
 
+TOML_READERS = ("tomllib", "tomli")
+
+
+def has_toml_reader() -> bool:
+    return any(importlib.util.find_spec(it) is not None for it in TOML_READERS)
+
+
 def toml_reader() -> ModuleType:
-    for name in ["tomllib", "tomli"]:
+    for name in TOML_READERS:
         try:
             return importlib.import_module(name)
         except ImportError:

@@ -13,9 +13,10 @@ index's; 70 the program can't be built.
 from __future__ import annotations
 
 import argparse
+import os
 from typing import Iterator, List, Optional
 
-from . import console, locks, places, printing, program, project, verdicts
+from . import console, locks, own_index, places, printing, program, project, verdicts
 from .console import Refused
 
 REJECTED = 9
@@ -23,9 +24,13 @@ REJECTED = 9
 
 def parser() -> console.Parser:
     made = console.Parser("verify", __doc__)
-    made.add_argument("project", metavar="PROJECT", help="the project file (pyproject.toml)")
-    made.add_argument("index", metavar="INDEX", help="the index folder")
-    made.add_argument("lock", metavar="LOCK", help="the lock")
+    made.add_argument(
+        "project", metavar="PROJECT", nargs="?", default="pyproject.toml", help="the project file (pyproject.toml)"
+    )
+    made.add_argument(
+        "index", metavar="INDEX", nargs="?", help="the index folder (`ix` beside the project, or what `lock` keeps)"
+    )
+    made.add_argument("lock", metavar="LOCK", nargs="?", help="the lock (`unilock.lock` beside the project)")
     return made
 
 
@@ -45,6 +50,13 @@ def lines(asked: argparse.Namespace, answered: program.Answer) -> Iterator[str]:
 
 
 def run(asked: argparse.Namespace) -> int:
+    beside = os.path.dirname(asked.project)
+    index = asked.index or own_index.usual(beside)
+    lock = asked.lock or os.path.join(beside, "unilock.lock")
+    return judged(argparse.Namespace(project=asked.project, index=index, lock=lock))
+
+
+def judged(asked: argparse.Namespace) -> int:
     with locks.program_form(asked.lock) as path:
         answered = program.answer(["verify", asked.project, asked.index, path])
     if answered.status not in (0, REJECTED):
