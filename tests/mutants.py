@@ -125,7 +125,8 @@ def world_of(rng: random.Random) -> Tuple[World, str]:
     if changed == "page":
         bodies[place] = changing.changed(rng, bodies[place], [bodies[place]])
     elif changed == "cut":
-        bodies[place] = bodies[place][: rng.randrange(len(bodies[place]))]
+        at = rng.randrange(len(bodies[place]))
+        bodies[place] = rng.choice([bodies[place][:at], bodies[place][at:]])
     return World(bodies, form, rng.random() < 0.5), changed
 
 
@@ -277,16 +278,17 @@ def listed(world: World, project: str) -> List[Plain]:
     found = []
     text = body.decode("utf-8", "replace")
     # A `>` within a quoted value doesn't end a tag, and a quote elsewhere begins no such value; where a quote has no
-    # end, the first `>` ends the tag.
-    tags = re.findall(r"""<a\s(?:=\s*"[^"]*"|=\s*'[^']*'|[^>])*>""", text)
-    for form in (r"""<a\s(?:"[^"]*"|'[^']*'|[^>"'])*>""", r"<a\s[^>]*>"):
+    # end, the first `>` ends the tag. A slash parts words of a tag as a blank does, and one more `=` is passed over.
+    tags = re.findall(r"""<a[\s/](?:=\s*"[^"]*"|=\s*'[^']*'|[^>])*>""", text)
+    for form in (r"""<a[\s/](?:"[^"]*"|'[^']*'|[^>"'])*>""", r"<a[\s/][^>]*>"):
         tags += [it for it in re.findall(form, text) if it not in tags]
     for tag in tags:
-        href = re.search(r'\shref\s*=\s*"([^"]*)"', tag)
+        href = re.search(r'(?i)[\s/]href\s*=+\s*"([^"]*)"', tag)
         if href is not None:
             address, _, fragment = re.sub(r"[\t\r\n]", "", html.unescape(href[1])).partition("#")
-            name = unquote(address.partition("?")[0].rpartition("/")[2])
-            yanked = re.search(r'\sdata-yanked[\s=>]', tag) is not None
+            # An address is joined first: that drops a `;` at its end.
+            name = unquote((joined(url, address) or address).partition("?")[0].rpartition("/")[2])
+            yanked = re.search(r"(?i)[\s/]data-yanked[\s/=>]", tag) is not None
             found.append(Plain(name, joined(url, address), fragment, yanked))
     return found
 
@@ -321,7 +323,7 @@ def fault_in(world: World, changed: str, made: Made) -> str:
     for name, document in made.documents.items():
         files = listed(world, name)
         for release in document["versions"]:
-            fault = wrong_release(world, files, release)
+            fault = wrong_release(world, files, release, made.said)
             if fault:
                 return f"{name} {release['version']}: {fault}"
     for project in "abc":
@@ -331,7 +333,7 @@ def fault_in(world: World, changed: str, made: Made) -> str:
     return ""
 
 
-def wrong_release(world: World, files: List[Plain], release: Document) -> str:
+def wrong_release(world: World, files: List[Plain], release: Document, said: str) -> str:
     named = {it["file"]: it for it in release.get("files", [])}
     for file, entry in named.items():
         own = [it for it in files if it.name.strip() == file and entry["sha256"] in it.hash.lower()]
@@ -339,7 +341,9 @@ def wrong_release(world: World, files: List[Plain], release: Document) -> str:
             return f"no page lists {entry}"
     # A release speaks by a file that is locked with it, where there is one.
     its = [it for it in files if it.name.strip() in named]
-    its = its or [it for it in files if version_of(it.name) == release["version"]]
+    # One of which it is told that its hash is none isn't taken, so it doesn't keep the others from being yanked.
+    taken = [it for it in files if f"{console.escaped(it.name)}: the SHA-256 of it isn't" not in said]
+    its = its or [it for it in taken if version_of(it.name) == release["version"]]
     if not any(says(world, it, release) for it in its):
         return f"no served file says {release}"
     is_yanked = all(it.yanked for it in its)

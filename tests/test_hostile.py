@@ -5,7 +5,9 @@ from __future__ import annotations
 import gzip
 import hashlib
 import io
+import itertools
 import json
+import re
 import stat
 import tarfile
 import time
@@ -173,6 +175,7 @@ class CutOff(Hostile):
                     reply(cut, media, length=len(body), ETag=tag),
                     hostile.unmeasured(cut, media, ETag=tag),
                     reply(cut, media, ETag=tag),
+                    reply(body[body.index(b"a-2-") :], media, ETag=tag),
                     reply(gzip.compress(body)[:-20], media, ETag=tag, Content_Encoding="gzip"),
                 ]:
                     server.lies[PAGE] = lie
@@ -180,6 +183,19 @@ class CutOff(Hostile):
                 server.lies.clear()
                 self.index(server, "--cache", f"kept-{form}")
                 self.assertEqual(self.versions(), ["1", "2", "3"])
+
+    def test_a_page_that_is_kept_and_has_no_reading_is_asked_for_anew(self) -> None:
+        with HostileServer(self.wheels, "html") as server:
+            body = server.html_page(sorted(self.wheels.iterdir()))
+            tag = '"' + hashlib.sha256(body).hexdigest()[:16] + '"'
+            server.lies[PAGE] = reply(body[body.index(b"a-2-") :], pages.HTML_FORM, ETag=tag)
+            # As a version that doesn't look at a page's beginning.
+            with mock.patch.object(pages, "HTML_START", re.compile("")):
+                self.index(server, "--cache", "kept")
+            self.assertEqual(self.versions(), ["3"])
+            server.lies.clear()
+            self.index(server, "--cache", "kept")
+            self.assertEqual(self.versions(), ["1", "2", "3"])
 
     def test_metadata(self) -> None:
         whole = metadata_text("a", "1", ["b", "c"]).encode()
@@ -220,9 +236,9 @@ class NoPages(Hostile):
                 (json.dumps(meta).encode(), "application/json"),
                 (b"[" * 200_000, pages.JSON_FORM),
                 (b'{"meta": %s}' % (b"1" * 5000), pages.JSON_FORM),
-                (b"<![x</html>", pages.HTML_FORM),
-                (b'<a href="a-1.tar.gz">1</a><br/ \n<a href="a-2.tar.gz">2</a></html>', pages.HTML_FORM),
-                (b'<a href="a-1.tar.gz" x="1</a>\n"a href="a-2.tar.gz">2</a></html>', pages.HTML_FORM),
+                (b"<html><![x</html>", pages.HTML_FORM),
+                (b'<html><a href="a-1.tar.gz">1</a><br/ \n<a href="a-2.tar.gz">2</a></html>', pages.HTML_FORM),
+                (b'<html><a href="a-1.tar.gz" x="1</a>\n"a href="a-2.tar.gz">2</a></html>', pages.HTML_FORM),
             ]:
                 with self.subTest(body[:60]):
                     server.lies[PAGE] = reply(body, form)
@@ -317,13 +333,22 @@ class WhatIsPassedOver(Hostile):
 
     def test_two_files_of_one_name(self) -> None:
         plain_wheel(self.wheels, "a", "1")
-        with HostileServer(self.wheels) as server:
+        cases: List[Tuple[Dict[str, Any], str]] = [
+            ({"hashes": {"sha256": "0" * 64}}, f"two files of the name {WHEEL} have different hashes"),
+            ({"hashes": {}}, f"two files of the name {WHEEL} have different hashes"),
+            ({"yanked": True}, f"two entries of the file {WHEEL} differ"),
+            # One that can't be taken may say of the file what the other doesn't, as that it is yanked.
+            ({"hashes": {"sha256": -1}, "yanked": True}, f"of two entries of the file {WHEEL} one can't be taken"),
+            ({"url": "http://["}, f"of two entries of the file {WHEEL} one can't be taken"),
+        ]
+        for (change, told), is_first in itertools.product(cases, [False, True]):
+            with self.subTest(told, is_first=is_first), HostileServer(self.wheels) as server:
 
-            def twice(page: Dict[str, Any]) -> None:
-                page["files"].append({**page["files"][0], "hashes": {"sha256": "0" * 64}})
+                def twice(page: Dict[str, Any], change: Dict[str, Any] = change, is_first: bool = is_first) -> None:
+                    page["files"].insert(0 if is_first else 1, {**page["files"][0], **change})
 
-            self.page(server, twice)
-            self.assertIn(f"two files of the name {WHEEL} have different hashes", self.index(server, status=5))
+                self.page(server, twice)
+                self.assertIn(told, self.index(server, status=5))
 
     def test_what_counts_as_yanked(self) -> None:
         plain_wheel(self.wheels, "a", "1")
@@ -356,6 +381,26 @@ class WhatIsPassedOver(Hostile):
         self.assertEqual([it.yanked for it in page.releases], [True, False, False, False])
         self.assertEqual([it.files[0].sha256 for it in page.releases], [None, None, digits, digits])
         self.assertEqual([it.file for it in page.passed], ["a-4-py3-none-any.whl ", "a-5-py3-none-any.WHL"])
+
+    def test_the_first_base_is_that_of_all_links(self) -> None:
+        link = '<a href="a-{}.tar.gz">x</a>'
+        bases = '<base target="x"><base href="/one/"><base href="https://other/">'
+        body = f"<html><body>{link.format(1)}{bases}{link.format(2)}</body></html>"
+        page = pages.read_page("a", "https://host/simple/a/", "text/html", body.encode())
+        found = [it.files[0].url for it in page.releases]
+        self.assertEqual(found, [f"https://host/one/a-{it}.tar.gz" for it in (2, 1)])
+
+    def test_how_a_page_in_html_begins(self) -> None:
+        rest = '<body><a href="a-1.tar.gz">1</a></body></html>'
+        for start in [
+            "<!DOCTYPE html>", "<!doctype HTML PUBLIC '-//W3C//DTD'>\n", "<html>", "<HTML lang='en'>",
+            "\ufeff \n<html\n>", '<?xml version="1.0"?>\n<html>', "<!-- made by hand --> <!-- twice --><html>",
+        ]:  # fmt: skip
+            page = pages.read_page("a", "https://host/simple/a/", "text/html", f"{start}{rest}".encode())
+            self.assertEqual([it.version.text() for it in page.releases], ["1"])
+        for start in ["", "</a>", "x <html>", "html>", "<!-- <html>", "<htmlx>", '<a href="a-2.tar.gz">2</a><html>']:
+            with self.assertRaises(console.Refused):
+                pages.read_page("a", "https://host/simple/a/", "text/html", f"{start}{rest}".encode())
 
     def test_literals_that_the_program_does_not_read(self) -> None:
         for literal in ["é", "\\x7f", "\\\\"]:

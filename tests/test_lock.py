@@ -3,6 +3,7 @@ most tests."""
 
 from __future__ import annotations
 
+import json
 import os
 import signal
 import subprocess
@@ -58,6 +59,8 @@ dependencies = [
     { name = "c", version = "2", marker = "os_name != 'nt'" },
 ]
 """
+# It says its profile, so the program is called with the file itself.
+WIDE = "[project]\nname = 'demo'\n[tool.unilock]\nprofile = 'wide'\n"
 REFUSED = "no selection serves this fork\nfork: -\nregion: *\nworld: python_full_version == '0.0.0'\n"
 SAID = ["a 1 -> 2", "removed b 1", "added c 1, 2"]
 
@@ -70,7 +73,7 @@ class StandIn(Folder):
         said = 'echo "$@" >>asked\ncp "$5" kept 2>/dev/null\ncat answer\nexit $(cat status)\n'
         self.program = self.write("stand-in", f"#!/bin/sh\ncd {self.top}\n{said}")
         Path(str(self.program)).chmod(0o755)
-        self.write("pyproject.toml", "[project]\nname = 'demo'\n")
+        self.write("pyproject.toml", WIDE)
         (self.top / "ix").mkdir()
         self.lock = self.top / "unilock.lock"
         self.answers(NEW)
@@ -152,6 +155,28 @@ class SafeLock(StandIn):
         self.lock.write_text(NEW)
         self.assertEqual(self.printed("lock", "--check"), ["unilock.lock is current: 3 packages"])
 
+    def test_one_object(self) -> None:
+        differing = [
+            {"name": "a", "old": ["1"], "new": ["2"]},
+            {"name": "b", "old": ["1"], "new": []},
+            {"name": "c", "old": [], "new": ["1", "2"]},
+        ]
+        head = {"lock": "unilock.lock", "count": 3}
+        first = json.loads(self.ran("lock", "--json", "--check", status=1).stdout)
+        self.assertEqual([it["name"] for it in first["packages"]], ["a", "c"])
+        self.lock.write_text(OLD)
+        for words, state, status in [(["--check"], "not current", 1), (["--quiet"], "written", 0)]:
+            found = json.loads(self.ran("lock", "--json", *words, status=status).stdout)
+            self.assertEqual(found, {**head, "state": state, "packages": differing, "lines": SAID})
+        found = json.loads(self.ran("lock", "--json", "--check").stdout)
+        self.assertEqual(found, {**head, "state": "current", "packages": [], "lines": []})
+        self.answers(REFUSED, 1)
+        done = self.ran("lock", "--json", status=1)
+        found = json.loads(done.stdout)
+        self.assertEqual((found["lock"], found["state"]), ("unilock.lock", "refused"))
+        self.assertEqual(found["sentences"][0], "No choice of versions serves the project.")
+        self.assertIn(found["sentences"][0], done.stderr)
+
     def test_upgrades(self) -> None:
         self.lock.write_text(OLD)
         self.ran("lock", "--upgrade", "--check", "--workers", "2", status=1)
@@ -172,7 +197,7 @@ class SafeLock(StandIn):
         self.assertTrue(self.lock.exists())
 
     def test_other_places(self) -> None:
-        self.write("sub/pyproject.toml", "[project]\nname = 'demo'\n")
+        self.write("sub/pyproject.toml", WIDE)
         (self.top / "sub" / "ix").mkdir()
         self.ran("lock", "sub/pyproject.toml", "--workers", "1")
         self.assertEqual(self.asked(), ["lock sub/pyproject.toml sub/ix 1"])

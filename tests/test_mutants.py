@@ -9,7 +9,9 @@ from __future__ import annotations
 import json
 import os
 import random
+import re
 import unittest
+from typing import Any, List, Tuple
 from unittest import mock
 
 import mutants
@@ -41,6 +43,24 @@ class Mutants(unittest.TestCase):
                 self.assertEqual((made.said, made.refused), ("", ""))
                 self.assertEqual([len(made.documents[it]["versions"]) for it in "abc"], [2, 1, 1])
 
+    def test_the_plain_reading_has_the_links_of_the_reader(self) -> None:
+        for tag in [
+            '<a href="{}">', '<a/href="{}">', '<a href=="{}">', '<a href = "{}"/>', '<a x="<b>" href="{}">',
+            '<a data-yanked="" href="{}">', '<a/data-yanked/href="{}">', '<a Data-Yanked hRef="{}">',
+        ]:  # fmt: skip
+            with self.subTest(tag):
+                link = tag.format("../../files/a-1.tar.gz;#sha256=" + "0" * 64)
+                body = f"<html>{link}1</a></html>".encode()
+                read = pages.read_page("a", mutants.BASE + "a/", pages.HTML_FORM, body)
+                plain = mutants.listed(mutants.World({mutants.BASE + "a/": body}, pages.HTML_FORM, False), "a")
+                self.assertEqual([it.name for it in plain], ["a-1.tar.gz"])
+                # Pythons differ on a second `=`: what isn't taken is told.
+                self.assertEqual(len(read.releases) + len(read.passed), 1)
+                self.assertEqual([it.yanked for it in read.releases], [it.yanked for it in plain][: len(read.releases)])
+
+    def test_a_file_whose_hash_is_none_does_not_keep_a_release_from_being_yanked(self) -> None:
+        self.assertEqual(mutants.finding(1203, 8693), "")
+
     def test_a_run_can_be_made_again(self) -> None:
         for number in range(20):
             one, other = (mutants.world_of(random.Random(f"5/{number}")) for _ in range(2))
@@ -56,9 +76,14 @@ class Mutants(unittest.TestCase):
         def without_passed(self: pages.Gathered) -> pages.ProjectPage:
             return pages.ProjectPage(true(self).releases, [])
 
-        for wrong in [without_last, without_passed]:
-            with mock.patch.object(pages.Gathered, "page", wrong):
-                self.assertNotEqual(self.findings(11, 60), {}, wrong.__name__)
+        places: List[Tuple[object, str, Any]] = [
+            (pages.Gathered, "page", without_last),
+            (pages.Gathered, "page", without_passed),
+            (pages, "HTML_START", re.compile("")),
+        ]
+        for place, name, wrong in places:
+            with self.subTest(str(wrong)), mock.patch.object(place, name, wrong):
+                self.assertNotEqual(self.findings(11, 60), {})
         with mock.patch.object(walk, "release_fault", side_effect=KeyError("a fault of the reader")):
             self.assertIn("KeyError", "".join(self.findings(11, 10).values()))
 

@@ -11,6 +11,7 @@ import subprocess
 import sys
 from typing import List, NamedTuple, Optional
 
+from . import profile
 from .console import Refused
 
 CLONE = os.path.dirname(os.path.dirname(os.path.dirname(os.path.abspath(__file__))))
@@ -42,19 +43,22 @@ def path() -> str:
 
 
 def answer(words: List[str], folder: Optional[str] = None) -> Answer:
-    """Runs the program. What the script says while it builds goes to standard error as it comes."""
+    """Runs the program, on a project file of the wide profile unless the file says another. What the script says while
+    it builds goes to standard error as it comes."""
     program = path()
-    try:
-        done = subprocess.run(
-            [program, *words], stdout=subprocess.PIPE, stdin=subprocess.DEVNULL, cwd=folder, check=False
-        )
-    except OSError as fault:
-        raise Refused(f"{program}: {fault.strerror or fault}", 3) from None
+    with profile.handed(words, folder) as (asked, told):
+        try:
+            done = subprocess.run(
+                [program, *asked], stdout=subprocess.PIPE, stdin=subprocess.DEVNULL, cwd=folder, check=False
+            )
+        except OSError as fault:
+            raise Refused(f"{program}: {fault.strerror or fault}", 3) from None
+        body = told(done.stdout)
     if done.returncode < 0:
         raise Refused(f"{program} was ended by signal {-done.returncode}", 70)
     if done.returncode == 70:
         raise Refused(f"{program} can't be proved or built", 70)
-    return Answer(done.returncode, done.stdout.decode("utf-8", "replace"), done.stdout)
+    return Answer(done.returncode, body.decode("utf-8", "replace"), body)
 
 
 def fault_text(answered: Answer) -> str:
