@@ -71,8 +71,10 @@ def is_number(word: str, least: int, most: int) -> bool:
 
 def odd_words(rng: random.Random) -> list:
     """Words of which some are a command's."""
-    command = rng.choice(["lock", "why", "relock", "env", "check", "gen", "export", "verify", "Lock", "", "--help"])
-    kinds = {"lock": "ffnf", "why": "ffnf", "relock": "ffnf", "gen": "nnn", "check": "fff"}.get(command, "fff")
+    commands = ["lock", "why", "relock", "env", "check", "gen", "export", "marker", "verify"]
+    command = rng.choice([*commands, "Lock", "", "--help"])
+    kinds_of = {"lock": "ffnf", "why": "ffnf", "relock": "ffnf", "gen": "nnn", "check": "fff", "marker": "f"}
+    kinds = kinds_of.get(command, "fff")
     words = [rng.choice(NUMBERS if it == "n" else FILES) for it in kinds]
     if rng.random() < 0.6:
         words = [rng.choice(["1", "2"]) if it == "n" else "absent" for it in kinds]
@@ -92,4 +94,6 @@ def are_words(words: list) -> bool:
         return is_sized and is_number(given[2], 1, 64)
     if command in ("check", "verify"):
         return len(given) == 3
+    if command == "marker":
+        return len(given) == 1
     return len(given) >= {"env": 2, "export": 1}.get(command, len(given) + 1)

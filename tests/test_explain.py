@@ -263,7 +263,10 @@ class Places(Explained):
         for text, said in [
             ('[project]\nname = "demo"\ndependencies = ["a", "b=="]\n', "project.dependencies[1] (line 3): `b==`"),
             ('[project]\nname = "demo"\nrequires-python = ">=3.9,<3"\n', "leave no interpreter"),
-            ('[project]\nname = "demo"\n[tool.uv]\nfind-links = ["x"]\n', "find-links isn't supported"),
+            (
+                '[project]\nname = "demo"\n[tool.uv]\nfind-links = ["x"]\n[tool.unilock]\nprofile = "strict"\n',
+                "find-links isn't supported",
+            ),
             ('[project\n', "line 1: [project"),
         ]:
             self.write("pyproject.toml", text)
