@@ -39,7 +39,7 @@ ul_middle: ul_low
 ul_low:
 ul_apart:
 unilock: ul_high
-ul_promises: ul_law ul_high
+laws_promises: ul_law ul_high
 ul_law: ul_low
 """
 BUILDING = [
@@ -144,7 +144,7 @@ class Script(Folder):
         self.write("bin/rt", PROVING).chmod(0o755)
         self.write("bin/awk", ROOM.format(shutil.which("awk"))).chmod(0o755)
         self.write("crates.txt", CRATES)
-        for name in ("ul_low", "ul_middle", "ul_high", "ul_law", "ul_apart", "ul_promises", "unilock"):
+        for name in ("ul_low", "ul_middle", "ul_high", "ul_law", "ul_apart", "laws_promises", "unilock"):
             for part in ("src/lib.rt", "specs/Lib.antt", "proofs/Lib.antt"):
                 self.write(f"crates/{name}/{part}", "")
 

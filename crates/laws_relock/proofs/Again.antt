@@ -51,7 +51,7 @@ use Rattle.ul_commands.specs.Laws.{LocksArePrintable}
 use Rattle.ul_commands.specs.Locking.{IsLockAnswer, answer_where, leaf_fields}
 use Rattle.ul_commands.specs.Questions.{question_of}
 use Rattle.ul_commands.proofs.ForCallers.{begins, supported_has_world}
-use Rattle.ul_command_laws.proofs.ForCallers.{split_goes}
+use Rattle.laws_commands.proofs.ForCallers.{split_goes}
 use Rattle.laws_relock.specs.Again.{LevelAreEqual, OneForkStays}
 use Rattle.laws_relock.proofs.Answered.{of_forks}
 use Rattle.laws_relock.proofs.Needed.{best_chosen}

@@ -14,8 +14,8 @@ use Rattle.ul_answers.specs.Answer.{Answer}
 use Rattle.ul_answers.specs.Printed.{Output, printed, refused_output}
 use Rattle.ul_commands.specs.Asked.{lock}
 use Rattle.ul_commands.specs.Locking.{IsLockAnswer, lock_of}
-use Rattle.ul_command_laws.specs.Answers.{AnswersAreEqual}
-use Rattle.ul_command_laws.proofs.ForCallers.{not_both, one_lock_at}
+use Rattle.laws_commands.specs.Answers.{AnswersAreEqual}
+use Rattle.laws_commands.proofs.ForCallers.{not_both, one_lock_at}
 use Rattle.ul_commands.specs.Relocking.{IsKeptLock, IsRelockAnswer, refreshed, relock_of, relock_on, relock_with, unkept}
 use Rattle.laws_relock.specs.Harmless.{OldLocksAreHarmless, RefusalsAreAnew}
 use Rattle.laws_relock.proofs.Whole.{whole}

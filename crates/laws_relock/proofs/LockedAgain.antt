@@ -4,7 +4,7 @@ use Rattle.ul_inputs.specs.Locks.{kept_of}
 use Rattle.ul_inputs.specs.Resolutions.{IsResolution, ResolutionFields, resolution_in, resolution_of}
 use Rattle.ul_answers.specs.Answer.{locked}
 use Rattle.ul_commands.specs.Locking.{IsLockAnswer}
-use Rattle.ul_command_laws.proofs.ForCallers.{read_of}
+use Rattle.laws_commands.proofs.ForCallers.{read_of}
 use Rattle.laws_frames.specs.Frames.{InputsByWhatIsRead}
 use Rattle.laws_relock.specs.Again.{OneForkStays}
 use Rattle.laws_relock.specs.LockedAgain.{LocksAreLockedAgain}

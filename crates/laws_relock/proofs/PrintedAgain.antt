@@ -12,7 +12,7 @@ use Rattle.ul_inputs.specs.Resolutions.{ResolutionFields, resolution_in}
 use Rattle.ul_answers.specs.Answer.{Answer, locked}
 use Rattle.ul_answers.specs.Printed.{Output, printed}
 use Rattle.ul_commands.specs.Locking.{lock_of}
-use Rattle.ul_command_laws.specs.Complete.{LocksWithinLimits}
+use Rattle.laws_commands.specs.Complete.{LocksWithinLimits}
 use Rattle.laws_frames.specs.Frames.{AgreeOn}
 use Rattle.laws_relock.specs.Again.{LevelAreEqual}
 use Rattle.laws_relock.specs.LockedAgain.{LocksAreLockedAgain}

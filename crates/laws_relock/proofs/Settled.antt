@@ -19,8 +19,8 @@ use Rattle.ul_commands.specs.Asked.{verify}
 use Rattle.ul_commands.specs.Commands.{command}
 use Rattle.ul_commands.specs.Locking.{IsLockAnswer}
 use Rattle.laws_frames.specs.Frames.{AgreeOn, InputsByWhatIsRead}
-use Rattle.ul_command_laws.specs.Printed.{PrintedLaws}
-use Rattle.ul_command_laws.proofs.ForCallers.{answered_verified, answered_well, ok_same, read_of, read_well, text_read}
+use Rattle.laws_commands.specs.Printed.{PrintedLaws}
+use Rattle.laws_commands.proofs.ForCallers.{answered_verified, answered_well, ok_same, read_of, read_well, text_read}
 use Rattle.ul_commands.specs.Relocking.{IsKept, IsRelockAnswer, fork_count, refreshed, relock_of, relock_on, relock_with, unkept}
 use Rattle.laws_relock.specs.Answered.{FilesAreDocuments, RootsListNoOther}
 use Rattle.laws_relock.specs.Settled.{IsSettled, LocksAreSettled, RelocksAreSettled, SettledPromises}

@@ -10,7 +10,7 @@ use Rattle.ul_inputs.specs.Resolutions.{ResolutionFields}
 use Rattle.ul_answers.specs.Answer.{Answer, locked}
 use Rattle.ul_answers.specs.Printed.{Output, printed, refused_output}
 use Rattle.ul_commands.specs.Locking.{IsLockAnswer, lock_of}
-use Rattle.ul_command_laws.specs.Complete.{LocksWithinLimits}
+use Rattle.laws_commands.specs.Complete.{LocksWithinLimits}
 use Rattle.ul_commands.specs.Relocking.{IsKeptLock, IsRelockAnswer, fork_count, refreshed, relock_of, unkept}
 use Rattle.laws_relock.specs.Settled.{LocksAreSettled, RelocksAreSettled, SettledPromises}
 use Rattle.laws_relock.specs.Texts.{IsPrinted, IsSettledText, PrintedLocksAreSettled, PrintedRelocksAreSettled, SettledTextPromises}

@@ -4,7 +4,7 @@ use Rattle.std.specs.Prelude.{codes, cond}
 use Rattle.ul_inputs.specs.Inputs.{text_bytes}
 use Rattle.ul_inputs.specs.Refused.{limit}
 use Rattle.ul_answers.specs.Printed.{lock_output, refused_output}
-use Rattle.ul_command_laws.proofs.ForCallers.{fits}
+use Rattle.laws_commands.proofs.ForCallers.{fits}
 
 -- it is printed as its text, with status 0
 pub whole : (paths : Option ℕ) (text : List ℕ) → paths ≡ None → length text ≤ text_bytes → lock_output paths text ≡ (0, text)

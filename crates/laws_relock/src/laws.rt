@@ -53,7 +53,7 @@ pub fn locks_are_settled()
 {
     files_are_documents();
     roots_list_no_other();
-    ul_command_laws::laws::printed_laws();
+    laws_commands::laws::printed_laws();
 }
 
 /// A settled lock is given again by `relock`, accepted by `verify`, and right in every world; and it is settled
@@ -71,7 +71,7 @@ pub fn old_locks_are_harmless()
     ensures zero { OldLocksAreHarmless }
     ensures one { RefusalsAreAnew }
 {
-    ul_command_laws::laws::answers_are_equal();
+    laws_commands::laws::answers_are_equal();
     ul_lock_read::laws::text_laws();
     ul_lock_read::laws::one_fault();
 }
@@ -84,7 +84,7 @@ pub fn locks_are_locked_again()
     one_fork_stays();
     files_are_documents();
     roots_list_no_other();
-    ul_command_laws::laws::printed_laws();
+    laws_commands::laws::printed_laws();
 }
 
 /// What `lock` or `relock` prints with status 0 is the text of a settled lock.
@@ -92,7 +92,7 @@ pub fn printed_are_settled()
     ensures locks { PrintedLocksAreSettled }
     ensures relocks { PrintedRelocksAreSettled }
 {
-    ul_command_laws::laws::locks_within_limits();
+    laws_commands::laws::locks_within_limits();
     locks_are_settled();
 }
 
@@ -107,7 +107,7 @@ pub fn settled_texts()
 pub fn one_fork_printed()
     ensures { OneForkIsPrintedAgain }
 {
-    ul_command_laws::laws::locks_within_limits();
+    laws_commands::laws::locks_within_limits();
     locks_are_settled();
     locks_are_locked_again();
     ul_lock_read::laws::text_laws();

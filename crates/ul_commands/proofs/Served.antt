@@ -12,7 +12,7 @@ use Rattle.ul_tree.specs.Regions.{NoExtra, region_of}
 use Rattle.ul_tree.specs.Sample.{HoldsSomewhere}
 use Rattle.ul_requirement.specs.declared.wish.Strategy.TheVariants.{Deep}
 use Rattle.ul_index.specs.Serves.{Selection, ServesWhole}
-use Rattle.ul_deep.specs.Worlds.{ServesAt}
+use Rattle.ul_split.specs.Worlds.{ServesAt}
 use Rattle.ul_generations.specs.Laws.{holders, one_if}
 use Rattle.ul_generations.specs.Generations.{leaves_are, refused_at, too_many}
 use Rattle.ul_forks.specs.Headline.{ForkLaws, IsAnswer, IsLeaf, TreeAnswer, TreeLeaf, TreeRefusal}

@@ -8,7 +8,7 @@ use Rattle.ul_nodes.specs.Plain.{Plain}
 use Rattle.ul_tree.specs.Regions.{region_of}
 use Rattle.ul_index.specs.Regions.{HasWorld}
 use Rattle.ul_index.specs.Serves.{Selection, Serves}
-use Rattle.ul_deep.specs.Worlds.{ServesAt}
+use Rattle.ul_split.specs.Worlds.{ServesAt}
 use Rattle.ul_generations.specs.Generations.{refused_at}
 use Rattle.ul_forks.specs.Headline.{TreeRefusal}
 use Rattle.ul_forks.specs.Outcome.{starts_of}

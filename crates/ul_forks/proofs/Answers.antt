@@ -5,7 +5,7 @@ use Rattle.ul_nodes.specs.Plain.{Plain}
 use Rattle.ul_tree.specs.Regions.{region_of}
 use Rattle.ul_index.specs.Serves.{Selection}
 use Rattle.ul_region.specs.Laws.{BestServes}
-use Rattle.ul_deep.specs.Laws.{CoreChildren, NoneAtWorlds}
+use Rattle.ul_split.specs.CoreLaws.{CoreChildren, NoneAtWorlds}
 use Rattle.ul_generations.specs.declared.outcomes.Outcome.{Outcome}
 use Rattle.ul_generations.specs.declared.rows.Leaf.{Leaf}
 use Rattle.ul_generations.specs.Rows.{Refusal}

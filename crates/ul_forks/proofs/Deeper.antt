@@ -35,9 +35,9 @@ use Rattle.ul_split.specs.declared.split.Chosen.{Chosen}
 use Rattle.ul_split.proofs.ForCallers.{requirements_found}
 use Rattle.ul_prepared.specs.declared.prepared.Prepared.{Prepared}
 use Rattle.ul_placing.specs.declared.placing.Placed.{Placed}
-use Rattle.ul_deep.specs.Answers.{CoreGives, FailsAt}
-use Rattle.ul_deep.specs.CoreSplit.{IsAskedBy, IsFailing}
-use Rattle.ul_deep.specs.Origins.{ComesFrom}
+use Rattle.ul_split.specs.CoreAnswers.{CoreGives, FailsAt}
+use Rattle.ul_split.specs.CoreSplit.{IsAskedBy, IsFailing}
+use Rattle.ul_split.specs.Origins.{ComesFrom}
 use Rattle.ul_forks.specs.Deeper.{HasVersion, IsPlaced, NeedGives, SplitsDeeper}
 use Rattle.ul_forks.specs.Judge.{IsReady, question_with}
 use Rattle.ul_forks.specs.Outcome.{HasCore}

@@ -13,8 +13,8 @@ use Rattle.ul_blame.specs.Laws.{CoreIsOne}
 use Rattle.ul_blame.specs.declared.needs.CoreNeed.{CoreNeed}
 use Rattle.ul_region.specs.Laws.{BestOnce, BestServes, NothingServes}
 use Rattle.ul_placing.specs.Laws.{EqualProblems}
-use Rattle.ul_deep.specs.CoreSplit.{CoreSplit}
-use Rattle.ul_deep.specs.Laws.{CoreSplitOnce}
+use Rattle.ul_split.specs.CoreSplit.{CoreSplit}
+use Rattle.ul_split.specs.CoreLaws.{CoreSplitOnce}
 use Rattle.ul_generations.specs.declared.outcomes.Outcome.{Outcome}
 use Rattle.ul_generations.specs.declared.outcomes.Outcome.TheVariants.{Done, Split, Refused}
 use Rattle.ul_split.specs.Laws.{SplitOnce}

@@ -18,7 +18,7 @@ use Rattle.ul_region.specs.Best.{CanServe, IsBestFrom}
 use Rattle.ul_generations.specs.Laws.{one_if, Cuts}
 use Rattle.ul_split.specs.Laws.{Children}
 use Rattle.ul_split.specs.Split.{Decided, AreDecided}
-use Rattle.ul_deep.specs.Laws.{CoreChildren}
+use Rattle.ul_split.specs.CoreLaws.{CoreChildren}
 use Rattle.ul_forks.specs.Headline.{IsCut}
 use Rattle.ul_forks.specs.Outcome.{Question, starts_of, IsSplitByBest, IsSplitBy, IsSplit, IsOutcome}
 

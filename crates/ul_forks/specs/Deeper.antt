@@ -17,7 +17,7 @@ use Rattle.ul_prepared.specs.Prepared.{IsPrepared}
 use Rattle.ul_prepared.specs.declared.prepared.Prepared.{Prepared}
 use Rattle.ul_placing.specs.Placed.{ArePlaced}
 use Rattle.ul_placing.specs.declared.placing.Placed.{Placed}
-use Rattle.ul_deep.specs.CoreSplit.{IsAskedBy, IsFailing}
+use Rattle.ul_split.specs.CoreSplit.{IsAskedBy, IsFailing}
 use Rattle.ul_forks.specs.Outcome.{Question, IsSplitByCore, IsUnsplitByCore}
 use Rattle.ul_forks.specs.Picks.{HasPick}
 

@@ -8,7 +8,7 @@ use Rattle.ul_tree.specs.Regions.{region_of}
 use Rattle.ul_index.specs.Regions.{HasWorld}
 use Rattle.ul_index.specs.Serves.{Selection, ServesWhole}
 use Rattle.ul_region.specs.Best.{IsBest}
-use Rattle.ul_deep.specs.Worlds.{ServesAt}
+use Rattle.ul_split.specs.Worlds.{ServesAt}
 use Rattle.ul_generations.specs.declared.outcomes.Outcome.TheVariants.{Split}
 use Rattle.ul_generations.specs.declared.rows.Leaf.{Leaf}
 use Rattle.ul_generations.specs.Rows.{Refusal}

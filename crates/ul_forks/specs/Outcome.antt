@@ -15,7 +15,7 @@ use Rattle.ul_blame.specs.declared.needs.CoreNeed.{CoreNeed}
 use Rattle.ul_region.specs.Best.{IsBest}
 use Rattle.ul_region.specs.Laws.{roots}
 use Rattle.ul_region.specs.Problem.{IsProblemOf}
-use Rattle.ul_deep.specs.CoreSplit.{CoreSplit, HoldsThroughout}
+use Rattle.ul_split.specs.CoreSplit.{CoreSplit, HoldsThroughout}
 use Rattle.ul_generations.specs.declared.outcomes.Outcome.{Outcome}
 use Rattle.ul_generations.specs.declared.outcomes.Outcome.TheVariants.{Done, Split, Refused}
 use Rattle.ul_split.specs.Split.{Decided, AreDecided, SplitsBy, IsUnsplit}

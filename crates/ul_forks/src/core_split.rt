@@ -3,7 +3,7 @@ ghost use Rattle.std.specs.Prelude.{◌≡◌, IfOk, All};
 ghost use Rattle.ul_requirement.specs.declared.wish.Strategy.TheVariants.{Deep};
 ghost use Rattle.ul_problem.specs.Serving.{HasNone};
 ghost use Rattle.ul_region.specs.Truths.{region_at};
-ghost use Rattle.ul_deep.specs.Answers.{CoreGives};
+ghost use Rattle.ul_split.specs.CoreAnswers.{CoreGives};
 ghost use Rattle.ul_forks.specs.Deeper.{HasVersion, IsPlaced, NeedGives, SplitsDeeper};
 ghost use Rattle.ul_forks.specs.Judge.{IsReady, question_with};
 
@@ -12,12 +12,12 @@ use std::alloc::{AllocError, Global};
 use ul_algebra::{Algebra, Diagram};
 use ul_base::Name;
 use ul_blame::{CoreNeed, core_by};
-use ul_deep::failing_truth;
 use ul_placing::Placed;
 use ul_prepared::Prepared;
 use ul_problem::Derivation;
 use ul_region::{AtNode, InRegion};
 use ul_requirement::{Strategy, Wish};
+use ul_split::failing_truth;
 
 // The truth of the requirement that a need comes from, where it fails at some world of the region.
 fn failing_need<'p, 'r>(

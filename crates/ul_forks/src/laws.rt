@@ -16,9 +16,9 @@ pub fn fork_laws()
     ul_region::laws::nothing_serves();
     ul_placing::laws::equal_problems();
     ul_blame::laws::core_laws();
-    ul_deep::laws::core_split_once();
-    ul_deep::laws::core_children();
-    ul_deep::laws::none_at_worlds();
+    ul_split::laws::core_split_once();
+    ul_split::laws::core_children();
+    ul_split::laws::none_at_worlds();
 }
 
 /// The fork answer over diagrams, each refused region with an accepted derivation, is the fork answer over their trees.

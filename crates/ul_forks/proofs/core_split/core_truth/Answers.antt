@@ -1,7 +1,7 @@
 use Rattle.std.proofs.Common.{List, All, sym, subst}
 use Rattle.ul_blame.specs.declared.needs.CoreNeed.{CoreNeed}
 use Rattle.ul_region.specs.Truths.{region_at}
-use Rattle.ul_deep.specs.Answers.{CoreGives}
+use Rattle.ul_split.specs.CoreAnswers.{CoreGives}
 use Rattle.ul_forks.specs.Deeper.{HasVersion}
 use Rattle.ul_forks.proofs.Deeper.{core_versions, splits_deeper}
 use Rattle.ul_forks.proofs.core_split.core_truth.Goals as goal

@@ -1,0 +1,41 @@
+-- What `export` prints of a lock that `lock` printed or `verify` accepted.
+use Rattle.std.specs.Prelude.{◌≡◌, ℕ, List, None, Option, Ok, Some}
+use Rattle.ul_files.specs.Files.{FileMap, content}
+use Rattle.ul_lock.specs.declared.parts.Lock.{Lock}
+use Rattle.ul_lock_write.specs.Texts.{lock_text}
+use Rattle.ul_reach.specs.Lines.{rows_text}
+use Rattle.ul_reach.specs.declared.rows.Reached.{Reached}
+use Rattle.ul_inputs.specs.Locks.{lock_at}
+use Rattle.ul_inputs.specs.Resolutions.{ResolutionFields, resolution_in}
+use Rattle.ul_commands.specs.Asked.{export, lock, verify}
+use Rattle.laws_commands.specs.Exports.{ExportsRequired}
+use Rattle.ul_program.specs.Answer.{IsAnswer}
+use Rattle.ul_program.specs.Words.{question}
+
+-- the text is the lines of rows that say, in each world that the project supports, exactly what is required there
+pub record ExportsRightly (r : ResolutionFields) (l : Lock) (words : List (List ℕ)) (text : List ℕ) : Type 0 where
+  pub rows : List Reached
+  pub are : text ≡ rows_text rows
+  pub required : ExportsRequired r l words rows
+
+-- these are the bytes of a lock, of which that is exported
+pub record IsRightExport (r : ResolutionFields) (words : List (List ℕ)) (bytes text : List ℕ) : Type 0 where
+  pub lock : Lock
+  pub is : bytes ≡ lock_text lock
+  pub right : ExportsRightly r lock words text
+
+-- of a file into which `lock` printed
+abbrev pub ExportsAreRight : Type 0
+ExportsAreRight = (words others : List (List ℕ)) (before now : FileMap) (bytes text project folder : List ℕ) (workers : ℕ)
+    (old : Option (List ℕ)) (path : List ℕ) (extras : List (List ℕ)) (r : ResolutionFields)
+    → question words ≡ lock project folder workers old → question others ≡ export path extras
+    → IsAnswer words before 0 bytes → content now path ≡ Some bytes → IsAnswer others now 0 text
+    → (resolution_in project folder old before).gives (Ok r) → IsRightExport r extras bytes text
+
+-- of a file that `verify` accepted
+abbrev pub VerifiedExportsAreRight : Type 0
+VerifiedExportsAreRight = (words others : List (List ℕ)) (m : FileMap) (bytes text project folder path : List ℕ)
+    (extras : List (List ℕ)) (r : ResolutionFields) (l : Lock)
+    → question words ≡ verify project folder path → question others ≡ export path extras
+    → IsAnswer words m 0 bytes → IsAnswer others m 0 text
+    → (resolution_in project folder None m).gives (Ok r) → (lock_at path m).gives (Ok l) → ExportsRightly r l extras text

@@ -1,5 +1,0 @@
-use Rattle.ul_command_laws.proofs.Answers.{answers_are_equal as law}
-use Rattle.ul_command_laws.proofs.laws.answers_are_equal.Goals as goal
-
-pub returns : goal.returns
-returns c = law c.lower_laws.ensures

@@ -1,5 +1,0 @@
-use Rattle.ul_command_laws.proofs.ReadAlone.{answers_by_what_is_read as law}
-use Rattle.ul_command_laws.proofs.laws.answers_by_what_is_read.Goals as goal
-
-pub returns : goal.returns
-returns c = law c.inputs_by_what_is_read.ensures

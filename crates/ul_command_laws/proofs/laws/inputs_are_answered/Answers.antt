@@ -1,5 +1,0 @@
-use Rattle.ul_command_laws.proofs.Complete.{inputs_are_answered as law}
-use Rattle.ul_command_laws.proofs.laws.inputs_are_answered.Goals as goal
-
-pub returns : goal.returns
-returns c = law c.lower_laws.ensures

@@ -1,5 +1,0 @@
-use Rattle.ul_fork_answers.proofs.Outcomes.{fork_answer_exists as law}
-use Rattle.ul_fork_answers.proofs.laws.fork_answer_exists.Goals as goal
-
-pub returns : goal.returns
-returns c = law c.outcome_exists.ensures

@@ -1,5 +1,0 @@
-use Rattle.ul_given.proofs.Catalogs.{catalogs_are_texts as law}
-use Rattle.ul_given.proofs.laws.catalogs_are_texts.Goals as goal
-
-pub returns : goal.returns
-returns c = law c.documents_are_texts.ensures

@@ -1,5 +1,0 @@
-use Rattle.ul_given.proofs.Documents.{documents_are_texts as law}
-use Rattle.ul_given.proofs.laws.documents_are_texts.Goals as goal
-
-pub returns : goal.returns
-returns c = law c.requirements_are_named.ensures

@@ -1,5 +1,0 @@
-use Rattle.ul_given.proofs.Loaded.{loaded_begins as law}
-use Rattle.ul_given.proofs.laws.loaded_begins.Goals as goal
-
-pub returns : goal.returns
-returns c = law

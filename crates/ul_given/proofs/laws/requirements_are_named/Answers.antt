@@ -1,5 +1,0 @@
-use Rattle.ul_given.proofs.Requirements.{requirements_are_named as law}
-use Rattle.ul_given.proofs.laws.requirements_are_named.Goals as goal
-
-pub returns : goal.returns
-returns c = law

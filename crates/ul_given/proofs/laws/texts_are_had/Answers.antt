@@ -1,5 +1,0 @@
-use Rattle.ul_given.proofs.Had.{texts_are_had as law}
-use Rattle.ul_given.proofs.laws.texts_are_had.Goals as goal
-
-pub returns : goal.returns
-returns c = law c.eligible_same.ensures

@@ -1,5 +1,0 @@
-use Rattle.ul_lock_walks.proofs.Few.{few_extras as law}
-use Rattle.ul_lock_walks.proofs.laws.few_extras.Goals as goal
-
-pub returns : goal.returns
-returns c = law

@@ -1,5 +1,0 @@
-use Rattle.ul_lock_walks.proofs.Reaches.{reach_tree_exists as law}
-use Rattle.ul_lock_walks.proofs.laws.reach_tree_exists.Goals as goal
-
-pub returns : goal.returns
-returns c = law

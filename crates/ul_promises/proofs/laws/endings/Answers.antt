@@ -1,8 +1,0 @@
-use Rattle.ul_promises.proofs.OfEndings.{locks_end, reasons_end}
-use Rattle.ul_promises.proofs.laws.endings.Goals as goal
-
-pub returns-clause-locks : goal.returns-clause-locks
-returns-clause-locks c = locks_end c.inputs_are_answered.ensures
-
-pub returns-clause-reasons : goal.returns-clause-reasons
-returns-clause-reasons c = reasons_end c.inputs_are_answered.ensures

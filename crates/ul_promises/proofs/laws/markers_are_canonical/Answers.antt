@@ -1,5 +1,0 @@
-use Rattle.ul_promises.proofs.OfMarkers.{markers_are_canonical}
-use Rattle.ul_promises.proofs.laws.markers_are_canonical.Goals as goal
-
-pub returns : goal.returns
-returns c = markers_are_canonical c.canonical_markers.ensures

@@ -1,5 +1,0 @@
-use Rattle.ul_promises.proofs.OfReasons.{printed_are_accepted as law}
-use Rattle.ul_promises.proofs.laws.printed_are_accepted.Goals as goal
-
-pub returns : goal.returns
-returns c = law c.fork_laws.ensures c.reasons_are_accepted.ensures.files

@@ -1,5 +1,0 @@
-use Rattle.ul_refutations.proofs.Derivations.{derivation_exists as law}
-use Rattle.ul_refutations.proofs.laws.derivation_exists.Goals as goal
-
-pub returns : goal.returns
-returns c = law

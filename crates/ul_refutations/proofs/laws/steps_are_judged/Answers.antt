@@ -1,5 +1,0 @@
-use Rattle.ul_refutations.proofs.Judging.{steps_are_judged as law}
-use Rattle.ul_refutations.proofs.laws.steps_are_judged.Goals as goal
-
-pub returns : goal.returns
-returns c = law

@@ -1,4 +1,0 @@
--- The lemmas that crates above may cite.
-
--- whether a requirement is firm at a node in a region that has a tree
-pub use Rattle.ul_region_problems.proofs.Leading.{firm_decided}

@@ -1,6 +1,0 @@
-use Rattle.ul_region_problems.proofs.Whole.{exists}
-use Rattle.ul_region_problems.proofs.laws.problem_exists.Goals as goal
-
-pub returns : goal.returns
-returns c =
-    exists c.truth_trees.ensures c.regions_decide.ensures c.eligible_rises.ensures c.preference_same.ensures

@@ -1,5 +1,0 @@
-use Rattle.ul_truth_trees.proofs.Applied.{regions_decide as law}
-use Rattle.ul_truth_trees.proofs.laws.regions_decide.Goals as goal
-
-pub returns : goal.returns
-returns c = law c.truth_trees.ensures
