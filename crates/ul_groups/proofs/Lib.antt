@@ -12,3 +12,4 @@ mod MadeLists
 mod NameLists
 mod Opened
 mod TakenLists
+mod Turns

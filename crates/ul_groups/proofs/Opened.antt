@@ -178,6 +178,12 @@ pub opened_more : (opens : List Open) (o : Open) → opened (opens ++ o ∷ []) 
 opened_more [] o = refl
 opened_more (p ∷ ps) o = ap (λ (os : List OpenFields). (p.group.now, p.number) ∷ os) (opened_more ps o)
 
+-- a group is open again behind its next entry
+pub opened_next : (opens pushed : List Open) (g : GroupFields) (n : ℕ) (o : Open) → o.group.now ≡ g → o.number ≡ n + 1 → pushed ≡ opens ++ o ∷ []
+    → opened pushed ≡ opened opens ++ (g, n + 1) ∷ []
+opened_next opens pushed g n o same next more =
+    ap opened more ∙ opened_more opens o ∙ ap (λ (f : GroupFields). opened opens ++ (f, o.number) ∷ []) same ∙ ap (λ (k : ℕ). opened opens ++ (g, k) ∷ []) next
+
 -- no group is open
 none_open : (opens rest : List Open) (n : ℕ) → n ≡ 0 → opens ≡ rest ++ [] → rest ≡ take (n - 1) opens → opens ≡ []
 none_open opens rest n none all front = all ∙ append-nil rest ∙ front ∙ ap (λ (k : ℕ). take (k - 1) opens) none
@@ -202,9 +208,8 @@ pub next_enters : (groups : GroupByName) (opens pushed : List Open) (g : GroupFi
     → now ≡ with_inner (opened pushed) inner → ((expand : Expand) → with_entry groups expand g.name n e list ≡ entered expand after inner)
     → left_of groups (opened opens ++ (g, n) ∷ []) list ≡ left_of groups now after
 next_enters groups opens pushed g n o now e list after inner lt is few same next more opens_now h =
-    let outer : opened pushed ≡ opened opens ++ (g, n + 1) ∷ [] =
-    ap opened more ∙ opened_more opens o ∙ ap (λ (f : GroupFields). opened opens ++ (f, o.number) ∷ []) same ∙ ap (λ (k : ℕ). opened opens ++ (g, k) ∷ []) next in
-    by_inner inner h ∙ ap (λ (os : List OpenFields). left_of groups (with_inner os inner) after) (sym outer) ∙ ap (λ (os : List OpenFields). left_of groups os after) (sym opens_now)
+    by_inner inner h ∙ ap (λ (os : List OpenFields). left_of groups (with_inner os inner) after) (sym (opened_next opens pushed g n o same next more))
+    ∙ ap (λ (os : List OpenFields). left_of groups os after) (sym opens_now)
   where
     by_inner : (i : Option (Bor GroupFields)) → ((expand : Expand) → with_entry groups expand g.name n e list ≡ entered expand after i)
         → left_of groups (opened opens ++ (g, n) ∷ []) list ≡ left_of groups (with_inner (opened opens ++ (g, n + 1) ∷ []) i) after

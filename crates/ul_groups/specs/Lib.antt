@@ -4,5 +4,6 @@ pub mod Expanded
 pub mod GroupMaps
 pub mod Answers
 pub mod Opened
+pub mod Turns
 pub mod Vectors
 pub mod GroupVectors

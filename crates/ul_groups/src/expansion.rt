@@ -2,7 +2,7 @@
 
 ghost use Rattle.std.specs.BTreeMap.{is_at};
 ghost use Rattle.std.specs.Option.{option_or};
-ghost use Rattle.std.specs.Prelude.{◌≡◌, ◌++◌, ◌∷◌, ℕ, List, [], IfOk, OnOk, Some, cond, option_map};
+ghost use Rattle.std.specs.Prelude.{◌≡◌, ◌<◌, ◌≤◌, ◌++◌, ◌∷◌, ℕ, List, [], IfOk, OnOk, Some, cond, option_map};
 ghost use Rattle.ul_base.specs.Names.{name_cmp};
 ghost use Rattle.ul_requirement.specs.Fields.{RequirementFields};
 ghost use Rattle.ul_groups.specs.Answers.{Gives};
@@ -10,6 +10,7 @@ ghost use Rattle.ul_groups.specs.Expanded as Expanded;
 ghost use Rattle.ul_groups.specs.Expanded.{group_named, with_one};
 ghost use Rattle.ul_groups.specs.GroupMaps.{HasGroups, groups_in, list_fields};
 ghost use Rattle.ul_groups.specs.Opened.{AreNamed, Enters, GoesOn, left_of, opened, with_inner};
+ghost use Rattle.ul_groups.specs.Turns.{turns_left};
 
 use std::alloc::{AllocError, Global};
 use std::collections::{BTreeMap, BTreeSet};
@@ -100,9 +101,11 @@ fn add_entry<'a>(
     done: &BTreeSet<Name>,
 ) -> Result<Option<&'a Group>, ProjectFault>
     requires { AreNamed (groups_in groups.now.entries) }
-    ensures { Enters (groups_in groups.now.entries) group.now number entry.now
+    ensures entry { Enters (groups_in groups.now.entries) group.now number entry.now
         (list_fields list.old.items begun.old.keys done.now.keys)
         (list_fields list.new.items begun.new.keys done.now.keys) result }
+    ensures turns { IfOk result (λ inner. turns_left groups.now.entries (with_inner [] inner) begun.new.keys
+        ≤ turns_left groups.now.entries [] begun.old.keys) }
 {
     match entry {
         GroupEntry::Needs(requirement) => {
@@ -124,9 +127,11 @@ fn include<'a>(
     done: &BTreeSet<Name>,
 ) -> Result<Option<&'a Group>, ProjectFault>
     requires { AreNamed (groups_in groups.now.entries) }
-    ensures { (list : List RequirementFields)
+    ensures entry { (list : List RequirementFields)
         → Enters (groups_in groups.now.entries) group.now number (GroupEntry.Include name.now)
         (list_fields list begun.old.keys done.now.keys) (list_fields list begun.new.keys done.now.keys) result }
+    ensures turns { IfOk result (λ inner. turns_left groups.now.entries (with_inner [] inner) begun.new.keys
+        ≤ turns_left groups.now.entries [] begun.old.keys) }
 {
     let Some(found) = group_at(groups, name) else {
         return Err(refused(alloc, group, number)?);
@@ -174,13 +179,16 @@ fn add_next<'a>(
     done: &mut BTreeSet<Name>,
 ) -> Result<(), ProjectFault>
     requires { AreNamed (groups_in groups.now.entries) }
-    ensures { GoesOn
+    ensures list { GoesOn
         (left_of (groups_in groups.now.entries)
         (opened opens.old.items ++ (innermost.entry.group.now, innermost.entry.number) ∷ [])
         (list_fields list.old.items begun.old.keys done.old.keys))
         (left_of (groups_in groups.now.entries) (opened opens.new.items)
         (list_fields list.new.items begun.new.keys done.new.keys))
         result }
+    ensures turns { OnOk result (turns_left groups.now.entries (opened opens.new.items) begun.new.keys
+        < turns_left groups.now.entries
+        (opened opens.old.items ++ (innermost.entry.group.now, innermost.entry.number) ∷ []) begun.old.keys) }
 {
     let Open { group, number } = innermost;
     let entries: &Vec<GroupEntry> = &group.entries;
@@ -214,13 +222,10 @@ fn add_all<'a>(
         (left_of (groups_in groups.now.entries) (opened opens.entry.items)
         (list_fields list.old.items begun.old.keys done.old.keys)) }
 {
-    for _turn in 0..usize::MAX {
-        let Some(innermost) = opens.pop() else {
-            return Ok(());
-        };
+    while let Some(innermost) = opens.pop() {
         add_next(alloc, groups, innermost, &mut opens, list, begun, done)?;
     }
-    Err(ProjectFault::NoMemory)
+    Ok(())
 }
 
 // The group alone, of which no entry was added.
