@@ -9,14 +9,18 @@ use Rattle.ul_lock.specs.declared.parts.Lock.{Lock}
 use Rattle.ul_lock_write.specs.Headline.{WritesLock}
 use Rattle.ul_lock_write.specs.Markers.{first_over, markers_of}
 use Rattle.ul_lock_write.specs.Texts.{lock_text}
+use Rattle.ul_nodes.specs.Plain.{Plain}
+use Rattle.ul_marker_text.specs.Faults.{IsTextFault}
+use Rattle.ul_marker_text.specs.declared.fault.TextFault.{TextFault}
+use Rattle.ul_marker_text.specs.declared.fault.TextFault.TheVariants.{TooLong as TooLongToPrint, NoMemory as NoMemoryToPrint}
 use Rattle.ul_lock_write.specs.declared.writing.WriteFault.{WriteFault}
 use Rattle.ul_lock_write.specs.declared.writing.WriteFault.TheVariants.{TooManyPaths as TooManyPathsToWrite, TooLong as TooLongToWrite, NoMemory as NoMemoryToWrite}
 use Rattle.ul_reach.specs.Lines.{ExportsRows, row_markers, rows_text}
 use Rattle.ul_reach.specs.declared.lines.ExportFault.{ExportFault}
 use Rattle.ul_reach.specs.declared.lines.ExportFault.TheVariants.{TooManyPaths, TooLong, NoMemory}
 use Rattle.ul_reach.specs.declared.rows.Reached.{Reached}
-use Rattle.ul_answers.specs.Limits.{Limit, line_of, of_lock, of_rows}
-use Rattle.ul_answers.specs.Printed.{Output, exported_output, lock_output, refused_output, text_output, too_many_paths, written}
+use Rattle.ul_answers.specs.Limits.{Limit, line_of, of_lock, of_marker, of_rows}
+use Rattle.ul_answers.specs.Printed.{Output, exported_output, lock_output, refusal_output, refused_output, text_output, too_many_paths, written}
 
 too_long : (text : List ℕ) → text_bytes < length text → text_output text ≡ refused_output (limit (codes "text-bytes") text_bytes)
 too_long text long = let no : nat_le (length text) text_bytes ≡ false = grind (arith, nat_tests) in ap (λ (b : Bool). cond b (0, text) (refused_output (limit (codes "text-bytes") text_bytes))) no
@@ -39,3 +43,9 @@ pub rows_passed : (rows : List Reached) (fault : ExportFault) (told : Option Lim
 rows_passed rows (TooManyPaths paths) told o w e is = passed_paths (first_over (row_markers rows)) (rows_text rows) paths o w (sym (ap line_of e) ∙ is)
 rows_passed rows TooLong told o w e is = passed_bytes (first_over (row_markers rows)) (rows_text rows) o w.0 w.1 (sym (ap line_of e) ∙ is)
 rows_passed rows NoMemory told o w e is = let no : None ≡ Some o = sym (ap line_of e) ∙ is in cc
+
+-- of a refused fork's region likewise
+pub region_passed : (region : Plain) (text : List ℕ) (fault : TextFault) (told : Option Limit) (o : Output) → IsTextFault region fault → told ≡ of_marker fault → line_of told ≡ Some o → o ≡ refusal_output region text
+region_passed region text (TooLongToPrint paths) told o w e is =
+    sym (same_Some too_many_paths o (sym (ap line_of e) ∙ is)) ∙ sym (ap (λ (b : Bool). cond b (1, text) too_many_paths) w.0)
+region_passed region text NoMemoryToPrint told o w e is = let no : None ≡ Some o = sym (ap line_of e) ∙ is in cc

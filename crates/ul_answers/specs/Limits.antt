@@ -2,6 +2,8 @@
 use Rattle.std.specs.Prelude.{ℕ, List, codes, Option, Some, None, option_map}
 use Rattle.ul_inputs.specs.Inputs.{text_bytes}
 use Rattle.ul_inputs.specs.Refused.{limit}
+use Rattle.ul_marker_text.specs.declared.fault.TextFault.{TextFault}
+use Rattle.ul_marker_text.specs.declared.fault.TextFault.TheVariants.{TooLong as TooLongToPrint, NoMemory as NoMemoryToPrint}
 use Rattle.ul_lock_write.specs.declared.writing.WriteFault.{WriteFault}
 use Rattle.ul_lock_write.specs.declared.writing.WriteFault.TheVariants.{TooManyPaths as TooManyPathsToWrite, TooLong as TooLongToWrite, NoMemory as NoMemoryToWrite}
 use Rattle.ul_reach.specs.declared.lines.ExportFault.{ExportFault}
@@ -31,6 +33,11 @@ abbrev pub of_rows : ExportFault → Option Limit
 of_rows (TooManyPaths paths) = Some marker_paths
 of_rows TooLong = Some printed_bytes
 of_rows NoMemory = None
+
+-- of printing a marker
+abbrev pub of_marker : TextFault → Option Limit
+of_marker (TooLongToPrint paths) = Some marker_paths
+of_marker NoMemoryToPrint = None
 
 -- what is printed for a limit
 abbrev pub line_of : Option Limit → Option Output

@@ -67,6 +67,16 @@ fn export_limit(fault: &ExportFault) -> Option<(&'static str, u64)>
     }
 }
 
+// The limit of which a fault of printing a marker tells; none where memory ran out.
+fn marker_limit(fault: &TextFault) -> Option<(&'static str, u64)>
+    ensures { option_map (λ l. (l.0.now, l.1)) result ≡ limits.of_marker fault.now }
+{
+    match fault {
+        TextFault::TooLong { paths: _ } => Some(("marker-paths", MOST_PATHS as u64)),
+        TextFault::NoMemory => None,
+    }
+}
+
 // The line of a limit that is passed, if it is one, and not want of memory.
 fn passed_output(alloc: Global, limit: Option<(&'static str, u64)>) -> Result<Output, AllocError>
     ensures { IfOk result (λ o. limits.line_of (option_map (λ l. (l.0.now, l.1)) limit.entry) ≡ Some (output_view o)) }
@@ -135,8 +145,7 @@ fn fork_output(
             text.extend_from_slice(steps)?;
             Ok(Output { status: 1, text })
         }
-        Err(TextFault::TooLong { paths: _ }) => too_many_paths(alloc),
-        Err(TextFault::NoMemory) => Err(AllocError),
+        Err(fault) => passed_output(alloc, marker_limit(&fault)),
     }
 }
 

@@ -1,13 +1,19 @@
 -- What lines say, line by line.
-use Rattle.std.proofs.Common.{◌≡◌, ◌∙◌, ◌+◌, ◌∷◌, ◌++◌, ℕ, List, [], true, false, length, refl, sym, ap, append_assoc, append-nil, arith, inl, inr, Option, Some, None, Result, Ok, Err}
+use Rattle.std.proofs.Common.{◌≡◌, ◌∙◌, ◌+◌, ◌∷◌, ◌++◌, ℕ, List, [], true, false, length, refl, sym, ap, append_assoc, append-nil, arith, inl, inr, Option, Some, None, option_map, Result, Ok, Err, IfOk, IfErr}
 use Rattle.std.specs.Prelude.{codes}
+use Rattle.std.specs.declared.alloc.AllocError.{AllocError}
 use Rattle.std.specs.Str.{IsUtf8, bytes_eq, is_utf8}
 use Rattle.std.proofs.lemmas.Bool.{cases_Bool}
 use Rattle.std.proofs.lemmas.Str.{IsUtf8-from_is_utf8, is_utf8-from_IsUtf8}
 use Rattle.ul_comparison.specs.Formulas.{Formula, all, any, none}
 use Rattle.ul_lines.specs.Lines.{lines_of}
 use Rattle.ul_marker.specs.Reading.{locked_marker_of}
+use Rattle.ul_marker.specs.Views.{marker_view}
+use Rattle.ul_marker.specs.declared.fault.MarkerFault.{MarkerFault}
+use Rattle.ul_marker.specs.declared.fault.MarkerFault.TheVariants.{NoReading, NoMemory}
+use Rattle.ul_marker.specs.declared.marker.Marker.{Marker}
 use Rattle.ul_canonical.specs.Lines.{formula_of_line, formula_of_text, formulas_from, formulas_of, marker_of_bytes, onto_formulas, with_line}
+use Rattle.ul_canonical.specs.Reading.{if_read}
 
 -- ---- texts
 
@@ -21,6 +27,14 @@ no_text b h = elim (cases_Bool (is_utf8 b)) [
 -- what a text spells is what is said
 pub text_said : (b : List ℕ) (o : Option Formula) → IsUtf8 b → locked_marker_of b ≡ o → o ≡ marker_of_bytes b
 text_said b o u e = rw (is_utf8-from_IsUtf8 b u) (sym e)
+
+-- and so is what is answered of it, by whether it was read
+pub read_said : (b text : List ℕ) (read : Result Marker MarkerFault) (out : Result (Option Marker) AllocError) → IsUtf8 b → text ≡ b
+    → IfOk read (λ m. locked_marker_of text ≡ Some (marker_view m)) → IfErr read (λ e. e ≡ NoReading → locked_marker_of text ≡ None)
+    → out ≡ if_read read → IfOk out (λ m. option_map marker_view m ≡ marker_of_bytes b)
+read_said b text (Ok m) out u same went failed is = rw is (text_said b (Some (marker_view m)) u (sym (ap locked_marker_of same) ∙ went))
+read_said b text (Err NoReading) out u same went failed is = rw is (text_said b None u (sym (ap locked_marker_of same) ∙ failed refl))
+read_said b text (Err NoMemory) out u same went failed is = rw is tt
 
 pub star_said : (b : List ℕ) → bytes_eq b (codes "*") ≡ true → Some (all none) ≡ formula_of_text b
 unfolding formula_of_text

@@ -1,7 +1,7 @@
 //! What the lines of a file say.
 ghost use Rattle.std.specs.Prelude.{◌≡◌, ◌∷◌, [], IfOk, map, option_map};
 ghost use Rattle.ul_marker.specs.Views.{marker_view};
-ghost use Rattle.ul_canonical.specs.Reading.{ReadsLines};
+ghost use Rattle.ul_canonical.specs.Reading.{ReadsLines, if_read};
 ghost use Rattle.ul_canonical.specs.Lines as spec;
 
 use crate::CanonicalFault;
@@ -10,6 +10,17 @@ use ul_base::owned::with_one;
 use ul_lines::{before_end, first_line, same};
 use ul_marker::{Marker, MarkerFault};
 
+// The marker that was read, or that there is none.
+fn if_read(read: Result<Marker, MarkerFault>) -> Result<Option<Marker>, AllocError>
+    ensures { result ≡ if_read read }
+{
+    match read {
+        Ok(marker) => Ok(Some(marker)),
+        Err(MarkerFault::NoReading) => Ok(None),
+        Err(MarkerFault::NoMemory) => Err(AllocError),
+    }
+}
+
 // The marker that bytes spell.
 fn bytes_marker(alloc: Global, bytes: &[u8]) -> Result<Option<Marker>, AllocError>
     ensures { IfOk result (λ m. option_map marker_view m ≡ spec.marker_of_bytes bytes.now) }
@@ -17,11 +28,7 @@ fn bytes_marker(alloc: Global, bytes: &[u8]) -> Result<Option<Marker>, AllocErro
     let Ok(text) = str::from_utf8(bytes) else {
         return Ok(None);
     };
-    match Marker::read_locked(alloc, text) {
-        Ok(marker) => Ok(Some(marker)),
-        Err(MarkerFault::NoReading) => Ok(None),
-        Err(MarkerFault::NoMemory) => Err(AllocError),
-    }
+    if_read(Marker::read_locked(alloc, text))
 }
 
 // What a text says. A marker of no parts is true everywhere, or nowhere.

@@ -1,9 +1,11 @@
 //! Writing the canonical texts of diagrams.
-ghost use Rattle.std.specs.Prelude.{◌≡◌, ◌≢◌, ◌++◌, All, IfOk, OnOk, map, string_bytes, false};
+ghost use Rattle.std.specs.Prelude.{◌≡◌, ◌≢◌, ◌++◌, All, IfOk, OnOk, map, string_bytes, false, true};
+ghost use Rattle.std.specs.List.{AllPass};
 ghost use Rattle.ul_algebra.specs.Answers.{IsDiagram};
 ghost use Rattle.ul_algebra.specs.Spelled.{tree_of};
 ghost use Rattle.ul_marker_text.specs.MarkerText.{marker_text};
 ghost use Rattle.ul_nodes.specs.Plain.{truth};
+ghost use Rattle.ul_tree.specs.Paths.{is_printable};
 ghost use Rattle.ul_tree.specs.TreeFacts.{IsTree};
 ghost use Rattle.ul_tree.specs.Views.{tree_view};
 ghost use Rattle.ul_canonical.specs.Answers.{Tells, printed_trees, short_text};
@@ -15,21 +17,26 @@ use std::alloc::{AllocError, Global};
 use ul_algebra::{Algebra, Diagram};
 use ul_base::owned::made_from;
 use ul_lock_write::TEXT_BYTES;
+use ul_marker_text::TextFault;
 use ul_tree::Tree;
 
 // The text of a tree, whose marker is printed.
 fn tree_text(alloc: Global, tree: &Tree) -> Result<String, AllocError>
     requires reduced { IsTree tree.now }
     requires not_false { tree_view tree.now ≢ truth false }
+    requires printed { is_printable (tree_view tree.now) ≡ true }
     ensures { IfOk result (λ s. string_bytes s ≡ marker_text (tree_view tree.now)) }
 {
     match ul_marker_text::text(alloc, tree) {
         Ok(text) => Ok(text),
-        Err(_) => Err(AllocError),
+        Err(fault) => match fault {
+            TextFault::TooLong { paths: _ } => unreachable!(),
+            TextFault::NoMemory => Err(AllocError),
+        },
     }
 }
 
-// The text of a diagram's marker, which holds somewhere.
+// The text of a diagram's marker, which holds somewhere and is printed.
 fn marker_bytes(
     alloc: Global,
     algebra: &Algebra<'_>,
@@ -37,20 +44,22 @@ fn marker_bytes(
 ) -> Result<String, AllocError>
     requires diagram { IsDiagram algebra.now diagram.now }
     requires not_false { tree_of diagram.now ≢ truth false }
+    requires printed { is_printable (tree_of diagram.now) ≡ true }
     ensures { IfOk result (λ s. string_bytes s ≡ marker_text (tree_of diagram.now)) }
 {
     let tree = algebra.tree(alloc, diagram)?;
     made_from(tree_text(alloc, &tree), tree)
 }
 
-// Puts the line of a diagram behind others.
+// Puts the line of a diagram, whose marker is printed, behind others.
 fn put_line(
     alloc: Global,
     algebra: &Algebra<'_>,
     out: &mut Vec<u8>,
     diagram: &Diagram,
 ) -> Result<(), AllocError>
-    requires { IsDiagram algebra.now diagram.now }
+    requires diagram { IsDiagram algebra.now diagram.now }
+    requires printed { is_printable (tree_of diagram.now) ≡ true }
     ensures { OnOk result (out.new.items ≡ out.old.items ++ tree_line (tree_of diagram.now)) }
 {
     if algebra.is_false(diagram) {
@@ -70,7 +79,8 @@ fn lines_text(
     algebra: &Algebra<'_>,
     diagrams: &[Diagram],
 ) -> Result<Vec<u8>, CanonicalFault>
-    requires { All (IsDiagram algebra.now) diagrams.now }
+    requires diagrams { All (IsDiagram algebra.now) diagrams.now }
+    requires printed { AllPass (λ m. is_printable (tree_of m)) diagrams.now }
     ensures { Tells (λ r. r ≡ short_text (trees_text (map tree_of diagrams.now))) result }
 {
     let mut out = Vec::new(alloc);

@@ -1,4 +1,5 @@
 mod ProofFaults
+mod Judgements
 mod MarkerFiles
 mod Mergeable
 mod Answering

@@ -1,11 +1,15 @@
 -- Whether an old lock stays, and what is answered where it does or doesn't.
-use Rattle.std.proofs.Common.{◌≡◌, ◌≢◌, ◌<◌, ◌≤◌, ◌∙◌, ℕ, List, [], ◌++◌, Bool, true, false, if◌then◌else◌, codes, length, nat_le, Decides, Option, Some, None, IfSome, Result, Ok, Err, refl, sym, ap, subst, arith, inl, inr}
+use Rattle.std.proofs.Common.{◌≡◌, ◌≢◌, ◌<◌, ◌≤◌, ◌∙◌, ℕ, List, [], ◌++◌, Bool, true, false, if◌then◌else◌, codes, length, nat_le, Decides, Option, Some, None, IfSome, Result, Ok, Err, IfOk, Vec, Global, refl, sym, ap, subst, arith, inl, inr}
 use Rattle.std.specs.Prelude.{string_bytes}
+use Rattle.std.specs.declared.alloc.AllocError.{AllocError}
 use Rattle.ul_nodes.specs.Plain.{Plain}
 use Rattle.ul_tree.specs.Paths.{is_printable}
 use Rattle.ul_lock.specs.declared.parts.Lock.{Lock}
+use Rattle.ul_lock_write.specs.Headline.{WritesLock}
 use Rattle.ul_lock_write.specs.Markers.{first_over, markers_of}
 use Rattle.ul_lock_write.specs.Texts.{lock_text}
+use Rattle.ul_lock_write.specs.declared.writing.WriteFault.{WriteFault}
+use Rattle.ul_lock_write.specs.declared.writing.WriteFault.TheVariants.{TooManyPaths, TooLong, NoMemory as NoMemoryToWrite}
 use Rattle.ul_verified.specs.Verified.{IsVerified}
 use Rattle.ul_verify.specs.Headline.{IsWrong}
 use Rattle.ul_generations.specs.Generations.{leaves_are, refused_at, too_many}
@@ -22,7 +26,7 @@ use Rattle.ul_answers.specs.Answer as answer
 use Rattle.ul_answers.specs.Printed.{lock_output, output_of, printed, refused_output, refusal_output}
 use Rattle.ul_answers.specs.Views.{view}
 use Rattle.ul_answers.specs.declared.answer.Answer.{Answer}
-use Rattle.ul_commands.specs.Keeping.{IsWritable, StaysAs, is_acceptance, lock_of_answer}
+use Rattle.ul_commands.specs.Keeping.{IsWritable, StaysAs, is_acceptance, lock_of_answer, was_written}
 use Rattle.ul_commands.specs.Locking.{IsLockAnswer, LocksFor, RefusedWhere, answer_where}
 use Rattle.ul_commands.specs.Relocking.{IsKept, IsRelockAnswer, ListsNoOther, fork_count, refreshed, unkept}
 use Rattle.ul_commands.specs.Verifying.{IsVerifyAnswer}
@@ -66,14 +70,22 @@ module _ (r : ResolutionFields) (before now : Lock) where
 
 -- ---- whether a lock can be written
 
-pub written_fits : (l : Lock) (text : List ℕ) → (first_over (markers_of l) ≡ None) × (text ≡ lock_text l) × (length text ≤ text_bytes) → Decides true (IsWritable l)
+written_fits : (l : Lock) (text : List ℕ) → (first_over (markers_of l) ≡ None) × (text ≡ lock_text l) × (length text ≤ text_bytes) → Decides true (IsWritable l)
 written_fits l text h = (λ e. record { paths = h.0; bytes = subst (λ t. length t ≤ text_bytes) h.1 h.2 }, λ w. refl)
 
-pub over_paths : (l : Lock) (n : ℕ) → first_over (markers_of l) ≡ Some n → Decides false (IsWritable l)
+over_paths : (l : Lock) (n : ℕ) → first_over (markers_of l) ≡ Some n → Decides false (IsWritable l)
 over_paths l n over = (λ e. absurd (cc e), λ w. absurd (let bad : Some n ≡ None = sym over ∙ w.paths in cc))
 
-pub over_bytes : (l : Lock) → (first_over (markers_of l) ≡ None) × (text_bytes < length (lock_text l)) → Decides false (IsWritable l)
+over_bytes : (l : Lock) → (first_over (markers_of l) ≡ None) × (text_bytes < length (lock_text l)) → Decides false (IsWritable l)
 over_bytes l h = (λ e. absurd (cc e), λ w. absurd (omega (arith, h.1, w.bytes)))
+
+-- so what became of writing it decides
+pub written_decides : (l : Lock) (written : Result (Vec ℕ Global) WriteFault) (out : Result Bool AllocError) → WritesLock l written
+    → out ≡ was_written written → IfOk out (λ b. Decides b (IsWritable l))
+written_decides l (Ok text) out h is = rw is (written_fits l text.items h)
+written_decides l (Err (TooManyPaths paths)) out h is = rw is (over_paths l paths h)
+written_decides l (Err TooLong) out h is = rw is (over_bytes l h)
+written_decides l (Err NoMemoryToWrite) out h is = rw is tt
 
 -- ---- whether an answer of `lock` is printed
 

@@ -1,6 +1,7 @@
 -- What `check` answers: whether a derivation is accepted by the problem of its own region, made from a project and an index.
-use Rattle.std.specs.Prelude.{◌≡◌, ◌⊎◌, ℕ, List, [], ◌++◌, codes, Option, Some, None, Result, Ok, Err}
+use Rattle.std.specs.Prelude.{◌≡◌, ◌⊎◌, ℕ, List, [], ◌++◌, codes, Option, Some, None, Result, Ok, Err, alloc_error}
 use Rattle.std.specs.Fmt.{decimal}
+use Rattle.std.specs.declared.alloc.AllocError.{AllocError}
 use Rattle.ul_project.specs.Fields.{ProjectFields}
 use Rattle.ul_lines.specs.Faults.{IsFault}
 use Rattle.ul_lines.specs.Lines.{lines_of}
@@ -9,11 +10,15 @@ use Rattle.ul_report_read.specs.Proofs.{AreProofLines, IsTextOf}
 use Rattle.ul_report_read.specs.declared.proof.Proof.{Proof}
 use Rattle.ul_report_read.specs.declared.reading.ProofFault.{ProofFault}
 use Rattle.ul_report_read.specs.declared.reading.ProofFault.TheVariants.{Line, NoMemory}
+use Rattle.ul_derivation.specs.declared.accept.AcceptFault.{AcceptFault}
+use Rattle.ul_derivation.specs.declared.accept.AcceptFault.TheVariants.{StepFault, NoMemory as NoMemoryToJudge}
 use Rattle.ul_report_judge.specs.Faults.{AcceptsNames, IsFirstBad}
 use Rattle.ul_inputs.specs.Inputs.{Input, ◌>>=◌, answer, large_file}
 use Rattle.ul_inputs.specs.Refused.{Refused, malformed}
 use Rattle.ul_inputs.specs.Resolutions.{ResolutionFields, resolution_with}
 use Rattle.ul_answers.specs.Answer.{Answer, accepted, rejected}
+use Rattle.ul_answers.specs.declared.answer.Answer.{Answer as AnswerToPrint}
+use Rattle.ul_answers.specs.declared.answer.Answer.TheVariants.{Accepted, Rejected}
 use Rattle.ul_commands.specs.Questions.{IsProblemIn}
 
 -- what a fault of the code says, if it isn't want of memory
@@ -58,6 +63,12 @@ pub record IsRejected (r : ResolutionFields) (x : Proof) (a : Result Answer Refu
 -- the answer of `check` to a resolution and a derivation
 abbrev pub IsCheckAnswer : ResolutionFields → Proof → Result Answer Refused → Type 0
 IsCheckAnswer r x a = IsAccepted r x a ⊎ IsRejected r x a
+
+-- the answer that a judgement of the code gives; want of memory where that ended it
+abbrev pub answer_of : Result (Unit {0}) AcceptFault → Result AnswerToPrint AllocError
+answer_of (Ok x) = Ok Accepted
+answer_of (Err (StepFault step)) = Ok (Rejected step)
+answer_of (Err NoMemoryToJudge) = Err alloc_error
 
 -- the answer to a derivation, for a project with the documents of an index folder
 abbrev pub check_with : (folder : List ℕ) → ProjectFields → Proof → Input Answer

@@ -2,12 +2,12 @@
 //!
 //! What an answer is found with is left to the end of the process by `mem::forget`: that comes soon, and the system
 //! takes large values back at once, where letting go of them goes through them piece by piece.
-ghost use Rattle.std.specs.Prelude.{◌≡◌, IfOk, Ok, Some};
-ghost use Rattle.std.specs.Fmt.{decimal};
+ghost use Rattle.std.specs.Prelude.{◌≡◌, ℕ, List, IfOk, Ok};
 ghost use Rattle.ul_files.specs.Files.{ByReads, Remembers};
 ghost use Rattle.ul_algebra.specs.Spelled.{tree_of};
 ghost use Rattle.ul_region.specs.Truths.{IsRegion};
 ghost use Rattle.ul_answers.specs.Views.{view as answer_view};
+ghost use Rattle.ul_inputs.specs.FileFaults.{refused_file};
 ghost use Rattle.ul_inputs.specs.Inputs.{only};
 ghost use Rattle.ul_inputs.specs.Refusals.{Answers, Cause, IsRefusalFor};
 ghost use Rattle.ul_inputs.specs.Resolutions.{IsResolution, view};
@@ -22,24 +22,28 @@ use ul_algebra::{Algebra, Diagram};
 use ul_answers::Answer;
 use ul_derivation::AcceptFault;
 use ul_files::Files;
-use ul_inputs::{Refusal, Resolution, large_file, malformed};
+use ul_inputs::{FileFault, FilePlace, Refusal, Resolution, file_refusal, large_file};
 use ul_interner::Interner;
 use ul_placing::problem_of;
 use ul_problem::Problem;
 use ul_report_judge::judge;
 use ul_report_read::{Proof, ProofFault, read};
 
+// What is wrong with a derivation file.
+fn file_fault(fault: ProofFault) -> FileFault
+    ensures { (path : List ℕ) → refused_file path result ≡ spec.refused_proof path fault }
+{
+    match fault {
+        ProofFault::Line(line) => FileFault::At(FilePlace::Numbered("line", line)),
+        ProofFault::NoMemory => FileFault::NoMemory,
+    }
+}
+
 // The refusal of a derivation file for its fault.
 fn refusal(alloc: Global, path: &str, fault: ProofFault) -> Refusal
     ensures { IsRefusalFor (spec.refused_proof path.now fault) result }
 {
-    match fault {
-        ProofFault::Line(line) => match format!(in alloc; "line {line}") {
-            Ok(place) => malformed(alloc, path, place),
-            Err(_) => Refusal::NoMemory,
-        },
-        ProofFault::NoMemory => Refusal::NoMemory,
-    }
+    file_refusal(alloc, path, file_fault(fault))
 }
 
 // The derivation of a text.
@@ -92,6 +96,17 @@ fn problem_at<R: Wait>(
     )
 }
 
+// The answer that a judgement gives; want of memory where that ended it.
+fn answer_of(judgement: Result<(), AcceptFault>) -> Result<Answer, AllocError>
+    ensures { result ≡ spec.answer_of judgement }
+{
+    match judgement {
+        Ok(()) => Ok(Answer::Accepted),
+        Err(AcceptFault::StepFault { step }) => Ok(Answer::Rejected(step)),
+        Err(AcceptFault::NoMemory) => Err(AllocError),
+    }
+}
+
 // The judgement of a derivation on the problem of its region.
 fn judged(
     alloc: Global,
@@ -102,11 +117,7 @@ fn judged(
     requires { IsProblemIn (view resolution.now) proof.now.region problem.now }
     ensures { IfOk result (λ a. spec.IsCheckAnswer (view resolution.now) proof.now (Ok (answer_view a))) }
 {
-    match judge(alloc, problem, &proof.steps) {
-        Ok(()) => Ok(Answer::Accepted),
-        Err(AcceptFault::StepFault { step }) => Ok(Answer::Rejected(step)),
-        Err(AcceptFault::NoMemory) => Err(AllocError),
-    }
+    answer_of(judge(alloc, problem, &proof.steps))
 }
 
 // The answer to a resolution and a derivation, by an algebra.

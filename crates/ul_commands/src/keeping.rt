@@ -4,11 +4,11 @@ ghost use Rattle.ul_lock.specs.WellFormed.{IsWellFormed};
 ghost use Rattle.ul_answers.specs.Views.{view as answer_view};
 ghost use Rattle.ul_inputs.specs.Resolutions.{view};
 ghost use Rattle.ul_verified.specs.Verified.{IsVerified};
-ghost use Rattle.ul_commands.specs.Keeping.{IsWritable, StaysAs, is_acceptance};
+ghost use Rattle.ul_commands.specs.Keeping.{IsWritable, StaysAs, is_acceptance, was_written};
 ghost use Rattle.ul_commands.specs.Relocking.{refreshed, refreshed_package};
 
 use crate::root_extras::lists_no_other;
-use crate::verifying::verify;
+use crate::verifying::verdict;
 use std::alloc::{AllocError, Global};
 use std::mem;
 use std::sync::Wait;
@@ -41,14 +41,10 @@ fn is_verified<R: Wait>(
     ensures { IfOk result
         (λ b. Decides b (IsVerified (view resolution.now).catalog (view resolution.now).project lock.now)) }
 {
-    match verify(rt, alloc, resolution, lock) {
-        Ok(answer) => {
-            let accepted = is_acceptance(&answer);
-            mem::forget(answer);
-            Ok(accepted)
-        }
-        Err(_) => Err(AllocError),
-    }
+    let answer = verdict(rt, alloc, resolution, lock)?;
+    let accepted = is_acceptance(&answer);
+    mem::forget(answer);
+    Ok(accepted)
 }
 
 // Gives a package the files of its release.
@@ -85,16 +81,11 @@ fn refresh(alloc: Global, catalog: &Catalog, lock: &mut Lock) -> Result<(), Allo
     done
 }
 
-/// Whether a lock can be written. Its text is made for that, and let go again.
-///
-/// # Errors
-///
-/// Only for want of memory.
-#[tactic(auto, using(crate::proofs::Relocked::written_fits, crate::proofs::Relocked::over_paths, crate::proofs::Relocked::over_bytes))]
-pub(crate) fn is_writable(alloc: Global, lock: &Lock) -> Result<bool, AllocError>
-    ensures { IfOk result (λ b. Decides b (IsWritable lock.now)) }
+// Whether a lock was written; want of memory where that ended it.
+fn was_written(written: Result<Vec<u8>, WriteFault>) -> Result<bool, AllocError>
+    ensures { result ≡ was_written written }
 {
-    match write(alloc, lock) {
+    match written {
         Ok(text) => {
             drop(text);
             Ok(true)
@@ -103,6 +94,17 @@ pub(crate) fn is_writable(alloc: Global, lock: &Lock) -> Result<bool, AllocError
         Err(WriteFault::TooLong) => Ok(false),
         Err(WriteFault::NoMemory) => Err(AllocError),
     }
+}
+
+/// Whether a lock can be written. Its text is made for that, and let go again.
+///
+/// # Errors
+///
+/// Only for want of memory.
+pub(crate) fn is_writable(alloc: Global, lock: &Lock) -> Result<bool, AllocError>
+    ensures { IfOk result (λ b. Decides b (IsWritable lock.now)) }
+{
+    was_written(write(alloc, lock))
 }
 
 /// Whether an old lock stays for a resolution's project and catalog. It is given the catalog's files where it does.

@@ -1,7 +1,8 @@
 //! The answer of `marker`.
-ghost use Rattle.std.specs.Prelude.{◌≡◌};
+ghost use Rattle.std.specs.Prelude.{◌≡◌, ℕ, List};
 ghost use Rattle.ul_files.specs.Files.{ByReads, Remembers};
 ghost use Rattle.ul_answers.specs.Views.{view as answer_view};
+ghost use Rattle.ul_inputs.specs.FileFaults.{refused_file};
 ghost use Rattle.ul_inputs.specs.Inputs.{only};
 ghost use Rattle.ul_inputs.specs.Refusals.{Answers, Cause, IsRefusalFor};
 ghost use Rattle.ul_commands.specs.Markers as spec;
@@ -13,24 +14,28 @@ use std::sync::Wait;
 use ul_answers::Answer;
 use ul_canonical::{CanonicalFault, canonical};
 use ul_files::Files;
-use ul_inputs::{Refusal, TEXT_BYTES, malformed, small_file};
+use ul_inputs::{FileFault, FilePlace, Refusal, TEXT_BYTES, file_refusal, small_file};
 use ul_load::COMPARISONS;
 use ul_tree::MOST_PATHS;
+
+// What is wrong with a file of markers.
+fn file_fault(fault: CanonicalFault) -> FileFault
+    ensures { (path : List ℕ) → refused_file path result ≡ spec.refused_fault path fault }
+{
+    match fault {
+        CanonicalFault::Line(line) => FileFault::At(FilePlace::Numbered("line", line)),
+        CanonicalFault::TooManyComparisons => FileFault::Limit("comparisons", COMPARISONS as u64),
+        CanonicalFault::TooManyPaths => FileFault::Limit("marker-paths", MOST_PATHS as u64),
+        CanonicalFault::TooLong => FileFault::Limit("text-bytes", TEXT_BYTES),
+        CanonicalFault::NoMemory => FileFault::NoMemory,
+    }
+}
 
 // The refusal of a file of markers for its fault.
 fn refusal(alloc: Global, path: &str, fault: CanonicalFault) -> Refusal
     ensures { IsRefusalFor (spec.refused_fault path.now fault) result }
 {
-    match fault {
-        CanonicalFault::Line(line) => match format!(in alloc; "line {line}") {
-            Ok(place) => malformed(alloc, path, place),
-            Err(_) => Refusal::NoMemory,
-        },
-        CanonicalFault::TooManyComparisons => Refusal::Limit("comparisons", COMPARISONS as u64),
-        CanonicalFault::TooManyPaths => Refusal::Limit("marker-paths", MOST_PATHS as u64),
-        CanonicalFault::TooLong => Refusal::Limit("text-bytes", TEXT_BYTES),
-        CanonicalFault::NoMemory => Refusal::NoMemory,
-    }
+    file_refusal(alloc, path, file_fault(fault))
 }
 
 // The canonical texts of the markers of a file's bytes.

@@ -1,6 +1,7 @@
 pub mod Inputs
 pub mod Refused
 pub mod Refusals
+pub mod FileFaults
 pub mod Projects
 pub mod Locks
 pub mod Catalogs

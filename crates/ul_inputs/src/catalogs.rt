@@ -1,41 +1,37 @@
 //! The catalog of a project from its index folder.
-ghost use Rattle.std.specs.Prelude.{◌≡◌, ◌++◌, IfOk, codes, string_bytes};
+ghost use Rattle.std.specs.Prelude.{◌≡◌, ℕ, List, IfOk};
 ghost use Rattle.ul_files.specs.Files.{ByReads, Remembers};
-ghost use Rattle.ul_index.specs.Places.{place_text};
 ghost use Rattle.ul_load.specs.Begun.{BeginsWith};
+ghost use Rattle.ul_inputs.specs.FileFaults.{refused_file};
 ghost use Rattle.ul_inputs.specs.Catalogs as spec;
 ghost use Rattle.ul_inputs.specs.Refusals.{Answers, Cause, IsRefusalFor};
 
-use crate::refusal::{Refusal, malformed, malformed_at};
-use std::alloc::{AllocError, Global};
+use crate::file_faults::{FileFault, FilePlace, file_refusal};
+use crate::refusal::Refusal;
+use std::alloc::Global;
 use ul_files::Files;
 use ul_groups::adjust;
-use ul_index::{Catalog, IndexFault, Place};
+use ul_index::{Catalog, IndexFault};
 use ul_load::{COMPARISONS, FILE_BYTES, LoadFault, PACKAGES, RELEASES, TOTAL_BYTES, load_project};
 use ul_project::Project;
 
-// A place of another shape, behind the word on it.
-fn shape_text(alloc: Global, place: Place) -> Result<String, AllocError>
-    ensures { IfOk result (λ t. string_bytes t ≡ codes "shape " ++ place_text place) }
+// What is wrong with a document.
+fn file_fault(fault: IndexFault) -> FileFault
+    ensures { (path : List ℕ) → refused_file path result ≡ spec.refused_document path fault }
 {
-    let path = place.text(alloc)?;
-    let text = format!(in alloc; "shape {path}")?;
-    Ok(text)
+    match fault {
+        IndexFault::NotJson => FileFault::At(FilePlace::Fixed("not JSON")),
+        IndexFault::Shape(place) => FileFault::At(FilePlace::Document(place)),
+        IndexFault::WrongName => FileFault::At(FilePlace::Fixed("name")),
+        IndexFault::NoMemory => FileFault::NoMemory,
+    }
 }
 
 // The refusal of a document for its fault.
 fn document_refusal(alloc: Global, path: &str, fault: IndexFault) -> Refusal
     ensures { IsRefusalFor (spec.refused_document path.now fault) result }
 {
-    match fault {
-        IndexFault::NotJson => malformed_at(alloc, path, "not JSON"),
-        IndexFault::Shape(place) => match shape_text(alloc, place) {
-            Ok(place) => malformed(alloc, path, place),
-            Err(_) => Refusal::NoMemory,
-        },
-        IndexFault::WrongName => malformed_at(alloc, path, "name"),
-        IndexFault::NoMemory => Refusal::NoMemory,
-    }
+    file_refusal(alloc, path, file_fault(fault))
 }
 
 // The refusal of an index folder for its fault.

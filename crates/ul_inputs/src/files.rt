@@ -2,15 +2,35 @@
 ghost use Rattle.std.specs.Prelude.{◌≡◌, codes, option_map};
 ghost use Rattle.ul_files.specs.Files.{ByReads, Remembers};
 ghost use Rattle.ul_inputs.specs.Inputs as spec;
-ghost use Rattle.ul_inputs.specs.Refusals.{Answers, Cause};
+ghost use Rattle.ul_inputs.specs.Refusals.{Answers, Cause, IsReadRefusal};
 
-use crate::refusal::{Refusal, malformed_at};
-use std::alloc::Global;
+use crate::file_faults::{FileFault, FilePlace, file_refusal};
+use crate::refusal::Refusal;
+use std::alloc::{AllocError, Global};
 use ul_files::{Files, ReadRefused};
 use ul_load::FILE_BYTES;
 
 /// The most bytes that a lock or a derivation may have.
 pub const TEXT_BYTES: u64 = 67_108_864;
+
+// The refusal of a file that isn't read, with its path, if there is memory for it: a read that failed names it.
+fn refusal(
+    name: &'static str,
+    most: u64,
+    path: Result<String, AllocError>,
+    refused: ReadRefused,
+) -> Refusal
+    ensures { IsReadRefusal name.now most path refused result }
+{
+    match refused {
+        ReadRefused::NoMemory => Refusal::NoMemory,
+        ReadRefused::TooLong => Refusal::Limit(name, most),
+        ReadRefused::Failed => match path {
+            Ok(path) => Refusal::ReadFault(path),
+            Err(_) => Refusal::NoMemory,
+        },
+    }
+}
 
 // The bytes at a path, if the file is there.
 fn file_at<F: Files>(
@@ -28,9 +48,10 @@ fn file_at<F: Files>(
 {
     match files.read(path, most) {
         Ok(found) => Ok(found),
-        Err(ReadRefused::NoMemory) => Err(Refusal::NoMemory),
-        Err(ReadRefused::TooLong) => Err(Refusal::Limit(name, most)),
-        Err(ReadRefused::Failed) => Err(Refusal::ReadFault(String::from_str(alloc, path)?)),
+        Err(refused) => {
+            let path = String::from_str(alloc, path);
+            Err(refusal(name, most, path, refused))
+        }
     }
 }
 
@@ -50,7 +71,7 @@ fn present_file<F: Files>(
 {
     match file_at(alloc, files, name, most, path)? {
         Some(bytes) => Ok(bytes),
-        None => Err(malformed_at(alloc, path, "absent")),
+        None => Err(file_refusal(alloc, path, FileFault::At(FilePlace::Fixed("absent")))),
     }
 }
 

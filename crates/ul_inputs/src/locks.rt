@@ -1,13 +1,15 @@
 //! Locks that are read, and what an old one keeps.
-ghost use Rattle.std.specs.Prelude.{◌≡◌, Some, IfOk, Ok, bytes_eq, option_map};
+ghost use Rattle.std.specs.Prelude.{◌≡◌, ℕ, List, Some, IfOk, Ok, bytes_eq, option_map};
 ghost use Rattle.ul_files.specs.Files.{ByReads, Remembers};
 ghost use Rattle.ul_lock.specs.WellFormed.{IsWellFormed};
+ghost use Rattle.ul_inputs.specs.FileFaults.{refused_file};
 ghost use Rattle.ul_inputs.specs.Inputs.{only};
 ghost use Rattle.ul_inputs.specs.Locks as spec;
 ghost use Rattle.ul_inputs.specs.Refusals.{Answers, Cause, IsRefusalFor};
 
+use crate::file_faults::{FileFault, FilePlace, file_refusal};
 use crate::files::large_file;
-use crate::refusal::{Refusal, malformed, malformed_at};
+use crate::refusal::Refusal;
 use std::alloc::{AllocError, Global};
 use ul_base::Name;
 use ul_base::owned::with_made;
@@ -16,26 +18,23 @@ use ul_lock::{Lock, Locked};
 use ul_lock_read::{LockFault, read};
 use ul_version::Version;
 
-// The refusal of a lock file at a place with a number.
-fn numbered(alloc: Global, file: &str, word: &str, number: u64) -> Refusal
-    ensures { IsRefusalFor (Some (spec.numbered file.now word.now number)) result }
+// What is wrong with a lock file.
+fn file_fault(fault: LockFault) -> FileFault
+    ensures { (path : List ℕ) → refused_file path result ≡ spec.refused_lock path fault }
 {
-    match format!(in alloc; "{word} {number}") {
-        Ok(place) => malformed(alloc, file, place),
-        Err(_) => Refusal::NoMemory,
+    match fault {
+        LockFault::Line(line) => FileFault::At(FilePlace::Numbered("line", line)),
+        LockFault::Root => FileFault::At(FilePlace::Fixed("root")),
+        LockFault::Target(package) => FileFault::At(FilePlace::Numbered("target", package)),
+        LockFault::NoMemory => FileFault::NoMemory,
     }
 }
 
 // The refusal of a lock file for its fault.
-fn refusal(alloc: Global, file: &str, fault: LockFault) -> Refusal
-    ensures { IsRefusalFor (spec.refused_lock file.now fault) result }
+fn refusal(alloc: Global, path: &str, fault: LockFault) -> Refusal
+    ensures { IsRefusalFor (spec.refused_lock path.now fault) result }
 {
-    match fault {
-        LockFault::Line(line) => numbered(alloc, file, "line", line),
-        LockFault::Root => malformed_at(alloc, file, "root"),
-        LockFault::Target(package) => numbered(alloc, file, "target", package),
-        LockFault::NoMemory => Refusal::NoMemory,
-    }
+    file_refusal(alloc, path, file_fault(fault))
 }
 
 // The lock of a text.

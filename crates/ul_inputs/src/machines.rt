@@ -1,38 +1,36 @@
 //! The machine of a machine file.
-ghost use Rattle.std.specs.Prelude.{◌≡◌, ◌++◌, IfOk, codes, string_bytes};
+ghost use Rattle.std.specs.Prelude.{◌≡◌, ℕ, List};
 ghost use Rattle.ul_files.specs.Files.{ByReads, Remembers};
 ghost use Rattle.ul_comparison.specs.MachineFiles.{machine_of};
+ghost use Rattle.ul_inputs.specs.FileFaults.{refused_file};
 ghost use Rattle.ul_inputs.specs.Inputs.{only};
 ghost use Rattle.ul_inputs.specs.Machines as spec;
 ghost use Rattle.ul_inputs.specs.Refusals.{Answers, Cause, IsRefusalFor};
 
+use crate::file_faults::{FileFault, FilePlace, file_refusal};
 use crate::files::small_file;
-use crate::refusal::{Refusal, malformed, malformed_at};
-use std::alloc::{AllocError, Global};
+use crate::refusal::Refusal;
+use std::alloc::Global;
 use ul_files::Files;
 use ul_marker::{EnvFault, Machine};
 
-// The place of a key that is missing.
-fn missing(alloc: Global, key: &str) -> Result<String, AllocError>
-    ensures { IfOk result (λ t. string_bytes t ≡ codes "missing " ++ key.now) }
+// What is wrong with a machine file.
+fn file_fault(fault: EnvFault) -> FileFault
+    ensures { (path : List ℕ) → refused_file path result ≡ spec.refused_machine path fault }
 {
-    let text = format!(in alloc; "missing {key}")?;
-    Ok(text)
+    match fault {
+        EnvFault::NotJson => FileFault::At(FilePlace::Fixed("not JSON")),
+        EnvFault::Missing(key) => FileFault::At(FilePlace::Missing(key)),
+        EnvFault::PythonForm => FileFault::At(FilePlace::Fixed("python form")),
+        EnvFault::NoMemory => FileFault::NoMemory,
+    }
 }
 
 // The refusal of a machine file for its fault.
-fn refusal(alloc: Global, file: &str, fault: EnvFault) -> Refusal
-    ensures { IsRefusalFor (spec.refused_machine file.now fault) result }
+fn refusal(alloc: Global, path: &str, fault: EnvFault) -> Refusal
+    ensures { IsRefusalFor (spec.refused_machine path.now fault) result }
 {
-    match fault {
-        EnvFault::NotJson => malformed_at(alloc, file, "not JSON"),
-        EnvFault::Missing(key) => match missing(alloc, key.as_str()) {
-            Ok(place) => malformed(alloc, file, place),
-            Err(_) => Refusal::NoMemory,
-        },
-        EnvFault::PythonForm => malformed_at(alloc, file, "python form"),
-        EnvFault::NoMemory => Refusal::NoMemory,
-    }
+    file_refusal(alloc, path, file_fault(fault))
 }
 
 // The machine that bytes say.

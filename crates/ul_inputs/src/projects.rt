@@ -1,54 +1,46 @@
 //! The project of a project file.
-ghost use Rattle.std.specs.Prelude.{◌≡◌, ◌++◌, [], IfOk, Some, string_bytes};
+ghost use Rattle.std.specs.Prelude.{◌≡◌, ℕ, List, [], IfOk};
 ghost use Rattle.ul_files.specs.Files.{ByReads, Remembers};
-ghost use Rattle.ul_project.specs.Paths.{path_text};
 ghost use Rattle.ul_groups.specs.Expanded.{expanded_project};
+ghost use Rattle.ul_inputs.specs.FileFaults.{refused_file};
 ghost use Rattle.ul_inputs.specs.Inputs.{only};
 ghost use Rattle.ul_inputs.specs.Projects as spec;
-ghost use Rattle.ul_inputs.specs.Refused as refused;
 ghost use Rattle.ul_inputs.specs.Resolutions.{HasUsable};
 ghost use Rattle.ul_inputs.specs.Refusals.{Answers, Cause, IsRefusalFor};
 
+use crate::file_faults::{FileFault, FilePlace, file_refusal};
 use crate::files::small_file;
-use crate::refusal::{Refusal, malformed, malformed_at};
-use std::alloc::{AllocError, Global};
+use crate::refusal::Refusal;
+use std::alloc::Global;
 use ul_files::Files;
 use ul_groups::expand;
-use ul_project::{Project, ProjectFault, ProjectPath, project};
+use ul_project::{Project, ProjectFault, project};
 
-// The place of a fault, behind a word on it.
-fn place(alloc: Global, word: &str, path: &ProjectPath) -> Result<String, AllocError>
-    ensures { IfOk result (λ t. string_bytes t ≡ word.now ++ path_text path.now) }
+// What is wrong with a project file.
+fn file_fault(fault: ProjectFault) -> FileFault
+    ensures { (path : List ℕ) → refused_file path result ≡ spec.refused_project path fault }
 {
-    let path = path.text(alloc)?;
-    let text = format!(in alloc; "{word}{path}")?;
-    Ok(text)
-}
-
-// The refusal of a project file at a place.
-fn refused_at(alloc: Global, file: &str, word: &str, path: ProjectPath) -> Refusal
-    ensures { IsRefusalFor (Some (refused.malformed file.now (word.now ++ path_text path))) result }
-{
-    let place = place(alloc, word, &path);
-    drop(path);
-    match place {
-        Ok(place) => malformed(alloc, file, place),
-        Err(_) => Refusal::NoMemory,
+    match fault {
+        ProjectFault::NotToml => FileFault::At(FilePlace::Fixed("not TOML")),
+        ProjectFault::Shape(place) => FileFault::At(FilePlace::Project("shape ", place)),
+        ProjectFault::Requirement(place) => FileFault::At(FilePlace::Project(
+            "requirement ",
+            place,
+        )),
+        ProjectFault::Unsupported(place) => FileFault::At(FilePlace::Project(
+            "unsupported ",
+            place,
+        )),
+        ProjectFault::EmptyRegion => FileFault::At(FilePlace::Fixed("empty region")),
+        ProjectFault::NoMemory => FileFault::NoMemory,
     }
 }
 
 // The refusal of a project file for its fault.
-fn refusal(alloc: Global, file: &str, fault: ProjectFault) -> Refusal
-    ensures { IsRefusalFor (spec.refused_project file.now fault) result }
+fn refusal(alloc: Global, path: &str, fault: ProjectFault) -> Refusal
+    ensures { IsRefusalFor (spec.refused_project path.now fault) result }
 {
-    match fault {
-        ProjectFault::NotToml => malformed_at(alloc, file, "not TOML"),
-        ProjectFault::Shape(path) => refused_at(alloc, file, "shape ", path),
-        ProjectFault::Requirement(path) => refused_at(alloc, file, "requirement ", path),
-        ProjectFault::Unsupported(path) => refused_at(alloc, file, "unsupported ", path),
-        ProjectFault::EmptyRegion => malformed_at(alloc, file, "empty region"),
-        ProjectFault::NoMemory => Refusal::NoMemory,
-    }
+    file_refusal(alloc, path, file_fault(fault))
 }
 
 // The project that bytes say.

@@ -1,8 +1,4 @@
 //! Why an input is refused.
-ghost use Rattle.std.specs.Prelude.{Some, string_bytes};
-ghost use Rattle.ul_inputs.specs.Refused.{malformed};
-ghost use Rattle.ul_inputs.specs.Refusals.{IsRefusalFor};
-
 use std::alloc::{AllocError, AllocFailed, Global};
 
 /// Why an input is refused.
@@ -37,25 +33,5 @@ impl<T: Drop> From<AllocFailed<T>> for Refusal {
 
     fn from(_: AllocFailed<T>) -> Refusal {
         Refusal::NoMemory
-    }
-}
-
-/// The refusal of the file at a path, at a place of it.
-pub fn malformed(alloc: Global, path: &str, place: String) -> Refusal
-    ensures { IsRefusalFor (Some (malformed path.now (string_bytes place))) result }
-{
-    match String::from_str(alloc, path) {
-        Ok(path) => Refusal::Malformed(path, place),
-        Err(_) => Refusal::NoMemory,
-    }
-}
-
-// The refusal of the file at a path, at a place of it that has a fixed text.
-pub(crate) fn malformed_at(alloc: Global, path: &str, place: &str) -> Refusal
-    ensures { IsRefusalFor (Some (malformed path.now place.now)) result }
-{
-    match String::from_str(alloc, place) {
-        Ok(place) => malformed(alloc, path, place),
-        Err(_) => Refusal::NoMemory,
     }
 }

@@ -14,7 +14,7 @@ use crate::words::{first_other, names_of};
 use std::alloc::{AllocError, Global};
 use ul_answers::Answer;
 use ul_base::Name;
-use ul_filter::{atoms, environment};
+use ul_filter::{WalkFault, atoms, environment};
 use ul_inputs::Refusal;
 use ul_lock::Lock;
 use ul_marker::{Machine, World, world_of};
@@ -50,7 +50,11 @@ fn given(
 {
     match environment(alloc, lock, machine, extras) {
         Ok(text) => Ok(text),
-        Err(_) => Err(AllocError),
+        Err(fault) => match fault {
+            WalkFault::Outside => unreachable!(),
+            WalkFault::NoExtra(_) => unreachable!(),
+            WalkFault::NoMemory => Err(AllocError),
+        },
     }
 }
 

@@ -22,7 +22,7 @@ use ul_base::Name;
 use ul_inputs::Refusal;
 use ul_interner::Interner;
 use ul_lock::Lock;
-use ul_reach::{Reached, reach};
+use ul_reach::{ReachFault, Reached, reach};
 
 // The rows of a lock, with extras of its root.
 fn rows_with<R: Wait>(
@@ -38,7 +38,10 @@ fn rows_with<R: Wait>(
 {
     match reach(rt, alloc, algebra, lock, extras) {
         Ok(rows) => Ok(rows),
-        Err(_) => Err(AllocError),
+        Err(fault) => match fault {
+            ReachFault::NoExtra(_) => unreachable!(),
+            ReachFault::NoMemory => Err(AllocError),
+        },
     }
 }
 
