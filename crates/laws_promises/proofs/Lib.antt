@@ -1,10 +1,13 @@
 mod OfAnswers
 mod OfLocks
 mod OfReasons
+mod OfMachines
 mod OfFiles
+mod OfComparisons
 mod OfRepeated
 mod OfEndings
 mod OfExports
 mod OfRegions
 mod OfRelocks
 mod OfMarkers
+mod OfRuns

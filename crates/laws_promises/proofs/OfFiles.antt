@@ -1,13 +1,14 @@
 -- What `verify` accepts, and what `env` prints of lock files.
-use Rattle.std.proofs.Common.{◌≡◌, ◌∙◌, ℕ, List, [], Bool, true, false, Option, Some, None, Result, Ok, refl, ap, sym, subst, inl, inr}
+use Rattle.std.proofs.Common.{◌≡◌, ◌∙◌, ◌++◌, ℕ, List, [], Bool, true, false, Option, Some, None, Result, Ok, refl, ap, sym, subst, inl, inr}
 use Rattle.ul_files.specs.Files.{FileMap}
-use Rattle.ul_comparison.specs.Machines.{MachineFields, world_of}
+use Rattle.ul_comparison.specs.Machines.{MachineFields}
 use Rattle.ul_project.specs.Fields.{ProjectFields}
 use Rattle.ul_lock.specs.declared.parts.Lock.{Lock}
-use Rattle.ul_filter.specs.Comparisons.{machine_world}
+use Rattle.ul_lock.specs.WellFormed.{IsWellFormed}
+use Rattle.ul_filter.specs.Comparisons.{lock_atoms, machine_world}
 use Rattle.ul_filter.specs.Headline.{is_supported_at}
-use Rattle.ul_inputs.specs.Inputs.{answer}
-use Rattle.ul_inputs.specs.Locks.{lock_at}
+use Rattle.ul_inputs.specs.Inputs.{answer, large_file}
+use Rattle.ul_inputs.specs.Locks.{lock_at, lock_said}
 use Rattle.ul_inputs.specs.Machines.{machine_at}
 use Rattle.ul_inputs.specs.Projects.{project_at}
 use Rattle.ul_inputs.specs.Refused.{Refused}
@@ -21,14 +22,19 @@ use Rattle.ul_commands.specs.Asked.{check, env, lock, verify}
 use Rattle.ul_commands.specs.Checking.{IsCheckAnswer, check_on, check_with, proof_at}
 use Rattle.ul_commands.specs.Commands.{command}
 use Rattle.ul_commands.specs.Verifying.{IsVerifyAnswer, verify_on, verify_with}
+use Rattle.laws_comparisons.specs.Comparisons.{FilesSayMachines, LocksHaveAtoms, MachinesHaveWorlds}
+use Rattle.laws_given.specs.Given.{GivenHasTexts, GivenIsResolution}
+use Rattle.laws_given.proofs.ForCallers.{on_ok}
 use Rattle.laws_commands.specs.Complete.{LocksWithinLimits}
 use Rattle.laws_commands.specs.Environments.{EnvironmentsOfFiles}
 use Rattle.laws_commands.specs.Reasons.{AcceptedAreUnserved}
 use Rattle.laws_commands.specs.Statuses.{EndsRightly, StatusesOfFiles, StatusesOfVerifiedFiles}
 use Rattle.laws_commands.specs.Verified.{EnvironmentsOfVerifiedFiles, VerifiedFilesAreSound}
-use Rattle.laws_promises.specs.Promises.{AcceptedAreRight, EnvironmentsAreRight, VerifiedAreRight, VerifiedEnvironmentsAreRight}
+use Rattle.laws_commands.specs.WellFormed.{LocksAreWellFormed}
+use Rattle.laws_promises.specs.Promises.{AcceptedAreRight, EnvironmentsAreRight, VerifiedAreRight, VerifiedEnvironmentsAreRight, world_with}
 use Rattle.laws_promises.proofs.OfAnswers.{asked_answer, on_zero, other_status}
 use Rattle.laws_promises.proofs.OfLocks.{printed_lock}
+use Rattle.laws_promises.proofs.OfMachines.{has_all, machine_is, world_is}
 
 -- ---- `env`
 
@@ -64,25 +70,29 @@ given_environment others m text path machine words a gives status e =
     let same : a ≡ Ok (answers.environment text) = p.is ∙ ap (λ t. Ok (answers.environment t)) (sym p.same) in
     subst (λ (x : Result answers.Answer Refused). (command (env path machine words) m).gives x) same gives
 
-pub environments_are_right : LocksWithinLimits → EnvironmentsOfFiles → StatusesOfFiles → EnvironmentsAreRight
-environments_are_right limits lines statuses words others before now bytes text project folder status workers old path machine extras r x
-    q v is there prints gave machined =
+pub environments_are_right : MachinesHaveWorlds → FilesSayMachines → LocksHaveAtoms → GivenIsResolution → GivenHasTexts → LocksAreWellFormed
+    → LocksWithinLimits → EnvironmentsOfFiles → StatusesOfFiles → EnvironmentsAreRight
+environments_are_right worlds files atoms given had formed limits lines statuses words others before now bytes text project folder status
+    workers old path machine extras r x q v is there prints gave machined =
     let asked = asked_answer words before 0 bytes (lock project folder workers old) q is in
     let p = printed_lock limits project folder old before asked.answer bytes asked.gives asked.prints.0 asked.prints.1 in
     let gives = subst (λ (y : Result answers.Answer Refused). (command (lock project folder workers old) before).gives y) p.is asked.gives in
     let env_asked = asked_answer others now status text (env path machine extras) v prints in
     let at = there ∙ ap (λ (t : List ℕ). Some t) p.text in
+    let resolution = given project folder old before p.resolution p.gave in
+    let well = formed p.resolution p.lock p.forks resolution (had project folder old before p.resolution p.gave) p.answers in
+    let is_machine = machine_is files machine now x machined in
     record {
       lock = p.lock;
       is = p.text;
-      right = λ comparisons all own. record {
+      right = λ comparisons own. record {
         ends =
-            subst (EndsRightly r.project (world_of x comparisons) extras) (sym env_asked.prints.0)
-            (statuses project folder old workers path machine extras before now r p.lock p.forks x env_asked.answer comparisons gave gives
-            at p.few machined all own env_asked.gives);
-        lists = λ ended world.
-            lines project folder old workers path machine extras before now r p.lock p.forks x text comparisons gave gives
-            at machined all world own
+            subst (EndsRightly r.project (world_with p.lock x comparisons) extras) (sym env_asked.prints.0)
+            (statuses project folder old workers path machine extras before now r p.lock p.forks x env_asked.answer
+            (lock_atoms p.lock ++ comparisons) gave gives at p.few machined (has_all p.lock comparisons) own env_asked.gives);
+        lists = λ ended all.
+            lines project folder old workers path machine extras before now r p.lock p.forks x text (lock_atoms p.lock ++ comparisons) gave gives
+            at machined (has_all p.lock comparisons) (world_is worlds atoms p.lock x comparisons well is_machine all) own
             (given_environment others now text path machine extras env_asked.answer env_asked.gives (sym ended ∙ env_asked.prints.0) env_asked.prints.1);
       };
     }
@@ -137,18 +147,25 @@ verified_are_right law words m bytes project folder path q is =
       sound = law project folder path m p.resolution p.lock p.gave p.read p.accepts;
     }
 
-pub verified_environments_are_right : EnvironmentsOfVerifiedFiles → StatusesOfVerifiedFiles → VerifiedEnvironmentsAreRight
-verified_environments_are_right lines statuses words others m bytes text project folder path machine status extras r l x comparisons
-    q v is prints gave read machined all own =
+-- a lock that is read is well formed
+read_well : (path : List ℕ) (m : FileMap) (l : Lock) → (lock_at path m).gives (Ok l) → IsWellFormed l
+read_well path m l gave = (on_ok (large_file path) (lock_said path) m l gave).answers.well_formed
+
+pub verified_environments_are_right : MachinesHaveWorlds → FilesSayMachines → LocksHaveAtoms → EnvironmentsOfVerifiedFiles
+    → StatusesOfVerifiedFiles → VerifiedEnvironmentsAreRight
+verified_environments_are_right worlds files atoms lines statuses words others m bytes text project folder path machine status extras r l x
+    comparisons q v is prints gave read machined own =
     let asked = asked_answer words m 0 bytes (verify project folder path) q is in
     let p = accepted_file project folder path m asked.answer asked.gives asked.prints.0 in
     let env_asked = asked_answer others m status text (env path machine extras) v prints in
     record {
       ends =
-          subst (EndsRightly r.project (world_of x comparisons) extras) (sym env_asked.prints.0)
-          (statuses project folder path machine extras m r l x env_asked.answer comparisons gave read machined p.accepts all own env_asked.gives);
-      lists = λ ended world.
-          lines project folder path machine extras m r l x text comparisons gave read machined p.accepts all world own
+          subst (EndsRightly r.project (world_with l x comparisons) extras) (sym env_asked.prints.0)
+          (statuses project folder path machine extras m r l x env_asked.answer (lock_atoms l ++ comparisons) gave read machined p.accepts
+          (has_all l comparisons) own env_asked.gives);
+      lists = λ ended all.
+          lines project folder path machine extras m r l x text (lock_atoms l ++ comparisons) gave read machined p.accepts
+          (has_all l comparisons) (world_is worlds atoms l x comparisons (read_well path m l read) (machine_is files machine m x machined) all) own
           (given_environment others m text path machine extras env_asked.answer env_asked.gives (sym ended ∙ env_asked.prints.0) env_asked.prints.1);
     }
 

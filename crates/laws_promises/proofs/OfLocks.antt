@@ -38,7 +38,7 @@ pub record PrintsLock (project folder : List ℕ) (old : Option (List ℕ)) (m :
   pub text : bytes ≡ lock_text lock
   pub few : length (lock_text lock) ≤ text_bytes
 
-text_of : (l : Lock) (forks : ℕ) (a : Result answers.Answer Refused) (bytes : List ℕ) → a ≡ Ok (answers.locked l forks)
+pub text_of : (l : Lock) (forks : ℕ) (a : Result answers.Answer Refused) (bytes : List ℕ) → a ≡ Ok (answers.locked l forks)
     → 0 ≡ (printed a).0 → bytes ≡ (printed a).1 → bytes ≡ lock_text l
 text_of l forks a bytes is status e =
     e ∙ (ap (λ x. (printed x).1) is ∙ written_is (first_over (markers_of l)) (lock_text l) (status ∙ ap (λ x. (printed x).0) is))

@@ -1,5 +1,5 @@
--- How `lock` and `why` end where their inputs are read.
-use Rattle.std.specs.Prelude.{◌≡◌, ◌≢◌, ◌⊎◌, ◌++◌, ℕ, List, true, codes, Option, Ok}
+-- How `lock`, `why` and `relock` end where their inputs are read.
+use Rattle.std.specs.Prelude.{◌≡◌, ◌≢◌, ◌⊎◌, ◌++◌, ℕ, List, true, codes, Option, Ok, Some}
 use Rattle.std.specs.Fmt.{decimal}
 use Rattle.ul_files.specs.Files.{FileMap}
 use Rattle.ul_comparison.specs.Worlds.{WorldFields, IsWorld}
@@ -9,9 +9,11 @@ use Rattle.ul_index.specs.Serves.{Selection}
 use Rattle.ul_split.specs.Worlds.{ServesAt}
 use Rattle.ul_generations.specs.Generations.{most_forks}
 use Rattle.ul_forks.specs.Outcome.{starts_of}
+use Rattle.ul_lock.specs.declared.parts.Lock.{Lock}
 use Rattle.ul_inputs.specs.Inputs.{text_bytes}
 use Rattle.ul_inputs.specs.Resolutions.{ResolutionFields, resolution_in}
-use Rattle.ul_commands.specs.Asked.{lock, why}
+use Rattle.ul_inputs.specs.Locks.{lock_at}
+use Rattle.ul_commands.specs.Asked.{lock, relock, why}
 use Rattle.ul_commands.specs.Questions.{question_of}
 use Rattle.ul_program.specs.Answer.{IsAnswer}
 use Rattle.ul_program.specs.Words.{question}
@@ -43,12 +45,20 @@ ReasonsEnd = (words : List (List ℕ)) (m : FileMap) (status : ℕ) (text projec
     → question words ≡ why project folder workers old → (resolution_in project folder old m).gives (Ok r)
     → IsAnswer words m status text → EndsByOne status text
 
+-- and so does `relock`, where the old lock is read
+abbrev pub RelocksEnd : Type 0
+RelocksEnd = (words : List (List ℕ)) (m : FileMap) (status : ℕ) (text project folder old : List ℕ) (workers : ℕ) (l : Lock)
+    (r : ResolutionFields)
+    → question words ≡ relock project folder workers old
+    → (lock_at old m).gives (Ok l) → (resolution_in project folder (Some old) m).gives (Ok r)
+    → IsAnswer words m status text → EndsByOne status text
+
 -- each world that the project supports has a selection that serves it
 abbrev pub IsServedEverywhere : ResolutionFields → Type 0
 IsServedEverywhere r = (w : WorldFields) → IsWorld w → region_of r.project.region w ≡ true
     → (s : Selection) × ServesAt r.catalog (starts_of (question_of r)) w s
 
--- under `deep` neither `lock` nor `why` refuses a fork then
+-- under `deep` none of `lock`, `why` and `relock` refuses a fork then
 pub record DeepRefusesNoFork : Type 0 where
   pub lock : (words : List (List ℕ)) (m : FileMap) (status : ℕ) (text project folder : List ℕ) (workers : ℕ)
       (old : Option (List ℕ)) (r : ResolutionFields)
@@ -59,3 +69,8 @@ pub record DeepRefusesNoFork : Type 0 where
       → question words ≡ why project folder workers old → (resolution_in project folder old m).gives (Ok r)
       → r.wish.strategy ≡ Deep → IsServedEverywhere r → IsAnswer words m status text
       → (status ≡ 0) ⊎ (text ≡ limit_line (codes "forks") most_forks)
+  pub relock : (words : List (List ℕ)) (m : FileMap) (status : ℕ) (text project folder old : List ℕ) (workers : ℕ) (l : Lock)
+      (r : ResolutionFields)
+      → question words ≡ relock project folder workers old
+      → (lock_at old m).gives (Ok l) → (resolution_in project folder (Some old) m).gives (Ok r)
+      → r.wish.strategy ≡ Deep → IsServedEverywhere r → IsAnswer words m status text → status ≢ 1

@@ -1,9 +1,9 @@
 -- What the program promises, over the words, the files, a status and the bytes that are printed. `IsAnswer words m status
 -- bytes` says that a status and bytes are an answer to the words on the files; by its headline `run` gives no others.
-use Rattle.std.specs.Prelude.{◌≡◌, ◌≤◌, ◌↔◌, ℕ, List, ◌++◌, Bool, true, codes, length, Option, Some, None, Ok}
+use Rattle.std.specs.Prelude.{◌≡◌, ◌≤◌, ◌↔◌, ℕ, List, ◌++◌, All, Bool, true, codes, length, Option, Some, None, Ok}
 use Rattle.ul_files.specs.Files.{FileMap, content}
 use Rattle.ul_version.specs.Fields.{Fields}
-use Rattle.ul_comparison.specs.Atoms.{AtomFields}
+use Rattle.ul_comparison.specs.Atoms.{AtomFields, IsAtom}
 use Rattle.ul_comparison.specs.Machines.{MachineFields, world_of}
 use Rattle.ul_comparison.specs.Worlds.{IsWorld, WorldFields}
 use Rattle.ul_nodes.specs.Plain.{Plain}
@@ -16,7 +16,7 @@ use Rattle.ul_forks.specs.Outcome.{IsOutcome, TreeOutcome, starts_of}
 use Rattle.ul_lock.specs.declared.parts.Lock.{Lock}
 use Rattle.ul_lock_write.specs.Texts.{lock_text}
 use Rattle.ul_lock.specs.WellFormed.{IsWellFormed}
-use Rattle.ul_filter.specs.Comparisons.{HasAll, lock_atoms}
+use Rattle.ul_filter.specs.Comparisons.{lock_atoms}
 use Rattle.ul_sound.specs.Sound.{AreProjectExtras, IsEligible, IsSound}
 use Rattle.ul_report.specs.Texts.{refusal_text}
 use Rattle.ul_report_read.specs.declared.proof.Proof.{Proof}
@@ -66,22 +66,27 @@ PrintedAreVerified = (words others : List (List ℕ)) (before now : FileMap) (by
     → IsAnswer words before 0 bytes → AgreeOn (resolution_in project folder None before).reads before now
     → content now path ≡ Some bytes → IsAnswer others now 0 (codes "verified\n")
 
--- What is right to answer of a lock in a world, with words for extras of the project: status 0 exactly where the project
--- supports the world and each word is a name; and with it the lines of exactly what is required there.
-pub record AnswersRightly (CanBeChosen : List ℕ → Fields → Type 0) (r : ResolutionFields) (l : Lock) (w : WorldFields)
-    (words : List (List ℕ)) (status : ℕ) (text : List ℕ) : Type 0 where
-  pub ends : EndsRightly r.project w words status
-  pub lists : status ≡ 0 → IsWorld w → ListsExactly CanBeChosen (IsRequired r l w (names_of words)) text
+-- a machine's world, with the truth of a lock's comparisons and of others, such as all that the project and its documents
+-- ask
+abbrev pub world_with : Lock → MachineFields → List AtomFields → WorldFields
+world_with l x others = world_of x (lock_atoms l ++ others)
 
--- The bytes of a lock, and what is right to answer of it in the world of a machine, where the truth of the lock's
--- comparisons or of more of them is known, such as of all that the project and the index ask for.
+-- What is right to answer of a lock in the world of a machine, with words for extras of the project: status 0 exactly where
+-- the project supports the world and each word is a name; and with it the lines of exactly what is required there.
+pub record AnswersRightly (CanBeChosen : List ℕ → Fields → Type 0) (r : ResolutionFields) (l : Lock) (x : MachineFields)
+    (others : List AtomFields) (words : List (List ℕ)) (status : ℕ) (text : List ℕ) : Type 0 where
+  pub ends : EndsRightly r.project (world_with l x others) words status
+  pub lists : status ≡ 0 → All IsAtom others
+      → ListsExactly CanBeChosen (IsRequired r l (world_with l x others) (names_of words)) text
+
+-- the bytes of a lock, and what is right to answer of it on a machine, whichever comparisons its world is taken with beside
+-- the lock's
 pub record IsRightEnvironment (r : ResolutionFields) (x : MachineFields) (words : List (List ℕ)) (bytes : List ℕ) (status : ℕ)
     (text : List ℕ) : Type 0 where
   pub lock : Lock
   pub is : bytes ≡ lock_text lock
-  pub right : (comparisons : List AtomFields) → HasAll comparisons (lock_atoms lock)
-      → AreProjectExtras r.project (names_of words)
-      → AnswersRightly (IsSpelled r.catalog) r lock (world_of x comparisons) words status text
+  pub right : (others : List AtomFields) → AreProjectExtras r.project (names_of words)
+      → AnswersRightly (IsSpelled r.catalog) r lock x others words status text
 
 -- of a file into which `lock` printed, `env` with names of the project's extras ends with status 0 exactly where the
 -- project supports the machine's world, and then lists exactly what it requires there
@@ -193,8 +198,8 @@ VerifiedEnvironmentsAreRight = (words others : List (List ℕ)) (m : FileMap) (b
     → IsAnswer words m 0 bytes → IsAnswer others m status text
     → (resolution_in project folder None m).gives (Ok r) → (lock_at path m).gives (Ok l)
     → (machine_at machine m).gives (Ok x)
-    → HasAll comparisons (lock_atoms l) → AreProjectExtras r.project (names_of extras)
-    → AnswersRightly (IsEligible r.catalog) r l (world_of x comparisons) extras status text
+    → AreProjectExtras r.project (names_of extras)
+    → AnswersRightly (IsEligible r.catalog) r l x comparisons extras status text
 
 -- ---- workers
 

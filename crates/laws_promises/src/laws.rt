@@ -1,11 +1,14 @@
 //! The promises of `lock`, `relock`, `why`, `check`, `verify`, `env`, `export` and `marker`, as they end with a status
-//! and print bytes. None of these functions does anything but name the laws that it rests on.
-ghost use Rattle.laws_promises.specs.Endings.{DeepRefusesNoFork, LocksEnd, ReasonsEnd};
-ghost use Rattle.laws_promises.specs.Exports.{ExportsAreRight, VerifiedExportsAreRight};
+//! and print bytes, and of the calls of `run` that do so. None of these functions does anything but name the laws that it
+//! rests on.
+ghost use Rattle.laws_promises.specs.Comparisons.{LocksAskTheirs};
+ghost use Rattle.laws_promises.specs.Endings.{DeepRefusesNoFork, LocksEnd, ReasonsEnd, RelocksEnd};
+ghost use Rattle.laws_promises.specs.Exports.{ExportsAreRequirements, ExportsAreRight, VerifiedExportsAreRight};
 ghost use Rattle.laws_promises.specs.Markers.{MarkersAreCanonical};
 ghost use Rattle.laws_promises.specs.Relocked.{OldLocksDoNoHarm, OneForkIsLockedAgain, RefusalsAreOfNone};
 ghost use Rattle.laws_promises.specs.Relocked.{RelocksAreRight, RelocksAreVerified, RightLocksStay};
 ghost use Rattle.laws_promises.specs.Repeated.{ReasonsPrintTheSame, RunsPrintTheSame};
+ghost use Rattle.laws_promises.specs.Runs.{RunsGiveAnswers, RunsOfLockAreRight};
 ghost use Rattle.laws_promises.specs.Promises.{AcceptedAreRight, EnvironmentsAreRight, LocksAreRight};
 ghost use Rattle.laws_promises.specs.Promises.{PrintedAreAccepted, PrintedAreVerified, QuestionsAreAnswered};
 ghost use Rattle.laws_promises.specs.Promises.{ReasonsAreRight, RefusalsAreRight, RegionsAreDecided};
@@ -35,9 +38,23 @@ pub fn printed_are_verified()
 pub fn environments_are_right()
     ensures { EnvironmentsAreRight }
 {
+    laws_comparisons::laws::machines_have_worlds();
+    laws_comparisons::laws::locks_have_atoms();
+    laws_given::laws::given_is_resolution();
+    laws_given::laws::given_has_texts();
+    laws_commands::laws::locks_are_well_formed();
     laws_commands::laws::locks_within_limits();
     laws_commands::laws::environments_of_files();
     laws_commands::laws::locks_are_verified();
+}
+
+/// It asks no opaque comparisons but those that its project and its documents ask.
+pub fn locks_ask_theirs()
+    ensures { LocksAskTheirs }
+{
+    laws_comparisons::laws::merged_ask_theirs();
+    laws_commands::laws::inputs_are_answered();
+    laws_commands::laws::locks_within_limits();
 }
 
 /// What `lock` prints with status 1 is a fork that no selection serves, with its core.
@@ -70,16 +87,21 @@ pub fn verified_are_right()
     ensures locks { VerifiedAreRight }
     ensures environments { VerifiedEnvironmentsAreRight }
 {
+    laws_comparisons::laws::machines_have_worlds();
+    laws_comparisons::laws::locks_have_atoms();
     laws_commands::laws::verified_files();
 }
 
-/// What `export` prints of a lock that `lock` printed or `verify` accepted is, in each world, exactly what is required.
+/// What `export` prints of a lock that `lock` printed or `verify` accepted is, in each world, exactly what is required;
+/// and its lines, of any lock, are read as requirements that ask for what the lock gives.
 pub fn exports_are_right()
     ensures printed { ExportsAreRight }
     ensures verified { VerifiedExportsAreRight }
+    ensures requirements { ExportsAreRequirements }
 {
     laws_commands::laws::locks_within_limits();
     laws_commands::laws::exports_are_right();
+    laws_exports::laws::lines_are_read();
 }
 
 /// What `lock` or `relock` printed with status 0, put into a file, is printed by `relock` with that file, byte for byte;
@@ -145,10 +167,20 @@ pub fn runs_print_the_same()
     workers_change_nothing();
 }
 
-/// Where their inputs are read, `lock` and `why` end with status 0, 1 or 4, and 4 tells one of three limits.
+/// By its headline a call of `run` gives its sink an answer, unless its status tells a fault of the system; so what a call
+/// of `lock` with status 0 gives is a lock that is right in every world.
+pub fn runs_give_answers()
+    ensures answers { RunsGiveAnswers }
+    ensures locks { RunsOfLockAreRight }
+{
+    locks_are_right();
+}
+
+/// Where their inputs are read, `lock`, `why` and `relock` end with status 0, 1 or 4, and 4 tells one of three limits.
 pub fn endings()
     ensures locks { LocksEnd }
     ensures reasons { ReasonsEnd }
+    ensures relocks { RelocksEnd }
 {
     laws_commands::laws::inputs_are_answered();
 }

@@ -1,0 +1,14 @@
+mod Levels
+mod Stripped
+mod Kept
+mod Trees
+mod Asked
+mod Truths
+mod Catalogs
+mod OfTrees
+mod Looking
+mod Locks
+mod Regions
+mod OfMerged
+mod Machines
+mod LockAtoms

@@ -1,0 +1,12 @@
+mod Trimmed
+mod Bytes
+mod Pinned
+mod Cutting
+mod Named
+mod Fronts
+mod Tails
+mod LineReadings
+mod MarkersRead
+mod RowLines
+mod Asked
+mod Examples

@@ -1,0 +1,4 @@
+pub mod Pins
+pub mod Requirements
+pub mod Lines
+pub mod Examples
