@@ -202,6 +202,18 @@ def paragraphs(text: str) -> Iterator[tuple[str, set[str]]]:
         inside = heads[0] if heads else ""
 
 
+# How the page is read: where to begin, what isn't on it, and what letters stand for.
+READING = (
+    "Read the last section first, for what is wanted, and then from the top. A type that has no definition here is the"
+    " code's, in `src/` of its crate, and a word that has none is the standard library's. A catalog has its project's"
+    " constraints and overrides already, so these aren't spoken of.\n\n"
+    "Letters, where whole things are spoken of: `c` a catalog, `p` a project, `l` a lock, `w` a world, `q` a requirement,"
+    " `n`, `m` and `t` nodes or their names, `v` and `u` versions, `V` that of a clause, `r` a release, `e` an edge, `x` and"
+    " `y` extras, and each with an `s` a list of them. Below, in bytes, parts of versions and trees, a letter is what its"
+    " type and the comment say; the levels of a tree are 0 the extra, 1 the interpreter, 2 to 9 the texts, 10 comparisons."
+)
+
+
 def page(cone: Cone, name: str) -> str:
     """A statement with all definitions that it reaches, file by file, each behind those that it uses."""
 
@@ -219,6 +231,7 @@ def page(cone: Cone, name: str) -> str:
         f"{PAGE_BEGINS} The {cone.count()} definitions that `{name}` reaches, and no others, in an order in which they"
         " can be read; `◌` in a name is the place of an operand. `python3 tests/cone.py --write` writes this page from"
         " the sources.\n",
+        f"{READING}\n",
     ]
     for path in cone.in_order():
         pieces = [text for text, names in paragraphs(cone.files[path].text) if names & cone.reached[path]]

@@ -65,6 +65,9 @@ class Held:
         releases = [release_of(name, it) for it in self.documents[name]["versions"]]
         return ProjectPage([it for it in releases if it is not None], [])
 
+    def lacks(self, name: str) -> str:
+        return f"the server has no project {name}"
+
     def metadata(self, release: ListedRelease) -> Metadata:
         name, _, spelled = release.files[0].name[: -len("-py3-none-any.whl")].rpartition("-")
         self.told.append(f"{name} {spelled}")

@@ -76,7 +76,7 @@ class Folder(unittest.TestCase):
         return path
 
     def environment(self) -> Dict[str, str]:
-        kept = {key: value for key, value in os.environ.items() if not key.startswith(("PIP_", "UNILOCK"))}
+        kept = {key: value for key, value in os.environ.items() if not key.startswith(("PIP_", "UNILOCK", "UV_"))}
         more = {"PIP_CONFIG_FILE": os.devnull, "UNILOCK": str(self.program), "XDG_CACHE_HOME": str(self.top / "cache")}
         return {**kept, **more, "PYTHONDONTWRITEBYTECODE": "1", "NO_PROXY": "*", "no_proxy": "*"}
 

@@ -243,12 +243,14 @@ def made_of(world: World) -> Made:
 
 
 class Plain(NamedTuple):
-    """A file as a page lists it, read plainly; its hash in any spelling."""
+    """A file as a page lists it, read plainly; its hash in any spelling. One that isn't sure is listed for readers alone
+    that take a quote elsewhere than behind `=` for the begin of a value."""
 
     name: str
     url: str
     hash: str
     yanked: bool
+    sure: bool = True
 
 
 def joined(base: str, text: str) -> str:
@@ -280,16 +282,17 @@ def listed(world: World, project: str) -> List[Plain]:
     # A `>` within a quoted value doesn't end a tag, and a quote elsewhere begins no such value; where a quote has no
     # end, the first `>` ends the tag. A slash parts words of a tag as a blank does, and one more `=` is passed over.
     tags = re.findall(r"""<a[\s/](?:=\s*"[^"]*"|=\s*'[^']*'|[^>])*>""", text)
+    sure = len(tags)
     for form in (r"""<a[\s/](?:"[^"]*"|'[^']*'|[^>"'])*>""", r"<a[\s/][^>]*>"):
         tags += [it for it in re.findall(form, text) if it not in tags]
-    for tag in tags:
+    for at, tag in enumerate(tags):
         href = re.search(r'(?i)[\s/]href\s*=+\s*"([^"]*)"', tag)
         if href is not None:
             address, _, fragment = re.sub(r"[\t\r\n]", "", html.unescape(href[1])).partition("#")
             # An address is joined first: that drops a `;` at its end.
             name = unquote((joined(url, address) or address).partition("?")[0].rpartition("/")[2])
             yanked = re.search(r"(?i)[\s/]data-yanked[\s/=>]", tag) is not None
-            found.append(Plain(name, joined(url, address), fragment, yanked))
+            found.append(Plain(name, joined(url, address), fragment, yanked, at < sure))
     return found
 
 
@@ -372,7 +375,7 @@ def lost_file(world: World, project: str, changed: str, made: Made) -> str:
         at = console.escaped(name)
         is_told = any(at in it or re.match(rf"{project} .*\b{re.escape(version_of(at))}\b", it) for it in told)
         is_shortened = any(it.startswith(f"{project}: ") and ".. " in it for it in told)
-        is_none = world.form != JSON_FORM and not name.startswith(f"{project}-")
+        is_none = not file.sure or (world.form != JSON_FORM and not name.startswith(f"{project}-"))
         if not (name in kept or is_told or late or is_shortened or is_none):
             return f"{project}: {name!r} is neither in a document nor told: {made.said!r}"
     return ""

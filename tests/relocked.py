@@ -2,7 +2,7 @@
 
 - A second `tools/lock` changes nothing.
 - After a requirement is added that the lock's versions meet, no version changes: one on a name that the lock gives on
-  every machine.
+  every machine, or on every machine of a platform for that platform alone, from the oldest of its versions on or any.
 - After one is left out, no version of what stays does: one that names no pre-release and pins no version, since such a
   one is what makes a pre-release or a yanked version eligible.
 - A project that can be locked without an old lock is locked with any.
@@ -16,10 +16,10 @@ from pathlib import Path
 from typing import Any, Callable, Dict, List, Optional, Tuple
 
 import program as under_test
-from unilock_tools import documents, hints, locks, project, relocking, vendored, worlds
+from unilock_tools import documents, locks, project, project_text, relocking, vendored, worlds
 from unilock_tools.console import Refused
 from unilock_tools.readings import requirement_of
-from unilock_tools.versions import version
+from unilock_tools.versions import version, version_of
 
 Must = Callable[[bool, str], None]
 
@@ -40,7 +40,7 @@ class Again:
         path = self.folder / "pyproject.toml"
         if tables is not None:
             path = self.folder / "changed.toml"
-            path.write_text(hints.toml_text(tables), encoding="utf-8")
+            path.write_text(project_text.toml_text(tables), encoding="utf-8")
         kept = self.folder / "kept.lock"
         kept.write_text(old, encoding="utf-8", newline="\n")
         files = relocking.Files(str(path), str(self.folder / "ix"), 1)
@@ -68,14 +68,18 @@ class Again:
 
     def added(self, rng: random.Random) -> None:
         listed = self.tables["project"].get("dependencies", [])
-        given = [set(walked.versions()) for _, walked in self.walks()]
-        names = sorted(set.intersection(*given)) if given else []
+        walks = self.walks()
+        platform = rng.choice(["", *sorted({machine["sys_platform"] for machine, _ in walks})])
+        given = [walked.versions() for machine, walked in walks if platform in ("", machine["sys_platform"])]
+        names = sorted(set.intersection(*map(set, given))) if given else []
         if not names or not isinstance(listed, list):
             return
         name = rng.choice(names)
-        new = self.made(hints.changed(self.tables, "project.dependencies", [*listed, name]), self.text)
+        oldest = min({it for found in given for it in found[name]}, key=lambda it: version_of(it).key)
+        text = rng.choice([name, f"{name}>={oldest}"]) + (f"; sys_platform == '{platform}'" if platform else "")
+        new = self.made(project_text.changed(self.tables, "project.dependencies", [*listed, text]), self.text)
         if new is not None:
-            self.versions_stay(new, f"after {name} is added versions change")
+            self.versions_stay(new, f"after {text!r} is added versions change")
 
     def removed(self, rng: random.Random) -> None:
         listed = self.tables["project"].get("dependencies", [])
@@ -84,7 +88,8 @@ class Again:
         at = rng.randrange(len(listed))
         if any(it.op == "==" or it.version.is_pre for it in requirement_of(listed[at]).clauses):
             return
-        new = self.made(hints.changed(self.tables, "project.dependencies", listed[:at] + listed[at + 1 :]), self.text)
+        left = listed[:at] + listed[at + 1 :]
+        new = self.made(project_text.changed(self.tables, "project.dependencies", left), self.text)
         if new is not None:
             self.versions_stay(new, f"after {listed[at]!r} is left out versions change")
 

@@ -134,7 +134,8 @@ class Server:
             return sdist_body(path, stream)
 
     def page(self, name: str, known: Optional[str]) -> Tuple[int, Dict[str, str], bytes]:
-        files = sorted(it for it in self.folder.iterdir() if DISTRIBUTION.search(it.name) and is_of(it.name, normal_name(name)))
+        project = normal_name(name)
+        files = sorted(it for it in self.folder.iterdir() if DISTRIBUTION.search(it.name) and is_of(it.name, project))
         if not files:
             return 404, {}, b"there is no such project"
         body = self.json_page(name, files) if self.form == "json" else self.html_page(files)

@@ -94,7 +94,13 @@ class Mistakes(Folder):
             ("flask=3.0", "`flask==3.0` meant?"), ("flask^3.0", "`flask>=3.0,<4` meant?"),
             ("flask ^0.2.1", "`flask>=0.2.1,<0.3` meant?"), ("flask~3.0", "`flask>=3.0,<3.1` meant?"),
             ("flask 3.0", "`flask==3.0` meant?"), ("flask=>3", "`flask>=3` meant?"),
-            ("flask@3.0", "`flask==3.0` meant?"),
+            ("flask===3", "`flask==3` meant?"), ("flask>=3 <4", "`flask>=3,<4` meant?"),
+            ("flask^3, !=3.1", "`flask>=3,<4,!=3.1` meant?"), ("flask (3)", "`flask==3` meant?"),
+            ("flask; python_version => '3'", "`flask; python_version >= '3'` meant?"),
+            ("flask; python_version = 3.9", "`flask; python_version == '3.9'` meant?"),
+            ("flask; sys_platform == win32", "`flask; sys_platform == 'win32'` meant?"),
+            ("flask; 'a&&b' in platform_version && os_name == 'nt' OR os_name = x",
+             "`flask; 'a&&b' in platform_version and os_name == 'nt' or os_name == 'x'` meant?"),
             ("flask[x]=3.0; os_name == 'nt'", "`flask[x]==3.0; os_name == 'nt'` meant?"),
         ]:  # fmt: skip
             with self.subTest(text):
@@ -110,7 +116,29 @@ class Mistakes(Folder):
             (START + "dependencies = [\"flask; python_verson > '3'\"]\n", 3, "`python_verson` is no variable"),
             (START.replace(">=3.9", ">=3.12,<3.9"), 3, "leave no interpreter and no platform to support"),
             ("[project\n", 3, "line 1: [project"),
+            (START + 'dependencies = ["flask"\n', 3, "isn't closed stands there:\n  line 5: dependencies = ["),
+            (START + 'dependencies = ["flask",\n\n[tool.uv]\n', 3, "stands there:\n  line 5: dependencies = ["),
+            (START + "dependencies = [flask]\n", 3, "a text stands in quotes\n  line 5: dependencies = [flask]"),
             ('[tool.poetry]\nname = "x"\n', 3, "wanted: a table [project]"),
+            ("[tool.black]\n", 3, "The least that is read:\n      [project]\n      name = "),
+            (START + 'dependencies = "flask"\n', 3, 'wanted: a list of texts; is `["flask"]` meant?\n'),
+            (START + '[project.dependencies]\nflask = "^3.0"\n', 3, 'is `["flask>=3.0,<4"]` meant?\n'),
+            (START.replace(">=3.9", "3.9"), 3, 'with commas between them; is `">=3.9"` meant?\n'),
+            (START.replace(">=3.9", "^3.9"), 3, 'is `">=3.9,<4"` meant?\n'),
+            (START.replace("0.1", "one"), 3, "`one` is no version of PEP 440, as `1.0` is one.\n"),
+            (START + 'dependencies = ["flask@3.0"]\n', 3, "is no address of http or https; is `==3.0` meant?\n"),
+            (
+                START + 'dependencies = ["flask @ https://x.org/f.whl"]\n[tool.unilock]\nprofile = "strict"\n',
+                3,
+                "ask for it by its name, of an index",
+            ),
+            (START + 'dependencies = ["-r requirements.txt"]\n', 3, "`-r` is no name; options, paths and addresses"),
+            (START + 'dynamic = ["dependencies"]\n', 3, "it stands in [project], and not in `dynamic`.\n"),
+            (
+                START + '[dependency-groups]\ndev = [{ include-group = "tests" }]\n',
+                3,
+                "there is no group `tests` (there are: dev).\n",
+            ),
             ('[tool.poetry]\nname = "x"\n[tool.poetry.dependencies]\nflask = "^3.0"\n', 3, '    "flask>=3.0,<4",\n'),
         ]:
             with self.subTest(said):
@@ -133,6 +161,16 @@ class Texts(unittest.TestCase):
             "# left out, since they have no such form: e",
         ])  # fmt: skip
         self.assertEqual(poetry.project_lines({"project": {}, "tool": {"poetry": {}}}), [])
+
+    def test_optional_dependencies_of_a_poetry_project(self) -> None:
+        text = (
+            '[tool.poetry.dependencies]\na = "^1"\nB_c = { version = "^2", optional = true }\n'
+            'd = { version = "*", optional = true }\n[tool.poetry.extras]\nfast = ["b-c"]\n'
+        )
+        self.assertEqual(poetry.project_lines({"tool": vendored.toml_reader().loads(text)["tool"]})[3:], [
+            "dependencies = [", '    "a>=1,<2",', "]", "[project.optional-dependencies]", 'fast = ["B_c>=2,<3"]',
+            "# left out, since they have no such form: d",
+        ])  # fmt: skip
 
     def test_what_is_read_is_not_changed(self) -> None:
         for text in ["flask", "flask==3.0", "flask (>=3)", "flask[x]~=3.0; os_name == 'nt'", "no requirement", "=3"]:

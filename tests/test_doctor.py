@@ -26,7 +26,8 @@ ERRORS = [
         "error: project.dependencies[1] (line 4): `bb (>dev)`: `dev` is no version",
     ),
     (START + "dependencies = [1]\n", "error: project.dependencies[0]: it isn't a text"),
-    (START + 'dependencies = ["a @ https://x/y"]\n', "a URL isn't supported"),
+    (START + 'dependencies = ["a @ https://x/y"]\n' + STRICT, "a URL isn't supported"),
+    (START + 'dependencies = ["a @ ftp://x/y"]\n', "ftp://x/y is no address of http or https"),
     (
         START + '[project.optional-dependencies]\nX_y = ["a=="]\n',
         "error: project.optional-dependencies.X_y[0] (line 5)",
@@ -44,10 +45,12 @@ ERRORS = [
         START + '[tool.uv]\nenvironments = ["os == \'nt\'"]\n',
         "error: tool.uv.environments[0]: `os` is no variable of a marker",
     ),
-    (START + "[tool.uv.sources]\na = { path = '.' }\n", "error: tool.uv.sources: "),
+    (START + "[tool.uv.sources]\na = { path = '.' }\n" + STRICT, "error: tool.uv.sources: "),
+    (START + "[tool.uv.sources]\na = { path = 1 }\n", "error: pyproject.toml: tool.uv.sources.a: path: it is no text"),
+    (START + "[tool.uv.workspace]\nmembers = ['../a']\n", "../a leads out of the workspace"),
     (
         START + "[[tool.uv.index]]\nurl = 'x'\n" + STRICT,
-        "error: tool.uv.index: one index is asked: the one that is listed alone",
+        "error: tool.uv.index: the strict profile has no place for it; index-url in [tool.uv] is asked",
     ),
     (
         START + '[tool.uv]\ndev-dependencies = ["a"]\n' + STRICT,
@@ -132,8 +135,11 @@ class Doctor(Folder):
         self.assertIn("tool.poetry.dependencies", self.found(START + "[tool.poetry.dependencies]\na = '*'\n")[0])
 
     def test_the_index_of_the_project(self) -> None:
-        said = self.found(START + "[[tool.uv.index]]\nurl = 'x'\ndefault = true\n", status=0)
-        self.assertEqual(said[0], "note: tool.uv.index: the lock is by the index folder alone; the tools ask this index")
+        said = self.found(START + "[[tool.uv.index]]\nurl = 'https://x/simple'\ndefault = true\n", status=0)
+        by = "note: tool.uv.index: the lock is by the index folder alone; "
+        self.assertEqual(said[0], by + "`tools/lock` and `tools/index` ask it")
+        said = self.found(START + "[[tool.uv.index]]\nurl = 'x'\n")
+        self.assertIn("warning: tool.uv.index[0]: its url is no address of a server", said[1])
 
     def test_names_without_a_document(self) -> None:
         needs = ["urlib3", "never; python_version < '3'", "side; extra == 's'"]

@@ -106,7 +106,7 @@ class Sentences(Explained):
         self.assertIn("a 1 needs c at 1 (`c<2`).", said)
         self.assertIn("b 1 needs c at 2 (`c>=2`).", said)
         self.assertIn("the project needs a at 1 (project.dependencies[0]: `a`).", said)
-        self.assertIn("So the project can't be served there.\n", said)
+        self.assertIn("So the project can't be served.\n", said)
 
     def test_extras_groups_and_settings(self) -> None:
         self.project(
@@ -208,8 +208,13 @@ class Places(Explained):
             ("shape project.dependencies[0]", '[project]\nname = "x"\ndependencies = [1]\n', "it is 1; wanted: a text"),
             (
                 "shape dependency-groups.a[0]",
-                '[dependency-groups]\na = [{ include-group = "b" }]\n',
+                '[dependency-groups]\na = [{ include-group = "A" }]\n',
                 "include-group = NAME } of a group",
+            ),
+            (
+                "shape dependency-groups.a[0]",
+                '[dependency-groups]\na = [{ include-group = "b" }]\n',
+                "there is no group `b` (there are: a).",
             ),
             ("shape tool.uv.environments", '[tool.uv]\nenvironments = "linux"\n', "the marker ends too early"),
             ("shape tool.uv.resolution", '[tool.uv]\nresolution = "newest"\n', 'one of "highest", "lowest"'),
@@ -230,7 +235,7 @@ class Places(Explained):
             self.place("unsupported project.dependencies[0]", '[project]\ndependencies = ["a @ https://x/y"]\n'),
         )
         self.assertIn(
-            "requirements are met from one index folder",
+            "the program has no place for sources; `tools/lock` follows those",
             self.place("unsupported tool.uv.sources", "[tool.uv.sources]\na = { path = '.' }\n"),
         )
 
@@ -265,7 +270,7 @@ class Places(Explained):
             ('[project]\nname = "demo"\nrequires-python = ">=3.9,<3"\n', "leave no interpreter"),
             (
                 '[project]\nname = "demo"\n[tool.uv]\nfind-links = ["x"]\n[tool.unilock]\nprofile = "strict"\n',
-                "find-links isn't supported",
+                "tool.uv.find-links: the strict profile has no place for it",
             ),
             ('[project\n', "line 1: [project"),
         ]:

@@ -41,21 +41,23 @@ class Fuzz(unittest.TestCase):
             self.assertEqual(one, other)
 
     def test_what_is_no_answer_is_found(self) -> None:
-        for script, rule in [
-            ("echo version = 2", "status 0 prints"),
-            ("kill -9 $$", "ended by signal 9"),
-            ("exit 5", "status 5 is none of lock"),
-            ('case $1 in lock|why) echo malformed: ix/a.json: name; exit 3;; esac; echo usage; exit 2', "have Said"),
-            ("echo unilock >&2; exit 2", "standard error has"),
-            ("echo malformed: other.toml: absent; exit 3", "a fault of another file"),
-            ('echo "malformed: pyproject.toml: line $4"; exit 3', "1 and 8 workers differ"),
+        # The words of run 1 are no command's.
+        for script, rule, number in [
+            ("echo version = 2", "status 0 prints", 0),
+            ("kill -9 $$", "ended by signal 9", 0),
+            ("exit 5", "status 5 is none of lock", 0),
+            ('case $1 in lock|why) echo malformed: ix/a.json: name; exit 3;; esac; echo usage; exit 2', "have Said", 1),
+            ("echo unilock >&2; exit 2", "standard error has", 0),
+            ("echo malformed: other.toml: absent; exit 3", "a fault of another file", 0),
+            ('echo "malformed: pyproject.toml: line $4"; exit 3', "1 and 8 workers differ", 0),
         ]:
             with self.subTest(script), tempfile.TemporaryDirectory() as held, self.program(Path(held), script):
-                status, told = self.run_fuzz("--count", 1, "--keep", Path(held) / "found")
+                status, told = self.run_fuzz("--only", number, "--keep", Path(held) / "found")
                 self.assertEqual(status, 1)
                 self.assertIn(rule, told)
-                self.assertIn(rule, (Path(held) / "found" / "1-0" / "finding.txt").read_text())
-                self.assertTrue((Path(held) / "found" / "1-0" / "pyproject.toml").exists())
+                kept = Path(held) / "found" / f"1-{number}"
+                self.assertIn(rule, (kept / "finding.txt").read_text())
+                self.assertTrue((kept / "pyproject.toml").exists())
 
     @contextlib.contextmanager
     def program(self, folder: Path, script: str):

@@ -5,13 +5,12 @@ what to be better than."""
 from __future__ import annotations
 
 import re
-import subprocess
 import unittest
 from typing import Any, Dict, List, NamedTuple
 
-from making import PROGRAM, Folder, document, tool, want_program
+from making import Folder, document, tool, want_program
 from test_relocking import FORKS, VERSIONS
-from unilock_tools import hints, vendored
+from unilock_tools import hints, project_text, vendored
 
 PYTHON = '[project]\nname = "demo"\nversion = "0.1"\nrequires-python = ">=3.8"\n'
 
@@ -148,9 +147,8 @@ class Refused(Folder):
             for what, line in ways:
                 with self.subTest(f"{name}: {line}"):
                     self.write("pyproject.toml", put(case.project, what, line))
-                    words = [str(PROGRAM), "lock", "pyproject.toml", "ix", "1"]
-                    done = subprocess.run(words, cwd=self.top, capture_output=True, check=False)
-                    self.assertEqual(done.returncode, 0, done.stdout)
+                    self.ran("lock", "--quiet", "-o", "tried.lock")
+                    (self.top / "tried.lock").unlink()
 
     def test_the_least_bound_on_python_is_said(self) -> None:
         self.given(Case(
@@ -217,7 +215,7 @@ def put(text: str, what: str, line: str) -> str:
         return f"{text}\n[tool.uv]\n{line}\n"
     tables = vendored.toml_reader().loads(text)
     value = vendored.toml_reader().loads(f"x = [{line}]")["x"][0]
-    return hints.toml_text(hints.changed(tables, place[1], value))
+    return project_text.toml_text(project_text.changed(tables, place[1], value))
 
 
 class Texts(unittest.TestCase):
@@ -234,7 +232,7 @@ class Texts(unittest.TestCase):
             't = ["p", { include-group = "u" }]\nu = []\n[tool.uv]\nexclude-newer = 2024-01-01\nmanaged = true\n'
         )
         read = vendored.toml_reader().loads
-        self.assertEqual(read(hints.toml_text(read(text))), read(text))
+        self.assertEqual(read(project_text.toml_text(read(text))), read(text))
 
 
 if __name__ == "__main__":

@@ -352,7 +352,9 @@ class WhatIsPassedOver(Hostile):
 
     def test_what_counts_as_yanked(self) -> None:
         plain_wheel(self.wheels, "a", "1")
-        for value, yanked in [(None, None), (False, None), ("", None), (0, None), (True, True), ("it was wrong", True)]:
+        told = "it was wrong"
+        none = [(it, None) for it in (None, False, "", 0)]
+        for value, yanked in [*none, (True, True), (" ", True), (told, told)]:
             with HostileServer(self.wheels) as server:
                 self.page(server, lambda page, value=value: page["files"][0].update({"yanked": value}))
                 self.index(server)

@@ -13,21 +13,25 @@ import random
 import re
 import unittest
 from pathlib import Path
-from typing import Iterator, List, NamedTuple, Optional, Tuple
+from typing import Iterator, NamedTuple, Optional, Tuple
+from unittest import mock
 
 import canonical
 import small_projects
 import uv_form
-from making import TOP, Folder, document, tool, want_program
+from making import TOP, Folder, tool, want_program
 from program import call, said
-from unilock_tools import judge, locks, markers, project, worlds
+from unilock_tools import locks, project, worlds
 from unilock_tools.locks import Edge, Lock, Package
 
 SCENARIO = tool("scenario")
 FOLDER = TOP / "examples" / "scenarios"
 DRAWN = int(os.environ.get("JUDGED", "50"))
 NOWHERE = "platform_machine == 'nowhere'"
+# A hash in locks of other tools, which the tests of these take too.
 SUM = "0123456789abcdef" * 4
+# A scenario whose project has a requirement by a URL, which is fetched.
+BY_URL = "url_in_project_wide"
 
 
 class Case(NamedTuple):
@@ -122,7 +126,8 @@ class RoundTrip(Judging):
         names = os.environ.get("SCENARIOS", "").split()
         for path in sorted(FOLDER.glob("*.txt")):
             found = SCENARIO.read(path)
-            if "unilock.lock" in found.files and (not names or path.stem in names):
+            is_asked = path.stem in names if names else path.stem != BY_URL
+            if "unilock.lock" in found.files and is_asked:
                 SCENARIO.unpack(found, self.top / found.name)
                 yield Case(found.name, self.top / found.name, found.files["unilock.lock"])
 
@@ -161,6 +166,15 @@ class RoundTrip(Judging):
         for case in self.scenarios():
             with self.subTest(case.name):
                 self.hold(case)
+
+    def test_what_cannot_be_fetched_is_named(self) -> None:
+        SCENARIO.unpack(SCENARIO.read(FOLDER / f"{BY_URL}.txt"), self.top)
+        text = (self.top / "pyproject.toml").read_text(encoding="utf-8")
+        self.write("pyproject.toml", text.replace("https://example.org/", "http://127.0.0.1:9/"))
+        self.write("uv.lock", 'version = 1\nrevision = 1\n\n[[package]]\nname = "demo"\nsource = { virtual = "." }\n')
+        with mock.patch("time.sleep"):
+            told = self.judged("uv.lock", status=3)
+        self.assertTrue(told.startswith("uv.lock can't be judged: http://127.0.0.1:9/a-1.whl: "), told)
 
     def test_drawn_projects(self) -> None:
         for case in self.drawn():

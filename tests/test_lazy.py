@@ -11,7 +11,7 @@ import lazily
 from lazily import Documents, Held, with_files
 from making import PROGRAM, Folder, plain_wheel, want_program
 from serving import Server
-from unilock_tools import lazy
+from unilock_tools import lazy, project, walk
 
 RUNS = int(os.environ.get("LAZY", "60"))
 
@@ -54,6 +54,20 @@ class Locks(Folder):
         found = lazily.figure(20, 200, 3)
         self.assertLessEqual(found.pages + found.metadata, 80)
         self.assertLessEqual(found.metadata, 2 * found.packages)
+
+    def test_of_releases_that_all_clash_more_and_more_are_fetched_at_a_time(self) -> None:
+        documents: Documents = {
+            "a": {"name": "a", "versions": [{"version": f"{it}", "requires_dist": ["c>=2"]} for it in range(100)]},
+            "c": {"name": "c", "versions": [{"version": f"{it}"} for it in range(4)]},
+        }
+        for mode in ("highest", "lowest"):
+            text = '[project]\nname = "demo"\nversion = "1"\ndependencies = ["a", "c<2"]\n'
+            text += f'[tool.uv]\nresolution = "{mode}"\n'
+            with mock.patch.object(lazy.program, "answer", side_effect=lazy.program.answer) as asked:
+                found, held = self.lazily(text, documents)
+            self.assertEqual((found.answer.status, found.answer.text.count("\na ")), (1, 100))
+            self.assertEqual(len(held.told), len(set(held.told)))
+            self.assertLess(asked.call_count, 16)
 
     def test_drawn_indexes(self) -> None:
         """`tools/fuzz --lazy` makes long runs; the variable LAZY has another count of runs here."""
@@ -98,9 +112,30 @@ class Locks(Folder):
         self.assertEqual(kept, [("a", "8"), ("b", "1")])
 
     def test_a_name_that_the_server_does_not_have(self) -> None:
-        found, _ = self.lazily('[project]\nname = "demo"\nversion = "1"\ndependencies = ["gone"]\n', {})
+        documents: Documents = {"a": {"name": "a", "versions": [{"version": "1"}]}}
+        found, _ = self.lazily('[project]\nname = "demo"\nversion = "1"\ndependencies = ["a", "gone"]\n', documents)
         self.assertEqual(found.answer.status, 1)
         self.assertEqual(found.warnings, ["the server has no project gone"])
+
+    def test_a_refusal_asks_for_what_was_tried_and_a_way_out_for_more(self) -> None:
+        documents: Documents = {
+            "a": {"name": "a", "versions": [{"version": f"{it}", "requires_dist": ["c>=20,<30"]} for it in range(50)]},
+            "c": {"name": "c", "versions": [{"version": f"{it}"} for it in range(50)]},
+        }
+        path = self.write("pyproject.toml", '[project]\nname = "demo"\nversion = "1"\ndependencies = ["a", "c<9"]\n')
+        held = Held(documents)
+        asking = lazy.Lazy(held, project.load(str(path)), walk.Choice(), jobs=2)  # type: ignore[arg-type]
+        refused = asking.run()
+        self.assertEqual(refused.answer.status, 1)
+        self.assertLessEqual(len(held.told), 60, "each release of a, and one or two of c")
+        self.assertEqual(len(refused.working["c"]["versions"]), 50)
+        self.assertLess(len(refused.documents["c"]["versions"]), 5)
+        changed = self.write("changed.toml", path.read_text(encoding="utf-8").replace("c<9", "c"))
+        answered = asking.tried(str(changed))
+        assert answered is not None
+        self.assertIn('name = "c"\nversion = "29"', answered.text)
+        self.assertIn("c 29", held.told)
+        self.assertLessEqual(len(held.told), 62)
 
 
 class Served(Folder):

@@ -213,9 +213,8 @@ class Diff(Folder):
         self.assertEqual(same, {"packages": [], "lines": []})
 
     def test_a_lock_that_is_not_there(self) -> None:
-        self.assertEqual(
-            self.ran("diff", LOCK, "absent.lock", status=1).stderr, "diff: absent.lock: No such file or directory\n"
-        )
+        said = self.ran("diff", LOCK, "absent.lock", status=1).stderr
+        self.assertEqual(said, "diff: absent.lock: there is no such file; `tools/lock` makes a lock\n")
 
 
 class Outdated(Folder):

@@ -53,7 +53,7 @@ IN_THE_FILE = {
     "only a pre-release": (requires("pre>=1.5"), 1, ["pre 2rc1 is a pre-release", '\n    "pre>=2rc1",\n']),
     "its own name": (requires("Demo"), 3, ["asks for the project itself; where another package of this name is meant"]),
     "a source that is no index": (
-        requires("flask") + '[tool.uv.sources]\nflask = { path = "." }\n', 3, ["requirements are met from one index"]
+        requires("flask") + '[tool.uv.sources]\nflask = { path = "absent" }\n', 3, ["there is no such file or folder"]
     ),
 }  # fmt: skip
 
@@ -102,7 +102,18 @@ class OfTheFile(Served):
         self.assertEqual(set(locks.load(str(self.top / "unilock.lock")).by_name()), {"click", "demo", "flask"})
 
     def test_no_project_file(self) -> None:
-        self.assertEqual(self.ran("lock", status=3).stderr, "lock: pyproject.toml: there is no such file\n")
+        said = self.ran("lock", status=3).stderr
+        self.assertTrue(said.startswith("lock: pyproject.toml: there is no such file\n  The least that is read:\n"), said)
+        least = [it.strip() for it in said.splitlines()[2:]]
+        self.assertEqual(least[0], "[project]")
+        with Server(self.wheels) as server:
+            self.assertIn("is written: 0 packages", self.lock("\n".join(least), server.url, 0))
+
+    def test_a_word_that_is_none(self) -> None:
+        said = self.ran("lock", "--upgrad-package=flask", status=2).stderr
+        self.assertIn("--upgrad-package=flask; is --upgrade-package meant? (--help says more)\n", said)
+        said = self.ran("lock", "--nothing-like-it", status=2).stderr
+        self.assertEqual(said, "lock: unrecognized arguments: --nothing-like-it (--help says more)\n")
 
 
 class Spoiled(Server):
@@ -138,7 +149,11 @@ class OfAServer(Served):
                 ("http://there-is-none.invalid/simple/", "Name or service not known (4 tries)\n  its address is that"),
             ]:
                 self.assertIn(said, self.lock(requires("flask"), url, 5))
-        self.assertIn("ftp://host/: it is no address of a server", self.lock(requires("flask"), "ftp://host/", 2))
+        for url, said in [
+            ("ftp://host/", "ftp://host/: it is no address of a server; one begins with https:// or http://\n"),
+            ("pypi.org/simple", "is https://pypi.org/simple meant?\n"),
+        ]:
+            self.assertIn(said, self.lock(requires("flask"), url, 2))
 
     def test_an_address_that_is_no_index(self) -> None:
         with Spoiled(self.wheels, 404, b"") as server:

@@ -61,6 +61,9 @@ class Mutants(unittest.TestCase):
     def test_a_file_whose_hash_is_none_does_not_keep_a_release_from_being_yanked(self) -> None:
         self.assertEqual(mutants.finding(1203, 8693), "")
 
+    def test_a_quote_within_a_bare_value_makes_no_link_of_the_text_behind_it(self) -> None:
+        self.assertEqual([mutants.finding(2702, it) for it in (13583, 13848)], ["", ""])
+
     def test_a_run_can_be_made_again(self) -> None:
         for number in range(20):
             one, other = (mutants.world_of(random.Random(f"5/{number}")) for _ in range(2))

@@ -67,6 +67,21 @@ class AskedAgain(Own):
         self.locked("--upgrade")
         self.assertEqual(self.versions(), {"alpha": ["2.0"], "beta": ["1.5"]})
 
+    def test_one_version_is_taken_though_others_change_by_it(self) -> None:
+        plain_wheel(self.wheels, "alpha", "1.0", ["beta<2"])
+        plain_wheel(self.wheels, "alpha", "2.0", ["beta>=2"])
+        self.project("alpha", more='[dependency-groups]\nx = ["beta>1"]\n')
+        self.locked()
+        self.assertEqual(self.versions(), {"alpha": ["2.0"], "beta": ["2.0"]})
+        said = self.locked("-P", "beta==1.5")
+        self.assertEqual(self.versions(), {"alpha": ["1.0"], "beta": ["1.5"]}, said)
+        self.assertIn("is current", self.locked())
+        said = self.locked("-P", "beta==1", status=1)
+        self.assertIn("beta==1 is asked for by --upgrade-package, as if it stood among the constraints\n", said)
+        self.assertIn("(dependency-groups.x[0]: `beta>1` and tool.uv.constraint-dependencies[0]: `beta==1`)", said)
+        self.assertIn("delta 1 isn't taken: nothing that is locked needs delta", self.locked("-P", "delta==1", status=1))
+        self.assertEqual(self.versions(), {"alpha": ["1.0"], "beta": ["1.5"]})
+
     def test_a_lock_that_is_gone(self) -> None:
         self.project("beta")
         self.locked()

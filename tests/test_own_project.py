@@ -137,7 +137,7 @@ class Chosen(Walked):
         self.write("asked", "")
         self.write("stand-in", '#!/bin/sh\nshift 3\necho "$@" >>asked\necho "a==1"\n')
         os.rename(self.top / "unilock.lock", self.top / "other.lock")
-        self.assertIn("unilock.lock: No such file", self.lines(PROJECT, "dev", status=1))
+        self.assertIn("unilock.lock: there is no such file", self.lines(PROJECT, "dev", status=1))
         self.lines(PROJECT, "other.lock", "dev", "--group", "test")
         os.rename(self.top / "other.lock", self.top / "unilock.lock")
         self.lines(PROJECT, "dev")

@@ -101,8 +101,10 @@ class Keys(Rows):
             self.assertRegex(told[key.rpartition("tool.uv.")[2]], r"\A(read|refused)", key)
         for key in keys.REFUSED:
             self.assertTrue(told[key].startswith("refused"), key)
-        for key in ["exclude-newer", "dependency-metadata", "default-groups", "required-environments"]:
-            self.assertTrue(told[key].startswith("passed over") and key in keys.PASSED_OVER, key)
+        self.assertTrue(told["exclude-newer"].startswith("passed over"))
+        for key in ["dependency-metadata", "default-groups", "required-environments"]:
+            self.assertRegex(told[key], r"\Aread by `tools/\w+`", key)
+        self.assertLessEqual({"exclude-newer", "dependency-metadata", "default-groups"}, set(keys.PASSED_OVER))
 
 
 class Differences(Rows):

@@ -7,7 +7,7 @@ from typing import Any, Dict, List
 from unittest import mock
 
 from making import TOP, Folder, document, tool, want_program
-from unilock_tools import locks, mending, program, project, relocking, worlds
+from unilock_tools import locks, mending, pinned, program, project, relocking, vendored, worlds
 
 SCENARIO = tool("scenario")
 SUM = "0123456789abcdef" * 4
@@ -94,6 +94,45 @@ class Relocked(Folder):
             ("1", "sys_platform == 'linux' and implementation_name == 'pypy'"),
             ("2", "sys_platform != 'linux' and implementation_name == 'pypy'"),
         ])  # fmt: skip
+        self.stays()
+
+    def test_versions_stay_where_a_package_comes_too(self) -> None:
+        """The old lock has no `v`, so it can't be brought to the project as it is; its versions are pinned."""
+        self.project("a; implementation_name == 'pypy'", "a<2; sys_platform == 'linux'")
+        self.index("a 1\na 2\nv 1\n    a\n")
+        self.ran("lock")
+        self.project("a; implementation_name == 'pypy'", "v; sys_platform == 'win32'")
+        self.ran("lock")
+        edges = [(it.name, it.version, it.marker) for it in locks.load(str(self.lock)).root_package().edges]
+        self.assertEqual(edges, [
+            ("a", "1", "sys_platform == 'linux' and implementation_name == 'pypy'"),
+            ("a", "2", "sys_platform != 'linux' and implementation_name == 'pypy'"),
+            ("v", "1", "sys_platform == 'win32'"),
+        ])  # fmt: skip
+        self.stays()
+
+    def test_versions_that_clash_are_let_go_of_and_others_stay(self) -> None:
+        """`v` needs the newer `a`, which `c 1` doesn't go with; `b` and the versions of `d` stay."""
+        self.project("c", "b", "d", "d<2; sys_platform == 'linux'")
+        self.index("a 1\nb 1\nc 1\n    a<2\nd 1\nd 2\n")
+        self.ran("lock")
+        self.index("a 1\na 2\nb 1\nb 2\nc 1\n    a<2\nc 2\n    a\nd 1\nd 2\nd 3\nv 1\n    a>=2\n")
+        self.project("c", "b", "d", "v")
+        self.ran("lock")
+        self.assertEqual(self.versions(), {"a": ["2"], "b": ["1"], "c": ["2"], "d": ["1", "2"], "v": ["1"]})
+        self.stays()
+
+    def test_a_project_that_is_refused_anew_is_locked_by_its_old_versions(self) -> None:
+        """The strategy `fewest` has no lock of it, one by `deep` still serves, with `v` besides."""
+        self.project("camera", "sound", more='[tool.uv]\nfork-strategy = "deep"\n')
+        needs = "camera 1\n    n<2; sys_platform == 'win32'\nsound 1\n    n>=2; sys_platform != 'win32'\n"
+        self.index(f"{needs}n 1\nn 2\nv 1\n")
+        self.ran("lock")
+        before = self.versions()
+        self.project("camera", "sound", "v")
+        self.ran("lock", "-o", "anew.lock", status=1)
+        self.ran("lock")
+        self.assertEqual(self.versions(), {**before, "v": ["1"]})
         self.stays()
 
     def test_versions_of_forks_stay(self) -> None:
@@ -192,7 +231,8 @@ class Relocked(Folder):
         self.stays()
         before = self.lock.read_bytes()
         said = self.ran("lock", "-P", "a==9", status=1).stderr
-        self.assertEqual(said, "lock: a 9 can't be taken with the versions that the project asks for\n")
+        self.assertIn("\na==9 is asked for by --upgrade-package, as if it stood among the constraints\n", said)
+        self.assertIn("no version of a meets `==9`", said)
         self.assertIn("no version", self.ran("lock", "-P", "a==x", status=2).stderr)
         self.assertEqual(self.lock.read_bytes(), before)
 
@@ -229,9 +269,68 @@ class Counted(unittest.TestCase):
         count = {
             (left, right): worlds.difference(made[left], made[right], ">=3.9") for left in made for right in made
         }
-        self.assertEqual([count[it, it] for it in made], [0, 0, 0])
-        self.assertEqual((count["both", "2"], count["both", "1"], count["1", "2"]), (1, 2, 3))
+        self.assertEqual([count[it, it] for it in made], [(0, 0)] * 3)
+        self.assertEqual((count["both", "2"], count["both", "1"], count["1", "2"]), ((1, 1), (2, 2), (3, 3)))
 
+    def test_a_version_that_changes_counts_before_packages_that_come(self) -> None:
+        blocks = {"a": '[[package]]\nname = "a"\nversion = "%s"\n'}
+        blocks.update({name: f'[[package]]\nname = "{name}"\nversion = "1"\n' for name in "bc"})
+
+        def lock(version: str, more: str) -> locks.Lock:
+            edges = "".join(
+                f'    {{ name = "{it}", version = "{version if it == "a" else 1}" }},\n' for it in f"a{more}"
+            )
+            root = f'[[package]]\nname = "demo"\nversion = "0.1"\ndependencies = [\n{edges}]\n'
+            found = [blocks["a"] % version, *(blocks[it] for it in more), root]
+            return self.lock("\n".join(['version = 2\nroot = "demo"\n', *found]))
+
+        old = lock("1", "")
+        more, newer = (worlds.difference(old, it, ">=3.9,<3.10") for it in (lock("1", "bc"), lock("2", "")))
+        self.assertEqual((more.versions, newer.versions), (0, newer.pairs))
+        self.assertEqual(more.pairs, 2 * newer.pairs)
+        self.assertLess(more, newer)
+
+
+
+HEAD = "no selection serves this fork\nfork: -\nregion: *\nworld: os_name == 'posix'\ncore: 2\n"
+
+
+class Pins(unittest.TestCase):
+    """The project that has the old versions as constraints, by a stand-in for the program."""
+
+    GIVEN = {"demo": {"0.1": ""}, "a": {"1": "os_name == 'nt'"}, "d": {"1": "os_name == 'nt'", "2": "os_name != 'nt'"}}
+
+    def wanted(self) -> project.Project:
+        tables = {"project": {"name": "demo", "version": "0.1", "dependencies": ["v"]}}
+        settings = {"constraint-dependencies": ["v<9"], "resolution": "lowest"}
+        return project.Project("pyproject.toml", {**tables, "tool": {"uv": settings}})
+
+    def settings(self, text: str) -> Dict[str, Any]:
+        found = vendored.toml_reader().loads(text)
+        self.assertEqual(found["project"], self.wanted().tables["project"])
+        return dict(found["tool"]["uv"])
+
+    def test_versions_are_held_everywhere_and_then_where_they_were_and_then_what_clashes_is_let_go_of(self) -> None:
+        asked = []
+
+        def lock(text: str) -> program.Answer:
+            asked.append(self.settings(text))
+            clash = "v 1 needs a {2}\ndemo 0.1 needs a {1}\n" if len(asked) <= 3 else "v 1 needs w {}\n"
+            return program.Answer(1, HEAD + clash, b"")
+
+        self.assertIsNone(pinned.locked(self.wanted(), self.GIVEN, 9, lock))
+        d = ["d==1; os_name == 'nt'", "d==2; os_name != 'nt'"]
+        pins = [["a==1", *d], *[["a==1; os_name == 'nt'", *d]] * 2, *[d] * 3]
+        self.assertEqual([it["constraint-dependencies"] for it in asked], [["v<9", *it] for it in pins])
+        self.assertEqual([it.get("fork-strategy") for it in asked], [None, None, "deep"] * 2)
+        self.assertEqual({it["resolution"] for it in asked}, {"lowest"})
+
+    def test_the_first_lock_is_taken_and_other_faults_end_it(self) -> None:
+        for status, found in [(0, "a lock"), (4, None), (7, None)]:
+            answers = [program.Answer(it, "a lock", b"") for it in (1, status, 0)]
+            lock = mock.Mock(side_effect=answers)
+            self.assertEqual(pinned.locked(self.wanted(), self.GIVEN, 1, lock), found)
+            self.assertEqual(lock.call_count, 2)
 
 
 if __name__ == "__main__":

@@ -128,8 +128,8 @@ class Rows(Judging):
 
     def test_a_fault_of_the_whole_project_file_is_told(self) -> None:
         """Though the file is judged by a part of it."""
-        self.write("pyproject.toml", PROJECT.replace("[tool.uv]", "[tool.uv]\nsources = { a = { path = 'a' } }"))
-        self.assertIn("tool.uv.sources", self.said(ROWS, 3))
+        self.write("pyproject.toml", PROJECT.replace("[tool.uv]", "[tool.uv]\nconflicts = [[{ extra = 'more' }, { extra = 'most' }]]"))
+        self.assertIn("tool.uv.conflicts", self.said(ROWS, 3))
 
     def test_what_export_prints_is_right(self) -> None:
         for name in ["diamond_order", "disjoint_markers", "extra_adds_package", "groups", "override", "four_forks"]:

@@ -2,10 +2,7 @@
 
 from __future__ import annotations
 
-import contextlib
 import json
-import os
-import pty
 import random
 import signal
 import socket
@@ -353,7 +350,7 @@ class Words(Served):
             )
             self.write("url.toml", '[project]\nname = "p"\ndependencies = ["a @ https://x/y"]\n')
             said = self.ran("index", "url.toml", "ix", "--index-url", server.url, status=3).stderr
-            self.assertIn("project.dependencies[0]: `a @ https://x/y`: a URL isn't supported", said)
+            self.assertIn("url.toml: https://x/y: it is neither a wheel (.whl) nor a source distribution", said)
 
     def test_progress_is_for_terminals(self) -> None:
         self.fill()
@@ -363,31 +360,12 @@ class Words(Served):
             self.assertRegex(said, r"index: \d+ requests, [\d.]+ MB\nindex: ix has 5 packages with 7 releases\n\Z")
             self.assertEqual(self.index(server, "--quiet"), "")
 
-    def started(self, server: Server, stderr: int) -> "subprocess.Popen[bytes]":
-        line = [sys.executable, str(TOP / "tools" / "index"), "pyproject.toml", "ix", "--index-url", server.url]
-        return subprocess.Popen(line, cwd=self.top, env={**self.environment(), "TERM": "xterm"}, stderr=stderr)
-
-    def test_progress_on_a_terminal(self) -> None:
-        self.fill()
-        with Server(self.wheels) as server:
-            shown, terminal = pty.openpty()
-            running = self.started(server, terminal)
-            os.close(terminal)
-            said = b""
-            with contextlib.suppress(OSError):
-                while True:
-                    said += os.read(shown, 4096) or b""
-            os.close(shown)
-            self.assertEqual(running.wait(30), 0)
-        self.assertRegex(said, rb"\r\x1b\[Kindex: \d+ packages, \d+ releases, \d+ open, [\d.]+ MB")
-        end = b"\r\x1b[Kindex: 12 requests, 0.0 MB\r\nindex: ix has 5 packages with 7 releases\r\n"
-        self.assertTrue(said.endswith(end), said)
-
     def test_an_interrupt_is_not_kept_waiting_by_a_silent_server(self) -> None:
         self.fill()
         with Server(self.wheels) as server:
             server.silent = ["/simple/alpha/"]
-            running = self.started(server, subprocess.PIPE)
+            line = [sys.executable, str(TOP / "tools" / "index"), "pyproject.toml", "ix", "--index-url", server.url]
+            running = subprocess.Popen(line, cwd=self.top, env=self.environment(), stderr=subprocess.PIPE)
             until = time.monotonic() + 20
             while ("/simple/alpha/", 0) not in server.asked and time.monotonic() < until:
                 time.sleep(0.01)

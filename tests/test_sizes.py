@@ -23,6 +23,9 @@ LINUX = (Path(__file__).resolve().parent.parent / "examples" / "web_app" / "linu
 # The project's own package counts as one of the 20,000 that may be met.
 MOST_PACKAGES = 19_999
 CLASHES = 20_000
+# A derivation has at most so many bytes where it is read; one of so many clashes has fewer, one of more has more.
+MOST_TEXT = 67_108_864
+MOST_DERIVED, TOO_MANY = 5_000, 6_000
 ROUNDS = 20
 EXTRAS = [f"x{number:02}" for number in range(40)]
 
@@ -94,16 +97,27 @@ class Sizes(Folder):
         self.write("why.txt", why.text)
         self.assertEqual(self.said("check p.toml ix why.txt")[:2], (0, "accepted\n"))
 
-    def test_a_core_has_as_many_needs_as_the_releases_that_all_clash(self) -> None:
+    def clashing(self, releases: int) -> None:
+        """A project that asks for a package of which each release clashes with another of its requirements."""
         self.project("a", "z<1")
-        self.document("a", *[{"version": str(number), "requires_dist": ["z>=1"]} for number in range(CLASHES)])
+        self.document("a", *[{"version": str(number), "requires_dist": ["z>=1"]} for number in range(releases)])
         self.document("z", {"version": "0"}, {"version": "1"})
+
+    def test_a_core_has_as_many_needs_as_the_releases_that_all_clash(self) -> None:
+        self.clashing(CLASHES)
         refused = self.said("lock p.toml ix 4")
         self.assertEqual(refused.status, 1)
         self.assertIn(f"\ncore: {CLASHES + 2}\n", refused.text)
-        why = self.said("why p.toml ix 4")
-        self.write("why.txt", why.text)
-        self.assertEqual(self.said("check p.toml ix why.txt")[:2], (0, "accepted\n"))
+
+    def test_a_derivation_is_read_up_to_its_limit(self) -> None:
+        """Each step of such a derivation lists the releases that are left, so it grows by the square of the clashes."""
+        for releases, status, said in [(MOST_DERIVED, 0, "accepted\n"), (TOO_MANY, 4, f"limit: text-bytes {MOST_TEXT}\n")]:
+            self.clashing(releases)
+            why = self.said("why p.toml ix 4")
+            self.assertEqual((why.status, why.text.count("\n")), (1, 4 + 2 * releases + 3))
+            self.write("why.txt", why.text)
+            self.assertEqual((self.top / "why.txt").stat().st_size > MOST_TEXT, status != 0)
+            self.assertEqual(self.said("check p.toml ix why.txt")[:2], (status, said))
 
     def test_forty_extras_are_asked_for_at_once_and_an_empty_word_is_none(self) -> None:
         listed = "".join(f'{extra} = ["b-{extra}"]\n' for extra in EXTRAS)

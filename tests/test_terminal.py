@@ -17,7 +17,7 @@ import unittest
 from pathlib import Path
 from typing import NamedTuple
 
-from making import PYTHON, TOP, Folder, document, plain_wheel, skip
+from making import PROGRAM, PYTHON, TOP, Folder, document, plain_wheel, skip, want_program
 from serving import Server
 from unilock_tools import many, terminal
 
@@ -173,6 +173,59 @@ class Locks(Terminals):
             self.assertEqual(self.on_terminal(*call, "--json", "--color", "always"), plain)
 
 
+class Verdicts(Terminals):
+    """tools/lock, verify, doctor, judge and sync: lines that are good, bad or changed."""
+
+    def setUp(self) -> None:
+        super().setUp()
+        want_program(self)
+        self.program = PROGRAM
+        head = '[project]\nname = "demo"\nversion = "0.1"\nrequires-python = ">=3.9"\n'
+        self.write("pyproject.toml", f'{head}dependencies = ["q"]\n[tool.uv]\nresolutoin = "lowest"\n')
+        self.write("ix/q.json", document("q", {"version": "1"}, {"version": "2"}))
+        self.write("ix/v.json", document("v", {"version": "1"}))
+        self.write("requirements.txt", "q==1\nv==1\n")
+
+    def compared(self, *words: object, coloured: str) -> None:
+        """On a terminal a tool says what it says in a pipe, in colours; the terminal's width may break lines."""
+        plain = self.in_pipe(*words)
+        self.assertNotIn("\x1b", plain.text)
+        shown = self.on_terminal(*words)
+        self.assertIn(coloured, shown.text)
+        self.assertEqual((shown.status, COLOR.sub("", shown.text).split()), (plain.status, plain.text.split()))
+        for choice in [("--color", "never"), ()]:
+            bare = self.on_terminal(*words, *choice, **({} if choice else {"NO_COLOR": "1"}))
+            self.assertNotIn("\x1b", bare.text)
+            self.assertEqual(bare.text.split(), plain.text.split())
+        self.assertEqual(self.on_terminal(*words, has_rich=False).text.split(), plain.text.split())
+        self.assertIn(coloured, self.in_pipe(*words, "--color", "always", NO_COLOR="1").text)
+
+    def test_what_lock_changes(self) -> None:
+        self.compared("lock", "--check", coloured="\x1b[32madded q 2\x1b[0m")
+        self.in_pipe("lock")
+        self.compared("lock", "--check", coloured="\x1b[32munilock.lock is current: 1 package\x1b[0m")
+        self.write("ix/q.json", document("q", {"version": "1"}))
+        self.compared("lock", "--check", coloured="\x1b[33mq 2 -> 1  (\x1b[0m")
+
+    def test_what_the_doctor_finds(self) -> None:
+        self.compared("doctor", coloured="\x1b[33mwarning:\x1b[0m tool.uv.resolutoin")
+
+    def test_the_verdict_on_a_lock(self) -> None:
+        self.in_pipe("lock")
+        self.compared("verify", coloured="\x1b[32mverified\x1b[0m")
+        self.write("ix/q.json", document("q", {"version": "1"}))
+        self.compared("verify", coloured="\x1b[1;31mrejected:\x1b[0m q 2")
+
+    def test_verdicts_on_another_lock(self) -> None:
+        self.compared("judge", "requirements.txt", coloured="\x1b[1;31mrequirements.txt is wrong")
+        self.write("requirements.txt", "q==1\n")
+        self.compared("judge", "requirements.txt", coloured="\x1b[32mrequirements.txt is right")
+
+    def test_what_sync_would_install(self) -> None:
+        self.in_pipe("lock")
+        self.compared("sync", "--dry-run", "--no-project", coloured="\x1b[32mwould install q 2\x1b[0m")
+
+
 class Works(Terminals):
     """tools/many and tools/index, which take a while."""
 
@@ -225,7 +278,9 @@ class Works(Terminals):
         self.assertRegex(COLOR.sub("", rich.text), f"index ━.*{told}")
         self.assertRegex(plain.text, f"\r\x1b\\[Kindex: {told}")
         self.assertIn("\x1b[33mindex: warning: \x1b[0m", rich.text)
-        self.assertTrue(plain.text.endswith("index: ix has 6 packages with 6 releases\n"))
+        # The state is wiped before what stays is told.
+        said = r"index: warning: .* no project nowhere, .*\nindex: ix has 6 packages with 6 releases\n"
+        self.assertRegex(plain.text, r"\r\x1b\[Kindex: \d+ requests, 0\.0 MB\n" + said + r"\Z")
         self.assertEqual((quiet, piped), (Shown(0, ""), Shown(0, "")))
 
 

@@ -327,7 +327,9 @@ class UvLock(Judging):
 
     def test_what_the_project_file_has_that_is_not_read_is_told(self) -> None:
         self.write("pyproject.toml", PROJECT + "[tool.uv.sources]\na = { path = 'a' }\n")
-        self.assertIn("uv.lock can't be judged: pyproject.toml: tool.uv.sources: sources", self.said(LOCK, 3))
+        self.assertIn("uv.lock can't be judged: pyproject.toml: path a: there is no such file", self.said(LOCK, 3))
+        self.write("pyproject.toml", PROJECT + "[tool.uv]\nconflicts = [[{ extra = 'x' }, { extra = 'y' }]]\n")
+        self.assertIn("uv.lock can't be judged: pyproject.toml: tool.uv.conflicts: declared", self.said(LOCK, 3))
 
     def test_a_lock_is_never_written_over_what_is_none(self) -> None:
         before = (self.top / "pyproject.toml").read_bytes()

@@ -292,7 +292,7 @@ class Packages(Folder):
 
     def test_completions(self) -> None:
         self.write("pyproject.toml", "")
-        self.assertEqual(self.completed("unilock", ""), "lock why relock env export check verify gen".split())
+        self.assertEqual(self.completed("unilock", ""), "lock why relock env export marker check verify gen".split())
         self.assertEqual(self.completed("/usr/bin/unilock", "re"), ["relock"])
         self.assertEqual(self.completed("unilock", "lock", "py"), ["pyproject.toml"])
         self.assertEqual(self.completed("unilock-tools", ""), deb.tool_commands(TOP))

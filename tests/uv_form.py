@@ -9,7 +9,7 @@ from __future__ import annotations
 import json
 from typing import Dict, Iterator, List, NamedTuple, Set, Tuple
 
-from unilock_tools.locks import Edge, Lock, Package
+from unilock_tools.locks import Lock, Package
 from unilock_tools.project import Project
 
 SOURCE = '{ registry = "https://pypi.org/simple" }'

@@ -18,6 +18,7 @@ COMMANDS = {
     "sync": "bring a virtual environment to what a lock gives",
     "pylock": "write a pylock.toml (PEP 751)",
     "tree": "print a lock's tree, or who needs a package",
+    "coverage": "say where each package of a lock has a file that fits",
     "explain": "say in sentences why a project can't be locked",
     "doctor": "look a project file and its index over",
     "machine": "print a machine file",

@@ -14,7 +14,9 @@ from .locks import Lock
 from .machine import PLATFORMS
 from .project import Placed, Project
 from .readings import requirement_fault, requirement_of
-from .versions import NAME, NoReading, Version, meets, normal_name, specifiers_of, version, version_of
+from .versions import (
+    NAME, NoReading, Version, meets, normal_name, specifiers_fault, specifiers_of, version, version_of,
+)  # fmt: skip
 
 # Values that a variable never has, with the one that is meant.
 MEANT: Dict[str, Dict[str, str]] = {
@@ -30,35 +32,87 @@ MEANT: Dict[str, Dict[str, str]] = {
     "platform_python_implementation": {"cpython": "CPython", "pypy": "PyPy", "graalpy": "GraalVM"},
     "implementation_name": {"CPython": "cpython", "PyPy": "pypy"},
 }  # fmt: skip
+CLAUSES = ("==", "!=", "<=", ">=", "~=", "<", ">")
 WHEEL_PLATFORMS = {"linux": ("linux", "manylinux", "musllinux"), "macos": ("macosx",), "windows": ("win",)}
+# A requirement without its marker, with clauses by any operator or none; a clause whose operator has no version.
 REQUIREMENT = re.compile(
-    r"\s*([A-Za-z0-9][A-Za-z0-9._-]*?)(\s*\[[^\]]*\])?\s*\(?\s*([~^=@<>!]*)\s*v?([0-9][^;\s)]*)\)?\s*(;.*)?\Z"
+    r"([A-Za-z0-9][A-Za-z0-9._-]*?)\s*(\[[^\]]*\])?\s*\(?\s*((?:[~^=@<>!]*\s*v?[0-9][^\s,;()]*\s*,?\s*)*)\)?"
 )
-# A requirement whose operator has no version behind it.
-WITHOUT_VERSION = re.compile(r"\s*([A-Za-z0-9][A-Za-z0-9._-]*?)(\s*\[[^\]]*\])?\s*[~^=@<>!]+\s*(;.*)?\Z")
+CLAUSE = re.compile(r"([~^=@<>!]*)\s*v?([0-9][^\s,;()]*)")
+WITHOUT_VERSION = re.compile(r"([A-Za-z0-9][A-Za-z0-9._-]*?)\s*(\[[^\]]*\])?\s*[~^=@<>!]+")
+# Operators as other languages have them.
+OPERATORS = [("&&?", " and "), (r"\|\|?", " or "), ("=>", ">="), ("=<", "<="), ("(?<![=!<>~])=(?!=)", "==")]
+QUOTED = re.compile(r"('[^']*'|\"[^\"]*\")")
+JOINS = ("and", "or", "not", "in")
 
 
 def meant(text: str) -> Optional[str]:
     """The requirement that is likely meant by a text that has no reading: `flask=3.0`, `flask^3.0`, `flask 3.0`,
-    `flask>=`."""
+    `flask>=`, `flask; sys_platform = win32`."""
     if requirement_fault(text) is None:
         return None
-    bare = WITHOUT_VERSION.match(text)
+    head, semicolon, marker = text.partition(";")
+    made = head.strip() if requirement_fault(head) is None else meant_head(head.strip())
+    if made is None:
+        return None
+    if semicolon:
+        made += f"; {meant_marker(marker)}"
+    return made if requirement_fault(made) is None else None
+
+
+def meant_head(text: str) -> Optional[str]:
+    """A name, its extras and clauses, of a requirement without its marker."""
+    bare = WITHOUT_VERSION.fullmatch(text)
     if bare is not None:
-        made = f"{bare[1]}{(bare[2] or '').strip()}" + (f"; {bare[3][1:].strip()}" if bare[3] else "")
-        return made if requirement_fault(made) is None else None
-    found = REQUIREMENT.match(text)
+        return f"{bare[1]}{bare[2] or ''}"
+    found = REQUIREMENT.fullmatch(text)
     if found is None:
         return None
-    name, extras, operator, spelled, marker = found[1], (found[2] or "").strip(), found[3], found[4], found[5] or ""
-    read = version(spelled)
-    if read is None:
-        return None
+    clauses = meant_clauses(found[3])
+    return None if clauses is None else f"{found[1]}{found[2] or ''}{clauses}"
+
+
+def meant_clauses(text: str) -> Optional[str]:
+    """`>=3,<4` for `^3` and for `>=3 <4`; None where it isn't known what is meant."""
+    clauses = [meant_clause(operator, spelled) for operator, spelled in CLAUSE.findall(text)]
+    kept = [it for it in clauses if it is not None]
+    return ",".join(kept) if len(kept) == len(clauses) else None
+
+
+def meant_python(text: str) -> Optional[str]:
+    """The bound on the interpreter that is likely meant: `>=3.9` for `3.9`, `>=3.9,<4` for `^3.9`."""
+    made = f">={text.strip()}" if version(text.strip()) is not None else meant_clauses(text)
+    return made if made and specifiers_fault(made) is None else None
+
+
+def meant_clause(operator: str, spelled: str) -> Optional[str]:
+    """`==3.0` for `=3.0` and for `3.0`; None where it isn't known what is meant."""
+    if operator in CLAUSES:
+        return f"{operator}{spelled}"
     bounds = {it: f"=={spelled}" for it in ("", "=", "@", "===")}
     bounds.update({"=>": f">={spelled}", "=<": f"<={spelled}", "=!": f"!={spelled}"})
-    bounds.update({"^": caret(spelled, read), "~": tilde(spelled, read)})
-    made = f"{name}{extras}{bounds.get(operator, '')}" + (f"; {marker[1:].strip()}" if marker else "")
-    return made if operator in bounds and requirement_fault(made) is None else None
+    read = version(spelled)
+    if read is not None:
+        bounds.update({"^": caret(spelled, read), "~": tilde(spelled, read)})
+    return bounds.get(operator)
+
+
+def meant_marker(text: str) -> str:
+    """A marker with the operators of markers, and with quotes around what is neither an operator nor a variable."""
+    pieces = QUOTED.split(text.strip())
+    for at in range(0, len(pieces), 2):
+        for slip, instead in OPERATORS:
+            pieces[at] = re.sub(slip, instead, pieces[at])
+        pieces[at] = re.sub(r"[A-Za-z0-9_.*+-]+", meant_word, pieces[at])
+    return re.sub(r"[ \t]+", " ", "".join(pieces))
+
+
+def meant_word(found: "re.Match[str]") -> str:
+    """A word of a marker outside of quotes."""
+    word = found[0]
+    if word.lower() in JOINS:
+        return word.lower()
+    return word if word in markers.VARIABLES or word in markers.OLD_SPELLINGS else f"'{word}'"
 
 
 def caret(spelled: str, read: Version) -> str:

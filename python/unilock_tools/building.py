@@ -58,6 +58,12 @@ def add_words(made: Any) -> None:
         "repeated",
     )
     made.add_argument("--build-all", action="store_true", help="build all such")
+    made.add_argument(
+        "--no-build",
+        action="store_true",
+        help="build nothing; else folders that the project file names by a path, and members of its workspace, are "
+        "built where their own file doesn't say what they require",
+    )
 
 
 def is_asked(asked: argparse.Namespace) -> bool:
@@ -87,6 +93,17 @@ class Builder:
         self.built.add(f"{found.name} {found.version}")
         return found
 
+    def tree_metadata(self, path: object, folder: Path, key: str = "") -> Metadata:
+        """The metadata of a source tree, as its build system says them; kept where a key says all that the tree has."""
+        kept = self.cache.get("built", key) if key else None
+        with tempfile.TemporaryDirectory(prefix="unilock-build-") as held:
+            body = told_of_tree(path, folder, Path(held), self.index_url) if kept is None else kept.body
+        found, _ = archives.metadata_in(path, archives.decoded(path, body, "what its build tells"))
+        if key and kept is None:
+            self.cache.put("built", key, body)
+        self.built.add(f"{found.name} {found.version}")
+        return found
+
     def warnings(self) -> Iterator[str]:
         for release in sorted(self.built):
             yield f"{release}: its requirements are those of a build on this machine; other machines may be told others"
@@ -94,12 +111,18 @@ class Builder:
 
 def of_words(asked: argparse.Namespace, cache: Cache, index_url: str | None) -> Builder | None:
     """The builder that the words ask for; refused where the library isn't there."""
+    word = "--build-all" if asked.build_all else "--build"
+    if is_asked(asked) and asked.no_build:
+        raise console.Refused(f"{word} and --no-build don't go together", 2)
     if not is_asked(asked):
         return None
-    if importlib.util.find_spec("build") is None:
-        word = "--build-all" if asked.build_all else "--build"
-        raise console.Refused(f"{word}: the library build isn't installed; `pip install build` installs it", 3)
+    want_library(word)
     return Builder(None if asked.build_all else {normal_name(it) for it in asked.build}, cache, index_url)
+
+
+def want_library(what: object) -> None:
+    if importlib.util.find_spec("build") is None:
+        raise console.Refused(f"{what}: the library build isn't installed; `pip install build` installs it", 3)
 
 
 def digest(stream: IO[bytes]) -> str:
@@ -114,22 +137,27 @@ def built(path: object, stream: IO[bytes], index_url: str | None) -> bytes:
     with tempfile.TemporaryDirectory(prefix="unilock-build-") as held:
         stream.seek(0)
         source = unpacked(path, stream, Path(held) / "source")
-        out = Path(held) / "told.json"
-        environment = {**os.environ, "PIP_DISABLE_PIP_VERSION_CHECK": "1", "PIP_NO_INPUT": "1"}
-        if index_url:
-            environment["PIP_INDEX_URL"] = index_url
-        # It runs in the temporary folder, so nothing of the folder that the command is given in is run.
-        line = [sys.executable, "-c", CODE, str(source), str(out)]
-        try:
-            done = subprocess.run(
-                line, stdout=subprocess.PIPE, stderr=subprocess.STDOUT, cwd=held, env=environment, timeout=SECONDS,
-                check=False,
-            )  # fmt: skip
-        except subprocess.TimeoutExpired:
-            raise Refused(path, f"its build took more than {SECONDS} seconds") from None
-        if done.returncode != 0 or not out.is_file():
-            raise Refused(path, f"it can't be built: {cause_in(done.stdout.decode('utf-8', 'replace'))}")
-        return fields(path, out)
+        return told_of_tree(path, source, Path(held), index_url)
+
+
+def told_of_tree(path: object, source: Path, held: Path, index_url: str | None) -> bytes:
+    """What a build says of a source tree. It runs in a temporary folder, so nothing of the folder that the command is
+    given in is run."""
+    out = held / "told.json"
+    environment = {**os.environ, "PIP_DISABLE_PIP_VERSION_CHECK": "1", "PIP_NO_INPUT": "1"}
+    if index_url:
+        environment["PIP_INDEX_URL"] = index_url
+    line = [sys.executable, "-c", CODE, str(source.resolve()), str(out)]
+    try:
+        done = subprocess.run(
+            line, stdout=subprocess.PIPE, stderr=subprocess.STDOUT, cwd=held, env=environment, timeout=SECONDS,
+            check=False,
+        )  # fmt: skip
+    except subprocess.TimeoutExpired:
+        raise Refused(path, f"its build took more than {SECONDS} seconds") from None
+    if done.returncode != 0 or not out.is_file():
+        raise Refused(path, f"it can't be built: {cause_in(done.stdout.decode('utf-8', 'replace'))}")
+    return fields(path, out)
 
 
 def cause_in(said: str) -> str:

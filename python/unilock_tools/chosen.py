@@ -3,13 +3,15 @@
 from __future__ import annotations
 
 import argparse
+import contextlib
 import json
 import os
 import re
 import tempfile
-from typing import Dict, List, NamedTuple, Optional, Tuple
+from pathlib import Path
+from typing import Dict, Iterator, List, NamedTuple, Optional, Set, Tuple
 
-from . import console, locks, machine, program
+from . import assembled, console, locks, machine, program
 from .console import Refused
 from .locks import Lock
 from .versions import normal_name
@@ -38,6 +40,7 @@ def add_words(made: console.Parser) -> None:
     made.add_argument(
         "words", metavar="[LOCK] [EXTRA]", nargs="*", help=f"the lock ({USUAL}), and extras of the project"
     )
+    add_package(made)
     made.add_argument(
         "--group",
         metavar="NAME",
@@ -47,12 +50,55 @@ def add_words(made: console.Parser) -> None:
     )
 
 
+def add_package(made: console.Parser) -> None:
+    made.add_argument(
+        "--package",
+        metavar="NAME",
+        help="begin at this package of the lock, a member of the workspace; the words and groups are its own then (in "
+        "a member's folder without a lock it is that member, of the lock beside the root)",
+    )
+
+
 def settled(asked: argparse.Namespace) -> argparse.Namespace:
     """The words with `lock` and `extras`: the first is the lock where it looks like one or is a file's name."""
     first = asked.words[:1]
     is_lock = first and (first[0].endswith(".lock") or os.path.isfile(first[0]) or os.path.dirname(first[0]))
-    asked.lock, asked.extras = (first[0], asked.words[1:]) if is_lock else (USUAL, asked.words)
+    asked.lock, asked.extras = (first[0], asked.words[1:]) if is_lock else (None, asked.words)
+    return found(asked)
+
+
+def found(asked: argparse.Namespace) -> argparse.Namespace:
+    """The words with a lock: where none is named the usual one, or that of the project or the workspace that the folder
+    lies in."""
+    if asked.lock is None:
+        asked.lock = USUAL
+        above = os.path.join(assembled.home("pyproject.toml"), USUAL)
+        if not os.path.isfile(USUAL) and os.path.isfile(above):
+            asked.lock, workspace = above, assembled.around(Path.cwd())
+            member = None if workspace is None else workspace.member_of(Path.cwd())
+            asked.package = asked.package or (None if member is None else member.name)
     return asked
+
+
+@contextlib.contextmanager
+def opened(asked: argparse.Namespace) -> Iterator[Tuple[str, Lock]]:
+    """The lock that the words name, with its path; with a package one that begins there."""
+    lock = load(asked.lock)
+    if asked.package is None:
+        yield asked.lock, lock
+        return
+    name = normal_name(asked.package)
+    if len(lock.by_name().get(name, [])) != 1:
+        what = "has several versions of" if name in lock.by_name() else "has no package"
+        raise Refused(f"{asked.lock} {what} {console.escaped(name)}, so nothing begins there")
+    with locks.program_form(asked.lock) as path, tempfile.TemporaryDirectory(prefix="unilock-") as held:
+        copy = Path(held) / Path(asked.lock).name
+        text = Path(path).read_text(encoding="utf-8")
+        copy.write_text(text.replace(f'\nroot = "{lock.root}"\n', f'\nroot = "{name}"\n', 1), encoding="utf-8")
+        try:
+            yield str(copy), load(str(copy))
+        except Refused as fault:
+            raise Refused(str(fault).replace(str(copy), asked.lock), fault.status) from None
 
 
 def extras_of(asked: argparse.Namespace) -> List[str]:
@@ -128,9 +174,13 @@ def with_hashes(lock: Lock, picks: List[Pick], hashes: bool) -> str:
         if hashes and not files:
             what = f"{pick.name} {pick.version}"
             raise Refused(f"the lock has no hashes of {what}, since its index has none; --no-hashes writes without")
-        summed = sorted({it for _, it in files})
-        lines.append(" \\\n".join([pick.requirement(), *(f"    --hash=sha256:{it}" for it in summed)]) + "\n")
+        lines.append(with_sums(pick.requirement(), {it for _, it in files}))
     return "".join(lines)
+
+
+def with_sums(text: str, summed: Set[str]) -> str:
+    """A requirement line with hashes."""
+    return " \\\n".join([text, *(f"    --hash=sha256:{it}" for it in sorted(summed))]) + "\n"
 
 
 def bases(picks: List[Pick]) -> List[Pick]:

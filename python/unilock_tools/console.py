@@ -4,6 +4,7 @@ This module runs on Python 3.6, since `machine` does.
 """
 
 import argparse
+import difflib
 import json
 import os
 import sys
@@ -39,7 +40,13 @@ class Parser(argparse.ArgumentParser):
         return getattr(self, "parse_intermixed_args", self.parse_args)(given)
 
     def error(self, message: str) -> NoReturn:
-        self.exit(2, escaped(f"{self.prog}: {message} (--help says more)") + "\n")
+        self.exit(2, escaped(f"{self.prog}: {message}{self.meant(message)} (--help says more)") + "\n")
+
+    def meant(self, message: str) -> str:
+        """The option that is likely meant by the first one that isn't known."""
+        unknown = message.partition("unrecognized arguments: ")[2].split(" ")[0].partition("=")[0]
+        near = difflib.get_close_matches(unknown, list(self._option_string_actions), 1) if unknown[:2] == "--" else []
+        return "; is {} meant?".format(near[0]) if near else ""
 
 
 def add_json(made: argparse.ArgumentParser) -> None:

@@ -15,19 +15,29 @@ aren't right; 3 the project file can't be read at all.
 from __future__ import annotations
 
 import argparse
+import contextlib
 import difflib
 import os
+from pathlib import Path
 from typing import Any, Dict, Iterator, List, NamedTuple, Optional, Set, Tuple
 
 from . import (
-    advice, console, documents, index_settings, keys, markers, own_index, places, poetry, printing, profile,
+    advice, assembled, console, documents, index_settings, keys, markers, overlaid, own_index, places, poetry,
+    printing, profile, scripts,
 )  # fmt: skip
+from .assembled import Given
 from .called import command
 from .console import Refused
-from .project import Project
+from .project import Project, load
 from .readings import Requirement, requirement_fault, requirement_of
+from .requirement_texts import parts_of
+from .terminal import Screen, add_color
 from .vendored import toml_of
 from .versions import NAME, Clause, NoReading, normal_name, specifiers_fault, specifiers_of, version
+
+
+# How a terminal shows the kinds of findings.
+KINDS = {"error": "bad", "warning": "changed", "note": "quiet"}
 
 
 class Finding(NamedTuple):
@@ -44,6 +54,7 @@ def parser() -> console.Parser:
         "index", metavar="INDEX", nargs="?", help="the index folder (`ix` beside the project, where it is there)"
     )
     console.add_json(made)
+    add_color(made)
     return made
 
 
@@ -58,14 +69,15 @@ def listed(value: Any) -> List[Any]:
 class Doctor:
     """What is found in a project file and its index folder."""
 
-    def __init__(self, path: str, index: Optional[str]) -> None:
-        self.path, self.index = path, index
+    def __init__(self, path: str, index: Optional[str], given: Optional[Given] = None) -> None:
+        self.path, self.index, self.given = path, index, given
         if not os.path.isfile(path):
             raise Refused(f"{path}: there is no such file", 3)
         self.text = console.text_of(path)
-        self.tables = toml_of(path)
+        self.tables = scripts.tables_of(Path(path)) if scripts.is_script(path) else toml_of(path)
         self.project = table(self.tables.get("project"))
         self.settings = table(table(self.tables.get("tool")).get("uv"))
+        self.is_wide = profile.is_wide(self.tables)
 
     def error(self, place: str, fault: str) -> Finding:
         number = places.line_of(self.text, places.value_at(self.tables, place))
@@ -81,6 +93,8 @@ class Doctor:
 
     def errors(self) -> Iterator[Finding]:
         if not isinstance(self.tables.get("project"), dict):
+            if self.given is not None and self.given.workspace is not None:
+                return
             yield Finding("error", "project: there is no table [project]")
             lines = poetry.project_lines(self.tables)
             if lines:
@@ -102,11 +116,11 @@ class Doctor:
         ]:
             yield self.error("project.dynamic", f"it names {key}; {places.UNSUPPORTED['project.dynamic']}")
         for place, entry in self.entries():
-            if isinstance(entry, str) and requirement_fault(entry):
+            if isinstance(entry, str) and requirement_fault(parts_of(entry).text() if self.is_wide else entry):
                 yield self.error(place, places.wrong_requirement(entry))
             elif not isinstance(entry, (str, dict)):
                 yield self.error(place, "it isn't a text")
-        for key in keys.REFUSED_BY_WIDE if profile.is_wide(self.tables) else keys.REFUSED:
+        for key in keys.REFUSED_BY_TOOLS if self.is_wide else keys.REFUSED:
             if self.settings.get(key) not in (None, [], {}):
                 yield Finding("error", f"tool.uv.{key}: {places.UNSUPPORTED['tool.uv.' + key]}")
         yield from self.choices()
@@ -133,7 +147,7 @@ class Doctor:
     def choices(self) -> Iterator[Finding]:
         for key, known in [
             ("resolution", ["highest", "lowest", "lowest-direct"]),
-            ("prerelease", keys.PRERELEASES if profile.is_wide(self.tables) else keys.PRERELEASES[-1:]),
+            ("prerelease", keys.PRERELEASES if self.is_wide else keys.PRERELEASES[-1:]),
             ("fork-strategy", ["fewest", "requires-python", "deep"]),
         ]:
             if key in self.settings and self.settings[key] not in known:
@@ -156,7 +170,7 @@ class Doctor:
             (f"dependency-groups.{it}", found) for it, found in table(self.tables.get("dependency-groups")).items()
         ]
         read = ["constraint-dependencies", "override-dependencies"]
-        read += ["dev-dependencies"] if profile.is_wide(self.tables) else []
+        read += ["dev-dependencies"] if self.is_wide else []
         lists += [(f"tool.uv.{it}", self.settings.get(it)) for it in read]
         for place, found in lists:
             for number, entry in enumerate(listed(found)):
@@ -182,12 +196,14 @@ class Doctor:
             )
         for key, found in self.settings.items():
             if keys.PASSED_OVER.get(key) and found not in ([], {}):
-                yield Finding("note", f"tool.uv.{key}: it is passed over; {keys.PASSED_OVER[key]}")
-        is_asked = index_settings.is_one_default(self.tables)
+                yield Finding("note", f"tool.uv.{key}: the program passes it over; {keys.PASSED_OVER[key]}")
         for key, what in keys.PASSED_OVER_BY_WIDE.items():
-            if profile.is_wide(self.tables) and self.settings.get(key) not in (None, [], {}):
-                told = "the tools ask this index" if key == "index" and is_asked else what
-                yield Finding("note", f"tool.uv.{key}: the lock is by the index folder alone; {told}")
+            if self.is_wide and self.settings.get(key) not in (None, [], {}):
+                yield Finding("note", f"tool.uv.{key}: the lock is by the index folder alone; {what}")
+        try:
+            index_settings.settings(index_settings.Words(), self.tables, Path(self.path).parent)
+        except Refused as fault:
+            yield Finding("warning", f"{fault}; `{command('lock')}` asks no index by it")
         poetry = table(table(self.tables.get("tool")).get("poetry"))
         if poetry.get("dependencies"):
             yield Finding("warning", "tool.poetry.dependencies: it is passed over; project.dependencies is read")
@@ -196,7 +212,7 @@ class Doctor:
             yield Finding("note", f"tool.uv.resolution: {first}")
 
     def index_findings(self) -> Iterator[Finding]:
-        project = Project(self.path, self.tables)
+        project = Project(self.path, self.tables) if self.given is None else load(self.given.project)
         yield from (Finding("error", it) for it in advice.own_name(project))
         yield from (Finding("warning", it) for it in advice.project_slips(project))
         if self.index is None:
@@ -281,19 +297,37 @@ def specifiers(text: str) -> List[Clause]:
 
 
 def run(asked: argparse.Namespace) -> int:
-    usual = own_index.usual(os.path.dirname(asked.project))
+    home = assembled.home(asked.project)
+    usual = own_index.usual_own(asked.project) if scripts.is_script(asked.project) else own_index.usual(home)
     index = asked.index or (usual if os.path.isdir(usual) else None)
     if index is not None and not os.path.isdir(index):
-        raise Refused(f"{index}: there is no such folder", 3)
-    found = list(Doctor(asked.project, index).findings())
+        raise Refused(f"{index}: there is no such folder; `{command('index')} {asked.project} {index}` makes it", 3)
+    found = list(findings(asked.project, index))
     if asked.json:
         console.print_object({"findings": [it._asdict() for it in found]})
         return status_of(found)
+    screen = Screen(asked.color)
     for finding in found:
-        print(printing.wrapped(f"{finding.kind}: {console.escaped(finding.text)}"))
+        line = printing.wrapped(f"{finding.kind}: {console.escaped(finding.text)}")
+        screen.told(line, KINDS[finding.kind], ":")
     if not found:
         print(f"{asked.project}: nothing was found")
     return status_of(found)
+
+
+def findings(path: str, index: Optional[str]) -> Iterator[Finding]:
+    """What is found in a project file, the sources that it names and its workspace among it."""
+    with contextlib.ExitStack() as held:
+        try:
+            given = held.enter_context(assembled.given(path))
+        except Refused as fault:
+            yield Finding("error", str(fault))
+            yield from Doctor(path, index).misspelt()
+            return
+        lock = os.path.join(os.path.dirname(given.named), "unilock.lock")
+        folder = None if index is None else held.enter_context(overlaid.of_given(given, index, lock))
+        for finding in Doctor(given.named, folder, given).findings():
+            yield finding._replace(text=finding.text.replace(str(folder), str(index)))
 
 
 def status_of(found: List[Finding]) -> int:

@@ -35,13 +35,19 @@ class File(NamedTuple):
 
 @dataclass
 class Release:
-    """One version of a project, with the files that were found of it."""
+    """One version of a project, with the files that were found of it; `source` is the name of the index that it comes
+    from, where that isn't the usual one."""
 
     metadata: Metadata
     first: object
     files: Dict[str, File] = field(default_factory=dict)
     yanked: bool = False
     reason: str = ""
+    source: str = ""
+    # Of one that comes from a source: what that asks of its address, and its requirements by a URL, which stand in
+    # `requires_dist` by their names.
+    asked: str = ""
+    by_url: List[str] = field(default_factory=list)
 
 
 class Projects:
@@ -73,10 +79,11 @@ class Projects:
             if has > most:
                 raise console.Refused(f"there are more than {most:,} {what}; `--newest N` takes fewer releases", 4)
 
-    def add_file(self, path: Path, builder: Optional[Builder] = None) -> None:
+    def add_file(self, path: Path, builder: Optional[Builder] = None, stated: Optional[Metadata] = None) -> None:
+        """Adds a wheel or a source distribution, with the metadata that are stated of it, or that it says."""
         if not archives.FILE_NAME.match(path.name):
             raise Refused(path, "its name has a byte that no lock can hold")
-        metadata = metadata_of(path, builder)
+        metadata = metadata_of(path, builder) if stated is None else stated
         try:
             summed = sha256_of(path)
         except OSError as fault:
@@ -137,19 +144,26 @@ def unusable(spelled: str, requires_python: Optional[str], requires_dist: Iterab
 
 
 def document_of(name: str, releases: Dict[Key, Release]) -> Document:
-    listed = []
-    for _, release in sorted(releases.items()):
-        entry: Dict[str, Any] = {"version": release.metadata.version}
-        if release.metadata.requires_python is not None:
-            entry["requires_python"] = release.metadata.requires_python
-        if release.metadata.requires_dist:
-            entry["requires_dist"] = list(release.metadata.requires_dist)
-        if release.yanked:
-            entry["yanked"] = release.reason or True
-        if release.files:
-            entry["files"] = [file_entry(it) for _, it in sorted(release.files.items())]
-        listed.append(entry)
-    return {"name": name, "versions": listed}
+    return {"name": name, "versions": [release_entry(it) for _, it in sorted(releases.items())]}
+
+
+def release_entry(release: Release) -> Document:
+    entry: Dict[str, Any] = {"version": release.metadata.version}
+    if release.metadata.requires_python is not None:
+        entry["requires_python"] = release.metadata.requires_python
+    if release.metadata.requires_dist:
+        entry["requires_dist"] = list(release.metadata.requires_dist)
+    if release.yanked:
+        entry["yanked"] = release.reason or True
+    if release.source:
+        entry["source"] = release.source
+    if release.asked:
+        entry["asked"] = release.asked
+    if release.by_url:
+        entry["by_url"] = release.by_url
+    if release.files:
+        entry["files"] = [file_entry(it) for _, it in sorted(release.files.items())]
+    return entry
 
 
 def file_entry(file: File) -> Document:

@@ -12,11 +12,12 @@ import tempfile
 from pathlib import Path
 from typing import Any, Callable, List, NamedTuple
 
-from . import advice, console, lock, own_index, project, vendored, verdicts
+from . import advice, assembled, console, lock, own_index, project, scripts, vendored, verdicts
 from .called import command
 from .console import Refused
 from .readings import requirement_of
 from .relocking import cores
+from .terminal import add_color
 from .versions import NoReading, normal_name
 
 Change = Callable[[Any], List[str]]
@@ -37,9 +38,10 @@ def add_words(made: console.Parser) -> None:
     place = made.add_mutually_exclusive_group()
     place.add_argument("--group", metavar="NAME", help="in this dependency group")
     place.add_argument("--optional", metavar="EXTRA", help="in the list of this extra")
+    add_color(made)
     made.add_argument("--frozen", action="store_true", help="change the project file alone, and don't lock")
     made.add_argument("--workers", metavar="N", type=int, default=cores(), help="threads, 1 to 64 (%(default)s)")
-    own_index.add_words(made)
+    own_index.add_words(made, further=False)
     made.set_defaults(beside=None)
 
 
@@ -83,6 +85,8 @@ def name_in(entry: object) -> str:
 
 def edited(path: str, change: Change) -> Edited:
     """The project file after a change."""
+    if scripts.is_script(path):
+        raise Refused(f"{path}: change the block of a script by hand; `{command('lock')} {path}` then locks it", 2)
     try:
         tomlkit = vendored.library("tomlkit")
     except Refused as fault:
@@ -90,7 +94,8 @@ def edited(path: str, change: Change) -> Edited:
     body = Path(path).read_bytes() if os.path.isfile(path) else None
     if body is None:
         raise Refused(f"{path}: there is no such file", 3)
-    project.load(path)
+    with assembled.given(path) as given:
+        project.load(given.project)
     document = tomlkit.parse(body.decode("utf-8"))
     lines = change(document)
     return Edited(str(tomlkit.dumps(document)), lines)
@@ -111,30 +116,35 @@ def changed(asked: argparse.Namespace, change: Change) -> int:
         copy = Path(held) / Path(asked.project).name
         copy.write_bytes(made.text.encode("utf-8"))
         try:
-            return lock.run(words_of_lock(asked, copy), write)
+            words = words_of_lock(asked, copy)
+            words.color = asked.color
+            return lock.run(words, write)
         except Refused as fault:
             raise Refused(str(fault).replace(str(copy), asked.project), fault.status) from None
 
 
 def words_of_lock(asked: argparse.Namespace, copy: Path) -> argparse.Namespace:
     """The words of `lock` that lock a changed copy of the project file, by the index that the project has."""
-    beside = os.path.dirname(asked.project)
-    words = [str(copy), "--lock", asked.lock or os.path.join(beside, "unilock.lock"), "--workers", str(asked.workers)]
+    home = assembled.home(asked.project)
+    words = [str(copy), "--lock", asked.lock or os.path.join(home, "unilock.lock"), "--workers", str(asked.workers)]
     found = lock.parser().read(words)
-    found.index, found.beside = asked.index, beside or "."
+    found.index, found.beside = asked.index, home or "."
     for word in own_index.WORDS:
         setattr(found, word, getattr(asked, word))
     if not own_index.is_wanted(found):
-        found.index = asked.index or os.path.join(beside, "ix")
-        refuse_absent(str(copy), asked.project, found.index)
+        found.index = asked.index or os.path.join(home, "ix")
+        refuse_absent(copy, asked, found.index)
+    found.beside = os.path.dirname(asked.project) or "."
     return found
 
 
-def refuse_absent(copy: str, path: str, index: str) -> None:
+def refuse_absent(copy: Path, asked: argparse.Namespace, index: str) -> None:
     """Refuses names that the index has no document of, with what brings them there."""
+    path = asked.project
     if not os.path.isdir(index):
         raise Refused(f"{index}: there is no such folder; `{command('index')} {path} {index}` makes it", 3)
-    absent = verdicts.absent_names(project.load(copy), index)
+    with assembled.given(str(copy), os.path.dirname(path) or ".") as given:
+        absent = [] if given.workspace is not None else verdicts.absent_names(project.load(given.project), index)
     if absent:
         steps = f"--frozen writes {path} alone; then `{command('index')} {path} {index}` and `{command('lock')}`"
         raise Refused(f"{index} has no document of {', '.join(absent)}; {steps}", 1)

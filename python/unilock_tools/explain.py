@@ -14,11 +14,12 @@ built.
 from __future__ import annotations
 
 import argparse
-import os
+import contextlib
 from typing import Iterator, List, Optional
 
 from . import (
-    console, hints, locks, own_index, places, printing, program, project, refusal, sentences, verdicts
+    assembled, console, hints, locks, overlaid, own_index, places, printing, program, project, refusal, sentences,
+    verdicts,
 )  # fmt: skip
 from .console import Refused
 from .relocking import Files, cores
@@ -55,27 +56,36 @@ def sentences_of(text: str, asked: argparse.Namespace, index: str) -> Iterator[s
     elif first.startswith("version = "):
         yield "Nothing is refused: this is a lock."
     elif first.startswith(REJECTED) and not first.startswith(f"{REJECTED}step "):
-        path = asked.lock or os.path.join(os.path.dirname(asked.project), "unilock.lock")
-        judge = verdicts.Judge(project.load(asked.project), index, locks.load(path))
+        judge = verdicts.Judge(project.load(asked.project), index, locks.load(asked.lock))
         yield f"{first}: {judge.reason(first[len(REJECTED) :])}."
     else:
         read = refusal.read(text, asked.text or "unilock")
         yield from sentences.Teller(project.load(asked.project), index, read).lines(asked.steps)
 
 
-def refusal_lines(text: str, files: Files, kept: bool) -> Iterator[str]:
+def refusal_lines(
+    text: str, files: Files, kept: bool, answering: Optional[hints.Answering] = None
+) -> Iterator[str]:
     """A refusal of `lock` in sentences, and the ways out of it; where the project file can't be read here, its core."""
     read = refusal.read(text, "unilock")
     try:
         wanted = project.load(files.project)
         yield from sentences.Teller(wanted, files.folder, read).lines(False)
-        yield from hints.found(files, wanted, read, kept)
+        yield from hints.found(files, wanted, read, kept, answering)
     except Refused:
         yield from text.splitlines()[4:]
 
 
 def run(asked: argparse.Namespace) -> int:
-    index = asked.index or own_index.usual(os.path.dirname(asked.project))
+    with contextlib.ExitStack() as held:
+        given = held.enter_context(assembled.given(asked.project))
+        lock = asked.lock or given.lock
+        index = held.enter_context(overlaid.of_given(given, asked.index or own_index.usual_of(given), lock))
+        status = told(argparse.Namespace(**{**vars(asked), "project": given.project, "lock": lock}), index)
+    return status
+
+
+def told(asked: argparse.Namespace, index: str) -> int:
     lines = sentences_of(console.text_of(asked.text), asked, index) if asked.text is not None else answer(asked, index)
     if asked.json:
         console.print_object({"sentences": list(lines)})

@@ -1,10 +1,10 @@
 """Requests to a server: tried again where they fail for a while, and bounded in size and time.
 
-A user and a password of the server's address stay in memory: they are sent to that server alone, and stand in no
-address that is printed, kept or written. Other servers' come from .netrc, as `requests` reads it; what the index wants
-and nobody names, from the system's keyring. A request has one
-deadline for all its tries and redirects, from the search for the server's address to the last byte. What is read is
-counted before it is held: as it was sent, by the length that the server tells, and as it is decompressed.
+A user and a password of the server's address, or of variables, stay in memory: they are sent to that server alone, and
+stand in no address that is printed, kept or written. Other servers' come from .netrc, as `requests` reads it; what the
+index wants and nobody names, from the system's keyring. A request has one deadline for all its tries and redirects,
+from the search for the server's address to the last byte. What is read is counted before it is held: as it was sent, by
+the length that the server tells, and as it is decompressed.
 """
 
 from __future__ import annotations
@@ -21,9 +21,10 @@ from contextlib import closing
 from typing import IO, Any, Callable, Dict, Iterator, NamedTuple, Optional, Tuple, Type, Union
 from urllib.parse import unquote, urlsplit
 
-from . import __version__, archives, console, keyrings, pages
+from . import __version__, archives, keyrings
+from .addresses import address_of, fault_of, is_weaker, no_address, shown
 from .console import Refused
-from .pages import fault_of, shown
+from .keyrings import Secret
 from .vendored import library
 
 AGAIN = (429, 500, 502, 503, 504)
@@ -90,12 +91,14 @@ class Sink:
 class Fetcher:
     """Asks servers, with one connection for each thread."""
 
-    def __init__(self, url: str, tries: int, timeout: float, wait: float, deadline: float) -> None:
+    def __init__(
+        self, url: str, tries: int, timeout: float, wait: float, deadline: float, secret: Optional[Secret] = None
+    ) -> None:
         try:
-            self.url = pages.address_of(url).rstrip("/") + "/"
+            self.url = address_of(url).rstrip("/") + "/"
         except ValueError:
-            raise Refused(f"{shown(url)}: it is no address of a server", 2) from None
-        self.origin, self.secret = origin_of(self.url), secret_of(url)
+            raise no_address(url) from None
+        self.origin, self.secret = origin_of(self.url), secret or secret_of(url)
         self.keyring = keyrings.Keyring(self.url)
         self.tries, self.timeout, self.wait, self.deadline = tries, timeout, wait, deadline
         self.requests: Any = library("requests")
@@ -138,10 +141,6 @@ class Fetcher:
                 return found
             fault = f"{found.status} {found.reason}"
         raise fault_of(url, f"{fault} ({self.tries} tries)")
-
-    def told(self) -> str:
-        """How much was asked."""
-        return f"{console.counted(self.asked, 'request')}, {self.bytes / 1e6:.1f} MB"
 
     def count(self, size: int) -> None:
         with self.lock:
@@ -295,10 +294,10 @@ def inflated(reader: Any, chunk: bytes) -> Iterator[bytes]:
 
 def redirected(url: str, location: str) -> str:
     try:
-        found = pages.address_of(location, url)
+        found = address_of(location, url)
     except ValueError:
         raise fault_of(url, "it is redirected to what is no address of a server") from None
-    if pages.is_weaker(found, url):
+    if is_weaker(found, url):
         raise fault_of(url, f"it is redirected from https to {shown(found)}")
     return found
 
@@ -308,7 +307,7 @@ def origin_of(url: str) -> Tuple[str, str, Optional[int]]:
     return parts.scheme, parts.hostname or "", parts.port or {"http": 80, "https": 443}.get(parts.scheme)
 
 
-def secret_of(url: str) -> Optional[Tuple[str, str]]:
+def secret_of(url: str) -> Optional[Secret]:
     """The user and the password of an address."""
     parts = urlsplit(url)
     return None if parts.username is None else (unquote(parts.username), unquote(parts.password or ""))

@@ -23,8 +23,9 @@ from typing import IO, Any, Callable, Dict, Iterator, Optional, Tuple, TypeVar
 from .archives import Refused
 
 MARK = ".unilock-index"
-# Where `lock` keeps what it tried, beside a project without an index folder.
+# Where `lock` keeps what it tried, beside a project without an index folder; and what belongs to a script.
 OWN = Path(".unilock") / "ix"
+SCRIPTS = Path(".unilock") / "scripts"
 EXCHANGE = 2
 HERE = -100
 READS = 5
@@ -33,7 +34,13 @@ Made = TypeVar("Made")
 
 def is_of_tried(folder: str) -> bool:
     """Whether a folder has the releases that were tried alone, and not all that an index has."""
-    return Path(folder).parts[-2:] == OWN.parts
+    parts = Path(folder).parts
+    return parts[-2:] == OWN.parts or (parts[-4:-2] == SCRIPTS.parts and parts[-1:] == OWN.parts[-1:])
+
+
+def of_script(script: Path) -> Path:
+    """The folder of what belongs to a script: its index folder, and its environment."""
+    return script.parent / SCRIPTS / script.name
 
 
 def replace_folder(out: Path, documents: Dict[str, Dict[str, Any]]) -> None:

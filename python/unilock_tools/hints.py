@@ -7,25 +7,22 @@ one requirement raised before it is dropped, one platform left out before only o
 
 from __future__ import annotations
 
-import copy
-import datetime
-import json
 import os
 import tempfile
 import time
 from pathlib import Path
-from typing import Any, Dict, Iterator, List, NamedTuple, Optional, Sequence, Tuple
+from typing import Any, Callable, Dict, Iterator, List, NamedTuple, Optional, Sequence, Tuple
 
-from . import documents, locks, markers, places
+from . import documents, locks, markers, program
 from .called import command
 from .console import Refused
 from .project import Placed, Project
+from .project_text import Tables, changed, toml_text, toml_value
 from .readings import Requirement
 from .refusal import Need, Refusal
 from .relocking import Files
-from .versions import Clause, NoReading, Version, normal_name, specifiers_of, version
+from .versions import Clause, NoReading, Version, specifiers_of, version
 
-Tables = Dict[str, Any]
 SECONDS = 20.0
 LAST_PYTHON = 15
 PLATFORMS = ["linux", "darwin", "win32"]
@@ -45,52 +42,17 @@ class Way(NamedTuple):
         yield f"    {self.line}"
 
 
-def toml_value(it: object) -> str:
-    if isinstance(it, bool):
-        return "true" if it else "false"
-    if isinstance(it, str):
-        return json.dumps(it, ensure_ascii=False).replace("\x7f", "\\u007f")
-    if isinstance(it, list):
-        return f"[{', '.join(map(toml_value, it))}]"
-    if isinstance(it, dict):
-        return f"{{{', '.join(f'{toml_value(str(key))} = {toml_value(value)}' for key, value in it.items())}}}"
-    return it.isoformat() if isinstance(it, (datetime.date, datetime.time)) else str(it)
-
-
-def toml_text(tables: Tables) -> str:
-    """The tables that the program reads, as TOML."""
-    tool = tables.get("tool", {})
-    listed = [("project", tables.get("project")), ("dependency-groups", tables.get("dependency-groups"))]
-    listed += [(f"tool.{it}", tool.get(it)) for it in ("uv", "unilock") if isinstance(tool, dict)]
-    lines = []
-    for name, table in listed:
-        if isinstance(table, dict):
-            lines += [f"[{name}]", *(f"{toml_value(key)} = {toml_value(it)}" for key, it in table.items())]
-    return "\n".join(lines) + "\n"
-
-
-def changed(tables: Tables, place: str, value: object) -> Tables:
-    """The tables with another value at a place, whose tables are made where they aren't there."""
-    made = copy.deepcopy(tables)
-    at: Any = made
-    steps = list(places.steps_of(place))
-    for number, (key, element) in enumerate(steps):
-        same = [it for it in at if normal_name(it) == key]
-        key = key if key in at or not same else same[0]
-        if number == len(steps) - 1 and element is None:
-            at[key] = value
-        elif number == len(steps) - 1:
-            at[key][element] = value
-        else:
-            at = at.setdefault(key, {})
-    return made
+# What is answered of a changed copy of a project file, where it comes to an answer.
+Answering = Callable[[str], Optional[program.Answer]]
 
 
 class Trials:
-    """Changed copies of a project file, which the program is asked to lock."""
+    """Changed copies of a project file, which the program is asked to lock by the index folder, or by what `answering`
+    fetches."""
 
-    def __init__(self, files: Files, held: str) -> None:
+    def __init__(self, files: Files, held: str, answering: Optional[Answering] = None) -> None:
         self.files = files._replace(project=os.path.join(held, "pyproject.toml"))
+        self.answering = answering or (lambda _: self.files.locked())
         self.until = time.monotonic() + SECONDS
         self.count, self.passed_over = 0, 0
 
@@ -101,8 +63,10 @@ class Trials:
             return None
         self.count += 1
         Path(self.files.project).write_text(toml_text(tables), encoding="utf-8")
-        answered = self.files.locked()
-        return locks.read(answered.text, "the lock of a trial") if answered.status == 0 else None
+        answered = self.answering(self.files.project)
+        if answered is None or answered.status != 0:
+            return None
+        return locks.read(answered.text, "the lock of a trial")
 
 
 class Finder:
@@ -338,10 +302,12 @@ def within_one_letter(one: str, other: str) -> bool:
     return left[1:] == right or left == right[1:] or left[1:] == right[1:] or swapped
 
 
-def found(files: Files, project: Project, refusal: Refusal, kept: bool) -> Iterator[str]:
+def found(
+    files: Files, project: Project, refusal: Refusal, kept: bool, answering: Optional[Answering] = None
+) -> Iterator[str]:
     """The ways out, as lines."""
     with tempfile.TemporaryDirectory(prefix="unilock-") as held:
-        trials = Trials(files, held)
+        trials = Trials(files, held, answering)
         try:
             ways = list(Finder(project, files.folder, refusal, trials).ways(kept))
         except (Refused, NoReading):

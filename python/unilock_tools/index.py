@@ -12,18 +12,25 @@ the library `build` is installed. A build runs the project's code, and what it s
 From a project, the package index is asked for all that its requirements can reach: each release that the project's
 own bounds, --newest and --before allow. Names of which files are given are taken from these alone. A release speaks
 by the metadata of one of its wheels; one without a wheel counts as a source distribution does above, and is passed
-over with a warning otherwise. The server gives metadata files (PEP 658), ranges of wheels or whole wheels, and pages
-in JSON (PEP 691) or HTML (PEP 503).
+over with a warning otherwise. What `tool.uv.dependency-metadata` states counts in the place of both. The server gives
+metadata files (PEP 658), ranges of wheels or whole wheels, and pages in JSON (PEP 691) or HTML (PEP 503).
+
+Names with a source (`tool.uv.sources`: path, url, git or workspace), and those that are required by a URL, have the one
+release that this gives, with `source = direct` in its entry, and no server is asked for them; of a repository the entry
+has the commit. A name has one source, everywhere: several under markers are refused.
 
 A release that unilock will not be able to use is kept and warned of, with the entry that it can't read.
 
 OUT is written anew as a whole: into a fresh folder beside it, which then takes its place. Only a folder that this
 command made (a file .unilock-index in it says so), or an empty one, is replaced.
 
-The package index is that of --index-url, or of UNILOCK_INDEX_URL, the project file (`tool.uv.index-url`),
-PIP_INDEX_URL, UV_INDEX_URL or pip's configuration, the first that there is; else PyPI. A user and a password in its
-address, in .netrc or in the system's keyring (the library `keyring`) are sent to that server alone and written nowhere.
-An answer that is cut off, or that doesn't say that it is a page of the Simple API, is refused.
+The usual package index is that of --index-url, or of UNILOCK_DEFAULT_INDEX, the project file (`tool.uv.index-url`, or
+the default of `tool.uv.index`), PIP_INDEX_URL, UV_INDEX_URL or pip's configuration, the first that there is; else PyPI.
+Before it the further ones are asked: --find-links, --index, UNILOCK_INDEX, the project file's, uv's and pip's. Of each
+name the first index that has it is asked, and no other. A user and a password in an address, in the variables
+UNILOCK_INDEX_NAME_USERNAME and UNILOCK_INDEX_NAME_PASSWORD, in .netrc or in the system's keyring (the library
+`keyring`) are sent to that server alone and written nowhere. An answer that is cut off, or that doesn't say that it is
+a page of the Simple API, is refused.
 
 Needs the library `requests` to ask a server, and `rich` for a bar of progress. Status: 0 written; 1 a file is refused;
 2 the words aren't right; 3 the project file can't be read; 4 more packages, releases or text than the program reads; 5
@@ -37,15 +44,21 @@ import contextlib
 import os
 import sys
 from pathlib import Path
-from typing import List, Optional
+from typing import Any, Dict, List, Optional
 
-from . import building, console, documents, folders, index_settings, project, terminal, walk
+from . import (
+    assembled, building, console, direct, direct_files, documents, folders, index_settings, project, scripts, terminal,
+    walk,
+)  # fmt: skip
 from .archives import Refused
 from .building import Builder
 from .cache import Cache, usual_folder
 from .documents import Projects
-from .simple import Client
+from .indexes import Indexes, Patience
+from .stated import Stated
 from .terminal import Meter, Part
+from .vendored import toml_of
+from .workspaces import Workspace
 
 
 def parser() -> console.Parser:
@@ -55,7 +68,7 @@ def parser() -> console.Parser:
         metavar="SOURCE",
         nargs="+",
         type=Path,
-        help="a project file, wheels, source distributions, or folders of them",
+        help="a project file or a script, wheels, source distributions, or folders of them",
     )
     made.add_argument("out", metavar="OUT", type=Path, help="the index folder, written anew")
     made.add_argument(
@@ -70,9 +83,7 @@ def parser() -> console.Parser:
     terminal.add_color(made)
     building.add_words(made)
     server = made.add_argument_group("from a package index")
-    server.add_argument(
-        "--index-url", metavar="URL", help="its Simple API, where not the one that the settings of uv and pip name"
-    )
+    index_settings.add_words(server)
     server.add_argument("--newest", metavar="N", type=int, help="at most so many releases of each package, the newest")
     server.add_argument(
         "--before",
@@ -102,11 +113,13 @@ def judged(asked: argparse.Namespace) -> None:
             raise console.Refused(f"--{name} {getattr(asked, name)}: at most {most:g}", 2)
 
 
-def from_files(paths: List[Path], skip: bool, builder: Optional[Builder]) -> "tuple[Projects, List[str]]":
+def from_files(
+    paths: List[Path], skip: bool, builder: Optional[Builder], stated: Stated
+) -> "tuple[Projects, List[str]]":
     gathered, passed = Projects(), []
     for path in documents.files_in(paths):
         try:
-            gathered.add_file(path, builder)
+            gathered.add_file(path, builder, stated.of_file(path.name))
         except Refused as fault:
             if not skip:
                 raise
@@ -114,10 +127,24 @@ def from_files(paths: List[Path], skip: bool, builder: Optional[Builder]) -> "tu
     return gathered, passed
 
 
+def from_sources(asked: argparse.Namespace, workspace: Workspace, gathered: Projects, url: str) -> List[str]:
+    """Adds the releases that come from sources, and says which files they are in the place of."""
+    means = direct_files.means_of(asked, cache_of(asked), url)
+    means.tries, means.timeout, means.deadline = asked.tries, asked.timeout, asked.deadline
+    found = direct.Direct(workspace, means).gather()
+    twice = sorted(set(gathered.releases) & set(found.places))
+    gathered.releases.update(found.projects().releases)
+    return [*(f"{it}: its files are passed over, since it comes from {found.places[it].told()}" for it in twice),
+            *found.warnings()]  # fmt: skip
+
+
 def from_server(asked: argparse.Namespace, path: Path, gathered: Projects, builder: Optional[Builder]) -> List[str]:
-    read, cache = project.load(str(path)), cache_of(asked)
-    source = index_settings.source(asked.index_url, read.tables)
-    client = Client(source.url, cache, asked.tries, asked.timeout, deadline=asked.deadline, builder=builder)
+    with assembled.given(str(path)) as given:
+        read, tables = project.load(given.project), assembled.index_tables(given.named, given.workspace)
+    cache, settings = cache_of(asked), index_settings.of_words(asked, tables, Path(given.named).parent)
+    warned = [] if given.workspace is None else from_sources(asked, given.workspace, gathered, settings.usual.url)
+    patience = Patience(asked.tries, asked.timeout, asked.deadline)
+    client = Indexes(settings, cache, builder, patience, Stated(tables))
     choice = walk.Choice(asked.newest, None if asked.before is None else walk.instant(asked.before))
     shown: contextlib.AbstractContextManager[Optional[Meter]] = contextlib.nullcontext()
     if not asked.quiet:
@@ -126,23 +153,34 @@ def from_server(asked: argparse.Namespace, path: Path, gathered: Projects, build
         walking = walk.Walk(client, read, choice, gathered, asked.jobs, meter)
         walking.run(it.requirement for it in read.requirements)
     if not asked.quiet:
-        console.say(f"index: {client.fetcher.told()}{source.shown()}")
-    passed = index_settings.passed_over(asked.index_url, read.tables)
-    return [*walking.warnings(), *passed, *([cache.fault] if cache.fault else [])]
+        several = f"; asked {client.told()}" if len(client.asked) > 1 else settings.usual.shown()
+        console.say(f"index: {client.fetched().told()}{several}")
+    return [*warned, *walking.warnings(), *([cache.fault] if cache.fault else [])]
 
 
 def cache_of(asked: argparse.Namespace) -> Cache:
     return Cache(None if asked.no_cache else asked.cache or usual_folder())
 
 
+def is_project(path: Path) -> bool:
+    """Whether a source is a project file, or a script with its requirements in it."""
+    return path.suffix == ".toml" or scripts.is_script(path)
+
+
+def tables_of(path: Path) -> Dict[str, Any]:
+    return scripts.tables_of(path) if scripts.is_script(path) else toml_of(str(path))
+
+
 def run(asked: argparse.Namespace) -> int:
     judged(asked)
-    projects = [it for it in asked.sources if it.suffix == ".toml"]
+    projects = [it for it in asked.sources if is_project(it)]
     if len(projects) > 1:
         raise console.Refused("two project files: one folder is made for one project", 2)
     folders.prepared(asked.out)
     builder = building.of_words(asked, cache_of(asked), asked.index_url)
-    gathered, warned = from_files([it for it in asked.sources if it.suffix != ".toml"], asked.skip, builder)
+    stated = Stated(tables_of(projects[0]) if projects else {})
+    files = [it for it in asked.sources if it not in projects]
+    gathered, warned = from_files(files, asked.skip, builder, stated)
     for mark in asked.yanked:
         gathered.mark_yanked(mark)
     for path in projects:

@@ -24,14 +24,15 @@ program can't be built.
 from __future__ import annotations
 
 import argparse
+import contextlib
 import os
 import tempfile
 from pathlib import Path
 from typing import Any, Dict, List, NamedTuple, Optional, Sequence, Union
 
 from . import (
-    console, documents, foreign, linked, locks, own_extras, pdm_lock, places, poetry_lock, printing, program,
-    project, pylock_rows, reduced, requirement_rows, rows, uv_lock, verdicts, worlds,
+    assembled, console, documents, foreign, linked, locks, overlaid, own_extras, pdm_lock, places, poetry_lock,
+    printing, program, project, pylock_rows, reduced, requirement_rows, rows, uv_lock, verdicts, worlds,
 )  # fmt: skip
 from .console import Refused
 from .foreign import Foreign
@@ -39,11 +40,14 @@ from .marker_texts import ALWAYS, every
 from .required import Required
 from .rows import Rows
 from .tables import NOT_JUDGED, Unread
+from .terminal import Screen, add_color
 from .vendored import toml_reader
 from .versions import normal_name
 
 RIGHT, WRONG = 0, 1
 VERDICTS = {RIGHT: "right", WRONG: "wrong", NOT_JUDGED: "not judged"}
+# How a terminal shows the sentence that says so.
+KINDS = {RIGHT: "good", WRONG: "bad", NOT_JUDGED: "changed"}
 # The status of the program's verdict that a lock is rejected.
 REJECTED = 9
 # What a lock may have at most, as a project file may.
@@ -93,6 +97,7 @@ def parser() -> console.Parser:
         help="a dependency group that it was made with; may be repeated",
     )  # fmt: skip
     console.add_json(made)
+    add_color(made)
     return made
 
 
@@ -131,6 +136,17 @@ def extras_of(asked: argparse.Namespace, wanted: project.Project) -> List[str]:
     unknown = [it for it in found if it not in wanted.extras()]
     if unknown:
         raise Refused(f"the project has no extra {unknown[0]} (it has: {', '.join(wanted.extras()) or 'none'})", 2)
+    return found
+
+
+def judged_as_given(asked: argparse.Namespace) -> Judged:
+    """The verdict by the project file that the program is handed, and an index folder with what comes from sources."""
+    with contextlib.ExitStack() as held:
+        given = held.enter_context(assembled.given(asked.project))
+        if given.workspace is not None and given.workspace.is_declared:
+            raise Unread(f"{given.named} has a workspace, whose members are locked each by its own name")
+        index = held.enter_context(overlaid.of_given(given, asked.index, ""))
+        found = judged(argparse.Namespace(**{**vars(asked), "project": given.project, "index": index}))
     return found
 
 
@@ -235,7 +251,7 @@ def answer_on(files: Files, lock: locks.Lock) -> program.Answer:
     answered = program.answer(["verify", files.project, files.documents, str(files.lock)])
     if answered.status not in (0, REJECTED):
         text = program.fault_text(answered)
-        raise Unread("; ".join(places.told(text) or [text]))
+        raise Unread("\n  ".join(places.told(text) or [text]))
     return answered
 
 
@@ -276,7 +292,7 @@ def run(asked: argparse.Namespace) -> int:
     asked.project = asked.project or os.path.join(os.path.dirname(asked.lock), "pyproject.toml")
     asked.index = asked.index or os.path.join(os.path.dirname(asked.project), "ix")
     try:
-        found = judged(asked)
+        found = judged_as_given(asked)
         if asked.out and found.lock is not None:
             keep(asked.out, found.lock)
     except Refused as fault:
@@ -288,8 +304,9 @@ def run(asked: argparse.Namespace) -> int:
     if asked.json:
         console.print_object(as_object(asked.lock, found))
     else:
-        for line in lines(asked.lock, found):
-            print(printing.wrapped(line))
+        screen = Screen(asked.color)
+        for number, line in enumerate(lines(asked.lock, found)):
+            screen.told(printing.wrapped(line), "" if number else KINDS[found.status])
     return found.status
 
 

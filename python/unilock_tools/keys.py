@@ -24,34 +24,34 @@ READ = {
 # What the strict profile refuses; the wide one refuses the first two alone, reads the last one and passes the others
 # over.
 REFUSED = ["sources", "conflicts", "index", "extra-index-url", "find-links", "workspace", "dev-dependencies"]
-REFUSED_BY_WIDE = ["sources", "conflicts"]
+# Of these the tools settle sources before they hand a file on.
+REFUSED_BY_TOOLS = ["conflicts"]
 PASSED_OVER_BY_WIDE = {
-    "index": "`tools/index --index-url URL` reads one server",
-    "extra-index-url": "`tools/index --index-url URL` reads one server",
-    "find-links": "`tools/index FOLDER OUT` reads a folder of wheels",
-    "workspace": "the other members aren't locked",
+    "index": "`tools/lock` and `tools/index` ask it",
+    "extra-index-url": "`tools/lock` and `tools/index` ask it, before the usual index",
+    "find-links": "`tools/lock` and `tools/index` look there first",
 }
 PRERELEASES = ["disallow", "allow", "if-necessary", "explicit", "if-necessary-or-explicit"]
 PASSED_OVER = {
     "exclude-newer": "`tools/index --before DATE` leaves newer files out of the index",
     "exclude-newer-package": "`tools/index --before DATE` leaves newer files out of the index, for all packages",
-    "dependency-metadata": "releases count as their metadata say; write what differs into the index folder",
-    "default-groups": "groups are asked for by name, with --group or the word group-NAME",
+    "dependency-metadata": "`tools/lock` and `tools/index` take it in the place of what a release says",
+    "default-groups": "`tools/sync` installs them; elsewhere groups are asked for by name",
     "dependency-groups": "a group's own requires-python isn't looked at",
-    "required-environments": "the lock holds for all environments; whether each has a wheel isn't looked at",
+    "required-environments": "the lock holds for all environments; `tools/coverage` looks whether each has files",
     "exclude-dependencies": "all dependencies are locked",
     "index-url": "`tools/lock`, `tools/index` and `tools/sync` ask it; the program asks no network",
-    "index-strategy": "there is one index",
-    "no-index": "the program asks no network",
-    "no-build": "nothing is built",
-    "no-build-package": "nothing is built",
+    "index-strategy": "of each name the first index that has it is asked, and no other",
+    "no-index": "`tools/lock PROJECT INDEX` by an index folder asks no package index",
+    "no-build": "`--no-build` of `tools/lock` and `tools/index` builds nothing",
+    "no-build-package": "`tools/lock --build NAME` names what is built of an index",
     "no-binary": "wheels and source distributions aren't chosen from",
     "no-binary-package": "wheels and source distributions aren't chosen from",
-    "no-sources": "sources are refused",
+    "no-sources": "sources count",
     "upgrade": "`tools/lock --upgrade`",
     "upgrade-package": "`tools/lock --upgrade-package NAME`",
-    "build-constraint-dependencies": "nothing is built",
-    "extra-build-dependencies": "nothing is built",
+    "build-constraint-dependencies": "what builds need isn't locked",
+    "extra-build-dependencies": "what builds need isn't locked",
     "managed": "",
     "package": "",
 }

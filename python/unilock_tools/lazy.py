@@ -10,30 +10,37 @@ unknown releases of the names that differ are fetched, and it goes on.
 
 A refusal by the working folder is one by all documents, but for one thing: which pre-releases count hangs on which
 final releases can be used, and that is known of known releases alone. So before a refusal is believed, the final
-releases of each name that has pre-releases, and that the core of the refusal names, are fetched.
+releases of each name that has pre-releases, and that the core of the refusal names, are fetched. Nothing else is: its
+core has needs of known releases, and the versions that the pages tell of. A changed copy of the project is tried in the
+same way, so a way out of a refusal may lead to any release.
 """
 
 from __future__ import annotations
 
 import json
 import tempfile
+from collections import Counter
 from collections.abc import Iterable
 from concurrent.futures import ThreadPoolExecutor
 from dataclasses import dataclass, field
 from pathlib import Path
 
-from . import archives, console, documents, locks, markers, program, usual_names, walk
+from . import archives, console, documents, locks, markers, program, project, usual_names, walk
 from .archives import Metadata
 from .documents import Document, Projects
 from .pages import ListedRelease, Passed, ProjectPage
 from .project import Project
 from .readings import Requirement, requirement_of
 from .refusal import CORE
-from .simple import Client
+from .simple import PackageIndex
 from .versions import Key, version
 
 # Rounds of locking and fetching. Each fetches a release that wasn't known, of which there are finitely many.
 MOST_ROUNDS = 10_000
+# Of a name of which so many releases were tried, one after another, more are fetched at a time, and at most so many.
+FEW, MOST_AHEAD = 4, 64
+# Rounds of a changed copy of a project; one that takes more counts as one that isn't served.
+MOST_TRIED = 50
 
 
 @dataclass
@@ -57,33 +64,40 @@ class Name:
 
 @dataclass(frozen=True)
 class Locked:
-    """What the program answered by the folder that is kept, and the documents of that folder."""
+    """What the program answered by the folder that is kept, and the documents of that folder. A refusal is that of the
+    working folder, whose documents stand beside."""
 
     answer: program.Answer
     documents: dict[str, Document]
     warnings: list[str]
+    working: dict[str, Document] = field(default_factory=dict)
 
 
 class Lazy:
     """One project and one server. `old` is a lock whose versions are tried first; with `keep` it stays where it is
-    right, and where it leads to nothing it is left out."""
+    right, and where it leads to nothing it is left out. Of the names in `given` the server isn't asked: these are their
+    releases."""
 
     def __init__(
         self,
-        client: Client,
+        client: PackageIndex,
         project: Project,
         choice: walk.Choice,
         workers: int = 1,
         old: Path | None = None,
         jobs: int = 16,
         keep: bool = True,
+        given: Projects | None = None,
     ) -> None:
         self.client, self.project, self.choice = client, project, choice
+        self.given = {} if given is None else given.releases
         self.workers, self.old, self.jobs = workers, old, jobs
         self.word = "relock" if keep and old is not None else "lock"
         self.names: dict[str, Name] = {}
         self.absent: list[str] = []
         self.pages = 0
+        self.turns: Counter[str] = Counter()
+        self.rounds = MOST_ROUNDS
 
     # ---- what is known
 
@@ -91,21 +105,32 @@ class Lazy:
         self.reach((self.project.name, it.requirement) for it in self.project.requirements)
         self.fetch(self.kept_by_old())
         with tempfile.TemporaryDirectory(prefix="unilock-lazy-") as held:
-            for _ in range(MOST_ROUNDS):
+            for _ in range(self.rounds):
                 working = self.answered(Path(held), self.working())
                 wanted = self.wanted_by(working)
                 if wanted:
-                    self.fetch(wanted)
+                    self.fetch(self.with_next(wanted))
                     continue
+                if working.status == 1:
+                    self.reach_alike()
+                    return Locked(working, self.known(), self.warnings(), self.working())
                 known = self.known()
                 kept = self.answered(Path(held), known)
                 wanted = [] if kept.body == working.body else self.differing(working, kept)
                 if not wanted:
-                    if kept.status == 1 and self.reach_alike():
-                        known = self.known()
                     return Locked(kept, known, self.warnings())
                 self.fetch(wanted)
         raise console.Refused("the lock didn't come to rest", 70)
+
+    def tried(self, path: str) -> program.Answer | None:
+        """What the program answers of a changed copy of the project; None where the server fails, or where it takes too
+        long."""
+        other = Lazy(self.client, project.load(path), self.choice, self.workers, jobs=self.jobs)
+        other.names, other.given, other.rounds = self.names, self.given, MOST_TRIED
+        try:
+            return other.run().answer
+        except console.Refused:
+            return None
 
     def kept_by_old(self) -> list[tuple[str, ListedRelease]]:
         """The releases that an old lock has, as far as their names are reached already."""
@@ -115,6 +140,18 @@ class Lazy:
         pairs = [(it.name, it.version) for it in lock.packages if it.name != lock.root]
         self.reach_names({name for name, _ in pairs})
         return [(name, it) for name, spelled in pairs if (it := self.names[name].of(spelled)) is not None]
+
+    def with_next(self, wanted: list[tuple[str, ListedRelease]]) -> list[tuple[str, ListedRelease]]:
+        """What is wanted, and of a name of which one release after another was, more and more of what comes next."""
+        found = {(name, it.version.key): it for name, it in wanted}
+        for name, release in wanted:
+            self.turns[name] += 1
+            more = min(1 << max(0, self.turns[name] - FEW), MOST_AHEAD) - 1
+            order = self.permitted(name)[:: -1 if self.is_lowest else 1] if more else []
+            keys = [it.version.key for it in order]
+            at = keys.index(release.version.key) + 1 if release.version.key in keys else len(keys)
+            found.update({(name, it.version.key): it for it in order[at : at + more]})
+        return [(name, it) for (name, _), it in found.items()]
 
     def wanted_by(self, answered: program.Answer) -> list[tuple[str, ListedRelease]]:
         """What an answer by the working folder rests on and isn't known."""
@@ -143,12 +180,24 @@ class Lazy:
 
     def differing(self, working: program.Answer, kept: program.Answer) -> list[tuple[str, ListedRelease]]:
         """Where the lock by the working folder isn't that by known releases alone: the unknown releases of the names
-        that differ, those above the lowest version that either lock has of them first."""
+        that differ; those alone, where there are such, that would be tried before some version that a lock has."""
         if working.status != 0 or kept.status != 0:
             return [(name, it) for name, one in self.names.items() for it in one.unknown()[:1]]
         versions = [{(it.name, it.version) for it in locks.read(one.text, "lock").packages} for one in (working, kept)]
         names = sorted({name for name, _ in versions[0] ^ versions[1]} & set(self.names)) or sorted(self.names)
-        return [(name, it) for name in names for it in self.names[name].unknown()]
+        had: dict[str, list[Key]] = {}
+        for name, spelled in versions[0] | versions[1]:
+            had.setdefault(name, []).extend(it.key for it in [version(spelled)] if it is not None)
+        wanted = [(name, it) for name in names for it in self.names[name].unknown()]
+        return [(name, it) for name, it in wanted if self.is_before(it.version.key, had.get(name, []))] or wanted
+
+    @property
+    def is_lowest(self) -> bool:
+        return self.project.settings.get("resolution") == "lowest"
+
+    def is_before(self, key: Key, others: list[Key]) -> bool:
+        """Whether a version is tried before some other."""
+        return any(key < it if self.is_lowest else key > it for it in others)
 
     # ---- pages and metadata
 
@@ -173,19 +222,20 @@ class Lazy:
             self.read_all(newest)
             todo = [it for name in sorted(fresh | again) for it in self.required_by(name)]
 
-    def reach_alike(self) -> bool:
+    def reach_alike(self) -> None:
         """Reads names that are like those which the server doesn't have and the project requires, so that they can be
-        tried in their place. Whether there are some."""
+        tried in their place."""
         own = {it.requirement.name for it in self.project.requirements} - {self.project.name}
-        absent = [name for name in sorted(own) if not self.names[name].listed]
+        absent = [name for name in sorted(own - set(self.given)) if not self.names[name].listed]
         told, known = list(self.absent), set(self.names)
         self.reach((name, requirement_of(it)) for name in absent for it in usual_names.alike(name, known - {name}))
         # That the server doesn't have such a name either is nothing to tell.
         self.absent = told
-        return set(self.names) != known
 
     def reach_names(self, names: set[str]) -> None:
-        fresh = sorted(names - set(self.names))
+        fresh = sorted(names - set(self.names) - set(self.given))
+        for name in sorted(names & set(self.given) - set(self.names)):
+            self.names[name] = Name(known={key: it.metadata for key, it in self.given[name].items()})
         if len(self.names) + len(fresh) > walk.MOST_PACKAGES:
             raise console.Refused(f"more than {walk.MOST_PACKAGES:,} packages are reached", 4)
         with ThreadPoolExecutor(self.jobs) as pool:
@@ -196,7 +246,7 @@ class Lazy:
 
     def listed(self, name: str, page: ProjectPage | None) -> list[ListedRelease]:
         if page is None:
-            self.absent.append(f"the server has no project {name}")
+            self.absent.append(self.client.lacks(name))
             return []
         found = page.releases
         if self.choice.before is not None:
@@ -249,11 +299,13 @@ class Lazy:
         """The known releases, with their files."""
         gathered = Projects()
         for name, one in self.names.items():
+            if name in self.given:
+                gathered.releases[name] = self.given[name]
             for release in one.listed:
                 metadata = one.known.get(release.version.key)
                 if metadata is not None:
                     made = gathered.add(release.files[0].name, metadata)
-                    made.yanked, made.reason = release.yanked, release.reason
+                    made.yanked, made.reason, made.source = release.yanked, release.reason, release.source
                     made.files = walk.files_of(release)
         return gathered
 
@@ -309,6 +361,8 @@ def unknown_entry(release: ListedRelease) -> Document:
         entry["requires_python"] = release.requires_python
     if release.yanked:
         entry["yanked"] = release.reason or True
+    if release.source:
+        entry["source"] = release.source
     files = walk.files_of(release)
     if files:
         entry["files"] = [documents.file_entry(it) for _, it in sorted(files.items())]

@@ -6,6 +6,21 @@ project as unilock.lock. One that is there already and right stays as it is, but
 it isn't right any more, as little as may be changes. The new lock is written beside the old one and takes its name when
 it is whole; on any other answer the old lock stays as it was. A file that isn't a lock is never written over.
 
+A name with a source (`tool.uv.sources`: path, url, git or workspace), or required by a URL, has the one release that
+this gives, and no other can be chosen: a folder speaks by its project file, a file by its metadata, a repository by
+the commit that its branch or tag is at, which the lock keeps until the name is upgraded. A name has one source,
+everywhere: several under markers are refused. Folders of this machine are built where their files don't say what they
+require, unless --no-build is said; what comes from elsewhere only with --build. In a workspace the root's file is found
+from every folder, and one lock holds for all members. --show-project prints the file that is put together of all that.
+
+The package indexes are those of the words, of UNILOCK_DEFAULT_INDEX and UNILOCK_INDEX, of the project file
+(`tool.uv.index`, `extra-index-url`, `find-links`), and of uv's and pip's settings; of each name the first that has it
+is asked, and no other, the usual one last. An explicit one is asked for names alone whose source names it. What
+`tool.uv.dependency-metadata` states of a release counts in the place of what its files say.
+
+A script with its requirements in it (PEP 723) is locked as a project of its own: `lock script.py` writes
+script.py.lock, and what it was told is kept in .unilock/scripts/script.py.
+
 Where no choice of versions serves the project the requirements that clash are said, and changes of the project file
 that were tried and lead to a lock.
 
@@ -22,25 +37,35 @@ import argparse
 import os
 import sys
 import tempfile
+from contextlib import ExitStack, contextmanager
 from pathlib import Path
 from typing import Callable, Dict, Iterator, List, NamedTuple, Optional
 
 from . import (
-    advice, console, diff, explain, folders, locks, own_index, places, printing, program, project,
-    relocking, verdicts,
+    advice, assembled, console, diff, direct, direct_files, explain, folders, hints, index_settings, locks, overlaid,
+    own_index, pinned, places, printing, program, project, relocking, verdicts,
 )  # fmt: skip
+from .cache import Cache, usual_folder
 from .called import command, named
 from .console import Refused
+from .project_text import changed, toml_text
 from .relocking import Change, Files, cores
+from .terminal import Screen, add_color
 from .versions import normal_name, version
 
 NOT_CURRENT, NOTHING_SERVES = 1, 4
+# How a terminal shows what changed, by the first word of its line.
+KINDS = {"added": "good", "removed": "bad", "rejected:": "bad", "no": ""}
 
 
 def parser() -> console.Parser:
     made = console.Parser("lock", __doc__)
     made.add_argument(
-        "project", metavar="PROJECT", nargs="?", default="pyproject.toml", help="the project file (pyproject.toml)"
+        "project",
+        metavar="PROJECT",
+        nargs="?",
+        default="pyproject.toml",
+        help="the project file (pyproject.toml), or a script with its requirements in it (PEP 723)",
     )
     made.add_argument(
         "index",
@@ -64,13 +89,19 @@ def parser() -> console.Parser:
         help="write nothing; status 1 where the lock isn't current, 4 where nothing serves; files that the index has "
         "gained of locked releases don't count",
     )
+    add_color(made)
     made.add_argument(
         "--workers", metavar="N", type=int, default=cores(), help="threads, 1 to 64 (the machine's cores: %(default)s)"
     )
     made.add_argument("--quiet", "-q", action="store_true", help="don't say what changed")
+    made.add_argument(
+        "--show-project",
+        action="store_true",
+        help="print the project file that the program is handed, put together of sources and a workspace; don't lock",
+    )
     console.add_json(made)
     own_index.add_words(made)
-    made.set_defaults(beside=None)
+    made.set_defaults(beside=None, workspace=None, named="")
     return made
 
 
@@ -149,7 +180,8 @@ def upgraded(files: Files, known: locks.Lock, pins: Dict[str, Optional[str]]) ->
         new = locks.read(answered.text, "the new lock").by_name()
         for name, spelled in instead.items():
             if not any(verdicts.same_version(it.version, spelled) for it in new.get(name, [])):
-                raise Refused(f"{name} {spelled} can't be taken with the versions that the project asks for", 1)
+                why = "an override has another version" if name in new else f"nothing that is locked needs {name}"
+                raise Refused(f"{name} {spelled} isn't taken: {why}", 1)
     return answered
 
 
@@ -211,7 +243,8 @@ def judged(asked: argparse.Namespace) -> None:
     if not 1 <= asked.workers <= 64:
         raise Refused(f"--workers {asked.workers}: 1 to 64", 2)
     if not os.path.isfile(asked.project):
-        raise Refused(f"{asked.project}: there is no such file", 3)
+        lines = [f"{asked.project}: there is no such file", *places.least_project(asked.project)]
+        raise Refused("\n  ".join(lines), 3)
     advice.refuse_own_name(asked.project)
 
 
@@ -223,28 +256,58 @@ def refuse_unread(asked: argparse.Namespace) -> None:
             raise fault_of(answered, Files(asked.project, empty, 1), lock_path(asked))
 
 
-def files_of(asked: argparse.Namespace, old: Old, pins: Dict[str, Optional[str]]) -> Files:
-    """The files of the call, the index folder among them, which a package index is asked for where none is named."""
+def gathered(asked: argparse.Namespace, kept: own_index.Kept, known: Optional[Path]) -> Optional[direct.Direct]:
+    """The releases that come from sources; a commit of the old lock stays unless it is to be chosen anew."""
+    if asked.workspace is None:
+        return None
+    source = index_settings.source(asked.index_url, asked.workspace.tables)
+    means = direct_files.means_of(asked, Cache(usual_folder()), source.url)
+    commits = {} if kept.anew else direct.commits_of(kept.lock)
+    means.known, means.kept = known, {name: it for name, it in commits.items() if name not in kept.pins}
+    found = direct.Direct(asked.workspace, means).gather()
+    if not asked.quiet:
+        for text in found.warnings():
+            console.say(f"lock: warning: {text}")
+    return found
+
+
+def fetched(
+    asked: argparse.Namespace, old: Old, pins: Dict[str, Optional[str]], held: ExitStack
+) -> own_index.Fetched:
+    """The index folder of the call, for which a package index is asked where none is named."""
+    kept = own_index.Kept(lock_path(asked), old.lock, pins, asked.upgrade)
     if own_index.is_wanted(asked):
         refuse_unread(asked)
-        kept = own_index.Kept(lock_path(asked), old.lock, pins, asked.upgrade)
-        index = own_index.folder_for(asked, kept)
+        given = gathered(asked, kept, own_index.known(asked, kept))
+        found = own_index.folder_for(asked, kept, given)
+        if found.refusal is not None:
+            return found
     else:
         index = asked.index or str(own_index.beside(asked) / "ix")
-    if not os.path.isdir(index):
-        makes = f"`{command('index')} {asked.named} {index}` makes it"
-        raise Refused(f"{index}: there is no such folder; {makes}", 3)
-    return Files(asked.project, index, asked.workers)
+        if not os.path.isdir(index):
+            makes = f"`{command('index')} {asked.named} {index}` makes it"
+            raise Refused(f"{index}: there is no such folder; {makes}", 3)
+        given, found = gathered(asked, kept, Path(index)), own_index.Fetched(Path(index))
+    return own_index.Fetched(Path(held.enter_context(overlaid.overlaid(str(found.folder), given))))
 
 
-def refuse(answered: program.Answer, asked: argparse.Namespace, files: Files, kept: bool) -> int:
+def refuse(
+    answered: program.Answer,
+    asked: argparse.Namespace,
+    files: Files,
+    kept: bool,
+    answering: Optional[hints.Answering] = None,
+) -> int:
     """Says why nothing serves, and the ways out that were tried; or what else the program refused. `kept` where an old
-    lock's versions were kept."""
+    lock's versions were kept; `answering` tries by a package index."""
     if answered.status != 1:
         raise fault_of(answered, files, lock_path(asked))
     console.say(f"lock: {program.fault_text(answered)} ({'; '.join(answered.text.splitlines()[1:3])})")
+    for name, spelled in pins_of(asked.upgrade_package).items():
+        if spelled is not None:
+            console.say(f"{name}=={spelled} is asked for by --upgrade-package, as if it stood among the constraints")
     by_folder = [] if own_index.is_wanted(asked) else stale(files, asked.named)
-    lines = [*explain.refusal_lines(answered.text, files, kept), *by_folder]
+    lines = [*explain.refusal_lines(answered.text, files, kept, answering), *by_folder]
     for line in lines:
         console.say(printing.wrapped(line, sys.stderr))
     if asked.json:
@@ -259,24 +322,63 @@ def tell(asked: argparse.Namespace, state: str, old: Old, new: locks.Lock, lines
         differing = [it for it in diff.as_object(old.lock, new, [])["packages"] if it["name"] != new.root]
         console.print_object({"lock": path, "state": state, "count": count, "packages": differing, "lines": lines})
     elif not asked.quiet:
-        for line in [*lines, f"{path} is {state}: {console.counted(count, 'package')}{more}"]:
-            print(line)
+        screen = Screen(asked.color)
+        for line in lines:
+            screen.told(line, KINDS.get(line.partition(" ")[0], "changed"), "  (")
+        said = f"{path} is {state}: {console.counted(count, 'package')}{more}"
+        screen.told(said, "good" if state == "current" else "")
+
+
+@contextmanager
+def constrained(asked: argparse.Namespace, pins: Dict[str, Optional[str]]) -> Iterator[argparse.Namespace]:
+    """The words with a copy of the project that has the versions which are wanted among its constraints."""
+    texts = [f"{name}=={spelled}" for name, spelled in pins.items() if spelled is not None]
+    if not texts:
+        yield asked
+        return
+    refuse_unread(asked)
+    wanted = project.load(asked.project)
+    listed = [*(it.requirement.text for it in wanted.constraints), *texts]
+    with tempfile.TemporaryDirectory(prefix="unilock-") as held:
+        copy = Path(held) / "pyproject.toml"
+        copy.write_text(toml_text(changed(wanted.tables, pinned.CONSTRAINTS, listed)), encoding="utf-8")
+        yield argparse.Namespace(**{**vars(asked), "project": str(copy)})
 
 
 def run(asked: argparse.Namespace, ready: Callable[[], None] = lambda: None) -> int:
     """Locks as the words ask for; `ready` is called when the lock is there, before it is written."""
-    words = {"lock": lock_path(asked), "beside": str(own_index.beside(asked)), "named": asked.project}
-    return locked(argparse.Namespace(**{**vars(asked), **words}), ready)
+    with ExitStack() as held:
+        given = held.enter_context(assembled.given(asked.project, asked.beside))
+        beside = os.path.dirname(given.named)
+        lock = asked.lock or given.lock
+        words = {"project": given.project, "named": given.named, "workspace": given.workspace}
+        found = argparse.Namespace(**{**vars(asked), **words, "lock": lock, "beside": beside or "."})
+        status = shown(given.project) if asked.show_project else locked(found, ready, held)
+    return status
 
 
-def locked(asked: argparse.Namespace, ready: Callable[[], None]) -> int:
+def shown(path: str) -> int:
+    """Prints the project file that is handed on."""
+    if not os.path.isfile(path):
+        raise Refused(f"{path}: there is no such file", 3)
+    print(Path(path).read_text(encoding="utf-8"), end="")
+    return 0
+
+
+def locked(asked: argparse.Namespace, ready: Callable[[], None], held: ExitStack) -> int:
     judged(asked)
     path, pins = lock_path(asked), pins_of(asked.upgrade_package)
     old = old_lock(path, asked.upgrade)
-    files = files_of(asked, old, pins)
+    asked = held.enter_context(constrained(asked, pins))
+    found = fetched(asked, old, pins, held)
+    files, keeps = Files(asked.project, str(found.folder), asked.workers), bool(pins and old.lock)
+    if found.refusal is not None and found.fetching is not None:
+        with found.working() as index:
+            by_pages = files._replace(folder=index)
+            return refuse(found.refusal.answer, asked, by_pages, keeps, found.fetching.tried)
     change = folders.read_whole(files.folder, lambda: answer(asked, files, path, old, pins))
     if change.answer.status != 0:
-        return refuse(change.answer, asked, files, bool(asked.upgrade_package and old.lock))
+        return refuse(change.answer, asked, files, keeps)
     new = locks.read(change.answer.text, path)
     ready()
     gained = more_files(old, change.answer.text, new) if asked.check else 0
@@ -289,7 +391,9 @@ def locked(asked: argparse.Namespace, ready: Callable[[], None]) -> int:
         console.write_beside(path, change.answer.body)
         if not asked.quiet:
             for warning in advice.warnings(files.project, files.folder, new):
-                console.say(f"warning: {warning}")
+                # Of the members all extras are asked for, those that add nothing too.
+                if not warning.startswith(f"project.optional-dependencies.{assembled.EXTRA}["):
+                    console.say(f"warning: {warning}")
     tell(asked, "not current" if asked.check else "written", old, new, lines)
     return NOT_CURRENT if asked.check else 0
 

@@ -7,11 +7,13 @@ said; a merge conflict in it is named as one.
 from __future__ import annotations
 
 import contextlib
+import os
 import re
 import tempfile
 from pathlib import Path
 from typing import Dict, Iterator, List, Mapping, NamedTuple, Optional, Sequence, Tuple
 
+from .called import command
 from .console import Refused, say, text_of
 from .versions import version_of
 
@@ -262,6 +264,8 @@ def read(text: str, path: str) -> Lock:
 
 def load(path: str) -> Lock:
     """The lock of a file."""
+    if path != "-" and not os.path.lexists(path):
+        raise Refused(f"{path}: there is no such file; `{command('lock')}` makes a lock")
     text = text_of(path)
     for done in in_form(text)[1]:
         say(f"{path}: {done}")

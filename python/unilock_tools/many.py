@@ -18,65 +18,24 @@ Status: 0 all projects are as wanted; 1 some aren't; 2 the words aren't right; 3
 from __future__ import annotations
 
 import argparse
-import concurrent.futures
-import hashlib
-import importlib
-import io
 import json
 import os
-import stat
-import subprocess
-import sys
-import tarfile
-import tempfile
-import time
 from collections import Counter
-from collections.abc import Callable, Iterable, Iterator, Mapping
+from collections.abc import Iterable, Mapping
 from dataclasses import asdict, dataclass, field, replace
 from pathlib import Path
-from typing import Any
 
-from . import console, program, terminal
+from . import console, terminal
 from .console import Refused
+from .many_indexes import packed
+from .many_jobs import FAILED, RIGHT, TIMED_OUT, WRONG, Row, Task
+from .many_projects import INDEX, PROJECT, Sums, lock_name, projects
+from .many_runs import on_cluster, on_this_machine
 from .terminal import Meter, Part, Screen
 
 JOBS = ("verify", "check", "lock", "outdated", "judge")
-RIGHT, WRONG, FAILED, TIMED_OUT = "right", "wrong", "failed", "timed out"
-# What a worker answers that hasn't got the index of a job; it never stands in a report.
-LACKING = "lacking"
-# How often a job goes back for want of its index before it counts as failed.
-MOST_LACKS = 10
 # What a job may come to, and how a terminal shows it.
 KINDS = {RIGHT: "good", WRONG: "bad", FAILED: "changed", TIMED_OUT: "changed"}
-# Statuses that say that the project isn't as wanted; all others but 0 say that the job couldn't be done.
-SAYS_WRONG = {"verify": {9}, "check": {1, 4, 9}, "lock": {1, 4}, "outdated": {1}, "judge": {1}}
-PROJECT, LOCK, INDEX = "pyproject.toml", "unilock.lock", "ix"
-# The locks of other tools; of a project that has several the first is judged.
-OTHERS = ("uv.lock", "poetry.lock", "pdm.lock", "pylock.toml", "requirements.txt")
-HIDDEN = {".git", ".venv", "node_modules", "__pycache__"}
-
-
-@dataclass(frozen=True)
-class Task:
-    """A project with its job. Where files are sent, `files` has the project's own, and `index` is a sum."""
-
-    job: str
-    folder: str
-    index: str
-    timeout: float
-    files: tuple[tuple[str, bytes], ...] = ()
-
-
-@dataclass(frozen=True)
-class Row:
-    """What became of a job: one of the four words, what was said, how long it took, and the sum of what it read."""
-
-    folder: str
-    job: str
-    result: str
-    text: str
-    seconds: float = 0.0
-    read: str = ""
 
 
 @dataclass
@@ -109,287 +68,21 @@ class State:
                 file.write(json.dumps(asdict(row), sort_keys=True) + "\n")
 
 
-# ---- projects
-
-
-def lock_name(folder: Path, job: str) -> str:
-    """The name of the lock that a job is about, or nothing where the folder has none."""
-    names = OTHERS if job == "judge" else (LOCK,)
-    return next((it for it in names if (folder / it).is_file()), "")
-
-
-def below(top: Path, job: str) -> Iterator[Path]:
-    for at, folders, files in os.walk(top):
-        folders[:] = sorted(it for it in folders if it not in HIDDEN)
-        if PROJECT in files and lock_name(Path(at), job):
-            yield Path(at)
-
-
-def projects(paths: Iterable[str], job: str) -> list[Path]:
-    """The projects of folders and of lists, each once."""
-    found: dict[Path, None] = {}
-    for text in paths:
-        path = Path(text)
-        if path.is_dir():
-            found.update(dict.fromkeys(it.resolve() for it in below(path, job)))
-        elif path.is_file():
-            for line in path.read_text(encoding="utf-8").splitlines():
-                if line.strip() and not line.startswith("#"):
-                    found[(path.parent / line.strip()).resolve()] = None
-        else:
-            raise Refused(f"{text}: there is no such folder or list", 3)
-    if not found:
-        wanted = "a lock of another tool" if job == "judge" else "an unilock.lock"
-        raise Refused(f"no folder with a pyproject.toml and {wanted}", 3)
-    return list(found)
-
-
-def digest_of_folder(folder: Path) -> str:
-    """The sum of the documents of an index folder."""
-    lines = [f"{hashlib.sha256(it.read_bytes()).hexdigest()} {it.name}\n" for it in sorted(folder.glob("*.json"))]
-    return hashlib.sha256("".join(lines).encode()).hexdigest()
-
-
-class Sums:
-    """The sums of what jobs read; that of an index that projects share is made once."""
-
-    def __init__(self) -> None:
-        self.indexes: dict[str, str] = {}
-
-    def index(self, folder: str) -> str:
-        if folder not in self.indexes:
-            self.indexes[folder] = digest_of_folder(Path(folder))
-        return self.indexes[folder]
-
-    def read_by(self, folder: Path, index: str, job: str) -> str:
-        found = hashlib.sha256(self.index(index).encode())
-        for name in (PROJECT, lock_name(folder, job) or LOCK):
-            found.update(name.encode())
-            path = folder / name
-            found.update(hashlib.sha256(path.read_bytes() if path.is_file() else b"").digest())
-        return found.hexdigest()
-
-
-# ---- one job
-
-
-def command(job: str, folder: str, index: str) -> list[str]:
-    project = os.path.join(folder, PROJECT)
-    lock = os.path.join(folder, lock_name(Path(folder), job) or LOCK)
-    if job == "verify":
-        return [program.path(), "verify", project, index, lock]
-    tool = [sys.executable, "-m", "unilock_tools"]
-    if job == "outdated":
-        return [*tool, "outdated", lock, index]
-    if job == "judge":
-        return [*tool, "judge", lock, project, index]
-    more = ["--check"] if job == "check" else []
-    return [*tool, "lock", *more, "--quiet", "-o", lock, project, index]
-
-
-def done(task: Task, archive: bytes = b"") -> Row:
-    """Does a job here. It runs in a worker too, so it takes and gives plain data and raises nothing."""
-    begun = time.monotonic()
-    try:
-        with tempfile.TemporaryDirectory(prefix="unilock-many-") as room:
-            folder, index = task.folder, task.index
-            if task.files:
-                if archive:
-                    keep_index(task.index, archive)
-                if not is_kept(task.index):
-                    return Row(task.folder, task.job, LACKING, "no worker keeps the index that was sent")
-                folder, index = placed(task, Path(room)), str(kept_at(task.index))
-            result, text = answered(task, command(task.job, folder, index))
-            text = text.replace(folder, task.folder)
-    except Exception as fault:  # noqa: BLE001  (a row is owed whatever happens)
-        result, text = FAILED, f"{type(fault).__name__}: {fault}"
-    return Row(task.folder, task.job, result, console_line(text), round(time.monotonic() - begun, 3))
-
-
-def console_line(text: str) -> str:
-    """The first line of what was said, without bytes that a terminal would obey."""
-    first = next((it for it in text.splitlines() if it.strip()), "").strip()
-    return "".join(it if it.isprintable() else "\\x{:02x}".format(ord(it)) for it in first)[:300]
-
-
-def answered(task: Task, words: list[str]) -> tuple[str, str]:
-    environment = {**os.environ, "PYTHONPATH": os.pathsep.join([str(Path(__file__).parent.parent), *python_path()])}
-    try:
-        run = subprocess.run(
-            words, capture_output=True, stdin=subprocess.DEVNULL, env=environment, timeout=task.timeout, check=False
-        )
-    except subprocess.TimeoutExpired:
-        return TIMED_OUT, f"it took longer than {task.timeout:g} seconds"
-    text = (run.stdout or run.stderr).decode("utf-8", "replace")
-    if run.returncode == 0:
-        return RIGHT, text if task.job == "outdated" else ""
-    return (WRONG if run.returncode in SAYS_WRONG[task.job] else FAILED), text or f"status {run.returncode}"
-
-
-def python_path() -> list[str]:
-    told = os.environ.get("PYTHONPATH", "")
-    return told.split(os.pathsep) if told else []
-
-
-# ---- files that are sent
-
-
-def packed(folder: Path) -> bytes:
-    """An index folder as an archive that says nothing of the machine."""
-    held = io.BytesIO()
-    with tarfile.open(fileobj=held, mode="w:gz") as archive:
-        for path in sorted(folder.glob("*.json")):
-            member = tarfile.TarInfo(path.name)
-            body = path.read_bytes()
-            member.size = len(body)
-            archive.addfile(member, io.BytesIO(body))
-    return held.getvalue()
-
-
-def kept_at(index: str) -> Path:
-    """Where a worker keeps an index, by its sum."""
-    return Path(tempfile.gettempdir()) / f"unilock-index-{index}"
-
-
-def is_kept(index: str) -> bool:
-    """Whether an index is kept here. A folder that somebody else made isn't believed."""
-    try:
-        found = kept_at(index).lstat()
-    except FileNotFoundError:
-        return False
-    return stat.S_ISDIR(found.st_mode) and found.st_uid == os.getuid()
-
-
-def keep_index(index: str, archive: bytes) -> None:
-    """Keeps an index here, whole or not at all."""
-    if is_kept(index):
-        return
-    with tempfile.TemporaryDirectory(prefix="unilock-many-") as room:
-        fresh = Path(room) / "index"
-        fresh.mkdir()
-        with tarfile.open(fileobj=io.BytesIO(archive), mode="r:gz") as opened:
-            for member in opened:
-                if not member.isfile() or "/" in member.name or not member.name.endswith(".json"):
-                    raise ValueError(f"the archive of an index has a member {member.name!r}")
-                stream = opened.extractfile(member)
-                (fresh / member.name).write_bytes(stream.read() if stream else b"")
-        try:
-            fresh.rename(kept_at(index))
-        except OSError:
-            # Another job of this worker was faster.
-            if not is_kept(index):
-                raise
-
-
-def placed(task: Task, room: Path) -> str:
-    """The folder of a project whose files were sent."""
-    folder = room / "project"
-    folder.mkdir()
-    for name, body in task.files:
-        (folder / name).write_bytes(body)
-    return str(folder)
-
-
-# ---- all jobs
-
-Submit = Callable[[Task], "concurrent.futures.Future[Row]"]
-
-
-def row_of(task: Task, future: Any) -> Row:
-    """What a job came to, whatever became of its worker."""
-    try:
-        found: Row = future.result()
-        return found
-    except Exception as fault:  # noqa: BLE001  (a worker may be lost with all that it knew)
-        return Row(task.folder, task.job, FAILED, console_line(f"{type(fault).__name__}: {fault}"))
-
-
-def rows_of(tasks: list[Task], submit: Submit, told: Callable[[Row], None]) -> list[Row]:
-    """Has each job done, and tells each row as it comes. Any executor of `concurrent.futures` will do for `submit`."""
-    waiting = {submit(it): it for it in tasks}
-    rows = []
-    for future in concurrent.futures.as_completed(waiting):
-        row = row_of(waiting[future], future)
-        rows.append(row)
-        told(row)
-    return rows
-
-
-def on_this_machine(tasks: list[Task], workers: int, told: Callable[[Row], None]) -> list[Row]:
-    # Each job is a process of its own, so threads wait for it.
-    with concurrent.futures.ThreadPoolExecutor(workers) as pool:
-        return rows_of(tasks, lambda task: pool.submit(done, task), told)
-
-
-class Cluster:
-    """A Dask cluster. The jobs of a worker that is lost are done by others.
-
-    An index that several jobs share is handed to each worker once, beside the queue of jobs: as the value of a job that
-    others wait for, it would be lost with its worker, and a scheduler may then wait for ever. A worker that comes later
-    says that it lacks the index, and gets it. An index of one project alone goes with its job.
-    """
-
-    def __init__(self, client: Any, archives: dict[str, bytes], tasks: list[Task]) -> None:
-        self.client, self.archives, self.tasks = client, archives, tasks
-        self.uses = Counter(it.index for it in tasks)
-        self.lacks: Counter[str] = Counter()
-        self.open: dict[Any, Task] = {}
-
-    def submit(self, task: Task) -> Any:
-        more = [self.archives[task.index]] if task.files and self.uses[task.index] == 1 else []
-        future = self.client.submit(done, task, *more, pure=False, retries=3)
-        self.open[future] = task
-        return future
-
-    def hand_out(self, index: str) -> None:
-        """Hands an index to all workers that lack it."""
-        found = self.client.run(is_kept, index, on_error="ignore")
-        lacking = [worker for worker, has_it in found.items() if not has_it]
-        if lacking:
-            self.client.run(keep_index, index, self.archives[index], workers=lacking, on_error="ignore")
-
-    def rows(self, as_completed: Any, told: Callable[[Row], None]) -> list[Row]:
-        for index in self.archives:
-            if self.uses[index] > 1:
-                self.hand_out(index)
-        coming = as_completed([self.submit(it) for it in self.tasks])
-        rows = []
-        for future in coming:
-            task = self.open.pop(future)
-            row = row_of(task, future)
-            if row.result == LACKING:
-                self.lacks[task.folder] += 1
-                if self.lacks[task.folder] < MOST_LACKS:
-                    self.hand_out(task.index)
-                    coming.add(self.submit(task))
-                    continue
-                row = replace(row, result=FAILED)
-            rows.append(row)
-            told(row)
-        return rows
-
-
-def on_cluster(tasks: list[Task], address: str, archives: dict[str, bytes], told: Callable[[Row], None]) -> list[Row]:
-    try:
-        distributed: Any = importlib.import_module("distributed")
-    except ImportError:
-        raise Refused("--scheduler wants the library `distributed` (pip install distributed)", 2) from None
-    try:
-        client = distributed.Client(address, timeout=20)
-    except (OSError, ValueError) as fault:
-        raise Refused(f"{address}: no scheduler answers: {fault}", 3) from None
-    with client:
-        return Cluster(client, archives, tasks).rows(distributed.as_completed, told)
+def is_read_summed(asked: argparse.Namespace) -> bool:
+    """Whether the sums of what jobs read are wanted, which take as long as small jobs do."""
+    return bool(asked.state or asked.json)
 
 
 def tasks_of(
     asked: argparse.Namespace, found: list[Path], sums: Sums
 ) -> tuple[list[tuple[Task, str]], dict[str, bytes]]:
-    """The jobs, each with the sum of what it reads, and the archives of indexes that are sent."""
+    """The jobs, each with the sum of what it reads where a row shows or keeps it, and the archives of indexes that are
+    sent."""
     tasks, archives = [], {}
+    is_summed = is_read_summed(asked)
     for folder in found:
         index = str(Path(asked.index).resolve() if asked.index else folder / INDEX)
-        read = sums.read_by(folder, index, asked.job)
+        read = sums.read_by(folder, index, asked.job) if is_summed else ""
         if asked.send:
             named = sums.index(index)
             if named not in archives:
@@ -467,7 +160,7 @@ def run(asked: argparse.Namespace) -> int:
 
     def told(row: Row) -> None:
         # A job that writes a lock leaves another one than it read.
-        is_changed = row.job == "lock"
+        is_changed = row.job == "lock" and is_read_summed(asked)
         read = sums.read_by(Path(row.folder), indexes[row.folder], "lock") if is_changed else reads[row.folder]
         rows.append(replace(row, read=read))
         state.keep(rows[-1])

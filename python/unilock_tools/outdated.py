@@ -14,7 +14,9 @@ import argparse
 import os
 from typing import Iterator, List, NamedTuple, Optional, Tuple
 
-from . import chosen, console, documents, folders, locks, markers, own_index, project, terminal, worlds
+from . import (
+    assembled, chosen, console, documents, folders, locks, markers, own_index, project, scripts, terminal, worlds,
+)  # fmt: skip
 from .called import command
 from .console import Refused
 from .locks import Lock, Package
@@ -128,19 +130,24 @@ def newer(lock: Lock, index: str, read: Optional[project.Project]) -> Iterator[N
             yield Newer(package.name, package.version, found[1].text(), holders.of(package, found[1]))
 
 
+def loaded(path: str) -> project.Project:
+    with assembled.given(path) as given:
+        return project.load(given.project)
+
+
 def run(asked: argparse.Namespace) -> int:
-    beside = os.path.dirname(asked.lock)
-    index = asked.index or own_index.usual(beside)
+    beside, script = os.path.dirname(asked.lock), scripts.of_lock(asked.lock)
+    index = asked.index or own_index.usual_for(asked.lock)
     if not os.path.isdir(index):
-        raise Refused(f"{index}: there is no such folder", 3)
+        raise Refused(f"{index}: there is no such folder; `{command('index')} pyproject.toml {index}` makes it", 3)
     if folders.is_of_tried(index):
-        whole = f"`{command('index')} pyproject.toml ix` makes a folder of all"
+        whole = f"`{command('index')} {script or 'pyproject.toml'} ix` makes a folder of all"
         console.say(f"outdated: {index} has the releases that were tried alone; {whole}")
     usual = os.path.join(beside, "pyproject.toml")
-    path = asked.project or (usual if os.path.isfile(usual) else None)
+    path = asked.project or (usual if script is None and os.path.isfile(usual) else None)
     try:
         lock = locks.load(asked.lock)
-        found = list(newer(lock, index, None if path is None else project.load(path)))
+        found = list(newer(lock, index, None if path is None else loaded(path)))
     except (NoReading, Refused) as fault:
         raise Refused(str(fault) if isinstance(fault, Refused) else f"{asked.lock}: {fault}", 3) from None
     screen = Screen(asked.color)

@@ -16,22 +16,45 @@ import re
 import tempfile
 from collections.abc import Iterator
 from pathlib import Path
-from typing import NamedTuple
+from typing import Any, NamedTuple
 
-from . import building, console, folders, index_settings, lazy, locks, project, walk
+from . import assembled, building, console, folders, index_settings, lazy, locks, project, walk
+from .addresses import shown
+from .assembled import Given
 from .cache import Cache, usual_folder
 from .called import command
 from .console import Refused
+from .direct import Direct
+from .indexes import Indexes
 from .locks import Lock
-from .pages import shown
-from .simple import Client
-from .vendored import toml_of
+from .scripts import is_script, of_lock
+from .stated import Stated
 
 FOLDER = folders.OWN
 ASKED = "asked.json"
 NOTE = "# What `lock` keeps of a package index; the lock is what counts.\n*\n"
 # The words of a command that say how a package index is asked.
-WORDS = ("refresh", "index_url", "before", "build", "build_all")
+WORDS = ("refresh", "index_url", "before", "build", "build_all", "no_build")
+FURTHER_WORDS = ("indexes", "find_links")
+
+
+class Fetched(NamedTuple):
+    """The own folder; and where nothing serves the project, the refusal and the fetching that found it."""
+
+    folder: Path
+    refusal: lazy.Locked | None = None
+    fetching: lazy.Lazy | None = None
+
+    @contextlib.contextmanager
+    def working(self) -> Iterator[str]:
+        """A folder with the documents by which the project was refused, while it is told of. What was tried meanwhile
+        is kept too."""
+        assert self.refusal is not None and self.fetching is not None
+        with tempfile.TemporaryDirectory(prefix="unilock-") as held:
+            for name, document in self.refusal.working.items():
+                (Path(held) / f"{name}.json").write_text(json.dumps(document), encoding="utf-8")
+            yield held
+        folders.replace_folder(self.folder, self.fetching.known())
 
 
 class Kept(NamedTuple):
@@ -43,12 +66,11 @@ class Kept(NamedTuple):
     anew: bool
 
 
-def add_words(made: console.Parser) -> None:
+def add_words(made: console.Parser, further: bool = True) -> None:
+    """The words that say how a package index is asked; `further` those of more than one, too."""
     server = made.add_argument_group("from a package index, where no index folder is named")
     server.add_argument("--refresh", action="store_true", help="ask the package index again for what is tried")
-    server.add_argument(
-        "--index-url", metavar="URL", help="its Simple API, where not the one that the settings of uv and pip name"
-    )
+    index_settings.add_words(server, further, further)
     server.add_argument("--before", metavar="DATE", help="only files uploaded before this instant (PEP 700)")
     building.add_words(server)
 
@@ -58,10 +80,33 @@ def beside(asked: argparse.Namespace) -> Path:
     return Path(asked.beside or os.path.dirname(asked.project))
 
 
+def own_folder(asked: argparse.Namespace) -> Path:
+    """Where what was told is kept."""
+    return Path(usual_own(asked.named)) if is_script(asked.named) else beside(asked) / FOLDER
+
+
+def usual_own(script: str) -> str:
+    return str(folders.of_script(Path(script)) / FOLDER.name)
+
+
 def is_wanted(asked: argparse.Namespace) -> bool:
-    """Whether no folder is named, and none stands beside the project, or it is to be asked for again."""
+    """Whether no folder is named, and none stands beside the project, or it is to be asked for again. The one beside a
+    script is another's."""
     said = asked.refresh or asked.index_url is not None or building.is_asked(asked)
-    return asked.index is None and (said or not (beside(asked) / "ix").is_dir())
+    said = said or any(getattr(asked, it, None) for it in FURTHER_WORDS)
+    is_apart = is_script(asked.named) or not (beside(asked) / "ix").is_dir()
+    return asked.index is None and (said or is_apart)
+
+
+def usual_of(given: Given) -> str:
+    """The index folder of a project, or of a script."""
+    return usual_own(given.named) if is_script(given.named) else usual(os.path.dirname(given.named))
+
+
+def usual_for(lock: str) -> str:
+    """The index folder that a lock was made by, by where it stands."""
+    script = of_lock(lock)
+    return usual(os.path.dirname(lock)) if script is None else usual_own(str(script))
 
 
 def usual(folder: str) -> str:
@@ -70,12 +115,26 @@ def usual(folder: str) -> str:
     return str(own if own.is_dir() and not named.is_dir() else named)
 
 
-def question(asked: argparse.Namespace, read: project.Project, url: str) -> str:
-    """What is asked of which index, as a text by which two questions are told apart."""
+def question(
+    asked: argparse.Namespace, read: project.Project, settings: index_settings.Settings, direct: Direct | None
+) -> str:
+    """What is asked of which indexes, as a text by which two questions are told apart. No user and no password of an
+    address stands in it."""
+    indexes = [[it.name, shown(it.url), it.is_explicit, it.is_flat] for it in settings.asked()]
     required = [(it.place, it.requirement.text) for it in [*read.requirements, *read.constraints, *read.overrides]]
-    found = {"index": shown(url), "before": asked.before, "python": read.requires_python, "required": required}
-    more = {"settings": read.settings, "build": [sorted(asked.build), asked.build_all]}
+    found = {"indexes": indexes, "before": asked.before, "python": read.requires_python, "required": required}
+    more = {"settings": without_secrets(read.settings), "build": [sorted(asked.build), asked.build_all]}
+    more["sources"] = [settings.sources, [] if direct is None else direct.question()]
     return json.dumps({**found, **more}, indent=1, default=str, sort_keys=True) + "\n"
+
+
+def without_secrets(value: Any) -> Any:
+    """A value of TOML whose addresses have no user and no password."""
+    if isinstance(value, dict):
+        return {key: without_secrets(it) for key, it in value.items()}
+    if isinstance(value, list):
+        return [without_secrets(it) for it in value]
+    return shown(value) if isinstance(value, str) else value
 
 
 def is_current(folder: Path, wanted: str, kept: Kept) -> bool:
@@ -104,47 +163,56 @@ def preferred(kept: Kept) -> Iterator[Path | None]:
             yield Path(form)
 
 
-def folder_for(asked: argparse.Namespace, kept: Kept) -> str:
-    """The own folder, fetched where that is wanted."""
-    folder, read = beside(asked) / FOLDER, project.load(asked.project)
-    tables = toml_of(asked.named)
-    source = index_settings.source(asked.index_url, tables)
-    wanted = question(asked, read, source.url)
+def known(asked: argparse.Namespace, kept: Kept) -> Path | None:
+    """The own folder, where what it has of sources counts, and these aren't followed anew."""
+    folder = own_folder(asked)
+    anew = asked.refresh or kept.anew or kept.pins or kept.lock is None
+    return None if anew or not (folder / folders.MARK).is_file() else folder
+
+
+def folder_for(asked: argparse.Namespace, kept: Kept, direct: Direct | None = None) -> Fetched:
+    """The own folder, fetched where that is wanted, with the releases of sources."""
+    folder, read = own_folder(asked), project.load(asked.project)
+    tables = assembled.index_tables(asked.named, asked.workspace)
+    settings = index_settings.of_words(asked, tables, beside(asked))
+    wanted = question(asked, read, settings, direct)
     if not asked.refresh and is_current(folder, wanted, kept):
-        return str(folder)
+        return Fetched(folder)
     cache = Cache(usual_folder())
-    client = Client(source.url, cache, builder=building.of_words(asked, cache, source.url))
+    client = Indexes(settings, cache, building.of_words(asked, cache, settings.usual.url), stated=Stated(tables))
     if not asked.quiet:
-        console.say(f"lock: asking {console.escaped(client.url)}{source.shown()}")
+        console.say(f"lock: asking {console.escaped(client.told())}")
     choice = walk.Choice(None, None if asked.before is None else walk.instant(asked.before))
     try:
         with preferred(kept) as old:
-            found = lazy.Lazy(client, read, choice, asked.workers, old, keep=not kept.pins).run()
+            given = None if direct is None else direct.projects()
+            fetching = lazy.Lazy(client, read, choice, asked.workers, old, keep=not kept.pins, given=given)
+            found = fetching.run()
     except Refused as fault:
-        raise with_way_out(fault, asked, source, folder) from None
+        raise with_way_out(fault, asked, client.blamed(str(fault)), folder) from None
     if found.answer.status not in (0, 1):
         raise Refused(console.escaped(found.answer.text.partition("\n")[0]), found.answer.status)
     folders.replace_folder(folder, found.documents)
     (folder.parent / ASKED).write_text(wanted, encoding="utf-8")
     if not (folder.parent / ".gitignore").exists():
         (folder.parent / ".gitignore").write_text(NOTE, encoding="utf-8")
-    passed = index_settings.passed_over(asked.index_url, tables)
     if not asked.quiet:
-        console.say(f"lock: {client.fetcher.told()}, {folder}")
-        for text in [*found.warnings, *passed, *([cache.fault] if cache.fault else [])]:
+        console.say(f"lock: {client.fetched().told()}, {folder}")
+        for text in [*found.warnings, *([cache.fault] if cache.fault else [])]:
             console.say(f"lock: warning: {console.escaped(text)}")
-    return str(folder)
+    return Fetched(folder, found, fetching) if found.answer.status == 1 else Fetched(folder)
 
 
-def with_way_out(fault: Refused, asked: argparse.Namespace, source: index_settings.Source, folder: Path) -> Refused:
+def with_way_out(fault: Refused, asked: argparse.Namespace, index: index_settings.Index, folder: Path) -> Refused:
     """A server's fault, with what to do about it."""
     if fault.status != 5:
         return fault
     lines = [str(fault)]
     if re.search(r": 40[13] ", str(fault)):
-        lines.append("a user and a password may stand in its address, in .netrc or in the system's keyring")
+        named = f", or in {index.variable}_USERNAME and {index.variable}_PASSWORD" if index.name else ""
+        lines.append(f"a user and a password may stand in its address, in .netrc or in the system's keyring{named}")
     else:
-        place = source.place or ("--index-url" if asked.index_url else "--index-url or UNILOCK_INDEX_URL")
+        place = index.place or ("--index-url" if asked.index_url else "--index-url or UNILOCK_INDEX_URL")
         lines.append(f"its address is that of {place}; what it told is kept, so another call goes on from there")
     if (folder / folders.MARK).is_file():
         kept = f"`{command('lock')} {asked.named} {folder}`"

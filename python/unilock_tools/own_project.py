@@ -12,7 +12,7 @@ import json
 from pathlib import Path
 from typing import Any, NamedTuple
 
-from . import index_settings, project
+from . import project, source_trees
 from .console import Refused
 from .locks import Lock
 
@@ -53,16 +53,11 @@ class Own(NamedTuple):
             return False
 
 
-def is_package(tables: dict[str, Any]) -> bool:
-    named = index_settings.uv_table(tables).get("package")
-    return named if isinstance(named, bool) else isinstance(tables.get("build-system"), dict)
-
-
 def found(path: Path, tables: dict[str, Any], lock: Lock, editable: bool) -> Own | None:
     """The project of a file with these tables beside a lock, where it is a package."""
-    if not is_package(tables):
+    if "project" not in tables or not source_trees.is_package(tables):
         return None
-    read = project.Project(str(path), tables)
+    read = project.Project(str(path), source_trees.without_urls(tables))
     if read.name != lock.root:
         other = f"{path} is the project {read.name}, and the lock is that of {lock.root}"
         raise Refused(f"{other}; --no-project leaves it out")

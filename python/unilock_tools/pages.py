@@ -9,12 +9,12 @@ from __future__ import annotations
 import json
 import re
 from dataclasses import dataclass, field
-from html.parser import HTMLParser
 from typing import Any, Dict, Iterable, List, NamedTuple, Optional, Tuple
-from urllib.parse import quote, unquote, urljoin, urlsplit, urlunsplit
+from urllib.parse import unquote, urljoin, urlsplit
 
 from . import archives
-from .console import Refused, escaped
+from .addresses import address_of, fault_of, is_weaker
+from .anchors import Anchor, HtmlPage, without_comments
 from .versions import Key, Version, normal_name, version
 
 JSON_FORM = "application/vnd.pypi.simple.v1+json"
@@ -31,8 +31,6 @@ DISTRIBUTION = re.compile(
 )
 # How a page in HTML begins, comments aside.
 HTML_START = re.compile(r"[\ufeff\s]*(?:<\?xml[^>]*>\s*)?<(?:!doctype|html)[\s/>]", re.IGNORECASE)
-# What is kept as it stands where an address is written with plain letters.
-KEPT = "%/:=&?~#+!$,;'@()*[]"
 
 
 class Listed(NamedTuple):
@@ -52,10 +50,13 @@ class Listed(NamedTuple):
 
 @dataclass
 class ListedRelease:
-    """A version of a project with its files as the page lists them."""
+    """A version of a project with its files as the page lists them; `source` is the name of the index that lists it,
+    where that isn't the usual one."""
 
     version: Version
     files: List[Listed] = field(default_factory=list)
+    project: str = ""
+    source: str = ""
 
     @property
     def yanked(self) -> bool:
@@ -104,83 +105,6 @@ class ProjectPage:
 
     releases: List[ListedRelease]
     passed: List[Passed]
-
-
-def shown(url: str) -> str:
-    """A URL as it is printed, without a user and a password in it."""
-    return escaped(re.sub(r"(?<=//)[^/?#]*@", "", url))
-
-
-def fault_of(url: str, fault: str) -> Refused:
-    return Refused(f"{shown(url)}: {escaped(fault)}", 5)
-
-
-def address_of(text: str, base: str = "") -> str:
-    """An address of http or https in plain letters, without a user, a password and a fragment; ValueError where it is
-    none."""
-    parts = urlsplit(urljoin(base, text))
-    if parts.scheme not in ("http", "https") or not parts.hostname or re.search(r"[\s\\]", parts.netloc):
-        raise ValueError("it is no address of a server")
-    host = parts.hostname.encode("idna" if not parts.hostname.isascii() else "ascii").decode("ascii")
-    if not re.fullmatch(r"[A-Za-z0-9._:-]+", host):
-        raise ValueError("it is no address of a server")
-    place = f"[{host}]" if ":" in host else host
-    port = "" if parts.port is None else f":{parts.port}"
-    return urlunsplit((parts.scheme, place + port, quote(parts.path, safe=KEPT), quote(parts.query, safe=KEPT), ""))
-
-
-def is_weaker(url: str, base: str) -> bool:
-    """Whether an address that was told by https isn't itself one of https."""
-    return base.startswith("https:") and not url.startswith("https:")
-
-
-class Anchor(NamedTuple):
-    """A link of an HTML page."""
-
-    base: str
-    marks: Dict[str, Optional[str]]
-
-
-class HtmlPage(HTMLParser):
-    """The anchors of an HTML page, and what says that it is a page of the Simple API."""
-
-    def __init__(self, url: str) -> None:
-        super().__init__()
-        self.url = url
-        self.base: Optional[str] = None
-        self.marks: List[Dict[str, Optional[str]]] = []
-        self.links = 0
-        self.edition = ""
-        self.title = ""
-        self.in_title = False
-        self.ended = False
-
-    def handle_starttag(self, tag: str, attrs: List[Tuple[str, Optional[str]]]) -> None:
-        found = dict(attrs)
-        self.ended = False
-        self.in_title = tag == "title"
-        if tag == "base" and self.base is None and found.get("href"):
-            self.base = urljoin(self.url, found["href"] or "")
-        elif tag == "meta" and found.get("name") == "pypi:repository-version":
-            self.edition = found.get("content") or ""
-        self.links += tag == "a"
-        if tag == "a" and len(found) != len(attrs):
-            raise ValueError("a link has an attribute twice, so two links may have become one")
-        if tag == "a" and found.get("href"):
-            self.marks.append(found)
-
-    @property
-    def anchors(self) -> List[Anchor]:
-        """The links that lead anywhere. The first base of a page is that of all its links, as HTML and pip have it."""
-        return [Anchor(self.base or self.url, it) for it in self.marks]
-
-    def handle_data(self, data: str) -> None:
-        if self.in_title:
-            self.title += data[:200]
-
-    def handle_endtag(self, tag: str) -> None:
-        self.in_title = False
-        self.ended = tag == "html"
 
 
 class NoFile(Exception):
@@ -307,38 +231,36 @@ def json_entries(url: str, project: str, body: bytes) -> List[Dict[str, Any]]:
     return entries
 
 
-def without_comments(text: str) -> str:
-    kept: List[str] = []
-    at = 0
-    while True:
-        begin = text.find("<!--", at)
-        end = text.find("-->", begin + 4) if begin >= 0 else -1
-        if end < 0:
-            return "".join([*kept, text[at:]])
-        kept.append(text[at:begin])
-        at = end + 3
-
-
 def is_file_name(name: str, project: str) -> bool:
     """Whether the last part of a link may be meant as a file of a project; others lead elsewhere, as to the folder
     above."""
     return DISTRIBUTION.search(name) is not None or normal_name(name).startswith(f"{project}-")
 
 
-def html_anchors(url: str, project: str, form: str, body: bytes) -> List[Anchor]:
-    """The anchors of a page in HTML that says that it is one, and that is whole."""
-    page, text = HtmlPage(url), body.decode("utf-8", "replace")
+def html_in(url: str, text: str) -> HtmlPage:
+    page = HtmlPage(url)
     try:
         page.feed(text)
     except (AssertionError, ValueError) as fault:
         raise fault_of(url, f"the page is no HTML: {fault}") from None
-    bare = without_comments(text)
+    return page
+
+
+def unclosed(url: str, page: HtmlPage, bare: str) -> None:
+    """Refuses a page of whose links the reader found fewer than its text has."""
+    if page.links != len(re.findall(r"<a[\s/>]", bare, re.IGNORECASE)):
+        raise fault_of(url, "the page has a tag or a comment that isn't closed, with a link behind it")
+
+
+def html_anchors(url: str, project: str, form: str, body: bytes) -> List[Anchor]:
+    """The anchors of a page in HTML that says that it is one, and that is whole."""
+    text = body.decode("utf-8", "replace")
+    page, bare = html_in(url, text), without_comments(text)
     if not HTML_START.match(bare):
         raise fault_of(url, "the page doesn't begin with <!DOCTYPE html> or <html>, so it was cut off")
     if not page.ended:
         raise fault_of(url, "the page doesn't end with </html>, so it was cut off")
-    if page.links != len(re.findall(r"<a[\s/>]", bare, re.IGNORECASE)):
-        raise fault_of(url, "the page has a tag or a comment that isn't closed, with a link behind it")
+    unclosed(url, page, bare)
     if page.edition and not re.fullmatch(r"1\.[0-9]{1,9}", page.edition):
         raise fault_of(url, f"the page is of edition {page.edition[:40]!r} of the Simple API")
     titled = re.fullmatch(r"Links for (.+)", page.title.strip())
@@ -393,7 +315,7 @@ class Gathered:
             if (known.yanked, known.metadata) != (file.yanked, file.metadata):
                 raise fault_of(self.url, f"two entries of the file {file.name} differ")
             return
-        self.releases.setdefault(found.key, ListedRelease(found)).files.append(file)
+        self.releases.setdefault(found.key, ListedRelease(found, project=self.project)).files.append(file)
 
     def page(self) -> ProjectPage:
         for entry in self.passed:
@@ -404,7 +326,6 @@ class Gathered:
 
 def read_page(project: str, url: str, form: str, body: bytes) -> ProjectPage:
     """The page of a project, in its normal name, of this media type."""
-    gathered = Gathered(url, project)
     entries: Iterable[Any]
     if form == JSON_FORM:
         entries = json_entries(url, project, body)
@@ -412,6 +333,12 @@ def read_page(project: str, url: str, form: str, body: bytes) -> ProjectPage:
         entries = html_anchors(url, project, form, body)
     else:
         raise fault_of(url, f"the page is {form or 'of no stated form'}, which is no form of the Simple API")
+    return page_of(project, url, entries)
+
+
+def page_of(project: str, url: str, entries: Iterable[Any]) -> ProjectPage:
+    """The releases of the files that entries of JSON or links list."""
+    gathered = Gathered(url, project)
     for number, entry in enumerate(entries):
         if number == MOST_FILES:
             raise fault_of(url, f"the page lists more than {MOST_FILES} files")

@@ -11,12 +11,15 @@ import os
 import re
 import subprocess
 import sys
+from collections.abc import Mapping
 from pathlib import Path
 from typing import Any
 
 from . import console
+from .addresses import shown
 from .console import Refused
 from .environments import ISOLATED, json_in, printed_by
+from .index_settings import Variables
 from .versions import normal_name, version_of
 
 # The first pip that has the word `--python`.
@@ -54,6 +57,9 @@ def own_pip() -> str | None:
 class Pip:
     """pip for the environment of a folder, whose interpreter is `python`; `has_pip` where that has one itself."""
 
+    name = "pip"
+    variables = Variables("PIP_INDEX_URL", "PIP_EXTRA_INDEX_URL", "PIP_FIND_LINKS", " ", {}, True)
+
     def __init__(self, folder: str, python: str, has_pip: bool) -> None:
         self.python, self.folder = python, Path(folder)
         self.log = self.folder / LOG
@@ -66,42 +72,42 @@ class Pip:
             self.line = [sys.executable, ISOLATED, "-m", "pip", "--python", python]
         self.begun = False
 
-    def done(self, words: list[str], index_url: str | None = None) -> subprocess.CompletedProcess[bytes]:
-        """Runs pip, by the configuration of its user.
-
-        An address may have a password in it, so it isn't among the words, which every user of the machine can list.
-        """
+    def done(
+        self, words: list[str], settings: Mapping[str, str] | None = None
+    ) -> subprocess.CompletedProcess[bytes]:
+        """Runs pip, by the configuration of its user and these variables of its own."""
         kept = {key: value for key, value in os.environ.items() if key not in ("PYTHONPATH", "PYTHONHOME")}
         environment = {**kept, "PYTHONNOUSERSITE": "1", "PIP_DISABLE_PIP_VERSION_CHECK": "1", "PIP_NO_INPUT": "1"}
-        if index_url:
-            environment["PIP_INDEX_URL"] = index_url
+        environment.update(settings or {})
         line = [*self.line, *words]
         try:
             return subprocess.run(line, stdout=subprocess.PIPE, stderr=subprocess.PIPE, env=environment, check=False)
         except OSError as fault:
             raise Refused(f"{line[0]}: {fault.strerror or fault}") from None
 
-    def run(self, words: list[str], index_url: str | None = None) -> None:
+    def run(self, words: list[str], settings: Mapping[str, str] | None = None) -> None:
         """Runs pip to change the environment. What it says is kept; of a failure the essence is told."""
-        found = self.done(words, index_url)
+        found = self.done(words, settings)
         said = (found.stdout + found.stderr).decode("utf-8", "replace")
         self.keep(words, said)
         if found.returncode != 0:
-            told = [f"pip {words[0]} failed; the environment isn't as the lock says", *essence(said)]
-            raise Refused("\n  ".join([*(console.escaped(it) for it in told), f"({self.log} has all that pip said)"]))
+            told = [f"{self.name} {words[0]} failed; the environment isn't as the lock says", *essence(said)]
+            has_all = f"({self.log} has all that {self.name} said)"
+            raise Refused("\n  ".join([*(console.escaped(it) for it in told), has_all]))
 
     def keep(self, words: list[str], said: str) -> None:
         """Keeps what pip said in the log, which begins anew with each command."""
         try:
             with self.log.open("ab" if self.begun else "wb") as stream:
-                stream.write(f"pip {' '.join(words)}\n{said}\n".encode())
+                # A word may be an address with a password in it.
+                stream.write(f"{self.name} {' '.join(map(shown, words))}\n{said}\n".encode())
             self.begun = True
         except OSError as fault:
             raise Refused(f"{self.log}: {fault.strerror or fault}") from None
 
     def json(self, words: list[str]) -> Any:
         """What pip prints as JSON."""
-        what = f"{self.python} -m pip {words[0]}"
+        what = f"{self.python}: {self.name} {words[0]}"
         return json_in(printed_by(self.done(words), what), what)
 
     def installed(self) -> dict[str, str]:

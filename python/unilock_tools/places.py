@@ -3,7 +3,9 @@
 from __future__ import annotations
 
 import json
+import os
 import re
+import sys
 from typing import Any, Iterator, List, Optional, Tuple
 
 from . import advice, console, poetry
@@ -13,7 +15,7 @@ from .markers import NoMarker
 from .markers import read as read_marker
 from .readings import requirement_fault
 from .vendored import toml_reader
-from .versions import normal_name, specifiers_fault, version
+from .versions import NAME, normal_name, specifiers_fault, version
 
 LOCK_HEADS = ("version = ", "\ufeffversion = ", "<<<<<<<")
 LIMITS = {
@@ -45,21 +47,28 @@ SHAPES = {
     "name": "a text `name`",
     "versions": "a list `versions`",
 }
-ONE_INDEX = (
-    "one index is asked: the one that is listed alone with `default = true`, or that of index-url in [tool.uv] or of "
-    "--index-url"
+STRICT_INDEX = (
+    "the strict profile has no place for it; index-url in [tool.uv] is asked, as are --index-url, --index and the "
+    "variables of `tools/lock`; the wide profile passes it over, and the tools ask it"
 )
+# A text, a comment or a bracket of TOML.
+TOML_TOKEN = re.compile(
+    r'"""(?:[^\\]|\\.)*?"""|"(?:[^"\\\n]|\\.)*"|#[^\n]*|[\[\]{}]|' r"'''.*?'''|'[^'\n]*'", re.DOTALL
+)
+# How a line of pip's requirements files begins that names no package.
+OF_PIP = re.compile(r"\s*(?:-|\.|/|[A-Za-z+]+://|git\+)")
 UNSUPPORTED = {
-    "project.dynamic": "what it names is read from the file alone: nothing is built to learn it",
-    "tool.uv.sources": "sources (paths, git, URLs, ..) aren't supported; requirements are met from one index folder",
+    "project.dynamic": "what it names is read from the file alone, and nothing is built to learn it: it stands in "
+    "[project], and not in `dynamic`",
+    "tool.uv.sources": "the program has no place for sources; `tools/lock` follows those of a file that isn't strict",
     "tool.uv.conflicts": "declared conflicts aren't supported; all extras and groups are locked together",
-    "tool.uv.index": ONE_INDEX,
-    "tool.uv.extra-index-url": ONE_INDEX,
-    "tool.uv.find-links": "find-links isn't supported; `tools/index FOLDER OUT` reads a folder of wheels",
-    "tool.uv.workspace": "workspaces aren't supported",
+    "tool.uv.index": STRICT_INDEX,
+    "tool.uv.extra-index-url": STRICT_INDEX,
+    "tool.uv.find-links": "the strict profile has no place for it; `tools/index FOLDER OUT` reads a folder of wheels",
+    "tool.uv.workspace": "the strict profile has no place for it; `tools/lock` locks one of a file that isn't strict",
     "tool.uv.dev-dependencies": "it isn't supported; [dependency-groups] is",
-    "tool.uv.prerelease": "one of \"disallow\", \"allow\", \"if-necessary\", \"explicit\" and \"if-necessary-or-explicit\" (the default); "
-    "the strict profile reads the last one alone",
+    "tool.uv.prerelease": "one of \"disallow\", \"allow\", \"if-necessary\", \"explicit\" and "
+    "\"if-necessary-or-explicit\" (the default); the strict profile reads the last one alone",
     "tool.uv.fork-strategy": "only \"fewest\" (the default), \"requires-python\" and \"deep\" are supported",
 }
 
@@ -100,24 +109,51 @@ def wrong_requirement(value: str) -> str:
     if fault is None:
         return "it asks for extras, or its marker does, which a constraint or an override can't"
     likely = advice.meant(value)
-    return fault + (f"; is `{likely}` meant?" if likely else "")
+    if likely is not None:
+        return f"{fault}; is `{likely}` meant?"
+    if fault.endswith("a URL isn't supported"):
+        return f"{fault}; ask for it by its name, of an index that has it (`tools/index FOLDER OUT` makes one of files)"
+    if OF_PIP.match(value):
+        return f"{fault}; options, paths and addresses, as pip takes them, aren't read"
+    return fault
 
 
-def wrong_shape(place: str, value: Any) -> str:
+def meant_value(plain: str, value: Any) -> str:
+    """The value that is likely meant where one of another form stands; the empty text where none is known."""
+    made: Any = None
+    if plain == "project.requires-python" and isinstance(value, str):
+        made = advice.meant_python(value)
+    elif plain == "project.dependencies" and isinstance(value, str):
+        made = [value]
+    elif plain == "project.dependencies" and isinstance(value, dict):
+        made = poetry.listed(value)[0]
+    return json.dumps(made) if made else ""
+
+
+def wrong_group(value: Any, tables: Any) -> str:
+    """What keeps an entry of a group from being read."""
+    asked = value.get("include-group") if isinstance(value, dict) else None
+    has = list(value_at(tables, "dependency-groups") or [])
+    if isinstance(asked, str) and normal_name(asked) not in map(normal_name, has):
+        return f"there is no group `{asked}` (there are: {', '.join(has)})"
+    return "wanted: a requirement, or { include-group = NAME } of a group that isn't being expanded"
+
+
+def wrong_shape(place: str, value: Any, tables: Any = None) -> str:
     """What is wanted at a place of the project file or of a document."""
     plain = re.sub(r"\[\d+\]", "", place)
     wanted = SHAPES.get(place) or SHAPES.get(plain)
     if plain == "project.requires-python" and isinstance(value, str):
         return f"{specifiers_fault(value)}; wanted: {wanted}"
     if plain == "project.version" and isinstance(value, str) and version(value) is None:
-        return f"`{value}` is no version of PEP 440"
+        return f"`{value}` is no version of PEP 440, as `1.0` is one"
     if plain == "tool.uv.environments" and isinstance(value, str):
         try:
             read_marker(value)
         except NoMarker as fault:
             return str(fault)
     if place.startswith("dependency-groups.") and "[" in place:
-        return "wanted: a requirement, or { include-group = NAME } of a group that isn't being expanded"
+        return wrong_group(value, tables)
     if place.startswith(("dependency-groups.", "project.optional-dependencies.")):
         return "wanted: a list" + ("" if "[" not in place else " of texts")
     if plain.startswith("versions"):
@@ -125,6 +161,15 @@ def wrong_shape(place: str, value: Any) -> str:
     if "[" in place:
         return "wanted: a text"
     return f"wanted: {wanted}" if wanted else "it isn't of the form that is wanted there"
+
+
+def least_project(path: str) -> List[str]:
+    """The least project file that is read, for one that has no [project]."""
+    folder = os.path.basename(os.path.dirname(os.path.abspath(path)))
+    name = folder if NAME.match(folder) else "demo"
+    running = ".".join(map(str, sys.version_info[:2]))
+    lines = [f'name = "{name}"', 'version = "0.1"', f'requires-python = ">={running}"', "dependencies = []"]
+    return ["The least that is read:", *(f"    {it}" for it in ["[project]", *lines])]
 
 
 def wrong_entry(plain: str) -> str:
@@ -156,8 +201,31 @@ def parsed(path: str, text: str) -> Tuple[Any, Optional[str]]:
     try:
         return reader.loads(text), None
     except reader.TOMLDecodeError as fault:
-        found = re.search(r"line (\d+)", str(fault))
-        return None, f"not TOML: {fault}" + quoted_line(text, int(found[1]) if found else 0)
+        return None, f"not TOML: {fault}" + toml_hint(text, str(fault))
+
+
+def toml_hint(text: str, fault: str) -> str:
+    """The line of a fault of TOML, with what is likely wrong there."""
+    opened = opened_line(text) if fault.startswith(("Unclosed", "Invalid value")) else 0
+    if opened:
+        return "; a bracket that isn't closed stands there:" + quoted_line(text, opened)
+    found = re.search(r"line (\d+), column (\d+)", fault)
+    if found is None:
+        return ""
+    number, column = int(found[1]), int(found[2])
+    is_bare = fault.startswith("Invalid value") and re.match(r"[A-Za-z_]", text.split("\n")[number - 1][column - 1 :])
+    return ("; a text stands in quotes" if is_bare else "") + quoted_line(text, number)
+
+
+def opened_line(text: str) -> int:
+    """The line of the outermost bracket that isn't closed; 0 where all are."""
+    opened: List[int] = []
+    for found in TOML_TOKEN.finditer(text):
+        if found[0] in ("[", "{"):
+            opened.append(found.start())
+        elif found[0] in ("]", "}") and opened:
+            opened.pop()
+    return text.count("\n", 0, opened[0]) + 1 if opened else 0
 
 
 def quoted_line(text: str, number: int) -> str:
@@ -211,10 +279,18 @@ def malformed(path: str, place: str) -> List[str]:
         return [f"{where}: {ended(reason)}"]
     if word == "shape":
         has = "it isn't there" if value is None else f"it is {shown(value)}"
-        lines = poetry.project_lines(tables) if rest == "project" and isinstance(tables, dict) else []
-        hint = ["This is a Poetry project; the same as it is read:", *(f"    {it}" for it in lines)] if lines else []
-        return [f"{where}: {has}; {wrong_shape(rest, value)}.", *hint]
+        likely = meant_value(rest, value)
+        fault = wrong_shape(rest, value, tables) + (f"; is `{likely}` meant?" if likely else "")
+        return [f"{where}: {has}; {ended(fault)}", *(no_project(path, tables) if rest == "project" else [])]
     return [f"{path}: {place}."]
+
+
+def no_project(path: str, tables: Any) -> List[str]:
+    """What to put into a file that has no [project]: for a Poetry project what it says."""
+    lines = poetry.project_lines(tables) if isinstance(tables, dict) else []
+    if lines:
+        return ["This is a Poetry project; the same as it is read:", *(f"    {it}" for it in lines)]
+    return least_project(path) if isinstance(tables, dict) and "project" not in tables else []
 
 
 def told(line: str) -> Optional[List[str]]:

@@ -8,11 +8,11 @@ from __future__ import annotations
 
 import json
 import re
-from typing import Any, Dict, Iterator, List, Optional, Tuple
+from typing import Any, Dict, Iterator, List, Optional, Set, Tuple
 
 from . import advice
 from .readings import requirement_fault
-from .versions import specifiers_fault, version
+from .versions import normal_name, specifiers_fault, version
 
 
 def specifiers(constraint: str) -> Optional[str]:
@@ -66,6 +66,26 @@ def listed(table: Any) -> Tuple[List[str], List[str]]:
     return found, left
 
 
+def optional_in(dependencies: Any) -> Dict[str, Any]:
+    """The dependencies that only an extra asks for."""
+    table = dependencies if isinstance(dependencies, dict) else {}
+    return {name: it for name, it in table.items() if isinstance(it, dict) and it.get("optional") is True}
+
+
+def extra_lines(optional: Dict[str, Any], extras: Any) -> Tuple[List[str], List[str]]:
+    """The lines of extras, and the names of optional dependencies that no extra has, or that have no such form."""
+    lines: List[str] = []
+    left: List[str] = []
+    met: Set[str] = set()
+    for extra, names in extras.items() if isinstance(extras, dict) else []:
+        wanted = {normal_name(it) for it in names if isinstance(it, str)} if isinstance(names, list) else set()
+        texts, missing = listed({name: it for name, it in optional.items() if normal_name(name) in wanted})
+        met |= wanted
+        left += missing
+        lines += ([] if lines else ["[project.optional-dependencies]"]) + [f"{extra} = {json.dumps(texts)}"]
+    return lines, left + [it for it in optional if normal_name(it) not in met]
+
+
 def project_lines(tables: Dict[str, Any]) -> List[str]:
     """The lines of a `[project]` table for a Poetry project; none where the file is none."""
     tool = tables.get("tool")
@@ -73,12 +93,16 @@ def project_lines(tables: Dict[str, Any]) -> List[str]:
     if not isinstance(poetry, dict) or "project" in tables:
         return []
     dependencies = poetry.get("dependencies", {})
-    found, left = listed(dependencies)
+    optional = optional_in(dependencies)
+    always = {name: it for name, it in dependencies.items() if name not in optional} if optional else dependencies
+    found, left = listed(always)
     python = specifiers(str(dependencies.get("python", ""))) if isinstance(dependencies, dict) else None
     lines = ["[project]", f"name = {json.dumps(str(poetry.get('name', 'demo')))}"]
     lines += [f"version = {json.dumps(str(poetry.get('version', '0')))}"]
     lines += [f'requires-python = "{python}"'] if python else []
     lines += ["dependencies = [", *(f"    {json.dumps(it)}," for it in found), "]"]
+    extras, missing = extra_lines(optional, poetry.get("extras"))
+    lines, left = lines + extras, left + missing
     groups = poetry.get("group", {})
     made = {name: listed(it.get("dependencies", {})) for name, it in groups.items()} if isinstance(groups, dict) else {}
     for name, (texts, missing) in made.items():

@@ -3,8 +3,8 @@
 The program reads a file by the profile that the file says, and by the strict one where it says none. So the tools put
 together a copy that says `wide`. What the program tells of the copy is told of the file.
 
-A file with a requirement by a URL is handed on as it stands: under the wide profile such a requirement asks for whatever
-release the index folder has, and no tool puts the one behind the URL there.
+A file with a requirement by a URL is handed on as it stands where nobody puts the release behind the URL into the index
+folder (`assembled`): under the wide profile such a requirement asks for whatever release that has.
 """
 
 from __future__ import annotations
@@ -13,7 +13,7 @@ import contextlib
 import os
 import re
 import tempfile
-from typing import Any, Callable, Dict, Iterator, List, Optional, Tuple
+from typing import Any, Callable, Dict, Iterator, List, Mapping, Optional, Tuple
 
 from .console import Refused
 from .vendored import toml_reader
@@ -33,6 +33,11 @@ def table(found: object) -> Tables:
     return found if isinstance(found, dict) else {}
 
 
+def uv_table(tables: Mapping[str, Any]) -> Tables:
+    """`[tool.uv]`."""
+    return table(table(tables.get("tool")).get("uv"))
+
+
 def texts_in(found: object) -> Iterator[str]:
     """The texts of a list, or of the lists of a table."""
     if isinstance(found, str):
@@ -47,10 +52,22 @@ def texts_in(found: object) -> Iterator[str]:
 
 def has_url(tables: Tables) -> bool:
     """Whether some requirement is one by a URL."""
-    project, uv = table(tables.get("project")), table(table(tables.get("tool")).get("uv"))
+    project, uv = table(tables.get("project")), uv_table(tables)
     lists = [project.get("dependencies"), project.get("optional-dependencies"), tables.get("dependency-groups")]
     lists += [uv.get(it) for it in ("constraint-dependencies", "override-dependencies", "dev-dependencies")]
     return any(BY_URL.match(it) for found in lists for it in texts_in(found))
+
+
+def has_sources(tables: Tables) -> bool:
+    """Whether something is said to come from elsewhere than an index."""
+    return has_url(tables) or bool(uv_table(tables).get("sources"))
+
+
+def is_put_together(path: str) -> bool:
+    """Whether the tools hand the program another file than this one, with its sources or its workspace settled."""
+    text = text_of(path) or ""
+    tables = tables_of(text) if any(it in text for it in ("sources", "workspace", "@")) else None
+    return tables is not None and said(tables) != "strict" and (has_sources(tables) or "workspace" in uv_table(tables))
 
 
 def said(tables: Tables) -> object:
@@ -60,7 +77,7 @@ def said(tables: Tables) -> object:
 
 def is_wide(tables: Tables) -> bool:
     """Whether the program is handed a file with these tables by the wide profile."""
-    return said(tables) == "wide" or (said(tables) is None and not has_url(tables))
+    return said(tables) in ("wide", None)
 
 
 def tables_of(text: str) -> Optional[Tables]:
@@ -74,7 +91,7 @@ def tables_of(text: str) -> Optional[Tables]:
 def widened(text: str) -> Optional[str]:
     """The text of a project file that says `wide`, or nothing where the file is handed on as it stands."""
     tables = tables_of(text)
-    if tables is None or said(tables) is not None or not is_wide(tables):
+    if tables is None or said(tables) is not None or has_url(tables):
         return None
     header = TABLE.search(text)
     if header is None:
@@ -108,16 +125,22 @@ Told = Callable[[bytes], bytes]
 
 
 @contextlib.contextmanager
-def handed(words: List[str], folder: Optional[str] = None) -> Iterator[Tuple[List[str], Told]]:
-    """The words to call the program with, and what makes of its answer that to the words which were given."""
+def handed(
+    words: List[str], folder: Optional[str] = None, room: Optional[str] = None
+) -> Iterator[Tuple[List[str], Told]]:
+    """The words to call the program with, and what makes of its answer that to the words which were given.
+
+    A copy is kept in `room`, where a folder is named that is nobody else's: making one takes as long as the rest.
+    """
     path = os.path.join(folder or "", words[1]) if len(words) > 1 and words[0] in COMMANDS else None
     text = None if path is None else text_of(path)
     made = None if text is None else widened(text)
     if made is None:
         yield words, lambda body: body
         return
-    with tempfile.TemporaryDirectory(prefix="unilock-project-") as held:
-        copy = os.path.join(held, "pyproject.toml")
+    with contextlib.ExitStack() as held:
+        fresh = room or held.enter_context(tempfile.TemporaryDirectory(prefix="unilock-project-"))
+        copy = os.path.join(fresh, "pyproject.toml")
         with open(copy, "w", encoding="utf-8", newline="") as file:
             file.write(made)
         yield [words[0], copy, *words[2:]], lambda body: body.replace(copy.encode(), words[1].encode())

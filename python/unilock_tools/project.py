@@ -8,7 +8,7 @@ from __future__ import annotations
 from typing import Any, Dict, Iterator, List, NamedTuple, Optional, Set
 
 from . import profile
-from .console import Refused
+from .console import Refused, escaped
 from .marker_texts import ALWAYS, every, of_bound, some
 from .readings import Requirement, requirement_of
 from .vendored import toml_of
@@ -55,7 +55,7 @@ class Project:
         if not isinstance(extras, dict):
             raise Refused(f"{self.path}: project.optional-dependencies: it isn't a table", 3)
         for name in sorted(extras):
-            place = f"project.optional-dependencies.{normal_name(name)}"
+            place = f"project.optional-dependencies.{escaped(normal_name(name))}"
             yield from self._listed(place, extras[name], normal_name(name))
         groups = self.groups()
         for group in sorted(groups):
@@ -79,9 +79,9 @@ class Project:
             return
         done.add(group)
         if not isinstance(groups[group], list):
-            raise Refused(f"{self.path}: dependency-groups.{group}: it isn't a list", 3)
+            raise Refused(f"{self.path}: dependency-groups.{escaped(group)}: it isn't a list", 3)
         for number, entry in enumerate(groups[group]):
-            place = f"dependency-groups.{group}[{number}]"
+            place = f"dependency-groups.{escaped(group)}[{number}]"
             if isinstance(entry, str):
                 yield Placed(place, self._read(place, entry), f"group-{of}")
                 continue

@@ -1,8 +1,10 @@
 """Writes a pylock.toml (PEP 751) from a lock, which pip and uv can install from.
 
 It has the packages that the lock gives with the chosen extras and groups on all machines, each with its marker, and
-its files with their hashes. A file needs a place: the URL that the index folder (--index) tells, where `tools/index`
-took it from a server; or a folder of files (--files), to which the path is written relative to the pylock.toml.
+its files with their hashes. A file needs a place: the URL that the index folder (--index) tells, where `tools/index` or
+`tools/lock` took it from a server; or a folder of files (--files), to which the path is written relative to the
+pylock.toml. A package with a source in the project file is told by that: a repository with its commit, a folder, or an
+archive with its hash. `index` is the address of the package index, where the project file or --index-url names it.
 
 Status: 0 written; 1 the lock can't be read, or a file has no place; 2 the words aren't right; 3 to 9 as the
 program's; 70 the program can't be built.
@@ -11,14 +13,21 @@ program's; 70 the program can't be built.
 from __future__ import annotations
 
 import argparse
-import json
 import os
-from typing import Dict, List, NamedTuple, Optional, Union
+from pathlib import Path
+from typing import Dict, List, NamedTuple, Optional, Tuple
 
-from . import __version__, chosen, console, documents, pages
+from . import (
+    __version__, addresses, assembled, chosen, console, documents, index_settings, own_index, placed, sources,
+)  # fmt: skip
 from .chosen import Pick
 from .console import Refused
+from .direct import Place
 from .locks import Lock
+from .placed import is_editable
+from .sources import ByGit, ByUrl
+from .toml_texts import Value, toml_value
+from .workspaces import Workspace
 
 
 class Placed(NamedTuple):
@@ -37,7 +46,7 @@ def parser() -> console.Parser:
     made.add_argument(
         "--index",
         metavar="INDEX",
-        help="the index folder, for the URLs of files (`ix` beside the lock, where it is there)",
+        help="the index folder, for the URLs of files (`ix` beside the lock, or what `lock` keeps there)",
     )
     made.add_argument(
         "--files",
@@ -46,42 +55,39 @@ def parser() -> console.Parser:
         default=[],
         help="a folder that holds files of the lock; may be repeated",
     )
+    made.add_argument("--index-url", metavar="URL", help="the package index that the files are of")
+    made.add_argument("--no-editable", action="store_true", help="write folders as such to be copied")
     made.add_argument(
         "-o", "--out", metavar="FILE", default="pylock.toml", help="the file to write (%(default)s; - prints it)"
     )
     return made
 
 
-Value = Union[str, int, List[str], Dict[str, "Value"]]
+class Addresses(NamedTuple):
+    """The addresses of the package indexes that are asked, by their names; the usual one's, where a file says so; and
+    whether it is the only one."""
 
-
-def toml_value(value: Value) -> str:
-    """A value as TOML writes it on one line: a text, a number, a list of texts, or an inline table."""
-    if isinstance(value, str):
-        return toml_text(value)
-    if isinstance(value, int) and not isinstance(value, bool):
-        return str(value)
-    if isinstance(value, list):
-        return f"[{', '.join(toml_value(it) for it in value)}]"
-    if isinstance(value, dict):
-        return "{ " + ", ".join(f"{key} = {toml_value(it)}" for key, it in value.items()) + " }"
-    raise Refused(f"{value!r} has no place in a pylock.toml")
-
-
-def toml_text(text: str) -> str:
-    """A text as a basic string of TOML."""
-    if any("\ud800" <= it <= "\udfff" for it in text):
-        raise Refused(f"{text!r} is no text that a pylock.toml can have")
-    return json.dumps(text, ensure_ascii=False).replace("\x7f", "\\u007F")
+    named: Dict[str, str] = {}
+    usual: Optional[str] = None
+    is_one: bool = True
 
 
 class Places:
     """Where files are found: in folders, or at the URLs of an index folder."""
 
-    def __init__(self, index: Optional[str], folders: List[str], out: str) -> None:
-        self.index, self.folders = index, folders
+    def __init__(
+        self,
+        index: Optional[str],
+        folders: List[str],
+        out: str,
+        addresses: Addresses = Addresses(),
+        editable: bool = True,
+    ) -> None:
+        self.index, self.folders, self.addresses, self.editable = index, folders, addresses, editable
         self.beside = os.path.dirname(os.path.abspath(out)) if out != "-" else os.getcwd()
         self.documents: Dict[str, Dict[str, documents.Document]] = {}
+        # The names of the indexes that the files of a package are of, as its document says.
+        self.sources: Dict[str, Dict[str, object]] = {}
 
     def told(self, package: str, file: str, sha256: str) -> Optional[documents.Document]:
         """What the index folder tells of a file, where the hash is the lock's."""
@@ -89,17 +95,29 @@ class Places:
             return None
         if package not in self.documents:
             found = documents.load(self.index, package) or {"versions": []}
-            entries = [it for release in found["versions"] for it in release.get("files") or []]
-            self.documents[package] = {it["file"]: it for it in entries}
+            pairs = [(it, release.get("source")) for release in found["versions"] for it in release.get("files") or []]
+            self.documents[package] = {it["file"]: it for it, _ in pairs}
+            self.sources[package] = {it["file"]: source for it, source in pairs}
         entry = self.documents[package].get(file)
         return entry if entry is not None and str(entry.get("sha256", "")).lower() == sha256 else None
+
+    def address(self, package: str, files: List[Tuple[str, str]]) -> Optional[str]:
+        """The address of the package index that a package is of, where that is known."""
+        known = [file for file, summed in files if self.told(package, file, summed) is not None]
+        if not known:
+            return self.addresses.usual if self.addresses.is_one else None
+        source = self.sources[package][known[0]]
+        return self.addresses.named.get(source) if isinstance(source, str) else self.addresses.usual
+
+    def relative(self, path: Path) -> str:
+        """A path as the file names it: from its own folder."""
+        return os.path.relpath(path, self.beside).replace(os.sep, "/")
 
     def place(self, package: str, file: str, sha256: str) -> Placed:
         for folder in self.folders:
             path = os.path.join(folder, file)
             if os.path.isfile(path):
-                relative = os.path.relpath(path, self.beside).replace(os.sep, "/")
-                return Placed(file, sha256, None, relative, os.path.getsize(path))
+                return Placed(file, sha256, None, self.relative(Path(path)), os.path.getsize(path))
         entry = self.told(package, file, sha256)
         if entry is None or "url" not in entry:
             hint = "--index names an index folder made from a server, --files a folder that has it"
@@ -111,7 +129,7 @@ def address_in(entry: documents.Document, file: str) -> str:
     """The address that a document tells of a file; a user and a password in it aren't taken along."""
     found = entry["url"]
     try:
-        return pages.address_of(found if isinstance(found, str) else "")
+        return addresses.address_of(found if isinstance(found, str) else "")
     except ValueError:
         raise Refused(f"the index folder's `url` of {file} is no address of a server: {str(found)[:200]!r}") from None
 
@@ -135,11 +153,13 @@ def file_value(file: Placed) -> Dict[str, Value]:
     return found
 
 
-def package_text(lock: Lock, pick: Pick, places: Places) -> str:
-    lines = ["", "[[packages]]", f"name = {toml_value(pick.name)}", f"version = {toml_value(pick.version)}"]
-    if pick.marker:
-        lines.append(f"marker = {toml_value(pick.marker)}")
-    placed = [places.place(pick.name, file, summed) for file, summed in lock.package(pick.name, pick.version).files]
+def package_text(lock: Lock, pick: Pick, places: Places, found: Dict[str, Place]) -> str:
+    if pick.name in found:
+        return sourced_text(pick, found[pick.name], places)
+    files = lock.package(pick.name, pick.version).files
+    address = places.address(pick.name, files)
+    lines = [*head_lines(pick, True), *([f"index = {toml_value(address)}"] if address else [])]
+    placed = [places.place(pick.name, file, summed) for file, summed in files]
     if not placed:
         raise Refused(f"the lock has no files of {pick.name} {pick.version}, since its index has none")
     wheels = [it for it in placed if it.name.endswith(".whl")]
@@ -151,20 +171,79 @@ def package_text(lock: Lock, pick: Pick, places: Places) -> str:
     return "\n".join(lines) + "\n"
 
 
-def pylock_text(lock: Lock, picks: List[Pick], places: Places) -> str:
+def head_lines(pick: Pick, is_stable: bool) -> List[str]:
+    """What each package begins with. The version of a source tree isn't told: its files may have another one."""
+    lines = ["", "[[packages]]", f"name = {toml_value(pick.name)}"]
+    lines += [f"version = {toml_value(pick.version)}"] if is_stable else []
+    return [*lines, *([f"marker = {toml_value(pick.marker)}"] if pick.marker else [])]
+
+
+def sourced_text(pick: Pick, place: Place, places: Places) -> str:
+    """A package from a source, as a repository, a folder or an archive."""
+    source, path = place.source, place.path
+    if not place.is_package:
+        return ""
+    if isinstance(source, ByGit):
+        kind, facts = "vcs", git_facts(source, place.commit)
+    elif path is not None and place.is_folder:
+        kind, facts = "directory", {"path": places.relative(path)}
+        facts.update({"editable": True} if places.editable and is_editable(place) else {})
+    else:
+        file = place.files[0]
+        where = {"path": places.relative(path)} if path is not None else {"url": file.url or ""}
+        kind, facts = "archive", {**where, **({} if file.size is None else {"size": file.size})}
+        facts["hashes"] = {"sha256": file.sha256}
+        if isinstance(source, ByUrl) and source.subdirectory:
+            facts["subdirectory"] = source.subdirectory
+    table = ["", f"[packages.{kind}]", *(f"{key} = {toml_value(it)}" for key, it in facts.items())]
+    return "\n".join([*head_lines(pick, kind == "archive"), *table]) + "\n"
+
+
+def git_facts(source: ByGit, commit: str) -> Dict[str, Value]:
+    found: Dict[str, Value] = {"type": "git", "url": sources.public(source.url)}
+    if source.reference:
+        found["requested-revision"] = source.reference
+    found["commit-id"] = commit
+    return {**found, "subdirectory": source.subdirectory} if source.subdirectory else found
+
+
+def pylock_text(lock: Lock, picks: List[Pick], places: Places, found: Dict[str, Place]) -> str:
     lines = ['lock-version = "1.0"']
     if lock.supported:
         lines.append(f"environments = {toml_value([lock.supported])}")
     lines.append(f"created-by = {toml_value('unilock ' + __version__)}")
-    return "\n".join(lines) + "\n" + "".join(package_text(lock, it, places) for it in picks)
+    return "\n".join(lines) + "\n" + "".join(package_text(lock, it, places, found) for it in picks)
+
+
+def addresses_of(asked: argparse.Namespace, workspace: Optional[Workspace]) -> Addresses:
+    """The addresses of the package indexes, without a user and a password; of PyPI only where it is named. Where one
+    that has no name is asked before the usual one, nothing tells which of the two a package is of."""
+    tables = {} if workspace is None else assembled.index_tables(str(workspace.path), workspace)
+    found = index_settings.of_words(asked, tables, Path(asked.lock).parent)
+    known = [(it, address_or_none(it)) for it in found.asked()]
+    named = {it.name: address for it, address in known if it.name and address is not None}
+    is_told = asked.index_url is not None or found.usual.place
+    nameless = [it for it, _ in known if not it.name and it != found.usual]
+    usual = address_or_none(found.usual) if is_told and not nameless else None
+    return Addresses(named, usual, len(known) == 1)
+
+
+def address_or_none(index: index_settings.Index) -> Optional[str]:
+    try:
+        return None if index.is_flat else addresses.address_of(index.url)
+    except ValueError:
+        return None
 
 
 def run(asked: argparse.Namespace) -> int:
-    lock = chosen.load(asked.lock)
-    picks = chosen.bases(chosen.everywhere(asked.lock, lock, chosen.extras_of(asked)))
-    usual = os.path.join(os.path.dirname(asked.lock), "ix")
+    usual = own_index.usual_for(asked.lock)
     index = asked.index or (usual if os.path.isdir(usual) else None)
-    console.put(pylock_text(lock, picks, Places(index, asked.files, asked.out)), asked.out)
+    with chosen.opened(asked) as (path, lock):
+        picks = chosen.bases(chosen.everywhere(path, lock, chosen.extras_of(asked)))
+        workspace = placed.workspace_beside(asked.lock)
+        found = placed.places(workspace, lock, asked.lock, placed.means_of(lock, [it.name for it in picks]))
+        places = Places(index, asked.files, asked.out, addresses_of(asked, workspace), not asked.no_editable)
+        console.put(pylock_text(lock, picks, places, found), asked.out)
     return 0
 
 

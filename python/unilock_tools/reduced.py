@@ -6,7 +6,7 @@ from typing import Any, Dict, Iterable, List, Set
 
 from . import keys
 from .project import Project
-from .pylock import toml_text, toml_value
+from .toml_texts import toml_text, toml_value
 from .versions import normal_name
 
 

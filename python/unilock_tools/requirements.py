@@ -3,6 +3,9 @@
 They are those of the running interpreter, of the machine that --machine names, or with --all of all machines that the
 project supports, each with its marker. Where the lock doesn't serve the machine nothing is printed or written.
 
+A package with a source in the project file has its address in its line: that of a file, with its hash; a folder's; or a
+repository's with the commit. The last two have no hash, so pip takes them without --require-hashes alone.
+
 Status: 0 printed; 1 the lock can't be read, or has no hashes; 2 the words aren't right; 3 to 9 as the program's (8:
 the machine isn't supported, or an extra isn't known); 70 the program can't be built.
 """
@@ -10,9 +13,12 @@ the machine isn't supported, or an extra isn't known); 70 the program can't be b
 from __future__ import annotations
 
 import argparse
-from typing import List, Optional
+from typing import Dict, List, Optional
 
-from . import chosen, console
+from . import chosen, console, placed
+from .chosen import Pick
+from .direct import Place
+from .locks import Lock
 
 
 def parser() -> console.Parser:
@@ -26,14 +32,28 @@ def parser() -> console.Parser:
     return made
 
 
+def line_of(lock: Lock, pick: Pick, found: Dict[str, Place], hashes: bool) -> str:
+    """A package's line; one from a source by its address, with its hash where it is a file."""
+    place = found.get(pick.name)
+    if place is None:
+        return chosen.with_hashes(lock, [pick], hashes)
+    if not place.is_package:
+        return ""
+    extras = f"[{','.join(pick.extras)}]" if pick.extras else ""
+    text = f"{pick.name}{extras} @ {placed.address_of(place)}" + (f" ; {pick.marker}" if pick.marker else "")
+    is_file = bool(place.files) and not place.commit
+    return chosen.with_sums(text, {it.sha256 for it in place.files} if hashes and is_file else set())
+
+
 def run(asked: argparse.Namespace) -> int:
-    lock = chosen.load(asked.lock)
     extras = chosen.extras_of(asked)
-    if asked.all:
-        picks = chosen.bases(chosen.everywhere(asked.lock, lock, extras))
-    else:
-        picks = chosen.on_machine(asked.lock, lock, extras, chosen.machine_file(asked.machine))
-    console.put(chosen.with_hashes(lock, picks, not asked.no_hashes), asked.out)
+    with chosen.opened(asked) as (path, lock):
+        if asked.all:
+            picks = chosen.bases(chosen.everywhere(path, lock, extras))
+        else:
+            picks = chosen.on_machine(path, lock, extras, chosen.machine_file(asked.machine))
+        found = placed.of_lock(asked.lock, lock, [it.name for it in picks])
+        console.put("".join(line_of(lock, it, found, not asked.no_hashes) for it in picks), asked.out)
     return 0
 
 

@@ -116,7 +116,7 @@ class Teller:
         for _, it in self.behind(need, need.versions[0]):
             met = [spelled for spelled, _ in known if meets(it.clauses, read(spelled))]
             if not met:
-                has = "of those that were tried, it" if folders.is_of_tried(self.index) else "the index"
+                has = "of those that were tried, the index" if folders.is_of_tried(self.index) else "the index"
                 versions = listed([spelled for spelled, _ in known])
                 reasons.append(f"no version of {name} meets `{it.specifiers}`: {has} has {versions}")
             else:
@@ -233,7 +233,7 @@ class Teller:
             yield from (f"- {self.python(step)}." for step in self.bounds_behind())
         if with_steps or not self.refusal.core:
             yield from self.numbered()
-        yield "So the project can't be served there."
+        yield "So the project can't be served." if self.refusal.fork == "-" else "So the project can't be served there."
 
     def numbered(self) -> Iterator[str]:
         """The steps that the last one rests on, numbered anew."""

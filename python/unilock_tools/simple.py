@@ -17,16 +17,18 @@ import hashlib
 import io
 import re
 import tempfile
-from typing import IO, List, NamedTuple, Optional, Tuple, Union, cast
+from typing import IO, Collection, List, NamedTuple, Optional, Protocol, Tuple, Union, cast
 from urllib.parse import urljoin
 
-from . import archives, pages
+from . import archives, console, pages
+from .addresses import fault_of, shown
 from .archives import MOST_METADATA, Metadata
 from .building import Builder
 from .cache import Cache, Entry
 from .console import Refused
 from .fetching import Answer, Fetcher, File, Headers
-from .pages import Listed, ListedRelease, ProjectPage, fault_of, shown
+from .keyrings import Secret
+from .pages import Listed, ListedRelease, ProjectPage
 
 TAIL = 64 * 1024
 PIECE = 16 * 1024
@@ -82,8 +84,38 @@ class RangeFile(io.RawIOBase):
         return self.read(count)
 
 
+class Fetched(NamedTuple):
+    """How much was asked of servers."""
+
+    requests: int
+    bytes: int
+
+    def told(self) -> str:
+        return f"{console.counted(self.requests, 'request')}, {self.bytes / 1e6:.1f} MB"
+
+
+class PackageIndex(Protocol):
+    """What releases are asked of: a server, a folder, or several of these as one."""
+
+    builder: Optional[Builder]
+
+    @property
+    def url(self) -> str: ...
+
+    def page(self, name: str) -> Optional[ProjectPage]: ...
+
+    def metadata(self, release: ListedRelease) -> Metadata: ...
+
+    def lacks(self, name: str) -> str: ...
+
+    def fetched(self) -> Fetched: ...
+
+    def stop(self) -> None: ...
+
+
 class Client:
-    """Asks a server by a fetcher, and keeps in a cache what it was told."""
+    """Asks a server by a fetcher, and keeps in a cache what it was told. `unknown` are statuses besides 404 by which
+    the server says that it doesn't know a project."""
 
     def __init__(
         self,
@@ -94,9 +126,12 @@ class Client:
         wait: float = 0.5,
         deadline: float = 300,
         builder: Optional[Builder] = None,
+        secret: Optional[Secret] = None,
+        unknown: Collection[int] = (),
     ) -> None:
-        self.fetcher = Fetcher(url, tries, timeout, wait, deadline)
+        self.fetcher = Fetcher(url, tries, timeout, wait, deadline, secret)
         self.builder = builder
+        self.unknown = {404, *unknown}
         self.url = self.fetcher.url
         self.cache = cache
 
@@ -113,13 +148,24 @@ class Client:
             # What is kept has no reading, as where another version of the tools kept it.
             found = self.page_answer(url, None)
         assert isinstance(found, Answer), "nothing that is kept was offered"
-        if found.status == 404:
+        if found.status in self.unknown:
             return None
         if found.status != 200:
             raise fault_of(url, f"{found.status} {found.reason}")
         page = pages.read_page(name, found.url, found.form, found.body)
         self.keep("pages", url, found)
         return page
+
+    def lacks(self, name: str) -> str:
+        """That it doesn't know a project, in words."""
+        return f"the server has no project {name}"
+
+    def fetched(self) -> Fetched:
+        return Fetched(self.fetcher.asked, self.fetcher.bytes)
+
+    def stop(self) -> None:
+        """Ends requests that are under way."""
+        self.fetcher.stopped = True
 
     def page_answer(self, url: str, kept: Optional[Entry]) -> Union[Entry, Answer]:
         try:

@@ -98,6 +98,11 @@ class Screen:
         else:
             self.put(self.text(parts), soft_wrap=True)
 
+    def told(self, text: str, kind: str, mark: str = "") -> None:
+        """Shows a line of a kind; where a mark is named, what stands before it alone is shown so."""
+        head, found, rest = text.partition(mark) if mark else (text, "", "")
+        self.line(Part(head + found, kind), Part(rest))
+
     def table(self, heads: Sequence[str], rows: Iterable[Sequence[Part]]) -> None:
         """Shows rows in columns as wide as the terminal allows. It is asked of a screen that has columns alone."""
         made = library("table").Table(box=library("box").SIMPLE_HEAD, pad_edge=False, header_style="bold")

@@ -38,7 +38,7 @@ class Arrow(NamedTuple):
 
 def parser() -> console.Parser:
     made = console.Parser("tree", __doc__)
-    made.add_argument("lock", metavar="LOCK", nargs="?", default=chosen.USUAL, help=f"the lock ({chosen.USUAL})")
+    made.add_argument("lock", metavar="LOCK", nargs="?", help=f"the lock ({chosen.USUAL})")
     made.add_argument("machine", metavar="MACHINE", nargs="?", help="a machine file")
     made.add_argument(
         "--extra",
@@ -47,6 +47,7 @@ def parser() -> console.Parser:
         default=[],
         help="only this extra of the project (all, without it); may be repeated",
     )
+    chosen.add_package(made)
     made.add_argument("--no-extras", action="store_true", help="none of the project's extras")
     made.add_argument("--invert", "-i", metavar="NAME", help="who needs this package")
     made.add_argument("--depth", metavar="N", type=int, help="at most so many levels below the first")
@@ -201,7 +202,12 @@ def shown_by(encoding: str, part: Part) -> Part:
 
 
 def run(asked: argparse.Namespace) -> int:
-    lock = locks.load(asked.lock)
+    with chosen.opened(asked) as (_, lock):
+        return shown(asked, lock)
+
+
+def shown(asked: argparse.Namespace, lock: Lock) -> int:
+    """Prints the tree of a lock, or draws it."""
     variables = chosen.machine_file(asked.machine) if asked.machine else None
     if variables is not None and lock.supported and not markers.truth(markers.read(lock.supported), variables):
         raise Refused(f"{asked.lock} isn't for this machine: it supports {lock.supported}")
@@ -229,4 +235,4 @@ def run(asked: argparse.Namespace) -> int:
 
 def main(words: Optional[List[str]] = None) -> int:
     asked = parser().read(words)
-    return console.ended("tree", lambda: run(asked))
+    return console.ended("tree", lambda: run(chosen.found(asked)))

@@ -13,11 +13,12 @@ index's; 70 the program can't be built.
 from __future__ import annotations
 
 import argparse
-import os
+import contextlib
 from typing import Iterator, List, Optional
 
-from . import console, locks, own_index, places, printing, program, project, verdicts
+from . import assembled, console, locks, overlaid, own_index, places, printing, program, project, verdicts
 from .console import Refused
+from .terminal import Screen, add_color
 
 REJECTED = 9
 
@@ -31,6 +32,7 @@ def parser() -> console.Parser:
         "index", metavar="INDEX", nargs="?", help="the index folder (`ix` beside the project, or what `lock` keeps)"
     )
     made.add_argument("lock", metavar="LOCK", nargs="?", help="the lock (`unilock.lock` beside the project)")
+    add_color(made)
     return made
 
 
@@ -50,10 +52,12 @@ def lines(asked: argparse.Namespace, answered: program.Answer) -> Iterator[str]:
 
 
 def run(asked: argparse.Namespace) -> int:
-    beside = os.path.dirname(asked.project)
-    index = asked.index or own_index.usual(beside)
-    lock = asked.lock or os.path.join(beside, "unilock.lock")
-    return judged(argparse.Namespace(project=asked.project, index=index, lock=lock))
+    with contextlib.ExitStack() as held:
+        given = held.enter_context(assembled.given(asked.project))
+        lock = asked.lock or given.lock
+        index = held.enter_context(overlaid.of_given(given, asked.index or own_index.usual_of(given), lock))
+        status = judged(argparse.Namespace(project=given.project, index=index, lock=lock, color=asked.color))
+    return status
 
 
 def judged(asked: argparse.Namespace) -> int:
@@ -61,11 +65,14 @@ def judged(asked: argparse.Namespace) -> int:
         answered = program.answer(["verify", asked.project, asked.index, path])
     if answered.status not in (0, REJECTED):
         text = program.fault_text(answered)
-        raise Refused("; ".join(places.told(text.replace(f" {path}: ", f" {asked.lock}: ")) or [text]), answered.status)
+        told = places.told(text.replace(f" {path}: ", f" {asked.lock}: ")) or [text]
+        raise Refused("\n  ".join(told), answered.status)
     found = list(lines(asked, answered))
+    is_right = answered.status == 0 and len(found) == 1
+    screen = Screen(asked.color)
     for line in found:
-        print(printing.wrapped(line))
-    return 0 if answered.status == 0 and len(found) == 1 else REJECTED
+        screen.told(printing.wrapped(line), "good" if is_right else "bad", "," if is_right else ":")
+    return 0 if is_right else REJECTED
 
 
 def main(words: Optional[List[str]] = None) -> int:

@@ -10,7 +10,7 @@ from __future__ import annotations
 import re
 import time
 from concurrent.futures import FIRST_COMPLETED, Future, ThreadPoolExecutor, wait
-from dataclasses import dataclass, field
+from dataclasses import dataclass, field, replace
 from datetime import datetime, timedelta
 from typing import Callable, Dict, Iterable, List, NamedTuple, Optional, Set, Tuple
 
@@ -20,7 +20,7 @@ from .documents import File, Projects, release_fault
 from .pages import Listed, ListedRelease, Passed, ProjectPage
 from .project import Project
 from .readings import Requirement, requirement_of
-from .simple import Client
+from .simple import PackageIndex
 from .terminal import Meter
 from .versions import NoReading, Version, meets, version
 
@@ -82,7 +82,7 @@ def uploaded_before(name: str, releases: List[ListedRelease], before: Instant) -
     for release in releases:
         kept = [it for it in release.files if upload(name, it) < before]
         if kept:
-            found.append(ListedRelease(release.version, kept))
+            found.append(replace(release, files=kept))
     return found
 
 
@@ -105,9 +105,9 @@ class Allowed(NamedTuple):
 def allowed(found: List[ListedRelease], project: Project, name: str, choice: Choice) -> Allowed:
     """The releases of a name that a project can use.
 
-    The program passes a pre-release over where the project's mode doesn't ask for it, unless all usable releases are such
-    and the mode takes them then. So they are left aside, and one final release that can be used is kept even where the
-    bounds refuse all.
+    The program passes a pre-release over where the project's mode doesn't ask for it, unless all usable releases are
+    such and the mode takes them then. So they are left aside, and one final release that can be used is kept even where
+    the bounds refuse all.
     """
     direct, asked = project.direct(name), project.asks_prereleases(name)
     within = [it for it in found if all(meets(one.clauses, it.version) for one in project.bounds(name))]
@@ -134,7 +134,7 @@ class Walk:
 
     def __init__(
         self,
-        client: Client,
+        client: PackageIndex,
         project: Project,
         choice: Choice,
         known: Projects,
@@ -168,7 +168,8 @@ class Walk:
                 self.settle()
                 self.progress()
         finally:
-            self.client.fetcher.stopped = bool(self.open)
+            if self.open:
+                self.client.stop()
             for job in self.open:
                 job.cancel()
             self.pool.shutdown(wait=not self.open)
@@ -221,7 +222,7 @@ class Walk:
     def paged(self, name: str, found: object) -> None:
         one = self.reached[name]
         if found is None:
-            self.absent.append(f"the server has no project {name}, which {one.by} requires")
+            self.absent.append(f"{self.client.lacks(name)}, which {one.by} requires")
             return
         assert isinstance(found, ProjectPage)
         self.known += 1
@@ -270,7 +271,7 @@ class Walk:
     def keep(self, name: str, listed: ListedRelease, metadata: Metadata) -> None:
         one = self.reached[name]
         release = self.gathered.add(listed.files[0].name, metadata)
-        release.yanked, release.reason = listed.yanked, listed.reason
+        release.yanked, release.reason, release.source = listed.yanked, listed.reason, listed.source
         release.files = files_of(listed)
         for file in left_out(listed):
             self.files.setdefault((name, file.fault), []).append(file.file)
@@ -301,7 +302,7 @@ class Walk:
         if self.meter is None:
             return
         releases = sum(len(it) for it in self.gathered.releases.values())
-        megabytes = self.client.fetcher.bytes / 1e6
+        megabytes = self.client.fetched().bytes / 1e6
         rate = megabytes / max(0.001, time.monotonic() - self.begun)
         more = f"{console.counted(len(self.reached), 'package')}, {console.counted(releases, 'release')}"
         self.meter.show(self.started - len(self.open), self.started, f"{more}, {megabytes:.1f} MB, {rate:.1f} MB/s")
@@ -318,7 +319,8 @@ class Walk:
 
 def files_of(release: ListedRelease) -> Dict[str, File]:
     """The files of a release that are locked with it."""
-    return {it.name: File(it.name, it.sha256, it.url, it.size) for it in release.counted if it.sha256 is not None}
+    kept = [it for it in release.counted if it.sha256 is not None]
+    return {it.name: File(it.name, it.sha256 or "", it.url or None, it.size) for it in kept}
 
 
 def left_out(release: ListedRelease) -> List[Passed]:

@@ -132,15 +132,28 @@ class Walked:
         return self.given
 
 
-def difference(one: Lock, other: Lock, bound: str) -> int:
-    """How many pairs of a machine and a package two locks give different versions for."""
+class Difference(NamedTuple):
+    """How many pairs of a machine and a package get another version, and how many differ, with those that come or go.
+
+    That a version changes counts before that a package comes or goes.
+    """
+
+    versions: int
+    pairs: int
+
+
+def difference(one: Lock, other: Lock, bound: str) -> Difference:
+    """What differs between what two locks give on the machines of the second."""
     texts = marker_texts(one) | marker_texts(other)
-    count = 0
+    versions, pairs = 0, 0
     for machine in machines(texts, bound):
         if holds(other.supported, machine):
             before, after = Walked(one, machine).versions(), Walked(other, machine).versions()
-            count += sum(before.get(it) != after.get(it) for it in {*before, *after})
-    return count
+            differing = [it for it in {*before, *after} if before.get(it) != after.get(it)]
+            pairs += len(differing)
+            if holds(one.supported, machine):
+                versions += sum(it in before and it in after for it in differing)
+    return Difference(versions, pairs)
 
 
 def is_supported(machine: Machine, environments: Iterable[str]) -> bool:
