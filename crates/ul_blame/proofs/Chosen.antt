@@ -13,7 +13,7 @@ use Rattle.ul_problem.proofs.ForCallers.{one_place}
 use Rattle.ul_blame.specs.Needs.{all_needs, StandsIn}
 use Rattle.ul_blame.specs.Serving.{IsMet, Meets, IsServed}
 use Rattle.ul_blame.specs.Turns.{left_of}
-use Rattle.ul_blame.specs.Choices.{chosen, HasBaseAt, IsFitAt, AreFit, HasRoots, MeetsKept}
+use Rattle.ul_blame.specs.Choices.{chosen, HasBaseAt, IsFitAt, AreFit, AreListed, HasRoots, IsMetAt, MeetsKept}
 use Rattle.ul_blame.specs.declared.needs.CoreNeed.{CoreNeed}
 use Rattle.ul_blame.proofs.Alike.{serves_bare}
 use Rattle.ul_blame.proofs.Flagged.{EachKept, each_kept}
@@ -81,20 +81,52 @@ pub reached : (p : Plain) (σ : Selection) (c : CoreNeed) (need : Need) (v : ℕ
 reached p σ c need v at e h other there f =
     subst (Meets σ c.node c.version) (same_Some need other (sym at ∙ there)) (λ _. ap (λ o. is_among o need.permitted) e ∙ h) f
 
--- the needs before a place whose flags are set are met
-abbrev pub AreMetBefore : Plain → Selection → List Bool → List CoreNeed → ℕ → Type 0
-AreMetBefore p σ flags needs i =
-    (k : ℕ) (c : CoreNeed) → k < i → slice_get needs k ≡ Some c → get_or flags k false ≡ true → IsMet p σ c
+-- past the end no need is to be met
+pub past_met : (p : Plain) (σ : Selection) (flags : List Bool) (needs : List CoreNeed) (k : ℕ) → length needs ≤ k → IsMetAt p σ flags needs k
+past_met p σ flags needs k l c at f = let w = slice_get_within needs k c at in absurd (omega (arith, l, w))
 
-pub met_more : (p : Plain) (σ : Selection) (flags : List Bool) (needs : List CoreNeed) (i : ℕ) → AreMetBefore p σ flags needs i
-    → ((c : CoreNeed) → slice_get needs i ≡ Some c → get_or flags i false ≡ true → IsMet p σ c) → AreMetBefore p σ flags needs (i + 1)
-met_more p σ flags needs i h now k c l at f = elim (cases_lt k i) [
-  | inl b ↦ h k c b at f
-  | inr a ↦ (let s : k ≡ i = omega (arith, l, a) in now c (ap (slice_get needs) (sym s) ∙ at) (ap (λ n. get_or flags n false) (sym s) ∙ f))
+-- nor is one whose flag isn't set
+pub unset_met : (p : Plain) (σ : Selection) (flags : List Bool) (needs : List CoreNeed) (k : ℕ) → get_or flags k false ≡ false → IsMetAt p σ flags needs k
+unset_met p σ flags needs k e c at f = absurd (true≢false (sym f ∙ e))
+
+-- the needs at the first of some places are met
+abbrev pub AreMetBefore : Plain → Selection → List Bool → List CoreNeed → List ℕ → ℕ → Type 0
+AreMetBefore p σ flags needs places i = (j k : ℕ) → j < i → slice_get places j ≡ Some k → IsMetAt p σ flags needs k
+
+pub places_more : (p : Plain) (σ : Selection) (flags : List Bool) (needs : List CoreNeed) (places : List ℕ) (i d : ℕ) → AreMetBefore p σ flags needs places i → IsMetAt p σ flags needs (get_or places i d)
+    → AreMetBefore p σ flags needs places (i + 1)
+places_more p σ flags needs places i d h now j k l at = elim (cases_lt j i) [
+  | inl b ↦ h j k b at
+  | inr a ↦ (let same : j ≡ i = omega (arith, l, a) in subst (IsMetAt p σ flags needs) (get_or_from_slice_get places i k d (ap (slice_get places) (sym same) ∙ at)) now)
 ]
 
-pub met_all : (p : Plain) (σ : Selection) (flags : List Bool) (needs : List CoreNeed) (i : ℕ) → length needs ≤ i → AreMetBefore p σ flags needs i → MeetsKept p σ flags needs
-met_all p σ flags needs i l h k c at f = let w = slice_get_within needs k c at in h k c (omega (arith, l, w)) at f
+pub places_all : (p : Plain) (σ : Selection) (flags : List Bool) (needs : List CoreNeed) (places : List ℕ) (i : ℕ) → length places ≤ i → AreMetBefore p σ flags needs places i
+    → (k : ℕ) → Contains places k → IsMetAt p σ flags needs k
+places_all p σ flags needs places i l h k c = let r = one_place places k c in let w = slice_get_within places r.0 k r.1 in h r.0 k (omega (arith, l, w)) r.1
+
+-- the needs from a place to before another are met
+abbrev pub AreMetFrom : Plain → Selection → List Bool → List CoreNeed → ℕ → ℕ → Type 0
+AreMetFrom p σ flags needs place i = (k : ℕ) → place ≤ k → k < i → IsMetAt p σ flags needs k
+
+pub from_more : (p : Plain) (σ : Selection) (flags : List Bool) (needs : List CoreNeed) (place i : ℕ) → AreMetFrom p σ flags needs place i → IsMetAt p σ flags needs i → AreMetFrom p σ flags needs place (i + 1)
+from_more p σ flags needs place i h now k s l = elim (cases_lt k i) [
+  | inl b ↦ h k s b
+  | inr a ↦ (let same : i ≡ k = omega (arith, l, a) in subst (IsMetAt p σ flags needs) same now)
+]
+
+pub from_all : (p : Plain) (σ : Selection) (flags : List Bool) (needs : List CoreNeed) (place i : ℕ) → length needs ≤ i → AreMetFrom p σ flags needs place i → (k : ℕ) → place ≤ k → IsMetAt p σ flags needs k
+from_all p σ flags needs place i l h k s = elim (cases_lt k i) [
+  | inl b ↦ h k s b
+  | inr a ↦ past_met p σ flags needs k (omega (arith, l, a))
+]
+
+-- those before a place that are set, and those from it on
+pub all_met : (p : Plain) (σ : Selection) (flags : List Bool) (needs : List CoreNeed) (place : ℕ) (kept : List ℕ) → AreListed flags place kept → ((k : ℕ) → Contains kept k → IsMetAt p σ flags needs k)
+    → ((k : ℕ) → place ≤ k → IsMetAt p σ flags needs k) → MeetsKept p σ flags needs
+all_met p σ flags needs place kept listed at from k = elim (cases_lt k place) [
+  | inl b ↦ (λ c is f. at k (listed k b f) c is f)
+  | inr a ↦ from k a
+]
 
 -- the need at a place is met
 pub met_here : (p : Plain) (σ : Selection) (needs : List CoreNeed) (i : ℕ) (d c : CoreNeed) → IsMet p σ (get_or needs i d) → slice_get needs i ≡ Some c → IsMet p σ c

@@ -28,7 +28,14 @@ AreFit p σ = (n v : ℕ) → σ n ≡ Some v → IsFitAt p σ n v
 abbrev pub HasRoots : Selection → List ℕ → Type 0
 HasRoots σ roots = (n : ℕ) → Contains roots n → (v : ℕ) × (σ n ≡ Some v)
 
+-- the need at a place is met, where its flag is set
+abbrev pub IsMetAt : Plain → Selection → List Bool → List CoreNeed → ℕ → Type 0
+IsMetAt p σ flags needs k = (c : CoreNeed) → slice_get needs k ≡ Some c → get_or flags k false ≡ true → IsMet p σ c
+
 -- each need whose flag is set is met
 abbrev pub MeetsKept : Plain → Selection → List Bool → List CoreNeed → Type 0
-MeetsKept p σ flags needs =
-    (k : ℕ) (c : CoreNeed) → slice_get needs k ≡ Some c → get_or flags k false ≡ true → IsMet p σ c
+MeetsKept p σ flags needs = (k : ℕ) → IsMetAt p σ flags needs k
+
+-- each flag before a place that is set stands at one of these places
+abbrev pub AreListed : List Bool → ℕ → List ℕ → Type 0
+AreListed flags place kept = (k : ℕ) → k < place → get_or flags k false ≡ true → Contains kept k

@@ -9,10 +9,20 @@ use std::alloc::{AllocError, Global};
 use ul_problem::{Need, NodeFacts, Problem};
 use ul_ranges::Ordinals;
 
-// What a choice is made by: the places of the first flags of nodes, the flags, and the versions that are wished for.
+/// What earlier needs told of where to look first. It is only a hint, so no clause speaks of it.
+#[derive(Drop)]
+pub(crate) struct Hints {
+    /// The version of each node that is wished for.
+    pub wishes: Vec<Option<u32>>,
+    /// How often the needs that are ahead are halved before they are tried.
+    pub halvings: u32,
+}
+
+// What a choice is made by: the places of the first flags of nodes' versions, the flags, and the versions that are
+// wished for.
 #[derive(Drop)]
 struct Wishes<'a> {
-    starts: &'a [usize],
+    firsts: &'a [Vec<usize>],
     flags: &'a [bool],
     versions: &'a [Option<u32>],
 }
@@ -80,16 +90,21 @@ fn choose(
     Ok(())
 }
 
-// The place of the first flag of a version.
-fn first_of_version(facts: &NodeFacts, start: usize, version: u32) -> usize {
-    let mut first = start;
-    let rows = facts.needs.as_slice();
-    for before in 0..version as usize {
-        if before < rows.len() {
-            first = first.saturating_add(rows[before].as_slice().len());
+// Chooses the targets of a version's needs that are left. Flags of the version begin at `first`.
+fn choose_all(
+    nodes: &[NodeFacts],
+    wishes: &Wishes,
+    choice: &mut Vec<Option<u32>>,
+    queue: &mut Vec<u64>,
+    needs: &[Need],
+    first: usize,
+) -> Result<(), AllocError> {
+    for k in 0..needs.len() {
+        if flag_at(wishes.flags, first.saturating_add(k)) {
+            choose(nodes, wishes, choice, queue, &needs[k])?;
         }
     }
-    first
+    Ok(())
 }
 
 // Chooses what a node asks for at its version: its base, and the targets of its needs that are left.
@@ -101,19 +116,17 @@ fn ask(
     place: usize,
     version: u32,
 ) -> Result<(), AllocError> {
-    if place < nodes.len() && place < wishes.starts.len() {
+    if place < nodes.len() && place < wishes.firsts.len() {
         let facts = &nodes[place];
         if let Some(base) = facts.base {
             put(choice, queue, base, version)?;
         }
-        if let Some(row) = facts.needs.as_slice().get(version as usize) {
-            let first = first_of_version(facts, wishes.starts[place], version);
-            let needs = row.as_slice();
-            for k in 0..needs.len() {
-                if flag_at(wishes.flags, first.saturating_add(k)) {
-                    choose(nodes, wishes, choice, queue, &needs[k])?;
-                }
-            }
+        let rows = facts.needs.as_slice();
+        let firsts = wishes.firsts[place].as_slice();
+        let version = version as usize;
+        if version < rows.len() && version < firsts.len() {
+            let needs = rows[version].as_slice();
+            choose_all(nodes, wishes, choice, queue, needs, firsts[version])?;
         }
     }
     Ok(())
@@ -123,13 +136,13 @@ fn ask(
 pub(crate) fn guess(
     alloc: Global,
     problem: &Problem,
-    starts: &[usize],
+    firsts: &[Vec<usize>],
     flags: &[bool],
     versions: &[Option<u32>],
 ) -> Result<Vec<Option<u32>>, AllocError> {
     let nodes = problem.nodes();
     let wishes = Wishes {
-        starts,
+        firsts,
         flags,
         versions,
     };

@@ -1,8 +1,8 @@
 //! Whether a choice of versions serves with the needs that are left.
 //!
 //! Where it does, no problem has to be solved to see that some selection does.
-ghost use Rattle.std.specs.Prelude.{◌≡◌, ◌<◌, ℕ, IsTrue, Some, length};
-ghost use Rattle.ul_blame.specs.Choices.{AreFit, HasBaseAt, HasRoots, IsFitAt, MeetsKept, chosen};
+ghost use Rattle.std.specs.Prelude.{◌≡◌, ◌<◌, ◌≤◌, ℕ, Contains, IsTrue, Some, length};
+ghost use Rattle.ul_blame.specs.Choices.{AreFit, AreListed, HasBaseAt, HasRoots, IsFitAt, IsMetAt, chosen};
 ghost use Rattle.ul_blame.specs.Needs.{StandsIn, all_needs};
 ghost use Rattle.ul_blame.specs.Serving.{IsMet, IsServed};
 ghost use Rattle.ul_blame.specs.Turns.{left_of};
@@ -116,28 +116,79 @@ fn is_met(problem: &Problem, choice: &[Option<u32>], need: &CoreNeed) -> bool
     }
 }
 
-// Whether the needs whose flags are set are met.
-fn meets_kept(problem: &Problem, all: &[CoreNeed], flags: &[bool], choice: &[Option<u32>]) -> bool
+// Whether the need at a place is met, where its flag is set.
+fn is_met_at(
+    problem: &Problem,
+    all: &[CoreNeed],
+    flags: &[bool],
+    choice: &[Option<u32>],
+    place: usize,
+) -> bool
     requires { all.now ≡ all_needs problem.now }
-    ensures { IsTrue result → MeetsKept problem.now (chosen choice.now) flags.now all.now }
+    ensures { IsTrue result → IsMetAt problem.now (chosen choice.now) flags.now all.now place }
 {
     let _ = problem.nodes();
-    for k in 0..all.len() {
-        if flag_at(flags, k) && !is_met(problem, choice, &all[k]) {
+    if place >= all.len() {
+        return true;
+    }
+    if flag_at(flags, place) {
+        return is_met(problem, choice, &all[place]);
+    }
+    true
+}
+
+// Whether the needs at these places are met whose flags are set.
+fn are_met_at(
+    problem: &Problem,
+    all: &[CoreNeed],
+    flags: &[bool],
+    choice: &[Option<u32>],
+    places: &[usize],
+) -> bool
+    requires { all.now ≡ all_needs problem.now }
+    ensures { IsTrue result → (k : ℕ) → Contains places.now k
+        → IsMetAt problem.now (chosen choice.now) flags.now all.now k }
+{
+    for place in places {
+        if !is_met_at(problem, all, flags, choice, *place) {
             return false;
         }
     }
     true
 }
 
-/// Whether a choice serves with the needs whose flags are set.
+// Whether the needs from a place on are met whose flags are set.
+fn are_met_from(
+    problem: &Problem,
+    all: &[CoreNeed],
+    flags: &[bool],
+    choice: &[Option<u32>],
+    place: usize,
+) -> bool
+    requires { all.now ≡ all_needs problem.now }
+    ensures { IsTrue result → (k : ℕ) → place ≤ k
+        → IsMetAt problem.now (chosen choice.now) flags.now all.now k }
+{
+    for k in place..all.len() {
+        if !is_met_at(problem, all, flags, choice, k) {
+            return false;
+        }
+    }
+    true
+}
+
+/// Whether a choice serves with the needs whose flags are set. Those before a place stand at the places that are kept,
+/// so that the flags before it aren't looked through.
 pub(crate) fn serves(
     problem: &Problem,
     all: &[CoreNeed],
     flags: &[bool],
     choice: &[Option<u32>],
+    kept: &[usize],
+    place: usize,
 ) -> bool
-    requires { all.now ≡ all_needs problem.now }
+    requires all { all.now ≡ all_needs problem.now }
+    requires kept { AreListed flags.now place kept.now }
     ensures { IsTrue result → IsServed problem.now (left_of problem.now flags.now) }
 {
     if !has_roots(choice, problem.roots()) {
@@ -146,5 +197,8 @@ pub(crate) fn serves(
     if !are_fit(problem, choice) {
         return false;
     }
-    meets_kept(problem, all, flags, choice)
+    if !are_met_at(problem, all, flags, choice, kept) {
+        return false;
+    }
+    are_met_from(problem, all, flags, choice, place)
 }
