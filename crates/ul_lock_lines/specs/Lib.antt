@@ -1,3 +1,4 @@
 pub mod Raw
 pub mod Text
 pub mod LineReading
+pub mod Faults

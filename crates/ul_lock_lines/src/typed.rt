@@ -5,6 +5,7 @@ ghost use Rattle.std.specs.Char.{is_ascii};
 ghost use Rattle.std.specs.List.{list_all};
 ghost use Rattle.ul_base.specs.Names.{name_of};
 ghost use Rattle.ul_version.specs.Reading.{version_of};
+ghost use Rattle.ul_lock_lines.specs.Faults.{name_if_read, version_if_read};
 ghost use Rattle.ul_lock_lines.specs.LineReading.{ascii_at, name_at, version_at, marker_at, fork_at, unescaped, name_option, marker_option, edge_at, file_at, file_made, typed, line_of};
 ghost use Rattle.ul_marker_text.specs.MarkerOfText.{marker_of_text};
 ghost use Rattle.ul_requirement.specs.Fields.{is_file_byte, is_file_name, is_digest, is_hex};
@@ -51,16 +52,21 @@ fn ascii(bytes: &[u8]) -> Option<&str>
     }
 }
 
+// The name that was read, or that there is none.
+fn name_if_read(read: Result<Name, NameFault>) -> Result<Option<Name>, AllocError>
+    ensures { result ≡ name_if_read read }
+{
+    match read {
+        Ok(name) => Ok(Some(name)),
+        Err(NameFault::NoReading) => Ok(None),
+        Err(NameFault::NoMemory) => Err(AllocError),
+    }
+}
+
 fn name_of_text(alloc: Global, text: &str) -> Result<Option<Name>, AllocError>
     ensures { IfOk result (λ found. found ≡ name_of text.now) }
 {
-    match Name::read(alloc, text) {
-        Ok(name) => Ok(Some(name)),
-        Err(fault) => match fault {
-            NameFault::NoReading => Ok(None),
-            NameFault::NoMemory => Err(AllocError),
-        },
-    }
+    name_if_read(Name::read(alloc, text))
 }
 
 /// The name whose normal text this is.
@@ -83,16 +89,21 @@ pub fn name(alloc: Global, bytes: &[u8]) -> Result<Option<Name>, AllocError>
     }
 }
 
+// The version that was read, or that there is none.
+fn version_if_read(read: Result<Version, VersionFault>) -> Result<Option<Version>, AllocError>
+    ensures { result ≡ version_if_read read }
+{
+    match read {
+        Ok(version) => Ok(Some(version)),
+        Err(VersionFault::NoReading) => Ok(None),
+        Err(VersionFault::NoMemory) => Err(AllocError),
+    }
+}
+
 fn version_of_text(alloc: Global, bytes: &[u8]) -> Result<Option<Version>, AllocError>
     ensures { IfOk result (λ found. found ≡ version_of bytes.now) }
 {
-    match Version::read_bytes(alloc, bytes) {
-        Ok(version) => Ok(Some(version)),
-        Err(fault) => match fault {
-            VersionFault::NoReading => Ok(None),
-            VersionFault::NoMemory => Err(AllocError),
-        },
-    }
+    version_if_read(Version::read_bytes(alloc, bytes))
 }
 
 /// The version whose normal text this is.

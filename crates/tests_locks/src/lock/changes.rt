@@ -24,6 +24,10 @@ root|root = "demo"|root = "numpy"
 line 2|root = "demo"|root = ""
 line 2|root = "demo"|root = 'demo'
 line 2|root = "demo"|name = "demo"
+line 2|root = "demo"|root = "dèmo"
+line 2|root = "demo"|root "demo"
+line 2|root = "demo"|root = 2
+line 2|root = "demo"|root = 1
 line 3|'3.9.0'|'3.9'
 line 3|supported-markers|supported-marker
 line 3|"python_full_version >= '3.9.0'"|"*"
@@ -59,6 +63,11 @@ target 0|"1.26", marker|"1.26.0", marker
 target 0|{ name = "numpy", version = "1.26"|{ name = "nump", version = "1.26"
 target 0|"1.26", marker|"1.26", extra = "x", marker
 line 13|"1.26", marker|"1.26", extra = "X", marker
+line 13|"1.26", marker|"v1.26", marker
+line 13|"1.26", marker|"1.26 x", marker
+line 13|, version = "1.26", marker|, marker
+line 13|{ name = "numpy", version = "1.26"|{ name = "Numpy", version = "1.26"
+line 13|{ name = "numpy", version = "1.26"|{ name = "numpý", version = "1.26"
 read|, marker = "python_full_version < '3.11.0'"|
 line 13|, marker = "python_full_version < '3.11.0'"|, marker = "*"
 line 13|'3.11.0'" },~    {|'3.11.0'" }~    {
@@ -77,8 +86,10 @@ const LISTS: &str = r#"line 7|version = 2~|version = 1~
 line 8|0"|"
 line 9|f" }|F" }
 line 9|f" }|g" }
+line 9|f" }|é" }
 line 8|"a-1-py3-none-any.whl"|""
 line 8|"a-1-py3-none-any.whl"|"a 1.whl"
+line 8|"a-1-py3-none-any.whl"|"ä-1.whl"
 line 9|"a-1-py3-none-any.whl"|"a-1.tar.gz"
 line 9|"a-1-py3-none-any.whl"|"b.whl"
 line 8|"a-1-py3-none-any.whl"|"a\1.whl"
@@ -90,6 +101,7 @@ line 12|~[package.optional-dependencies]~|~
 line 11|~[package.optional-dependencies]~|[package.optional-dependencies]~
 line 14|none = []~|x = []~
 line 13|none = []~|None = []~
+line 14|x = [~|X = [~
 line 14|none = []~|none = [~]~
 line 14|none = []~|y = []~
 target 2|none = []~|
@@ -98,8 +110,11 @@ target 2|extra = "none"|extra = "nope"
 line 28|extra = "none"|extra = "y"
 line 28|extra = "none"|extra = "x"
 line 27|extra = "none"|marker = "*"
+line 27|extra = "none"|extra = "none
 line 28|, extra = "x", marker = "sys_platform == 'win32'"|, marker = "sys_platform == 'win32'", extra = "x"
 line 28|sys_platform == 'win32'|sys_platform == \"win32\"
+line 28|sys_platform == 'win32'|sys_platform == 'win\32'
+line 28|sys_platform == 'win32'|sys_platform == 'wîn32'
 line 28|sys_platform == 'win32'|sys_platform == 'win32' or sys_platform == 'win32'
 line 28|sys_platform == 'win32'|sys_platform=='win32'
 line 28|sys_platform == 'win32'|extra == 'x'
