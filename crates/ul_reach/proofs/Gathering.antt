@@ -1,11 +1,11 @@
 -- Parts that are gathered for places, and taken.
-use Rattle.std.proofs.Common.{◌≡◌, ◌⊎◌, ◌<◌, ◌||◌, ℕ, List, [], ◌∷◌, length, Bool, true, false, Some, refl, sym, ap, ◌∙◌, subst, inl, inr, ⊎_elim}
+use Rattle.std.proofs.Common.{◌≡◌, ◌≢◌, ◌⊎◌, ◌<◌, ◌||◌, ℕ, zero, suc, List, [], ◌∷◌, length, Bool, true, false, Some, refl, sym, ap, ◌∙◌, subst, inl, inr, ⊎_elim, arith}
 use Rattle.std.specs.Prelude.{All}
 use Rattle.std.specs.List.{slice_get}
 use Rattle.std.proofs.Math.ListN.{set}
 use Rattle.std.proofs.lemmas.List.{length-set, map-set}
 use Rattle.std.proofs.lemmas.List.Elements.{All-contains, All-nil, All-push, All-set, All-weaker}
-use Rattle.std.proofs.lemmas.Option.{slice_get_within}
+use Rattle.std.proofs.lemmas.Option.{none-some, same_Some, slice_get_within}
 use Rattle.ul_base.proofs.ForCallers.{long_map}
 use Rattle.ul_interner.specs.Known.{Knows}
 use Rattle.ul_comparison.specs.Worlds.{WorldFields}
@@ -15,6 +15,7 @@ use Rattle.ul_region.specs.Truths.{DiagramMark, IsRegion, PassView, region_at}
 use Rattle.ul_region.specs.Unions.{some_holds}
 use Rattle.ul_region.proofs.ForCallers.{some_append, still_region}
 use Rattle.ul_reach.specs.Reaching.{AreParts, IsGatheredAt, IsMore, IsPut, IsTaken, Parts, gathered_at}
+use Rattle.ul_reach.specs.Rounds.{AreLeft}
 use Rattle.ul_reach.proofs.Flagged.{at_parts, flag_cases, flag_here, flag_kept, or_left, or_right, or_true}
 
 -- ---- where more is known
@@ -29,7 +30,19 @@ parts_still g h gs more a = All-weaker (λ (ps : Parts). All (IsRegion g) ps.ite
 pub parts_at : (h : PassView) (gs : List Parts) (k : ℕ) (ps : Parts) → AreParts h gs → slice_get gs k ≡ Some ps → All (IsRegion h) ps.items
 parts_at h gs k ps a e = All-contains (λ (ps : Parts). All (IsRegion h) ps.items) gs ps a (contains_at gs k ps e)
 
+pub no_items : {A : Type 0} (xs : List A) → length xs ≡ 0 → xs ≡ []
+no_items [] e = refl
+no_items (x ∷ xs) e = absurd (omega (arith, e))
+
 -- ---- parts that stand at a place instead
+
+-- what stands in a list that is set is the new one, or stood there
+now_or_before : {A : Type 0} (xs : List A) (i k : ℕ) (v y : A) → slice_get (set xs i v) k ≡ Some y → (y ≡ v) ⊎ ((k ≢ i) × (slice_get xs k ≡ Some y))
+now_or_before [] i k v y e = absurd (none-some y e)
+now_or_before (x ∷ xs) zero zero v y e = inl (sym (same_Some v y e))
+now_or_before (x ∷ xs) zero (suc k) v y e = inr ((λ q. omega (arith, q)), e)
+now_or_before (x ∷ xs) (suc i) zero v y e = inr ((λ q. omega (arith, q)), e)
+now_or_before (x ∷ xs) (suc i) (suc k) v y e = ⊎_elim inl (λ h. inr ((λ q. h.0 (omega (arith, q))), h.1)) (now_or_before xs i k v y e)
 
 gathered_set : (gs : List Parts) (i : ℕ) (ps : Parts) (w : WorldFields) → gathered_at (set gs i ps) w ≡ set (gathered_at gs w) i (some_holds ps.items w)
 gathered_set gs i ps w = map-set (λ (ps : Parts). some_holds ps.items w) gs i ps
@@ -118,3 +131,8 @@ module _ (place : ℕ) (parts : Parts) (a b : List Parts) (t : IsTaken place par
 
   pub taken_parts : (h : PassView) → AreParts h a → AreParts h b
   taken_parts h all = set_parts place parts t.none a b t.at t.after_is h all (subst (All (IsRegion h)) (sym t.empty) (All-nil (IsRegion h)))
+
+  -- those of other places are left
+  pub taken_left : AreLeft place a b
+  taken_left k ps at = ⊎_elim (λ q. inl (ap (λ (z : Parts). z.items) q ∙ t.empty)) inr
+      (now_or_before a place k t.none ps (subst (λ (gs : List Parts). slice_get gs k ≡ Some ps) t.after_is at))

@@ -13,7 +13,9 @@ use Rattle.ul_region.proofs.ForCallers.{still}
 use Rattle.ul_reach.specs.Reaching.{IsJoined}
 use Rattle.ul_reach.specs.declared.reaching.Reaching.{Reaching}
 use Rattle.ul_reach.proofs.Gathering.{parts_at}
-use Rattle.ul_reach.proofs.Joining.{joined_same, joined_wider}
+use Rattle.ul_reach.specs.Rounds.{GrowsBy}
+use Rattle.ul_reach.proofs.Joined.{failed}
+use Rattle.ul_reach.proofs.Joining.{grows_same, grows_wider, joined_same, joined_wider}
 use Rattle.ul_reach.proofs.reaching.join.Goals as goal
 
 pub widened-joined-requires-clause-reach : goal.widened-joined-requires-clause-reach
@@ -64,3 +66,34 @@ returns-clause-joined g c =
     subst (λ (m : DiagramMark). IsJoined h c.args.place (Some m) a after) (sym c.in_ok-region.ensures)
     (joined_wider c.args.algebra.now h c.args.place old wider c.taken-parts.result a after c.widened-joined.ensures.knows c.requires.regions c.requires.parts at c.taken-parts.ensures
     (subst (λ (ps : List DiagramMark). IsTruth h wider (λ w. region_at old w || some_holds ps w)) c.as_slice.ensures.value truth) refl)
+
+pub returns-then-same-clause-grown : goal.returns-then-same-clause-grown
+returns-then-same-clause-grown g c =
+    let a = c.args.state.now in
+    let h = c.widened-joined.new.algebra in
+    let old = c.index.result.now in
+    let wider = c.in_ok-wider.wider in
+    let at : slice_get a.reach.items c.args.place ≡ Some old = slice_get_read _ _ _ _ refl c.requires.place c.index.ensures in
+    let too : slice_get a.reach.items c.args.place ≡ Some c.index-2.result.now = slice_get_read _ _ _ _ refl c.requires.place c.index-2.ensures in
+    let one : HaveOneTruth wider c.index-2.result.now = c.same.ensures.truth.0 c.if-same.true in
+    let truth = made_holds c.widened-joined.result wider (λ (d : DiagramMark). IsTruth h d (λ w. region_at old w || some_holds c.as_slice.result.now w)) c.in_ok-wider.ensures c.widened-joined.ensures.truth in
+    let after : Reaching = record { reach = a.reach; gathered = c.taken-parts.new.gathered } in
+    grows_same c.args.algebra.now h c.args.place old wider c.taken-parts.result a after c.widened-joined.ensures.knows c.requires.regions c.requires.parts at c.taken-parts.ensures
+    (subst (λ (ps : List DiagramMark). IsTruth h wider (λ w. region_at old w || some_holds ps w)) c.as_slice.ensures.value truth) refl
+    (subst (HaveOneTruth wider) (same_Some c.index-2.result.now old (sym too ∙ at)) one)
+
+pub returns-clause-grown : goal.returns-clause-grown
+returns-clause-grown g c =
+    let a = c.args.state.now in
+    let h = c.widened-joined.new.algebra in
+    let old = c.index.result.now in
+    let wider = c.in_ok-wider.wider in
+    let at : slice_get a.reach.items c.args.place ≡ Some old = slice_get_read _ _ _ _ refl c.requires.place c.index.ensures in
+    let too : slice_get a.reach.items c.args.place ≡ Some c.index-2.result.now = slice_get_read _ _ _ _ refl c.requires.place c.index-2.ensures in
+    let truth = made_holds c.widened-joined.result wider (λ (d : DiagramMark). IsTruth h d (λ w. region_at old w || some_holds c.as_slice.result.now w)) c.in_ok-wider.ensures c.widened-joined.ensures.truth in
+    let after : Reaching = record { reach = with_item a.reach c.args.place wider; gathered = c.taken-parts.new.gathered } in
+    subst (λ (m : DiagramMark). GrowsBy c.args.place (Some m) a after) (sym c.in_ok-region.ensures)
+    (grows_wider c.args.algebra.now h c.args.place old wider c.taken-parts.result a after c.widened-joined.ensures.knows c.requires.regions c.requires.parts at c.taken-parts.ensures
+    (subst (λ (ps : List DiagramMark). IsTruth h wider (λ w. region_at old w || some_holds ps w)) c.as_slice.ensures.value truth)
+    (All-contains (IsRegion c.args.algebra.now) a.reach.items old c.requires.regions (contains_at a.reach.items c.args.place old at))
+    (λ one. failed c.same.result c.if-same.false c.same.ensures.truth (subst (HaveOneTruth wider) (same_Some old c.index-2.result.now (sym at ∙ too)) one)) refl)
