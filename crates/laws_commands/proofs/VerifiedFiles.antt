@@ -50,21 +50,24 @@ environments_of_verified_files inputs lists project folder path machine words m 
 -- ---- what `lock` printed
 
 -- adjusted releases have their versions
-versions_stay : (constraints overrides : ByName) (rs : List ReleaseFields)
-    → map (λ (r : ReleaseFields). r.version) (map (adjusted_release constraints overrides) rs) ≡ map (λ (r : ReleaseFields). r.version) rs
-versions_stay constraints overrides [] = refl
-versions_stay constraints overrides (r ∷ rs) = ap (λ vs. r.version ∷ vs) (versions_stay constraints overrides rs)
+versions_stay : (constraints overrides sources : ByName) (rs : List ReleaseFields)
+    → map (λ (r : ReleaseFields). r.version) (map (adjusted_release constraints overrides sources) rs)
+    ≡ map (λ (r : ReleaseFields). r.version) rs
+versions_stay constraints overrides sources [] = refl
+versions_stay constraints overrides sources (r ∷ rs) =
+    ap (λ vs. r.version ∷ vs) (versions_stay constraints overrides sources rs)
 
 has_project : (r : ResolutionFields) → BeginsWithProject r → HasProject r.catalog r.project
 has_project r begun =
     let constraints = all_on r.project.constraints in
     let overrides = all_on r.project.overrides in
+    let sources = begun.begins.sources in
     record {
-      first = package_for r.project r.project.package;
+      first = package_for r.project sources r.project.package;
       rest = begun.begins.others;
       is = begun.begins.is;
       named = refl;
-      versions = versions_stay constraints overrides r.project.package.releases;
+      versions = versions_stay constraints overrides (all_on sources) r.project.package.releases;
     }
 
 -- the lock that is answered is verified

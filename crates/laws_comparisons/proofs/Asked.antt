@@ -27,7 +27,8 @@ is_equal Less e = absurd (cc e)
 is_equal Equal e = refl
 is_equal Greater e = absurd (cc e)
 
-stands : (ts : List AtomFields) (a : AtomFields) → has_atom ts a ≡ true → Contains ts a
+-- what the test finds is a member
+pub stands : (ts : List AtomFields) (a : AtomFields) → has_atom ts a ≡ true → Contains ts a
 stands [] a e = absurd (cc e)
 stands (b ∷ ts) a e = go (is_eq (atom_cmp b a)) refl e (stands ts a)
   where

@@ -12,3 +12,5 @@ mod Regions
 mod OfMerged
 mod Machines
 mod LockAtoms
+mod Walks
+mod Extras

@@ -1,10 +1,12 @@
 -- Which opaque comparisons a lock asks, and the worlds of machines.
-use Rattle.std.specs.Prelude.{◌≡◌, ◌++◌, ℕ, List, All, Bool, true, Contains, flat_map, Ok}
-use Rattle.ul_comparison.specs.Atoms.{AtomFields, IsAtom, has_atom}
+use Rattle.std.specs.Prelude.{◌≡◌, ◌++◌, ℕ, List, All, Bool, true, false, Contains, flat_map, IfSome, Ok, Option}
+use Rattle.std.specs.List.{AllByRecursion}
+use Rattle.ul_comparison.specs.Atoms.{AtomFields, IsAtom, has_atom, is_extras}
+use Rattle.ul_comparison.specs.Formulas.{Formula}
 use Rattle.ul_comparison.specs.MachineFiles.{machine_of}
 use Rattle.ul_comparison.specs.Machines.{IsMachine, MachineFields, world_of}
 use Rattle.ul_comparison.specs.Worlds.{WorldFields, IsWorld}
-use Rattle.ul_marker.specs.Parts.{atoms_of}
+use Rattle.ul_marker.specs.Parts.{asks_extras, atoms_of}
 use Rattle.ul_specifier.specs.Clauses.{ClauseFields}
 use Rattle.ul_nodes.specs.Plain.{Plain}
 use Rattle.ul_nodes.specs.Reduced.{IsReduced}
@@ -16,10 +18,11 @@ use Rattle.ul_load.specs.Loading.{atoms_in, requirements_of}
 use Rattle.ul_project.specs.Fields.{ProjectFields}
 use Rattle.ul_project.specs.Region.{is_supported}
 use Rattle.ul_lock.specs.declared.parts.Lock.{Lock}
+use Rattle.ul_lock.specs.Walk.{Pick as NodeAt, Walk}
 use Rattle.ul_lock.specs.WellFormed.{IsWellFormed}
 use Rattle.ul_filter.specs.Comparisons.{HasAll, lock_atoms, tree_atoms}
 use Rattle.ul_sound.specs.Leaves.{LeafFields}
-use Rattle.ul_sound.specs.Merged.{IsMergedLock}
+use Rattle.ul_sound.specs.Merged.{IsMergedLock, IsSimplified}
 use Rattle.ul_generations.specs.Generations.{leaves_are}
 use Rattle.ul_forks.specs.Headline.{IsAnswer, TreeLeaf}
 use Rattle.ul_forks.specs.Outcome.{Question}
@@ -59,6 +62,28 @@ MergedAskTheirs = (q : Question) (p : ProjectFields) (bounds : List ClauseFields
     → HasTruth p.region (is_supported bounds p.environments) → IsAnswer q p.region counts (leaves_are forks)
     → ((k : LeafFields) → Contains leaves k → (f : TreeLeaf) × Contains forks f × (k.region ≡ f.region))
     → IsMergedLock q.catalog p leaves l → HasAll (asked_atoms p q.catalog) (lock_atoms l)
+
+-- The marker that a node's walk becomes under the supported region asks no comparisons but the lock's.
+abbrev pub WalksAskTheirs : Type 0
+WalksAskTheirs = (l : Lock) (xs : List (List ℕ)) (p : NodeAt) (t : Plain) → IsWellFormed l
+    → IsSimplified (λ w. Walk l w xs p) l.supported t → HasAll (lock_atoms l) (tree_atoms t)
+
+-- ---- `extras`
+
+-- none of the comparisons is one with `extras`
+abbrev pub HaveNoExtras : List AtomFields → Type 0
+HaveNoExtras ts = (a : AtomFields) → has_atom ts a ≡ true → is_extras a.variable ≡ false
+
+-- no comparison with `extras` stands in the marker, if there is one
+abbrev pub AsksNoExtras : Option Formula → Type 0
+AsksNoExtras marker = IfSome marker (λ f. asks_extras f ≡ false)
+
+-- what a project and the documents ask is none with `extras`, where none of their markers asks for it
+abbrev pub AskedHaveNoExtras : Type 0
+AskedHaveNoExtras = (p : ProjectFields) (c : Packages)
+    → AllByRecursion (λ f. asks_extras f ≡ false) p.environments
+    → AllByRecursion (λ found. AllByRecursion (λ r. AllByRecursion (λ q. AsksNoExtras q.marker) r.requirements) found.releases) c
+    → HaveNoExtras (asked_atoms p c)
 
 -- ---- machines
 

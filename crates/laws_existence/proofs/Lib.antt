@@ -1,12 +1,11 @@
 mod Sequenced
-mod Right
-mod Requirements
 mod UsableReleases
 mod Documents
 mod Loaded
 mod Markers
+mod Requirements
+mod NoExtras
 mod MarkerFiles
-mod Files
 mod Adjusted
 mod Projects
 mod LockTexts

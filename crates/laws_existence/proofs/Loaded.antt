@@ -1,5 +1,4 @@
--- A catalog that is loaded has packages of different names, each with different versions and with requirements that a
--- text can spell.
+-- A catalog that is loaded has packages of different names, each with different versions.
 use Rattle.std.proofs.Common.{◌≡◌, ◌∙◌, ◌<◌, ℕ, List, [], ◌∷◌, ◌++◌, map, length, get_or, cond, Bool, true, false, Ok, refl, ap, sym, subst, arith, append_assoc, inl, inr}
 use Rattle.std.specs.Prelude.{All}
 use Rattle.std.specs.List.{AllByRecursion, IsDistinct, list_any}
@@ -10,13 +9,12 @@ use Rattle.std.proofs.lemmas.List.Elements.{All-cons, All-nil}
 use Rattle.std.proofs.lemmas.Slice.Eq.{bytes_eq-Decides}
 use Rattle.indexmap.specs.IndexSet.{insert_key}
 use Rattle.ul_files.specs.Files.{FileMap}
-use Rattle.ul_requirement.specs.Fields.{IsRequirement, PackageFields}
+use Rattle.ul_requirement.specs.Fields.{IsPackage, PackageFields}
 use Rattle.ul_index.specs.Catalogs.{NamesDiffer, Packages}
 use Rattle.ul_index.proofs.ForCallers.{document_facts}
 use Rattle.ul_load.specs.Loading.{Beginning, LoadAnswer, ProgressFields, first_progress, names_of, names_with, next_name, package_at, progress_with, requirements_of}
-use Rattle.laws_given.proofs.ForCallers.{AreRead, loaded, more, package_has}
-use Rattle.laws_existence.proofs.Documents.{document_right}
-use Rattle.laws_existence.proofs.Right.{IsRightPackage}
+use Rattle.laws_given.proofs.ForCallers.{loaded, more, package_has}
+use Rattle.laws_existence.proofs.Documents.{document_package}
 
 -- ---- names that are met
 
@@ -80,19 +78,18 @@ one_apart name = (tt, tt)
 
 -- ---- packages
 
--- a right package of this name
+-- a package of this name
 record IsNext (name : List ℕ) (p : PackageFields) : Type 0 where
   named : p.name ≡ name
-  right : IsRightPackage p
+  right : IsPackage p
 
-package_right : AreRead IsRequirement
-    → (m : FileMap) (folder name : List ℕ) (before : ℕ) (p : ℕ × PackageFields)
+package_right : (m : FileMap) (folder name : List ℕ) (before : ℕ) (p : ℕ × PackageFields)
     → package_at m folder name before ≡ Ok p → IsNext name p.1
-package_right law m folder name before p e =
-    package_has (IsNext name) name (record { named = refl; right = record { differ = tt; releases = tt } })
+package_right m folder name before p e =
+    package_has (IsNext name) name (record { named = refl; right = record { differ = tt } })
     (λ bytes q read. record {
       named = (document_facts name bytes q read).named;
-      right = document_right law name bytes q read;
+      right = document_package name bytes q read;
     }) m folder before p e
 
 -- ---- progress
@@ -101,12 +98,12 @@ package_right law m folder name before p e =
 abbrev names_in : Packages → List (List ℕ)
 names_in c = map (λ (p : PackageFields). p.name) c
 
--- the packages are right, and their names are the first of different names
+-- the packages are such, and their names are the first of different names
 record IsRightProgress (s : ProgressFields) : Type 0 where
   rest : List (List ℕ)
   are : s.names ≡ names_in s.packages ++ rest
   apart : IsDistinct bytes_eq s.names
-  packages : AllByRecursion IsRightPackage s.packages
+  packages : AllByRecursion IsPackage s.packages
 
 names_last : (ps : Packages) (p : PackageFields) → names_in (ps ++ p ∷ []) ≡ names_in ps ++ p.name ∷ []
 names_last [] p = refl
@@ -137,10 +134,10 @@ goes s p lt h k =
       are =
           longer.1 ∙ ap (λ ns. ns ++ longer.0) split ∙ append_assoc (names_in (s.packages ++ p.1 ∷ [])) next.0 longer.0;
       apart = apart_all s.names asked h.apart;
-      packages = more IsRightPackage s.packages (p.1 ∷ []) h.packages (k.right, tt);
+      packages = more IsPackage s.packages (p.1 ∷ []) h.packages (k.right, tt);
     }
 
-begun : (b : Beginning) → IsRightPackage b.project → IsRightProgress (first_progress b)
+begun : (b : Beginning) → IsPackage b.project → IsRightProgress (first_progress b)
 begun b project =
     let asked = names_of (requirements_of b.project.releases) in
     let longer = begins (b.project.name ∷ []) asked in
@@ -153,10 +150,10 @@ begun b project =
 
 -- ---- the catalog
 
--- a catalog of right packages of different names
+-- a catalog of packages of different names
 pub record IsRightCatalog (c : Packages) : Type 0 where
   pub differ : NamesDiffer c
-  pub packages : AllByRecursion IsRightPackage c
+  pub packages : AllByRecursion IsPackage c
 
 others : (name : List ℕ) (ps : Packages) (rest : List (List ℕ))
     → AllByRecursion (λ y. bytes_eq name y ≡ false) (names_in ps ++ rest)
@@ -178,11 +175,11 @@ so_far s h =
     record { differ = differ_from s.packages h.rest (subst (IsDistinct bytes_eq) h.are h.apart); packages = h.packages }
 
 -- what is loaded is right, where the project's package is
-pub loaded_right : AreRead IsRequirement → (m : FileMap) (folder : List ℕ) (b : Beginning) (c : Packages)
-    → IsRightPackage b.project → LoadAnswer m folder b (Ok c) → IsRightCatalog c
-loaded_right law m folder b c project loads =
+pub loaded_right : (m : FileMap) (folder : List ℕ) (b : Beginning) (c : Packages)
+    → IsPackage b.project → LoadAnswer m folder b (Ok c) → IsRightCatalog c
+loaded_right m folder b c project loads =
     loaded m folder b IsRightCatalog IsRightProgress (record {
       first = begun b project;
-      turn = λ s p lt h found. goes s p lt h (package_right law m folder (next_name s) s.bytes p found);
+      turn = λ s p lt h found. goes s p lt h (package_right m folder (next_name s) s.bytes p found);
       so = so_far;
     }) c loads

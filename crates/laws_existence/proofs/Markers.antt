@@ -1,11 +1,12 @@
--- Markers that are joined, and those of extras, are such as a text can spell.
-use Rattle.std.proofs.Common.{ℕ, List, Option, Some, None}
-use Rattle.ul_base.specs.Names.{IsNormalName}
+-- Markers that are joined, and those of extras, are such as a text can spell, and so are requirements with them.
+use Rattle.std.proofs.Common.{ℕ, List, [], Option, Some, None}
+use Rattle.std.specs.List.Sorted.{IsStrictlySortedBy}
+use Rattle.ul_base.specs.Names.{IsNormalName, name_cmp}
 use Rattle.ul_comparison.specs.Formulas.{Formula, IsExtraLiteral}
 use Rattle.ul_marker.proofs.ForCallers.{names_are_literals}
 use Rattle.ul_requirement.specs.Fields.{IsRequirement, MayBeFormula}
 use Rattle.ul_project.specs.Extras.{extra_marker, joined_markers}
-use Rattle.laws_given.proofs.ForCallers.{IsOfExtras}
+use Rattle.laws_given.proofs.ForCallers.{IsOfBounds, IsOfExtras}
 
 -- two markers joined by `and`
 pub joined_formula : (a b : Option Formula) → MayBeFormula a → MayBeFormula b → MayBeFormula (joined_markers a b)
@@ -22,4 +23,16 @@ pub of_extra_is : IsOfExtras IsRequirement
 of_extra_is name q named is = record {
   extras = is.extras;
   marker = joined_formula q.marker (extra_marker name) is.marker (name_valid name named);
+}
+
+-- no names are in order
+pub none_rise : IsStrictlySortedBy name_cmp []
+unfolding IsStrictlySortedBy
+none_rise = tt
+
+-- what constraints and overrides make of requirements
+pub of_bounds_is : IsOfBounds IsRequirement IsRequirement
+of_bounds_is = record {
+  overridden = λ q o h k. record { extras = h.extras; marker = joined_formula q.marker o.marker h.marker k.marker };
+  constrained = λ q c h k. record { extras = none_rise; marker = joined_formula q.marker c.marker h.marker k.marker };
 }

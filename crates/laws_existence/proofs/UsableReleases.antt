@@ -24,7 +24,7 @@ among_push (x ∷ xs) v u =
 -- the release of an entry with these readings
 abbrev release_with : EntryFields → Fields → List ClauseFields → List RequirementFields → ReleaseFields
 release_with e v python requirements =
-    record { version = v; python = python; requirements = requirements; yanked = e.yanked; files = e.files }
+    record { version = v; python = python; requirements = requirements; yanked = e.yanked; files = e.files; source = e.source }
 
 version_here : (e : EntryFields) (v : Fields) (p : Option (List ClauseFields)) (q : Option (List RequirementFields))
     (r : ReleaseFields)

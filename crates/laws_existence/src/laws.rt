@@ -1,6 +1,6 @@
 //! Each question has an answer. None of these functions does anything but name the laws that it rests on.
 ghost use Rattle.laws_existence.specs.Answers.{AnswersExist};
-ghost use Rattle.laws_existence.specs.Inputs.{GivenIsAskable, InputsAreGiven};
+ghost use Rattle.laws_existence.specs.Inputs.{GivenHasNoExtras, GivenIsAskable, InputsAreGiven};
 
 /// Each input of a command is given by the files: a value, or a refusal.
 pub fn inputs_are_given()
@@ -20,6 +20,11 @@ pub fn given_is_askable()
     ul_marker::laws::reading_is_grammar();
     laws_given::laws::given_is_resolution();
 }
+
+/// What files give compares no `extras`.
+pub fn given_has_no_extras()
+    ensures { GivenHasNoExtras }
+{}
 
 /// Each question has an answer on every map of files.
 pub fn answers_exist()

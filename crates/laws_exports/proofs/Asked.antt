@@ -1,4 +1,5 @@
 -- The lines of rows ask for what the lock gives.
+use Rattle.std.specs.Prelude.{IfSome}
 use Rattle.std.proofs.Common.{◌≡◌, ◌↔◌, ℕ, List, [], ◌∷◌, Bool, true, false, inl, inr, Option, Some, None, Contains, refl, sym, ap, subst, ◌∙◌}
 use Rattle.ul_base.specs.declared.node.Node.{Node}
 use Rattle.ul_base.proofs.ForCallers.{contains_cases, contains_first, contains_later, none_in}
@@ -16,7 +17,7 @@ use Rattle.ul_lock.specs.Walk.{Pick as NodeAt}
 use Rattle.ul_reach.specs.Headline.{HasRowIn, IsGiven}
 use Rattle.ul_reach.specs.Rows.{is_supported}
 use Rattle.ul_reach.specs.declared.rows.Reached.{Reached}
-use Rattle.laws_exports.specs.Lines.{AreRead, AreRowLines, AskWhatIsGiven, IsAsked, IsRowLine, read_as}
+use Rattle.laws_exports.specs.Lines.{AreRead, AreRowLines, AskWhatIsGiven, IsAsked, IsRowLine, compares_extras, read_as}
 use Rattle.laws_exports.specs.Requirements.{extras_of, pinned}
 
 -- ---- lines and rows
@@ -98,6 +99,24 @@ read_pinned r (Some f) read = by_extras (asks_extras f) refl
 -- a requirement is no want of a reading
 never_unread : (q : RequirementFields) → requirement q ≡ unread → ⊥
 never_unread q e = let clash : true ≡ false = ap is_requirement e in cc clash
+
+-- a line of a row whose marker compares no `extras` has a reading
+silent_read : (line : List ℕ) (r : Reached) → IsRowLine line r → compares_extras r.marker ≡ false
+    → reading_of line ≡ unread → ⊥
+silent_read line r row silent e = by_marker row.marker (row.silent silent) (sym row.read ∙ e)
+  where
+    by_marker : (marker : Option Formula) → IfSome marker (λ f. asks_extras f ≡ false) → read_as r marker ≡ unread → ⊥
+    by_marker None h q = never_unread (pinned r.node r.version None) q
+    by_marker (Some f) h q =
+        let plain : asks_extras f ≡ false = h in
+        let read : pinned_row r (Some f) ≡ read_as r (Some f) = rw plain refl in
+        never_unread (pinned r.node r.version (Some f)) (read ∙ q)
+
+-- so each line has, where each row's marker is such
+pub all_read : (lines : List (List ℕ)) (rows : List Reached) → AreRowLines lines rows
+    → ((r : Reached) → Contains rows r → compares_extras r.marker ≡ false) → AreRead lines
+all_read lines rows are silent line at e =
+    let (r, listed, row) = row_at lines rows line are at in silent_read line r row (silent r listed) e
 
 -- ---- what the lines ask for
 

@@ -7,6 +7,7 @@ mod Fronts
 mod Tails
 mod LineReadings
 mod MarkersRead
+mod PlainMarkers
 mod RowLines
 mod Asked
 mod Examples

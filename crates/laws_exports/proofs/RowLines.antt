@@ -16,15 +16,17 @@ use Rattle.ul_comparison.specs.Formulas.{Formula}
 use Rattle.ul_comparison.specs.Worlds.{WorldFields, IsWorld}
 use Rattle.ul_lines.specs.Lines.{lines_of}
 use Rattle.ul_marker.specs.Parts.{asks_extras}
+use Rattle.ul_marker.specs.PrintedPaths.{paths_formula}
 use Rattle.ul_marker.specs.Reading.{printed_marker_of}
 use Rattle.ul_requirement.specs.Reading.{reading_of}
-use Rattle.ul_nodes.specs.Plain.{Plain, truth, node}
+use Rattle.ul_nodes.specs.Plain.{Plain, truth, node, Branches}
 use Rattle.ul_nodes.specs.Reduced.{IsReduced}
 use Rattle.ul_tree.specs.Regions.{IsRegionTree, region_of}
 use Rattle.ul_tree.specs.Values.{tree_holds}
 use Rattle.ul_tree.proofs.ForCallers.{no_extra}
 use Rattle.ul_marker_text.specs.Headline.{ReadsAs}
-use Rattle.ul_marker_text.specs.MarkerText.{marker_text}
+use Rattle.ul_marker_text.specs.MarkerText.{marker_text, printed_paths}
+use Rattle.ul_marker_text.proofs.ForCallers.{node_reads}
 use Rattle.ul_lock.specs.Region.{IsRegion, is_true}
 use Rattle.ul_lock.specs.declared.parts.Lock.{Lock}
 use Rattle.ul_lock.specs.WellFormed.{IsWellFormed}
@@ -40,6 +42,7 @@ use Rattle.laws_exports.proofs.Fronts.{fronted}
 use Rattle.laws_exports.proofs.LineReadings.{marked_as, marked_line, pin_line}
 use Rattle.laws_exports.proofs.MarkersRead.{document_reads, formula_if, text_bytes}
 use Rattle.laws_exports.proofs.Named.{IsNamed, given_named}
+use Rattle.laws_exports.proofs.PlainMarkers.{tree_silent}
 use Rattle.laws_exports.proofs.Tails.{marked_text}
 
 -- ---- a row
@@ -83,12 +86,19 @@ marked_row n v m =
     let end = append_assoc (version_text v) (codes " ; " ++ m) (codes "\n") in
     ap (λ (t : List ℕ). fronted n (codes "==" ++ t)) (sym end)
 
+-- the formula that is read of a node's text is the one of its paths
+formula_is : (l : List ℕ) (d : Plain) (bs : Branches) (f : Formula) → IsReduced (node l d bs)
+    → printed_marker_of (marker_text (node l d bs)) ≡ Some f → f ≡ paths_formula (printed_paths (node l d bs))
+formula_is l d bs f reduced read =
+    let same : Some f ≡ Some (paths_formula (printed_paths (node l d bs))) = sym read ∙ node_reads l d bs reduced in cc
+
 line_is : (n : Node) (v : Fields) (t : Plain) → printed_marker_of [] ≡ None → IsNamed n v → IsRegion t
     → (t ≢ truth true → ReadsAs (marker_text t) t) → IsRowLine (row_line (row_of n v t)) (row_of n v t)
 line_is n v (truth true) none named region reads = record {
   marker = None;
   read = pin_line n v named;
   truth = λ w x is. refl;
+  silent = λ h. tt;
 }
 line_is n v (truth false) none named region reads = absurd (region.not_false refl)
 line_is n v (node l d bs) none named region reads =
@@ -102,6 +112,7 @@ line_is n v (node l d bs) none named region reads =
       marker = Some f;
       read = ap reading_of (marked_row n v m) ∙ (line ∙ by_extras n v t f (asks_extras f) refl);
       truth = λ w x is. r.truth w x is ∙ region_truth t region w x is;
+      silent = λ h. ap asks_extras (formula_is l d bs f region.reduced r.read) ∙ tree_silent t h;
     }
 
 -- ---- it is one line

@@ -7,7 +7,7 @@ use Rattle.ul_version.specs.Ascii.{is_blank, semicolon, text_between}
 use Rattle.ul_version.specs.Fields.{Fields, IsVersion}
 use Rattle.ul_version.specs.Reading.{◌>>=◌}
 use Rattle.ul_version.specs.Texts.{is_text_byte, version_text}
-use Rattle.ul_specifier.specs.Clauses.{ClauseFields, IsClause}
+use Rattle.ul_specifier.specs.Clauses.{ClauseFields, IsClause, IsSpelled}
 use Rattle.ul_specifier.specs.Meaning.{equal_clause}
 use Rattle.ul_specifier.proofs.ForCallers.{all-joined, all-weaker, clauses-read, nothing-dropped}
 use Rattle.ul_comparison.specs.Atoms.{is_literal_byte}
@@ -56,7 +56,7 @@ pin_in : (v : Fields) (text : List ℕ) → IsVersion v → text ≡ pin_text v 
 unfolding specifiers_in
 pin_in v text is e =
     let one = All-cons IsClause (equal_clause v) [] (pin_is v is) (All-nil IsClause) in
-    ap specifiers_in e ∙ clauses-read (exactly v) one
+    ap specifiers_in e ∙ clauses-read (exactly v) one (All-cons IsSpelled (equal_clause v) [] refl (All-nil IsSpelled))
 
 -- without a marker
 pub pin_tail : (v : Fields) → IsVersion v → tail_of (pin_text v) ≡ Some (exactly v, None)

@@ -1,8 +1,12 @@
 -- An adjusted catalog has names and versions.
-use Rattle.std.proofs.Common.{List, [], ◌∷◌}
+use Rattle.std.proofs.Common.{List, [], ◌∷◌, map}
 use Rattle.std.specs.List.{AllByRecursion}
 use Rattle.ul_requirement.specs.Fields.{RequirementFields}
-use Rattle.laws_given.specs.Texts.{AdjustedAreTexts, IsNamedRequirement, IsTextRelease}
+use Rattle.ul_index.specs.Catalogs.{Packages}
+use Rattle.ul_project.specs.Fields.{ProjectFields}
+use Rattle.ul_groups.specs.Adjusted.{package_for}
+use Rattle.ul_groups.specs.Sourced.{source_constraints}
+use Rattle.laws_given.specs.Texts.{AdjustedAreTexts, IsNamedRequirement, IsTextPackage, IsTextRelease}
 use Rattle.laws_given.proofs.AdjustedReleases.{IsOfBounds, releases_adjusted}
 use Rattle.laws_given.proofs.Expanded.{text_release}
 
@@ -20,13 +24,18 @@ adjusted_named = record {
   constrained = λ q c h k. record { name = h.name; extras = tt };
 }
 
-pub adjusted_are_texts : AdjustedAreTexts
-adjusted_are_texts p [] h = tt
-adjusted_are_texts p (found ∷ others) h = (
+packages_are : (p : ProjectFields) (sources : List RequirementFields) (c : Packages) → AllByRecursion IsTextPackage c
+    → AllByRecursion IsTextPackage (map (package_for p sources) c)
+packages_are p sources [] h = tt
+packages_are p sources (found ∷ others) h = (
   record {
     name = h.0.name;
     releases = releases_adjusted IsNamedRequirement AnyBound adjusted_named IsTextRelease text_release
-        p.constraints p.overrides (any_bounds p.constraints) (any_bounds p.overrides) found.releases h.0.releases;
+        p.constraints p.overrides sources (any_bounds p.constraints) (any_bounds p.overrides) (any_bounds sources)
+        found.releases h.0.releases;
   },
-  adjusted_are_texts p others h.1,
+  packages_are p sources others h.1,
 )
+
+pub adjusted_are_texts : AdjustedAreTexts
+adjusted_are_texts p c h = packages_are p (source_constraints p c) c h

@@ -51,15 +51,24 @@ module _ (P O : RequirementFields → Type 0) (of : IsOfBounds P O) where
       more P (followed_by q (all_on constraints q.name)) (constrained_list (all_on constraints) qs) (h.0, rest)
       (constrained_all constraints qs on h.1)
 
+  -- a list of requirements that is adjusted is such
+  adjusted_all : (constraints overrides sources qs : List RequirementFields) → AreAll O constraints → AreAll O overrides
+      → AreAll O sources → AreAll P qs
+      → AreAll P (adjusted_list (all_on constraints) (all_on overrides) (all_on sources) qs)
+  adjusted_all constraints overrides sources qs bounds others from h =
+      let first = overridden_list (all_on overrides) qs in
+      constrained_all sources (constrained_list (all_on constraints) first) from
+      (constrained_all constraints first bounds (overridden_all overrides qs others h))
+
   -- adjusted releases are such
   pub releases_adjusted : (R : ReleaseFields → Type 0) → IsOfRequirements P R
-      → (constraints overrides : List RequirementFields) → AreAll O constraints → AreAll O overrides
-      → (rs : List ReleaseFields) → AllByRecursion R rs
-      → AllByRecursion R (map (adjusted_release (all_on constraints) (all_on overrides)) rs)
-  releases_adjusted R on constraints overrides bounds others [] h = tt
-  releases_adjusted R on constraints overrides bounds others (r ∷ rs) h =
-      let first = overridden_all overrides r.requirements others (on.has r h.0) in
-      let all = constrained_all constraints (overridden_list (all_on overrides) r.requirements) bounds first in (
-        on.stays r (adjusted_list (all_on constraints) (all_on overrides) r.requirements) h.0 all,
-        releases_adjusted R on constraints overrides bounds others rs h.1,
+      → (constraints overrides sources : List RequirementFields) → AreAll O constraints → AreAll O overrides
+      → AreAll O sources → (rs : List ReleaseFields) → AllByRecursion R rs
+      → AllByRecursion R (map (adjusted_release (all_on constraints) (all_on overrides) (all_on sources)) rs)
+  releases_adjusted R on constraints overrides sources bounds others from [] h = tt
+  releases_adjusted R on constraints overrides sources bounds others from (r ∷ rs) h =
+      let adjusted = adjusted_list (all_on constraints) (all_on overrides) (all_on sources) r.requirements in
+      let all = adjusted_all constraints overrides sources r.requirements bounds others from (on.has r h.0) in (
+        on.stays r adjusted h.0 all,
+        releases_adjusted R on constraints overrides sources bounds others from rs h.1,
       )

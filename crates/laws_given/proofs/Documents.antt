@@ -13,7 +13,7 @@ use Rattle.ul_version.proofs.ForCallers.{versions}
 use Rattle.ul_requirement.specs.Fields.{FileFields, FilesRise, IsFile, PackageFields, ReleaseFields, RequirementFields, is_digest, is_file_name}
 use Rattle.ul_requirement.specs.Reading.{Reading as Grammar, by_url, read_requirement, reading_of, requirement, requirement_of, unread}
 use Rattle.ul_requirement.specs.declared.wish.Prereleases.TheVariants.{IfNecessaryOrExplicit}
-use Rattle.ul_index.specs.Documents.{DocumentFault, Reading, by_name, differ_after, document_of, entries_from, entry_at, file_of, file_of_texts, file_with, files_at, files_from, files_in_order, items_at, not_json, object_at, optional_items_at, ordered_files, package_in, python_at, releases_of_items, requirements_at, requirements_in, right_name, shape, text_at, text_of, texts_at, version_at, yanked_at}
+use Rattle.ul_index.specs.Documents.{DocumentFault, Reading, by_name, differ_after, document_of, entries_from, entry_at, file_of, file_of_texts, file_with, files_at, files_from, files_in_order, items_at, not_json, object_at, optional_items_at, ordered_files, package_in, python_at, releases_of_items, requirements_at, requirements_in, right_name, shape, source_at, text_at, text_of, texts_at, version_at, yanked_at}
 use Rattle.ul_index.specs.Json.{json_of}
 use Rattle.ul_index.specs.Results.{◌>>=◌, option_bind, or_fault, read_each}
 use Rattle.ul_index.specs.Usable.{EntryFields, before, is_new, release_behind, release_of_entry, usable, usable_after, versions_with}
@@ -167,6 +167,7 @@ module _ (P : RequirementFields → Type 0) (law : AreRead P) where
         requirements = requirements.0;
         yanked = yanked.0;
         files = files.0;
+        source = source_at (get (codes "source") d);
       } in
       subst (IsEntryWith P) {x = made} (same_ok made e files.2) (record {
         version = versions_at (Key i Version) (get (codes "version") d) version.0 version.1;
@@ -200,6 +201,7 @@ module _ (P : RequirementFields → Type 0) (law : AreRead P) where
         requirements = requirements.0;
         yanked = e.yanked;
         files = e.files;
+        source = e.source;
       } in
       subst (IsReleaseWith P) {x = made} (same_some made r requirements.2) (record {
         version = is.version version.0 version.1;

@@ -16,8 +16,9 @@ use Rattle.ul_project.specs.Profiles.{profile_of}
 use Rattle.ul_project.specs.ProjectFile.{FileFields, RequiredFields, file_in, file_of, file_with, required_in}
 use Rattle.ul_project.specs.Requirements.{bounds_at, requirements_at}
 use Rattle.ul_project.specs.Results.{or_fault}
-use Rattle.ul_project.specs.Settings.{SettingsFields, all_silent, choices_in, environments_at, listed_in, settings_in, settings_with, uv_at}
+use Rattle.ul_project.specs.Settings.{SettingsFields, choices_in, environments_at, listed_in, settings_in, settings_with, sources_in, uv_at}
 use Rattle.ul_project.specs.Shapes.{Reading, at_key, not_toml, table_at}
+use Rattle.ul_project.specs.Sources.{SourceFields}
 use Rattle.ul_project.specs.Toml.{toml_of}
 use Rattle.ul_project.specs.declared.group.GroupEntry.{GroupEntry}
 use Rattle.ul_project.specs.declared.path.Place.TheVariants.{Key}
@@ -35,9 +36,14 @@ Asked = List RequirementFields × SettingsFields
 abbrev pub Listed : Type 0
 Listed = List RequirementFields × List RequirementFields × List RequirementFields
 
+-- the sources of names
+abbrev pub Sources : Type 0
+Sources = List (Named (List SourceFields))
+
 -- they are those of a table, by a profile, beside extras
 pub record AreFrom (profile : Profile) (extras : List (List ℕ)) (asked : Asked) : Type 0 where
   pub members : Members
+  pub sources : sources_in profile members ≡ Ok asked.1.sources
   pub constraints :
       bounds_at profile (Key key.ConstraintDependencies) (get_member (codes "constraint-dependencies") members)
       ≡ Ok asked.1.constraints
@@ -47,8 +53,8 @@ pub record AreFrom (profile : Profile) (extras : List (List ℕ)) (asked : Asked
   pub dev : dev_dependencies_in profile extras members ≡ Ok asked.0
   pub environments : environments_at (get_member (codes "environments") members) ≡ Ok asked.1.environments
 
-abbrev settings_of : Listed → List Formula → Mode × Prereleases × Strategy → Reading Asked
-settings_of listed environments choices = Ok (listed.2, settings_with listed environments choices)
+abbrev settings_of : Sources → Listed → List Formula → Mode × Prereleases × Strategy → Reading Asked
+settings_of sources listed environments choices = Ok (listed.2, settings_with sources listed environments choices)
 
 module _ (profile : Profile) (extras : List (List ℕ)) where
   settings_from : (document : Members) (asked : Asked) → settings_in profile extras document ≡ Ok asked
@@ -56,8 +62,8 @@ module _ (profile : Profile) (extras : List (List ℕ)) where
   unfolding settings_in listed_in
   settings_from document asked e =
       let uv = went_on (uv_at document) _ asked e in
-      let silent = went_on (all_silent profile uv.0) _ asked uv.2 in
-      let listed = went_on (listed_in profile extras uv.0) _ asked silent.2 in
+      let sources = went_on (sources_in profile uv.0) _ asked uv.2 in
+      let listed = went_on (listed_in profile extras uv.0) _ asked sources.2 in
       let environments = went_on (environments_at (get_member (codes "environments") uv.0)) _ asked listed.2 in
       let choices = went_on (choices_in profile uv.0) _ asked environments.2 in
       let bounds = get_member (codes "constraint-dependencies") uv.0 in
@@ -66,12 +72,13 @@ module _ (profile : Profile) (extras : List (List ℕ)) where
       let overrides = went_on (bounds_at profile (Key key.OverrideDependencies) others) _ listed.0 constraints.2 in
       let dev = went_on (dev_dependencies_in profile extras uv.0) _ listed.0 overrides.2 in
       let lists : Listed = (constraints.0, overrides.0, dev.0) in
-      let made : Asked = (dev.0, settings_with lists environments.0 choices.0) in
+      let made : Asked = (dev.0, settings_with sources.0 lists environments.0 choices.0) in
       let same = same_ok lists listed.0 dev.2 in
-      let last : settings_of lists environments.0 choices.0 ≡ Ok asked =
-      subst (λ (l : Listed). settings_of l environments.0 choices.0 ≡ Ok asked) (sym same) choices.2 in
+      let last : settings_of sources.0 lists environments.0 choices.0 ≡ Ok asked =
+      subst (λ (l : Listed). settings_of sources.0 l environments.0 choices.0 ≡ Ok asked) (sym same) choices.2 in
       subst (AreFrom profile extras) {x = made} (same_ok made asked last) (record {
         members = uv.0;
+        sources = sources.1;
         constraints = constraints.1;
         overrides = overrides.1;
         dev = dev.1;

@@ -5,6 +5,7 @@ mod NamedLists
 mod GroupExtras
 mod Inserted
 mod ReadRequirements
+mod ReadMarkers
 mod Requirements
 mod Documents
 mod Turns
@@ -15,6 +16,10 @@ mod CatalogReleases
 mod Had
 mod FileParts
 mod FileRequirements
+mod Environments
+mod Bounds
+mod FileSources
+mod SourceConstraints
 mod Files
 mod GroupLists
 mod ExpandedProjects
@@ -26,3 +31,4 @@ mod Said
 mod Inputs
 mod Given
 mod GivenTexts
+mod GivenRequirements

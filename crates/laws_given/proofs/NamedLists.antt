@@ -46,7 +46,8 @@ module _ {L : Type 0} (P : L → Type 0) (no_name : Fault) (read : List ℕ → 
       subst (IsNamedList P) (same_ok (name.0, l.0) list l.2)
       (name_reads_itself key name.0 (was_there no_name (name_of key) name.0 name.1), each name.0 (Some d) l.0 l.1)
 
-  all_read : (ms : Members) (lists : List (Named L)) → lists_in no_name read ms ≡ Ok lists
+  -- each list at the keys of a table is such
+  pub all_read : (ms : Members) (lists : List (Named L)) → lists_in no_name read ms ≡ Ok lists
       → AllByRecursion (IsNamedList P) lists
   unfolding lists_in
   all_read no_members lists e = subst (λ zs. AllByRecursion (IsNamedList P) zs) (same_ok [] lists e) tt

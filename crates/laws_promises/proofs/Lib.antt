@@ -6,6 +6,7 @@ mod OfFiles
 mod OfComparisons
 mod OfRepeated
 mod OfEndings
+mod OfExtras
 mod OfExports
 mod OfRegions
 mod OfRelocks

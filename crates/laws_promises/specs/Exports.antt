@@ -1,17 +1,21 @@
 -- What `export` prints: of a lock that `lock` printed or `verify` accepted, and of any lock.
-use Rattle.std.specs.Prelude.{◌≡◌, ℕ, List, None, Option, Ok, Some}
+use Rattle.std.specs.Prelude.{◌≡◌, ◌↔◌, ℕ, List, true, None, Option, Ok, Some}
+use Rattle.ul_comparison.specs.Worlds.{WorldFields, IsWorld}
 use Rattle.ul_files.specs.Files.{FileMap, content}
 use Rattle.ul_lines.specs.Lines.{lines_of}
 use Rattle.ul_lock.specs.declared.parts.Lock.{Lock}
+use Rattle.ul_lock.specs.Walk.{Pick as NodeAt}
 use Rattle.ul_lock_write.specs.Texts.{lock_text}
+use Rattle.ul_reach.specs.Headline.{IsGiven}
 use Rattle.ul_reach.specs.Lines.{rows_text}
+use Rattle.ul_reach.specs.Rows.{is_supported}
 use Rattle.ul_reach.specs.declared.rows.Reached.{Reached}
 use Rattle.ul_inputs.specs.Locks.{lock_at}
 use Rattle.ul_inputs.specs.Resolutions.{ResolutionFields, resolution_in}
 use Rattle.ul_lock_commands.specs.Words.{names_of}
 use Rattle.ul_commands.specs.Asked.{export, lock, verify}
 use Rattle.laws_commands.specs.Exports.{ExportsRequired}
-use Rattle.laws_exports.specs.Lines.{AreRowLines, AskWhatIsGiven}
+use Rattle.laws_exports.specs.Lines.{AreRead, AreRowLines, AskWhatIsGiven, IsAsked}
 use Rattle.ul_program.specs.Answer.{IsAnswer}
 use Rattle.ul_program.specs.Words.{question}
 
@@ -23,11 +27,16 @@ pub record ExportsRightly (r : ResolutionFields) (l : Lock) (words : List (List 
   pub lines : AreRowLines (lines_of text) rows
   pub required : ExportsRequired r l words rows
 
--- these are the bytes of a lock, of which that is exported
+-- These are the bytes of a lock, of which that is exported. Each line has a reading, since no marker of the project and its
+-- documents compares `extras`, and so neither does one of the lock's: in each world that the lock supports the lines ask
+-- for exactly what it gives there with the words' extras.
 pub record IsRightExport (r : ResolutionFields) (words : List (List ℕ)) (bytes text : List ℕ) : Type 0 where
   pub lock : Lock
   pub is : bytes ≡ lock_text lock
   pub right : ExportsRightly r lock words text
+  pub read : AreRead (lines_of text)
+  pub ask : (w : WorldFields) → IsWorld w → is_supported lock w ≡ true → (p : NodeAt)
+      → IsGiven lock w (names_of words) p ↔ IsAsked (lines_of text) w p
 
 -- of a file into which `lock` printed
 abbrev pub ExportsAreRight : Type 0

@@ -93,14 +93,21 @@ pub fn verified_are_right()
 }
 
 /// What `export` prints of a lock that `lock` printed or `verify` accepted is, in each world, exactly what is required;
-/// and its lines, of any lock, are read as requirements that ask for what the lock gives.
+/// and its lines, of any lock, are read as requirements that ask for what the lock gives. Of a lock that `lock` printed
+/// each line has a reading.
 pub fn exports_are_right()
     ensures printed { ExportsAreRight }
     ensures verified { VerifiedExportsAreRight }
     ensures requirements { ExportsAreRequirements }
 {
+    laws_commands::laws::inputs_are_answered();
     laws_commands::laws::locks_within_limits();
+    laws_commands::laws::printed_laws();
     laws_commands::laws::exports_are_right();
+    laws_comparisons::laws::merged_ask_theirs();
+    laws_comparisons::laws::walks_ask_theirs();
+    laws_comparisons::laws::asked_have_no_extras();
+    laws_existence::laws::given_has_no_extras();
     laws_exports::laws::lines_are_read();
 }
 

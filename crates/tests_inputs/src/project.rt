@@ -2,6 +2,7 @@
 
 mod files;
 mod sizes;
+mod sources;
 mod told;
 mod well_known;
 mod wide;

@@ -31,7 +31,7 @@ formulas_of (f ∷ fs) = more f (formulas_of fs)
 abbrev pub IsExtraLiteral : List ℕ → Type 0
 IsExtraLiteral literal = (is_literal literal ≡ true) × ((name : List ℕ) → name_of literal ≡ Some name → name ≡ literal)
 
--- a formula that a marker's text can spell
+-- a formula that a marker's text can spell, where none of its clauses is an exclusion
 abbrev mutual
   pub IsFormula : Formula → Type 0
   IsFormula (extra literal equal) = IsExtraLiteral literal

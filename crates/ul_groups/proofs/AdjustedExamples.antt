@@ -10,4 +10,6 @@ adjusted_requirements = record {
   nothing_on_it = refl;
   nothing_asked = refl;
   one_constraint_each = refl;
+  sources_after_constraints = refl;
+  sources_after_overrides = refl;
 }

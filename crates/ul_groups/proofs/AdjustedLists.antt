@@ -1,11 +1,13 @@
 -- Requirements adjusted one by one.
-use Rattle.std.proofs.Common.{◌≡◌, ◌+◌, ◌<◌, ◌++◌, ◌∙◌, ℕ, List, [], ◌∷◌, length, map, take, get_or, Option, Some, None, ap, sym, subst, append_assoc, append-nil}
+use Rattle.std.proofs.Common.{◌≡◌, ◌+◌, ◌<◌, ◌++◌, ◌∙◌, ℕ, List, [], ◌∷◌, length, map, take, get_or, Option, Some, None, Result, ap, sym, subst, append_assoc, append-nil}
+use Rattle.std.specs.Prelude.{IfOk}
 use Rattle.std.specs.List.Sorted.{IsStrictlySortedBy}
+use Rattle.std.specs.declared.alloc.AllocError.{AllocError}
 use Rattle.ul_base.specs.Names.{name_cmp}
 use Rattle.ul_comparison.specs.Formulas.{Formula}
-use Rattle.ul_requirement.specs.Fields.{MayBeFormula, RequirementFields}
+use Rattle.ul_requirement.specs.Fields.{MayBeFormula, ReleaseFields, RequirementFields}
 use Rattle.ul_project.specs.Extras.{joined_markers}
-use Rattle.ul_groups.specs.Adjusted.{ByName, overridden_list, overridden_by, replaced_by}
+use Rattle.ul_groups.specs.Adjusted.{ByName, adjusted_list, adjusted_release, overridden_list, overridden_by, replaced_by, with_requirements}
 use Rattle.ul_groups.proofs.NameLists.{taken_next}
 
 -- a requirement with overrides is replaced
@@ -28,6 +30,15 @@ pub overridden_next : (overrides : ByName) (qs : List RequirementFields) (i : �
 overridden_next overrides qs i q before after h lt is e =
     e ∙ ap (λ (xs : List RequirementFields). xs ++ replaced_by q (overrides q.name)) h
     ∙ sym (ap (overridden_list overrides) (taken_next qs i q lt is) ∙ overridden_more overrides (take i qs) q)
+
+-- a release that was made with the adjusted requirements is adjusted
+pub release_adjusted : (constraints overrides sources : ByName) (x : ReleaseFields) (made requirements : List RequirementFields)
+    (r : Result ReleaseFields AllocError) → made ≡ adjusted_list constraints overrides sources requirements
+    → requirements ≡ x.requirements → IfOk r (λ y. y ≡ with_requirements x made)
+    → IfOk r (λ y. y ≡ adjusted_release constraints overrides sources x)
+release_adjusted constraints overrides sources x made requirements r is own h =
+    subst (λ (z : ReleaseFields). IfOk r (λ y. y ≡ z))
+    (ap (with_requirements x) (is ∙ ap (adjusted_list constraints overrides sources) own)) h
 
 joined_formula : (a b : Option Formula) → MayBeFormula a → MayBeFormula b → MayBeFormula (joined_markers a b)
 joined_formula None b h k = k

@@ -4,12 +4,20 @@ mod AdjustedPackages
 mod ExtendedPackages
 mod ExtendedProjects
 mod ExtraLists
+pub mod ForCallers
 mod GroupExamples
 mod GroupLists
 mod GroupMaps
 mod LeftLists
 mod MadeLists
 mod NameLists
+mod NegatedFormulas
+mod NegatedMarkers
+mod Negations
 mod Opened
+mod SourceExamples
+mod SourceLaws
+mod SourceLists
+mod SourceRequirements
 mod TakenLists
 mod Turns

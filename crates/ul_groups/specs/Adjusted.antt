@@ -1,12 +1,14 @@
--- Requirements adjusted by overrides and constraints: an override replaces what it is on, and then a constraint follows
--- what it is on. The catalog that a project is resolved in is adjusted so, and has the project's mode of pre-releases.
+-- Requirements adjusted by overrides, constraints and sources: an override replaces what it is on, then a constraint
+-- follows what it is on, and then the constraints that sources are follow what they are on. The catalog that a project is
+-- resolved in is adjusted so, and has the project's mode of pre-releases.
 use Rattle.std.specs.Prelude.{ℕ, List, [], ◌∷◌, ◌++◌, map, filter, Bool}
 use Rattle.std.specs.BTreeMap.{is_at}
 use Rattle.ul_base.specs.Names.{name_cmp}
 use Rattle.ul_requirement.specs.Fields.{PackageFields, ReleaseFields, RequirementFields}
-use Rattle.ul_index.specs.Catalogs.{package_with_prereleases}
+use Rattle.ul_index.specs.Catalogs.{Packages, package_with_prereleases}
 use Rattle.ul_project.specs.Extras.{joined_markers}
 use Rattle.ul_project.specs.Fields.{ProjectFields}
+use Rattle.ul_groups.specs.Sourced.{source_constraints}
 
 -- what stands on each name
 abbrev pub ByName : Type 0
@@ -50,29 +52,38 @@ abbrev pub constrained_list : ByName → List RequirementFields → List Require
 constrained_list constraints [] = []
 constrained_list constraints (q ∷ qs) = followed_by q (constraints q.name) ++ constrained_list constraints qs
 
--- requirements after the overrides, and then the constraints
-abbrev pub adjusted_list : (constraints overrides : ByName) → List RequirementFields → List RequirementFields
-adjusted_list constraints overrides qs = constrained_list constraints (overridden_list overrides qs)
+-- requirements after the overrides, then the constraints, and then the constraints that sources are: these follow what
+-- constraints added, too
+abbrev pub adjusted_list : (constraints overrides sources : ByName) → List RequirementFields → List RequirementFields
+adjusted_list constraints overrides sources qs =
+    constrained_list sources (constrained_list constraints (overridden_list overrides qs))
+
+-- a release with other requirements
+abbrev pub with_requirements : ReleaseFields → List RequirementFields → ReleaseFields
+with_requirements r requirements = record r { requirements = requirements }
 
 -- a release whose requirements are adjusted
-abbrev pub adjusted_release : (constraints overrides : ByName) → ReleaseFields → ReleaseFields
-adjusted_release constraints overrides r = record r { requirements = adjusted_list constraints overrides r.requirements }
+abbrev pub adjusted_release : (constraints overrides sources : ByName) → ReleaseFields → ReleaseFields
+adjusted_release constraints overrides sources r =
+    with_requirements r (adjusted_list constraints overrides sources r.requirements)
 
 -- a package whose releases are adjusted
-abbrev pub adjusted_package : (constraints overrides : ByName) → PackageFields → PackageFields
-adjusted_package constraints overrides p =
-    record p { releases = map (adjusted_release constraints overrides) p.releases }
+abbrev pub adjusted_package : (constraints overrides sources : ByName) → PackageFields → PackageFields
+adjusted_package constraints overrides sources p =
+    record p { releases = map (adjusted_release constraints overrides sources) p.releases }
 
--- a catalog whose packages are adjusted by lists of constraints and overrides
-abbrev pub adjusted_catalog : (constraints overrides : List RequirementFields) → List PackageFields → List PackageFields
-adjusted_catalog constraints overrides ps = map (adjusted_package (all_on constraints) (all_on overrides)) ps
+-- a catalog whose packages are adjusted by lists of constraints, overrides, and constraints that sources are
+abbrev pub adjusted_catalog : (constraints overrides sources : List RequirementFields) → Packages → Packages
+adjusted_catalog constraints overrides sources ps =
+    map (adjusted_package (all_on constraints) (all_on overrides) (all_on sources)) ps
 
--- a package for a project: adjusted by the project's constraints and overrides, and its pre-releases count by the
--- project's mode
-abbrev pub package_for : ProjectFields → PackageFields → PackageFields
-package_for p found =
-    package_with_prereleases p.prereleases (adjusted_package (all_on p.constraints) (all_on p.overrides) found)
+-- a package for a project: adjusted by the project's constraints and overrides and by the constraints that its sources
+-- are, and its pre-releases count by the project's mode
+abbrev pub package_for : ProjectFields → (sources : List RequirementFields) → PackageFields → PackageFields
+package_for p sources found =
+    package_with_prereleases p.prereleases
+    (adjusted_package (all_on p.constraints) (all_on p.overrides) (all_on sources) found)
 
 -- the catalog that a project is resolved in
-abbrev pub catalog_for : ProjectFields → List PackageFields → List PackageFields
-catalog_for p ps = map (package_for p) ps
+abbrev pub catalog_for : ProjectFields → Packages → Packages
+catalog_for p ps = map (package_for p (source_constraints p ps)) ps

@@ -1,3 +1,5 @@
+pub mod Negated
+pub mod Sourced
 pub mod Adjusted
 pub mod NameLists
 pub mod Expanded
@@ -6,4 +8,5 @@ pub mod Answers
 pub mod Opened
 pub mod Turns
 pub mod Vectors
+pub mod SourceVectors
 pub mod GroupVectors

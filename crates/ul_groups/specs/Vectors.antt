@@ -1,4 +1,4 @@
--- Worked examples: requirements adjusted by overrides and constraints.
+-- Worked examples: requirements adjusted by overrides, constraints and sources.
 use Rattle.std.specs.Prelude.{◌≡◌, ℕ, List, [], ◌∷◌, codes, true, false, Option, Some, None}
 use Rattle.ul_version.specs.Fields.{plain}
 use Rattle.ul_specifier.specs.Clauses.{ClauseFields}
@@ -45,26 +45,36 @@ exactly = asks (codes "q") (codes "y" ∷ []) (clause Equal 2) None
 abbrev pub other : RequirementFields
 other = asks (codes "p") [] (clause AtLeast 1) None
 
--- requirements adjusted by lists of constraints and overrides
-abbrev pub adjusted_by : (constraints overrides : List RequirementFields) → List RequirementFields
+-- requirements adjusted by lists of constraints, overrides, and constraints that sources are
+abbrev pub adjusted_by : (constraints overrides sources : List RequirementFields) → List RequirementFields
     → List RequirementFields
-adjusted_by constraints overrides = adjusted_list (all_on constraints) (all_on overrides)
+adjusted_by constraints overrides sources =
+    adjusted_list (all_on constraints) (all_on overrides) (all_on sources)
 
--- what overrides and constraints make of requirements
+-- what overrides, constraints and sources make of requirements
 pub record AdjustedRequirements : Type 0 where
-  pub replacement : adjusted_by [] (below ∷ exactly ∷ []) (asked_first ∷ other ∷ [])
+  pub replacement : adjusted_by [] (below ∷ exactly ∷ []) [] (asked_first ∷ other ∷ [])
       ≡ asks (codes "q") (codes "x" ∷ []) (clause Less 3) (Some on_both)
       ∷ asks (codes "q") (codes "x" ∷ []) (clause Equal 2) (Some on_a)
       ∷ other ∷ []
-  pub followers : adjusted_by (below ∷ exactly ∷ []) [] (other ∷ asked_first ∷ [])
+  pub followers : adjusted_by (below ∷ exactly ∷ []) [] [] (other ∷ asked_first ∷ [])
       ≡ other ∷ asked_first
       ∷ asks (codes "q") [] (clause Less 3) (Some on_both)
       ∷ asks (codes "q") [] (clause Equal 2) (Some on_a) ∷ []
-  pub constrained_after : adjusted_by (below ∷ []) (exactly ∷ []) (asked_first ∷ [])
+  pub constrained_after : adjusted_by (below ∷ []) (exactly ∷ []) [] (asked_first ∷ [])
       ≡ asks (codes "q") (codes "x" ∷ []) (clause Equal 2) (Some on_a)
       ∷ asks (codes "q") [] (clause Less 3) (Some on_both) ∷ []
-  pub nothing_on_it : adjusted_by (asked_first ∷ []) (exactly ∷ []) (other ∷ []) ≡ other ∷ []
-  pub nothing_asked : adjusted_by (asked_first ∷ []) (exactly ∷ []) [] ≡ []
-  pub one_constraint_each : adjusted_by (exactly ∷ []) [] (below ∷ below ∷ [])
+  pub nothing_on_it : adjusted_by (asked_first ∷ []) (exactly ∷ []) (below ∷ []) (other ∷ []) ≡ other ∷ []
+  pub nothing_asked : adjusted_by (asked_first ∷ []) (exactly ∷ []) (below ∷ []) [] ≡ []
+  pub one_constraint_each : adjusted_by (exactly ∷ []) [] [] (below ∷ below ∷ [])
       ≡ below ∷ asks (codes "q") [] (clause Equal 2) (Some on_b)
       ∷ below ∷ asks (codes "q") [] (clause Equal 2) (Some on_b) ∷ []
+  pub sources_after_constraints : adjusted_by (exactly ∷ []) [] (below ∷ []) (asked_first ∷ other ∷ [])
+      ≡ asked_first
+      ∷ asks (codes "q") [] (clause Less 3) (Some on_both)
+      ∷ asks (codes "q") [] (clause Equal 2) (Some on_a)
+      ∷ asks (codes "q") [] (clause Less 3) (Some on_both)
+      ∷ other ∷ []
+  pub sources_after_overrides : adjusted_by [] (exactly ∷ []) (below ∷ []) (asked_first ∷ [])
+      ≡ asks (codes "q") (codes "x" ∷ []) (clause Equal 2) (Some on_a)
+      ∷ asks (codes "q") [] (clause Less 3) (Some on_both) ∷ []

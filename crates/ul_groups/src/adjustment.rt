@@ -1,4 +1,4 @@
-//! Requirements adjusted by overrides and constraints.
+//! Requirements adjusted by overrides, constraints and sources.
 
 ghost use Rattle.std.specs.Prelude.{◌≡◌, ◌++◌, IfOk, OnOk, map};
 ghost use Rattle.ul_groups.specs.Adjusted as Adjusted;
@@ -173,17 +173,19 @@ fn constrained_list(
     Ok(list)
 }
 
-/// Requirements after the overrides, and then the constraints.
+/// Requirements after the overrides, then the constraints, and then the constraints that sources are.
 pub(crate) fn adjusted_list(
     alloc: Global,
     constraints: &BTreeMap<Name, Requirements>,
     overrides: &BTreeMap<Name, Requirements>,
+    sources: &BTreeMap<Name, Requirements>,
     requirements: &[Requirement],
 ) -> Result<Vec<Requirement>, AllocError>
-    ensures { IfOk result (λ v. v.items
-        ≡ Adjusted.adjusted_list (at_name constraints.now.entries) (at_name overrides.now.entries) requirements.now) }
+    ensures { IfOk result (λ v. v.items ≡ Adjusted.adjusted_list (at_name constraints.now.entries)
+        (at_name overrides.now.entries) (at_name sources.now.entries) requirements.now) }
 {
     let list = overridden_list(alloc, overrides, requirements)?;
     let list = constrained_list(alloc, constraints, list)?;
+    let list = constrained_list(alloc, sources, list)?;
     Ok(list)
 }

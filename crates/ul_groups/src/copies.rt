@@ -1,9 +1,12 @@
 //! Copies of the parts of releases.
 
-ghost use Rattle.std.specs.Prelude.{◌≡◌, IfOk};
+ghost use Rattle.std.specs.Prelude.{◌≡◌, IfOk, option_map};
+ghost use Rattle.ul_marker.specs.Views.{marker_view};
 
 use std::alloc::{AllocError, Global};
+use ul_base::Name;
 use ul_base::owned::{made_from, with_made};
+use ul_marker::Marker;
 use ul_ranges::SharedList;
 use ul_requirement::{FileEntry, Requirement};
 use ul_specifier::{Clause, Specifiers};
@@ -40,6 +43,35 @@ pub(crate) fn copy_files(alloc: Global, files: &[FileEntry]) -> Result<Vec<FileE
         list = with_made(list, file.copy(alloc))?;
     }
     Ok(list)
+}
+
+/// An equal source of a release, where there is one.
+pub(crate) fn copy_source(alloc: Global, source: &Option<Name>) -> Result<Option<Name>, AllocError>
+    ensures { IfOk result (λ s. s ≡ source.now) }
+{
+    match source {
+        Some(source) => {
+            let source = source.copy(alloc)?;
+            Ok(Some(source))
+        }
+        None => Ok(None),
+    }
+}
+
+/// An equal marker, where there is one.
+pub(crate) fn copy_marker(
+    alloc: Global,
+    marker: &Option<Marker>,
+) -> Result<Option<Marker>, AllocError>
+    ensures { IfOk result (λ m. option_map marker_view m ≡ option_map marker_view marker.now) }
+{
+    match marker {
+        Some(marker) => {
+            let marker = marker.copy(alloc)?;
+            Ok(Some(marker))
+        }
+        None => Ok(None),
+    }
 }
 
 // Equal requirements.

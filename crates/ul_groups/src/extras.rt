@@ -276,10 +276,11 @@ fn release_with(
         requirements,
         yanked,
         files,
+        source,
     } = release;
     let joined = joined_list(alloc, requirements, extras, sizes, lists);
-    let (kept, joined) = beside((version, python, files), joined)?;
-    let (version, python, files) = kept;
+    let (kept, joined) = beside((version, python, files, source), joined)?;
+    let (version, python, files, source) = kept;
     let (requirements, extras, sizes) = joined;
     let release = Release {
         version,
@@ -287,6 +288,7 @@ fn release_with(
         requirements,
         yanked,
         files,
+        source,
     };
     Ok((release, extras, sizes))
 }
@@ -353,14 +355,15 @@ fn extended_project(
         strategy,
         prereleases,
         groups,
+        sources,
         constraints,
         overrides,
     } = project;
     drop(groups);
     let extended = with_extras(alloc, package, extras, sizes, lists);
-    let bounds = (constraints, overrides);
+    let bounds = (sources, constraints, overrides);
     let (kept, extended) = beside((environments, region, bounds), extended)?;
-    let (environments, region, (constraints, overrides)) = kept;
+    let (environments, region, (sources, constraints, overrides)) = kept;
     let (package, extras, sizes) = extended;
     Ok(Project {
         package,
@@ -372,6 +375,7 @@ fn extended_project(
         strategy,
         prereleases,
         groups: Vec::new(alloc),
+        sources,
         constraints,
         overrides,
     })

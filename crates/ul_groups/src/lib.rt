@@ -1,4 +1,4 @@
-//! Dependency groups expanded, and requirements adjusted by constraints and overrides.
+//! Dependency groups expanded, and requirements adjusted by overrides, constraints and sources.
 #![tactic(auto)]
 
 mod adjustment;
@@ -8,6 +8,8 @@ mod expansion;
 mod extras;
 pub mod laws;
 mod name_lists;
+mod negation;
+mod sources;
 
 pub use catalogs::adjust;
 pub use extras::expand;

@@ -24,6 +24,8 @@ unfolding is_name normal_form name_of after_word digits after_digits value_after
 document_examples = record {
   empty = refl;
   one = refl;
+  sourced = refl;
+  no_source = refl;
   unusable = refl;
   no_json = refl;
   no_object = refl;

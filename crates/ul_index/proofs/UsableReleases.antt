@@ -34,12 +34,12 @@ or_right false b e = e
 -- ---- usable releases differ
 
 version_here : (e : EntryFields) (v : Fields) (p : Option (List ClauseFields)) (q : Option (List RequirementFields)) (r : ReleaseFields)
-    → option_bind p (λ python. option_bind q (λ requirements. Some (record { version = v; python = python; requirements = requirements; yanked = e.yanked; files = e.files }))) ≡ Some r
+    → option_bind p (λ python. option_bind q (λ requirements. Some (record { version = v; python = python; requirements = requirements; yanked = e.yanked; files = e.files; source = e.source }))) ≡ Some r
     → r.version ≡ v
 version_here e v None q r h = cc
 version_here e v (Some p) None r h = cc
 version_here e v (Some p) (Some q) r h =
-    let same : record { version = v; python = p; requirements = q; yanked = e.yanked; files = e.files } ≡ r = cc in ap (λ (x : ReleaseFields). x.version) (sym same)
+    let same : record { version = v; python = p; requirements = q; yanked = e.yanked; files = e.files; source = e.source } ≡ r = cc in ap (λ (x : ReleaseFields). x.version) (sym same)
 
 version_of_release : (e : EntryFields) (v : Fields) (r : ReleaseFields) → e.version ≡ Some v → release_of_entry e ≡ Some r → r.version ≡ v
 unfolding release_of_entry

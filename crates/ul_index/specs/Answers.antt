@@ -55,6 +55,7 @@ abbrev pub requirements_of_values : Bor (List Value) → Option (List Requiremen
 requirements_of_values vs = required_by vs.now
 
 -- an entry, by its parts
-abbrev pub entry_with : Option Fields → Option (List ClauseFields) → Option (List RequirementFields) → Bool → List FileFields → EntryFields
-entry_with version python requirements yanked files =
-    record { version = version; python = python; requirements = requirements; yanked = yanked; files = files }
+abbrev pub entry_with : Option Fields → Option (List ClauseFields) → Option (List RequirementFields) → Bool → List FileFields
+    → Option (List ℕ) → EntryFields
+entry_with version python requirements yanked files source =
+    record { version = version; python = python; requirements = requirements; yanked = yanked; files = files; source = source }

@@ -1,5 +1,7 @@
 -- An index document: one package's releases as JSON, with the keys that a release has in the core metadata,
--- `yanked` (PEP 592), and the files of each release. Other keys are passed over.
+-- `yanked` (PEP 592), the files of each release, and `source`, which names where a release comes from: a package index
+-- that isn't the usual one, or `direct` for a path, a URL, a repository or a member of a workspace. Other keys are passed
+-- over.
 use Rattle.std.specs.Prelude.{ℕ, ◌+◌, ◌&&◌, Bool, true, false, not, List, [], ◌∷◌, ◌++◌, length, codes, fold, Option, Some, None, Result, Ok, Err, if◌then◌else◌}
 use Rattle.std.specs.BTreeSet.{insert_key}
 use Rattle.std.specs.Cmp.Lexicographic.{slice_cmp}
@@ -161,6 +163,10 @@ files_at i value = do
   files ← files_from i 0 items
   or_fault (shape (Key i Files)) (ordered_files files)
 
+-- the source that an entry names: a text that is a name says it; anything else is as nothing
+abbrev pub source_at : Option Data → Option (List ℕ)
+source_at value = option_bind (option_bind value as_str) name_of
+
 -- what an entry says
 unfoldable pub entry_at : ℕ → Data → Reading EntryFields
 entry_at i d = do
@@ -170,7 +176,14 @@ entry_at i d = do
   requirements ← requirements_at (Key i RequiresDist) (get (codes "requires_dist") d)
   yanked ← yanked_at (Key i Yanked) (get (codes "yanked") d)
   files ← files_at i (get (codes "files") d)
-  Ok (record { version = version; python = python; requirements = requirements; yanked = yanked; files = files })
+  Ok (record {
+    version = version;
+    python = python;
+    requirements = requirements;
+    yanked = yanked;
+    files = files;
+    source = source_at (get (codes "source") d);
+  })
 
 -- what the entries say, from one on
 unfoldable pub entries_from : ℕ → List Data → Reading (List EntryFields)

@@ -1,6 +1,6 @@
 -- The releases of a document that may be used: their texts have readings, none of their requirements is one by a
 -- URL, and no earlier entry whose version has a reading has an equal version.
-use Rattle.std.specs.Prelude.{List, [], ◌∷◌, ◌++◌, Bool, false, not, Option, Some, None, if◌then◌else◌}
+use Rattle.std.specs.Prelude.{ℕ, List, [], ◌∷◌, ◌++◌, Bool, false, not, Option, Some, None, if◌then◌else◌}
 use Rattle.std.specs.List.{list_any}
 use Rattle.std.specs.Ordering.{is_eq}
 use Rattle.ul_version.specs.Fields.{Fields}
@@ -10,13 +10,14 @@ use Rattle.ul_requirement.specs.Fields.{FileFields, ReleaseFields, RequirementFi
 use Rattle.ul_index.specs.Results.{option_bind}
 
 -- what an entry of a document says: its version, the interpreters that it asks for and its requirements, each where
--- the texts have readings, whether it was withdrawn, and its files
+-- the texts have readings, whether it was withdrawn, its files, and where it comes from, if it names that
 pub record EntryFields : Type 0 where
   pub version : Option Fields
   pub python : Option (List ClauseFields)
   pub requirements : Option (List RequirementFields)
   pub yanked : Bool
   pub files : List FileFields
+  pub source : Option (List ℕ)
 
 -- what is true of each entry
 pub record IsEntry (e : EntryFields) : Type 0 where
@@ -28,7 +29,7 @@ release_of_entry e =
     option_bind e.version (λ version.
     option_bind e.python (λ python.
     option_bind e.requirements (λ requirements.
-    Some (record { version = version; python = python; requirements = requirements; yanked = e.yanked; files = e.files }))))
+    Some (record { version = version; python = python; requirements = requirements; yanked = e.yanked; files = e.files; source = e.source }))))
 
 -- one of these versions is equal, in the order of versions (PEP 440), as `1` and `1.0` are
 abbrev pub is_among : List Fields → Fields → Bool

@@ -1,5 +1,5 @@
 -- Worked examples: eligible releases, usable entries, lower Python bounds, preference, and documents.
-use Rattle.std.specs.Prelude.{◌≡◌, ℕ, List, [], ◌∷◌, map, codes, Bool, true, false, Option, Some, Ok, Err, option_map}
+use Rattle.std.specs.Prelude.{◌≡◌, ℕ, List, [], ◌∷◌, map, codes, Bool, true, false, Option, Some, None, Ok, Err, option_map}
 use Rattle.ul_version.specs.Fields.{Fields, plain}
 use Rattle.ul_version.specs.Reading.{version_of}
 use Rattle.ul_specifier.specs.Reading.{specifiers_of}
@@ -23,7 +23,7 @@ use Rattle.ul_index.specs.declared.place.Place.TheVariants.{Document, Versions, 
 
 -- a release without requirements, and whether it was withdrawn
 abbrev pub bare : Fields → Bool → ReleaseFields
-bare version yanked = record { version = version; python = []; requirements = []; yanked = yanked; files = [] }
+bare version yanked = record { version = version; python = []; requirements = []; yanked = yanked; files = []; source = None }
 
 -- a release of a version's text
 abbrev pub release_named : List ℕ × Bool → Option ReleaseFields
@@ -34,7 +34,7 @@ abbrev pub packages_by : Prereleases → List (List ℕ) → List (List ℕ × B
 packages_by mode directs releases =
     option_bind (read_each requirement_of directs) (λ qs.
     option_bind (read_each release_named releases) (λ rs.
-    Some (record { name = codes "demo"; entries = 1; prereleases = mode; releases = record { version = plain (0 ∷ []); python = []; requirements = qs; yanked = false; files = [] } ∷ [] }
+    Some (record { name = codes "demo"; entries = 1; prereleases = mode; releases = record { version = plain (0 ∷ []); python = []; requirements = qs; yanked = false; files = []; source = None } ∷ [] }
     ∷ record { name = codes "a"; entries = 9; prereleases = mode; releases = rs } ∷ [])))
 
 -- a project with direct requirements, and a package `a`, with the usual mode
@@ -139,7 +139,7 @@ pub record Preferences : Type 0 where
 -- whether a release with this Python bound is fit at an interpreter
 abbrev pub fit_at : List ℕ → ℕ → ℕ → ℕ → Option Bool
 fit_at text major minor patch =
-    option_map (λ python. is_release_fit (record { version = plain (1 ∷ []); python = python; requirements = []; yanked = false; files = [] })
+    option_map (λ python. is_release_fit (record { version = plain (1 ∷ []); python = python; requirements = []; yanked = false; files = []; source = None })
     (record { major = major; minor = minor; patch = patch; texts = []; truths = [] })) (specifiers_of text)
 
 -- clauses that bound from below, and clauses that say nothing of the lower bound
@@ -157,7 +157,7 @@ pub record LowerBounds : Type 0 where
 -- what an entry of these texts says
 abbrev pub entry_of : List ℕ → List (List ℕ) → EntryFields
 entry_of version requirements =
-    record { version = version_of version; python = Some []; requirements = read_each requirement_of requirements; yanked = false; files = [] }
+    record { version = version_of version; python = Some []; requirements = read_each requirement_of requirements; yanked = false; files = []; source = None }
 
 -- the versions of the usable releases
 abbrev pub usable_versions : List EntryFields → List Fields
@@ -173,11 +173,19 @@ pub record UsableEntries : Type 0 where
 
 -- ---- documents
 
+-- a release of this source, or of none
+abbrev pub release_from : ℕ → Option (List ℕ) → ReleaseFields
+release_from n source = record (bare (plain (n ∷ [])) false) { source = source }
+
 -- whole documents, and one of each fault
 pub record DocumentExamples : Type 0 where
   pub empty : document_of (codes "a-b") (codes "{\"name\": \"A.B\", \"versions\": []}") ≡ Ok (record { name = codes "a-b"; entries = 0; prereleases = IfNecessaryOrExplicit; releases = [] })
   pub one : document_of (codes "a") (codes "{\"name\": \"a\", \"versions\": [{\"version\": \"1\", \"yanked\": \"bad\"}]}")
       ≡ Ok (record { name = codes "a"; entries = 1; prereleases = IfNecessaryOrExplicit; releases = bare (plain (1 ∷ [])) true ∷ [] })
+  pub sourced : document_of (codes "a") (codes "{\"name\": \"a\", \"versions\": [{\"version\": \"1\", \"source\": \"My_Index\"}]}")
+      ≡ Ok (record { name = codes "a"; entries = 1; prereleases = IfNecessaryOrExplicit; releases = release_from 1 (Some (codes "my-index")) ∷ [] })
+  pub no_source : document_of (codes "a") (codes "{\"name\": \"a\", \"versions\": [{\"version\": \"1\", \"source\": \"https://x\"}, {\"version\": \"2\", \"source\": 1}]}")
+      ≡ Ok (record { name = codes "a"; entries = 2; prereleases = IfNecessaryOrExplicit; releases = release_from 1 None ∷ release_from 2 None ∷ [] })
   pub unusable : document_of (codes "a") (codes "{\"name\": \"a\", \"versions\": [{\"version\": \"1\", \"requires_dist\": [\"!!\"]}]}")
       ≡ Ok (record { name = codes "a"; entries = 1; prereleases = IfNecessaryOrExplicit; releases = [] })
   pub no_json : document_of (codes "a") (codes "{") ≡ Err not_json

@@ -50,15 +50,16 @@ fn release(entry: Entry) -> Option<Release>
         requirements,
         yanked,
         files,
+        source,
     } = entry;
     let Some(version) = version else {
-        return refused((python, requirements, files));
+        return refused((python, requirements, files, source));
     };
     let Some(python) = python else {
-        return refused((version, requirements, files));
+        return refused((version, requirements, files, source));
     };
     let Some(requirements) = requirements else {
-        return refused((version, python, files));
+        return refused((version, python, files, source));
     };
     Some(Release {
         version,
@@ -66,6 +67,7 @@ fn release(entry: Entry) -> Option<Release>
         requirements,
         yanked,
         files,
+        source,
     })
 }
 
@@ -155,10 +157,11 @@ fn package_in(alloc: Global, name: &Name, document: &Value) -> Result<Package, I
 ///
 /// The document is an object whose `name` is this name and whose `versions` is an array of objects. An entry has a
 /// `version`, and may have `requires_python`, `requires_dist` and `yanked`, as a release has them in the core metadata
-/// and by PEP 592, and `files` with their `sha256`. Other keys are passed over. An entry is a usable release where its
-/// version, its Python bound and its requirements have readings, none of its requirements is one by a URL, and no
-/// earlier entry whose version has a reading has an equal version. An entry that isn't usable never refuses the
-/// document. A document says nothing of pre-releases, so they count as is usual, until a catalog is given another mode.
+/// and by PEP 592, `files` with their `sha256`, and `source`, where the release comes from: a text that is a name;
+/// anything else is as nothing. Other keys are passed over. An entry is a usable release where its version, its Python
+/// bound and its requirements have readings, none of its requirements is one by a URL, and no earlier entry whose
+/// version has a reading has an equal version. An entry that isn't usable never refuses the document. A document says
+/// nothing of pre-releases, so they count as is usual, until a catalog is given another mode.
 ///
 /// `NotJson` comes exactly where `serde_json` doesn't read the bytes. `Shape` names the first place of another shape:
 /// the document, `name` and `versions` first, then, after `WrongName`, each entry with its keys in the order above,

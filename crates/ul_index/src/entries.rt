@@ -3,6 +3,7 @@
 ghost use Rattle.std.specs.Prelude.{◌≡◌, IfOk, is_some};
 ghost use Rattle.serde_json.specs.Find.{as_str};
 ghost use Rattle.serde_json.specs.View.{items_view, view};
+ghost use Rattle.ul_base.specs.Names.{name_of};
 ghost use Rattle.ul_version.specs.Reading.{version_of};
 ghost use Rattle.ul_requirement.specs.Fields.{FilesRise};
 ghost use Rattle.ul_index.specs.Answers.{Gives, entry_with, required_by, requirements_of_values, text_view, value_view};
@@ -18,13 +19,14 @@ use serde_json::Value;
 use std::alloc::{AllocError, Global};
 use std::marker::Model;
 use ul_base::owned::beside;
+use ul_base::{Name, NameFault};
 use ul_ranges::SharedList;
 use ul_requirement::{FileEntry, Requirement};
 use ul_specifier::{SpecFault, Specifiers};
 use ul_version::{Version, VersionFault};
 
 /// What an entry says: its version, the interpreters that it asks for and its requirements, each where its texts have
-/// readings; whether it was withdrawn; and its files in the order of their names.
+/// readings; whether it was withdrawn; its files in the order of their names; and its source, if it names one.
 #[derive(Drop)]
 pub(crate) struct Entry {
     pub version: Option<Version>,
@@ -32,6 +34,7 @@ pub(crate) struct Entry {
     pub requirements: Option<SharedList<Requirement>>,
     pub yanked: bool,
     pub files: Vec<FileEntry>,
+    pub source: Option<Name>,
 }
 
 impl Model for Entry {
@@ -43,9 +46,9 @@ impl Model for Entry {
 
     ghost coded = { Prim.hlevel (codes, formula_code) };
 
-    ghost view = { λ e. record { version = e.version; python = e.python; requirements = e.requirements; yanked = e.yanked; files = e.files.items } };
+    ghost view = { λ e. record { version = e.version; python = e.python; requirements = e.requirements; yanked = e.yanked; files = e.files.items; source = e.source } };
 
-    ghost invariant = { λ e. IsEntry (record { version = e.version; python = e.python; requirements = e.requirements; yanked = e.yanked; files = e.files.items }) };
+    ghost invariant = { λ e. IsEntry (record { version = e.version; python = e.python; requirements = e.requirements; yanked = e.yanked; files = e.files.items; source = e.source }) };
 }
 
 // The version of a text, where it has a reading.
@@ -98,6 +101,27 @@ fn texts_at<'a>(place: Place, value: Option<&'a Value>) -> Result<&'a [Value], I
     Ok(items)
 }
 
+// The name that a text is, if it is one.
+fn name(alloc: Global, text: &str) -> Result<Option<Name>, AllocError>
+    ensures { IfOk result (λ n. name_of text.now ≡ n) }
+{
+    match Name::read(alloc, text) {
+        Ok(name) => Ok(Some(name)),
+        Err(NameFault::NoReading) => Ok(None),
+        Err(NameFault::NoMemory) => Err(AllocError),
+    }
+}
+
+// The source that a value names; none where it is no text, or no name.
+fn source_at(alloc: Global, value: Option<&Value>) -> Result<Option<Name>, AllocError>
+    ensures { IfOk result (λ s. Documents.source_at (value_view value.entry) ≡ s) }
+{
+    match value {
+        Some(Value::String(text)) => name(alloc, text.as_str()),
+        _ => Ok(None),
+    }
+}
+
 // The entry of texts and files.
 fn entry_of<'a>(
     alloc: Global,
@@ -107,23 +131,27 @@ fn entry_of<'a>(
     requirement_texts: &'a [Value],
     yanked: bool,
     files: Vec<FileEntry>,
+    source: Option<&Value>,
 ) -> Result<Entry, AllocError>
     requires { FilesRise files.items }
     ensures { IfOk result (λ e. e ≡ entry_with (version_of version_text.now)
         (Documents.python_of (text_view python_text.entry))
-        (required_by requirement_texts.now) yanked files.items) }
+        (required_by requirement_texts.now) yanked files.items
+        (Documents.source_at (value_view source.entry))) }
 {
     let (files, version) = beside(files, version(alloc, version_text))?;
     let (kept, python) = beside((files, version), python(alloc, python_text))?;
+    let (kept, source) = beside((kept, python), source_at(alloc, source))?;
     let requirements = last.requirements(alloc, requirement_texts);
-    let (kept, requirements) = beside((kept, python), requirements)?;
-    let ((files, version), python) = kept;
+    let (kept, requirements) = beside((kept, source), requirements)?;
+    let (((files, version), python), source) = kept;
     Ok(Entry {
         version,
         python,
         requirements,
         yanked,
         files,
+        source,
     })
 }
 
@@ -146,6 +174,16 @@ pub(crate) fn entry_at<'a>(
     let requirements = texts_at(requirements_place, value.get("requires_dist"))?;
     let yanked = yanked_at(Place::Key(index, EntryKey::Yanked), value.get("yanked"))?;
     let files = files_at(alloc, index, value.get("files"))?;
-    let entry = entry_of(alloc, last, version, python, requirements, yanked, files)?;
+    let source = value.get("source");
+    let entry = entry_of(
+        alloc,
+        last,
+        version,
+        python,
+        requirements,
+        yanked,
+        files,
+        source,
+    )?;
     Ok(entry)
 }

@@ -1,12 +1,16 @@
--- The catalog of a project from its index folder, adjusted by its constraints and overrides, in its mode of pre-releases.
+-- The catalog of a project from its index folder, adjusted by its constraints, overrides and sources, in its mode of
+-- pre-releases.
 use Rattle.std.specs.Prelude.{◌≡◌, ℕ, List, ◌∷◌, ◌++◌, codes, option_map, Option, Some, None, Result, Ok, Err}
+use Rattle.ul_requirement.specs.Fields.{RequirementFields}
 use Rattle.ul_index.specs.Catalogs.{Packages}
 use Rattle.ul_index.specs.Documents.{DocumentFault, not_json, shape, wrong_name}
 use Rattle.ul_index.specs.Places.{place_text}
 use Rattle.ul_index.specs.declared.fault.IndexFault.{IndexFault}
 use Rattle.ul_index.specs.declared.fault.IndexFault.TheVariants.{NotJson, Shape, WrongName, NoMemory}
 use Rattle.ul_project.specs.Fields.{ProjectFields}
-use Rattle.ul_load.specs.Loading.{Beginning, Fault, Found, IsRead, LoadAnswer, beginning_of, document, file_bytes, most_comparisons, most_packages, most_releases, too_long, total_bytes, too_many_bytes, too_many_packages, too_many_releases, too_many_comparisons}
+-- what loading begins with
+pub use Rattle.ul_load.specs.Conditions.{beginning}
+use Rattle.ul_load.specs.Loading.{Fault, Found, IsRead, LoadAnswer, document, file_bytes, most_comparisons, most_packages, most_releases, too_long, total_bytes, too_many_bytes, too_many_packages, too_many_releases, too_many_comparisons}
 use Rattle.ul_load.specs.Faults.{fault_of}
 use Rattle.ul_load.specs.declared.fault.LoadFault.{LoadFault}
 use Rattle.ul_load.specs.declared.fault.LoadFault.TheVariants.{Read}
@@ -44,10 +48,6 @@ abbrev pub IsLoadRefusal : LoadFault → Refusal → Type 0
 IsLoadRefusal (Read path) e = e ≡ ReadFault path
 IsLoadRefusal f e = IsRefusalFor (option_map refused_load (fault_of f)) e
 
--- what loading begins with
-abbrev pub beginning : ProjectFields → Beginning
-beginning p = beginning_of p.package p.environments p.constraints p.overrides
-
 -- what is found, or its fault as a refusal
 abbrev pub found_or_refused : Found Packages → Result Packages Refused
 found_or_refused (Ok c) = Ok c
@@ -70,7 +70,8 @@ documents folder p m = record {
 abbrev pub catalog_in : List ℕ → ProjectFields → Input Packages
 catalog_in folder p = documents folder p >>= λ c. just (Ok (catalog_for p c))
 
--- the catalog begins with the project's package, adjusted and in its mode
+-- the catalog begins with the project's package, adjusted, by some constraints that its sources are, and in its mode
 pub record BeginsAdjusted (p : ProjectFields) (c : Packages) : Type 0 where
+  pub sources : List RequirementFields
   pub others : Packages
-  pub is : c ≡ package_for p p.package ∷ others
+  pub is : c ≡ package_for p sources p.package ∷ others

@@ -70,7 +70,7 @@ fn documents<F: Files>(
     }
 }
 
-// The catalog of the documents, adjusted by the project's constraints and overrides, in its mode of pre-releases.
+// The catalog of the documents, adjusted by the project's constraints, overrides and sources, in its mode of pre-releases.
 #[tactic(auto, using(crate::proofs::ForCallers::refuses, crate::proofs::ForCallers::goes_on, crate::proofs::Usable::adjusted_begins))]
 pub(crate) fn catalog_in<F: Files>(
     alloc: Global,

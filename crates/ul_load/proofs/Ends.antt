@@ -92,8 +92,7 @@ ends_first m folder b (Err f) is = let answer = first_refused m folder b f is in
 ends_first m folder b (Ok s) is =
     let has = within_has (first_progress b) s is in
     let rest = ends_from m folder most_packages s (omega arith) (rw (← has.0) has.1) in
-    let kept = loads_first m folder b s is in
-    ((kept.paths ++ rest.1.0, rest.1.1), kept.rest rest.0 rest.1 rest.2)
+    ((rest.1.0, rest.1.1), (loads_first m folder b s is).rest rest.0 rest.1 rest.2)
 
 pub loading_ends : LoadingEnds
 loading_ends m folder b = ends_first m folder b (within (first_progress b)) refl

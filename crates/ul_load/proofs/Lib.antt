@@ -5,5 +5,7 @@ mod Limits
 mod Growth
 mod Sets
 mod FaultCauses
+mod FaultTexts
 mod Loads
+mod ReadOnce
 mod LoadingExamples

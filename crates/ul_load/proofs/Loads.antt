@@ -20,18 +20,18 @@ not_next : (s : ProgressFields) (more : Bool) → (IsTrue more ↔ HasNext s) �
 not_next s more h e next = let yes : IsTrue false = subst IsTrue e (h.1 next) in cc
 
 -- each name has its package
-pub loaded_whole : (m : FileMap) (folder : List ℕ) (b : Beginning) (s : ProgressFields) (more : Bool) → (IsTrue more ↔ HasNext s) → more ≡ false
-    → IsLoading m folder b s → LoadAnswer m folder b (Ok s.packages)
-loaded_whole m folder b s more h e kept =
+pub loaded_whole : (m : FileMap) (folder : List ℕ) (b : Beginning) (paths : List (List ℕ)) (s : ProgressFields) (more : Bool)
+    → (IsTrue more ↔ HasNext s) → more ≡ false → IsLoading m folder b paths s → LoadAnswer m folder b (Ok s.packages)
+loaded_whole m folder b paths s more h e kept =
     let no : HasNext s → ⊥ = not_next s more h e in
-    loaded m folder b s (omega (arith, no)) kept
+    loaded m folder b paths s (omega (arith, no)) kept
 
 -- a turn refused
-pub follow_refuses : (m : FileMap) (folder : List ℕ) (b : Beginning) (s : ProgressFields) (e : LoadFault) → IsProgress s → HasNext s
+pub follow_refuses : (m : FileMap) (folder : List ℕ) (b : Beginning) (paths : List (List ℕ)) (s : ProgressFields) (e : LoadFault) → IsProgress s → HasNext s
     → IfSome (fault_of e) (λ f. next_progress m folder s ≡ Err f) → IfSome (failed_path e) (λ p. p ≡ document_path folder (next_name s))
-    → IsLoading m folder b s → LoadGives m folder b (Err e)
-follow_refuses m folder b s e progress next told failed kept =
+    → IsLoading m folder b paths s → LoadGives m folder b (Err e)
+follow_refuses m folder b paths s e progress next told failed kept =
     let end = ends_from m folder most_packages s (omega arith) progress.names in (
-      some_fault (fault_of e) _ _ (λ f is. refused m folder b s f next is kept) told,
-      some_fault (failed_path e) _ _ (λ p is. rw is (reads_next m folder b end.0 s end.1 next end.2 kept)) failed,
+      some_fault (fault_of e) _ _ (λ f is. refused m folder b paths s f next is kept) told,
+      some_fault (failed_path e) _ _ (λ p is. rw is (reads_next m folder b paths end.0 s end.1 next end.2 kept)) failed,
     )

@@ -1,9 +1,14 @@
 -- What the faults of loading stand for, and when each comes.
-use Rattle.std.specs.Prelude.{◌≡◌, ◌≤◌, ℕ, List, Option, Some, None, Result, Ok, Err, IfErr, IfSome, string_bytes}
+use Rattle.std.specs.Prelude.{◌≡◌, ◌≤◌, ℕ, List, Option, Some, None, Result, Ok, Err, IfErr, IfSome, String, string_bytes}
+use Rattle.std.specs.declared.alloc.AllocError.{AllocError}
+use Rattle.std.specs.declared.alloc.Global.{Global}
 use Rattle.ul_files.specs.Causes.{Rose}
 use Rattle.ul_files.specs.Files.{FileMap}
+use Rattle.ul_files.specs.declared.files.ReadRefused.{ReadRefused}
+use Rattle.ul_files.specs.declared.files.ReadRefused.TheVariants as read
 use Rattle.ul_index.specs.Catalogs.{Packages}
 use Rattle.ul_index.specs.Documents.{not_json, shape, wrong_name}
+use Rattle.ul_index.specs.declared.fault.IndexFault.{IndexFault}
 use Rattle.ul_index.specs.declared.fault.IndexFault.TheVariants as index
 use Rattle.ul_load.specs.Loading.{Beginning, Fault, Found, IsRead, LoadAnswer, document, too_long, too_many_bytes, too_many_packages, too_many_releases, too_many_comparisons}
 use Rattle.ul_load.specs.declared.fault.LoadFault.{LoadFault}
@@ -64,3 +69,21 @@ abbrev pub LoadGives : FileMap → List ℕ → Beginning → Result Packages Lo
 LoadGives m folder b (Ok c) = LoadAnswer m folder b (Ok c)
 LoadGives m folder b (Err e) =
     IfSome (fault_of e) (λ f. LoadAnswer m folder b (Err f)) × IfSome (failed_path e) (IsRead m folder b)
+
+-- a fault with its path, if there was memory for that
+abbrev pub with_path : (String Global → LoadFault) → Result (String Global) AllocError → LoadFault
+with_path fault (Ok path) = fault path
+with_path fault (Err e) = NoMemory
+
+-- the fault of a file that isn't read
+abbrev pub fault_of_read : Result (String Global) AllocError → ReadRefused → LoadFault
+fault_of_read path read.Failed = with_path Read path
+fault_of_read path read.TooLong = with_path TooLong path
+fault_of_read path read.NoMemory = NoMemory
+
+-- the fault of a document that isn't one of its name
+abbrev pub fault_of_document : Result (String Global) AllocError → IndexFault → LoadFault
+fault_of_document path index.NotJson = with_path (λ p. Document p index.NotJson) path
+fault_of_document path (index.Shape place) = with_path (λ p. Document p (index.Shape place)) path
+fault_of_document path index.WrongName = with_path (λ p. Document p index.WrongName) path
+fault_of_document path index.NoMemory = NoMemory

@@ -1,7 +1,9 @@
 pub mod Headline
 pub mod Loading
+pub mod Conditions
 pub mod Counted
 pub mod Progressing
+pub mod Reads
 pub mod Faults
 pub mod Laws
 pub mod Views

@@ -86,23 +86,31 @@ atoms_in = flat_map atoms_of_requirement
 abbrev pub requirements_of : List ReleaseFields → List RequirementFields
 requirements_of = flat_map (λ r. r.requirements)
 
--- what loading begins with: the project's package, and the environments, the constraints and the overrides, whose
--- comparisons count as the project's own
+-- what loading begins with: the project's package, and the environments, the conditions of its sources, the constraints
+-- and the overrides, whose comparisons count as the project's own
 pub record Beginning : Type 0 where
   pub project : PackageFields
   pub environments : List Formula
+  pub conditions : List Formula
   pub constraints : List RequirementFields
   pub overrides : List RequirementFields
 
 -- the beginning with these
-abbrev pub beginning_of : PackageFields → List Formula → List RequirementFields → List RequirementFields → Beginning
-beginning_of project environments constraints overrides =
-    record { project = project; environments = environments; constraints = constraints; overrides = overrides }
+abbrev pub beginning_of : PackageFields → List Formula → List Formula → List RequirementFields → List RequirementFields
+    → Beginning
+beginning_of project environments conditions constraints overrides = record {
+  project = project;
+  environments = environments;
+  conditions = conditions;
+  constraints = constraints;
+  overrides = overrides;
+}
 
 -- the project's own comparisons
 abbrev pub own_atoms : Beginning → List AtomFields
 own_atoms b = atoms_in (requirements_of b.project.releases)
-    ++ (flat_map atoms_of b.environments ++ (atoms_in b.constraints ++ atoms_in b.overrides))
+    ++ (flat_map atoms_of b.environments
+    ++ (flat_map atoms_of b.conditions ++ (atoms_in b.constraints ++ atoms_in b.overrides)))
 
 -- ---- progress
 

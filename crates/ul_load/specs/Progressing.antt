@@ -22,9 +22,8 @@ HasNext s = length s.packages < length s.names
 abbrev pub HasOneMore : ProgressFields → ProgressFields → Type 0
 HasOneMore before now = length now.packages ≡ length before.packages + 1
 
--- what is loaded from here on is, behind what was read so far, what is loaded from the project on
-pub record IsLoading (m : FileMap) (folder : List ℕ) (b : Beginning) (s : ProgressFields) : Type 0 where
-  pub paths : List (List ℕ)
+-- what is loaded from here on is, behind the paths that were read so far, what is loaded from the project on
+pub record IsLoading (m : FileMap) (folder : List ℕ) (b : Beginning) (paths : List (List ℕ)) (s : ProgressFields) : Type 0 where
   pub rest : (turns : ℕ) (t : Traced Packages) → load_from m folder turns s ≡ Some t → Loads m folder b (paths ++ t.0, t.1)
 
 -- the size of a document and its package, which has the name, and the size fits behind documents of so many bytes

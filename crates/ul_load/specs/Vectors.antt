@@ -1,7 +1,9 @@
 -- Worked examples of loading: what is read, in which order, and what is found.
-use Rattle.std.specs.Prelude.{◌≡◌, ℕ, List, [], ◌∷◌, codes, map, false, Option, None, Some, Ok, Err, option_map}
+use Rattle.std.specs.Prelude.{◌≡◌, ℕ, List, [], ◌∷◌, codes, length, map, false, Option, None, Some, Ok, Err, option_map}
 use Rattle.ul_files.specs.Files.{FileMap}
 use Rattle.ul_version.specs.Fields.{plain}
+use Rattle.ul_comparison.specs.Formulas.{Formula}
+use Rattle.ul_marker.specs.Reading.{marker_of}
 use Rattle.ul_requirement.specs.Fields.{RequirementFields}
 use Rattle.ul_requirement.specs.Reading.{requirement_of}
 use Rattle.ul_requirement.specs.declared.wish.Prereleases.TheVariants.{Allow}
@@ -9,16 +11,22 @@ use Rattle.ul_index.specs.Catalogs.{Packages}
 use Rattle.ul_index.specs.Documents.{shape}
 use Rattle.ul_index.specs.Results.{option_bind, read_each}
 use Rattle.ul_index.specs.declared.place.Place.TheVariants.{Document}
-use Rattle.ul_load.specs.Loading.{Beginning, Found, Traced, beginning_of, document, load_in}
+use Rattle.ul_project.specs.Sources.{SourceFields}
+use Rattle.ul_load.specs.Conditions.{conditions_of}
+use Rattle.ul_load.specs.Loading.{Beginning, Found, Traced, beginning_of, document, first_progress, load_in}
 
--- a project that requires these, without environments, constraints and overrides
-abbrev pub asks : List RequirementFields → Beginning
-asks qs = beginning_of (record {
+-- a project that requires these, with the conditions of its sources, without environments, constraints and overrides
+abbrev pub asks_under : List Formula → List RequirementFields → Beginning
+asks_under conditions qs = beginning_of (record {
   name = codes "demo";
   entries = 1;
   prereleases = Allow;
-  releases = record { version = plain (0 ∷ []); python = []; requirements = qs; yanked = false; files = [] } ∷ [];
-}) [] [] []
+  releases = record { version = plain (0 ∷ []); python = []; requirements = qs; yanked = false; files = []; source = None } ∷ [];
+}) [] conditions [] []
+
+-- one without sources
+abbrev pub asks : List RequirementFields → Beginning
+asks = asks_under []
 
 -- the names of packages, in order
 abbrev pub names_in : Found Packages → Found (List (List ℕ))
@@ -67,3 +75,30 @@ pub record LoadingExamples : Type 0 where
       ≡ Some (codes "ix/a.json" ∷ [], Ok (codes "demo" ∷ codes "a" ∷ []))
   pub refused_document : loading_of (no_document ∷ []) (codes "a" ∷ codes "b" ∷ codes "c" ∷ []) 9
       ≡ Some (codes "ix/a.json" ∷ codes "ix/b.json" ∷ [], Err (document (codes "ix/b.json") (shape Document)))
+
+-- a source of the index `beta`, which counts under a condition
+abbrev pub beta_under : Formula → SourceFields
+beta_under m = record { label = codes "beta"; condition = Some m }
+
+-- a source that counts everywhere
+abbrev pub beta : SourceFields
+beta = record { label = codes "beta"; condition = None }
+
+-- how many comparisons count as the project's own, where it requires these, and `t` has a source for each condition, and
+-- `u` has one more, without a condition
+abbrev pub own_count : List (List ℕ) → List (List ℕ) → Option ℕ
+own_count directs conditions =
+    option_bind (read_each requirement_of directs) (λ qs.
+    option_map (λ ms. length
+    (first_progress (asks_under (conditions_of ((codes "t", map beta_under ms) ∷ (codes "u", beta ∷ []) ∷ [])) qs)).comparisons)
+    (read_each marker_of conditions))
+
+-- the comparisons of conditions, each once, also where a requirement has it too
+pub record ConditionExamples : Type 0 where
+  pub no_condition : own_count (codes "a" ∷ []) [] ≡ Some 0
+  pub one_condition : own_count [] (codes "'x' in platform_version" ∷ []) ≡ Some 1
+  pub two_conditions : own_count [] (codes "'x' in platform_version" ∷ codes "'y' in platform_version" ∷ []) ≡ Some 2
+  pub equal_conditions : own_count [] (codes "'x' in platform_version" ∷ codes "'x' not in platform_version" ∷ []) ≡ Some 1
+  pub required_too : own_count (codes "a; 'x' in platform_version" ∷ []) (codes "'x' in platform_version" ∷ []) ≡ Some 1
+  pub required_other : own_count (codes "a; 'x' in platform_version" ∷ []) (codes "'y' in platform_version" ∷ []) ≡ Some 2
+  pub not_opaque : own_count [] (codes "sys_platform == 'win32'" ∷ []) ≡ Some 0

@@ -1,6 +1,6 @@
 //! Different opaque comparisons.
 
-ghost use Rattle.std.specs.Prelude.{◌≡◌, [], length, map, IfOk, OnOk};
+ghost use Rattle.std.specs.Prelude.{◌≡◌, [], length, map, option_map, IfOk, OnOk};
 ghost use Rattle.std.specs.List.{flat_map};
 ghost use Rattle.std.specs.BTreeSet.{insert_key};
 ghost use Rattle.std.specs.Cmp.{eq_by_cmp_equiv, on_total, partial_equiv_from_equiv, partial_order_from_total};
@@ -10,15 +10,17 @@ ghost use Rattle.ul_comparison.specs.Atoms.{atom_cmp};
 ghost use Rattle.ul_marker.specs.Parts.{atoms_of};
 ghost use Rattle.ul_marker.specs.Views.{marker_view};
 ghost use Rattle.ul_comparison.proofs.ForCallers.{atoms_total};
+ghost use Rattle.ul_requirement.specs.Truth as requirement;
 ghost use Rattle.ul_load.specs.Counted.{has_too_many};
 ghost use Rattle.ul_load.specs.Loading.{atoms_in, comparisons_with, requirements_of};
-ghost use Rattle.ul_load.specs.Views.{atoms_view};
+ghost use Rattle.ul_load.specs.Views.{atoms_of_sources, atoms_view};
 
 use crate::COMPARISONS;
 use std::alloc::{AllocError, Global};
 use std::cmp::Ordering;
 use std::collections::BTreeSet;
 use ul_marker::{Atom, Marker};
+use ul_project::{NameSources, Source};
 use ul_requirement::{Release, Requirement};
 
 /// Different comparisons, in their order.
@@ -73,6 +75,61 @@ impl Comparisons {
     {
         for marker in markers {
             self.add(marker.atoms(alloc)?)?;
+        }
+        Ok(())
+    }
+
+    // Adds the comparisons of a condition, if there is one.
+    fn add_condition(&mut self, alloc: Global, condition: &Option<Marker>) -> Result<(), AllocError>
+        ensures { OnOk result (atoms_view self.new
+            ≡ comparisons_with (atoms_view self.old) (requirement.atoms_in (option_map marker_view condition.now))) }
+    {
+        match condition {
+            Some(marker) => self.add(marker.atoms(alloc)?),
+            None => Ok(()),
+        }
+    }
+
+    // Adds the comparisons of the condition of a source.
+    fn add_source(&mut self, alloc: Global, source: &Source) -> Result<(), AllocError>
+        ensures { OnOk result (atoms_view self.new
+            ≡ comparisons_with (atoms_view self.old) (requirement.atoms_in source.now.condition)) }
+    {
+        let condition: &Option<Marker> = &source.condition;
+        self.add_condition(alloc, condition)
+    }
+
+    // Adds the comparisons of the conditions of a name's sources.
+    fn add_sources_of(&mut self, alloc: Global, sources: &[Source]) -> Result<(), AllocError>
+        ensures { OnOk result (atoms_view self.new
+            ≡ comparisons_with (atoms_view self.old) (atoms_of_sources sources.now)) }
+    {
+        for source in sources {
+            self.add_source(alloc, source)?;
+        }
+        Ok(())
+    }
+
+    // Adds the comparisons of the conditions of the sources of a name.
+    fn add_name(&mut self, alloc: Global, named: &NameSources) -> Result<(), AllocError>
+        ensures { OnOk result (atoms_view self.new
+            ≡ comparisons_with (atoms_view self.old) (atoms_of_sources named.now.1)) }
+    {
+        let sources: &Vec<Source> = &named.sources;
+        self.add_sources_of(alloc, sources)
+    }
+
+    /// Adds the comparisons of the conditions of the sources of names.
+    pub(crate) fn add_sources(
+        &mut self,
+        alloc: Global,
+        sources: &[NameSources],
+    ) -> Result<(), AllocError>
+        ensures { OnOk result (atoms_view self.new
+            ≡ comparisons_with (atoms_view self.old) (flat_map (λ named. atoms_of_sources named.1) sources.now)) }
+    {
+        for named in sources {
+            self.add_name(alloc, named)?;
         }
         Ok(())
     }

@@ -1,12 +1,13 @@
 //! The documents of names.
 
-ghost use Rattle.std.specs.Prelude.{◌≡◌, ◌≤◌, ◌+◌, IfErr, IfOk, length, option_map, string_bytes};
+ghost use Rattle.std.specs.Prelude.{◌≡◌, ◌∷◌, ◌≤◌, ◌+◌, [], IfErr, IfOk, OnOk, length, option_map, string_bytes};
 ghost use Rattle.ul_files.specs.Files.{ByReads, Remembers, content};
 ghost use Rattle.ul_index.specs.Documents.{document_of};
-ghost use Rattle.ul_load.specs.Faults.{Cause, FailedAt, Gives, IsOfBytes};
+ghost use Rattle.ul_load.specs.Faults.{Cause, FailedAt, Gives, IsOfBytes, fault_of_document, fault_of_read};
 ghost use Rattle.ul_load.specs.Loading as spec;
 ghost use Rattle.ul_load.specs.Loading.{file_content, document_answer, document_path, package_from, total_bytes};
 ghost use Rattle.ul_load.specs.Progressing.{IsNextPackage};
+ghost use Rattle.ul_load.specs.Reads.{ReadsEach, ReadsFirst};
 
 use crate::{FILE_BYTES, LoadFault, TOTAL_BYTES};
 use std::alloc::{AllocError, Global};
@@ -24,6 +25,23 @@ fn path_of(alloc: Global, folder: &str, name: &Name) -> Result<String, AllocErro
     Ok(path)
 }
 
+// The fault of a file that isn't read, with its path, if there was memory for that.
+fn fault_of_read(path: Result<String, AllocError>, refused: ReadRefused) -> LoadFault
+    ensures { result ≡ fault_of_read path refused }
+{
+    match refused {
+        ReadRefused::NoMemory => LoadFault::NoMemory,
+        ReadRefused::TooLong => match path {
+            Ok(path) => LoadFault::TooLong(path),
+            Err(_) => LoadFault::NoMemory,
+        },
+        ReadRefused::Failed => match path {
+            Ok(path) => LoadFault::Read(path),
+            Err(_) => LoadFault::NoMemory,
+        },
+    }
+}
+
 // The bytes at a path, if the file is there.
 fn read<F: Files>(alloc: Global, files: &mut F, path: &str) -> Result<Option<Vec<u8>>, LoadFault>
     ensures told { ByReads (F.reads files.new)
@@ -32,12 +50,29 @@ fn read<F: Files>(alloc: Global, files: &mut F, path: &str) -> Result<Option<Vec
     ensures grown { Remembers (F.reads files.old) (F.reads files.new) }
     ensures cause { Cause (F.faults files.old) (F.faults files.new) (F.last_failed files.new) result }
     ensures failed { FailedAt (λ p. p ≡ path.now) result }
+    ensures reads { ReadsEach (F.reads files.old) (F.reads files.new) (path.now ∷ []) }
 {
     match files.read(path, FILE_BYTES) {
         Ok(found) => Ok(found),
-        Err(ReadRefused::NoMemory) => Err(LoadFault::NoMemory),
-        Err(ReadRefused::TooLong) => Err(LoadFault::TooLong(String::from_str(alloc, path)?)),
-        Err(ReadRefused::Failed) => Err(LoadFault::Read(String::from_str(alloc, path)?)),
+        Err(refused) => {
+            let path = String::from_str(alloc, path);
+            Err(fault_of_read(path, refused))
+        }
+    }
+}
+
+// The fault of a document, with its path, if there was memory for that.
+fn fault_of_document(path: Result<String, AllocError>, fault: IndexFault) -> LoadFault
+    ensures { result ≡ fault_of_document path fault }
+{
+    match path {
+        Ok(path) => match fault {
+            IndexFault::NoMemory => LoadFault::NoMemory,
+            IndexFault::NotJson => LoadFault::Document(path, IndexFault::NotJson),
+            IndexFault::Shape(place) => LoadFault::Document(path, IndexFault::Shape(place)),
+            IndexFault::WrongName => LoadFault::Document(path, IndexFault::WrongName),
+        },
+        Err(_) => LoadFault::NoMemory,
     }
 }
 
@@ -48,18 +83,9 @@ fn package_in(alloc: Global, path: &str, name: &Name, bytes: &[u8]) -> Result<Pa
 {
     match document(alloc, bytes, name) {
         Ok(package) => Ok(package),
-        Err(IndexFault::NoMemory) => Err(LoadFault::NoMemory),
-        Err(IndexFault::NotJson) => {
-            let path = String::from_str(alloc, path)?;
-            Err(LoadFault::Document(path, IndexFault::NotJson))
-        }
-        Err(IndexFault::Shape(place)) => {
-            let path = String::from_str(alloc, path)?;
-            Err(LoadFault::Document(path, IndexFault::Shape(place)))
-        }
-        Err(IndexFault::WrongName) => {
-            let path = String::from_str(alloc, path)?;
-            Err(LoadFault::Document(path, IndexFault::WrongName))
+        Err(fault) => {
+            let path = String::from_str(alloc, path);
+            Err(fault_of_document(path, fault))
         }
     }
 }
@@ -116,6 +142,9 @@ pub(crate) fn package_at<F: Files>(
     ensures grown { Remembers (F.reads files.old) (F.reads files.new) }
     ensures cause { Cause (F.faults files.old) (F.faults files.new) (F.last_failed files.new) result }
     ensures failed { FailedAt (λ p. p ≡ document_path folder.now name.now) result }
+    ensures reads { ReadsFirst (F.reads files.old) (F.reads files.new) (document_path folder.now name.now ∷ []) }
+    ensures each { OnOk result (ReadsEach (F.reads files.old) (F.reads files.new)
+        (document_path folder.now name.now ∷ [])) }
     ensures next { IfOk result (IsNextPackage name.now before) }
 {
     let path = path_of(alloc, folder, name)?;

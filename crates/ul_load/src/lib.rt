@@ -8,12 +8,10 @@ pub mod laws;
 mod loading;
 mod met;
 mod progress;
-mod projects;
 
 pub use comparisons::has_too_many_comparisons;
 pub use fault::LoadFault;
-pub use loading::load;
-pub use projects::load_project;
+pub use loading::load_project;
 
 /// The most bytes that an index document may have.
 pub const FILE_BYTES: u64 = 16_777_216;

@@ -1,14 +1,15 @@
 //! Loading.
 
-ghost use Rattle.std.specs.Prelude.{◌≡◌, IfOk, OnOk, length, map};
+ghost use Rattle.std.specs.Prelude.{◌≡◌, ◌∷◌, [], IfOk, OnOk};
 ghost use Rattle.ul_files.specs.Files.{ByReads, Remembers};
-ghost use Rattle.ul_index.specs.Catalogs.{IsCatalog};
-ghost use Rattle.ul_marker.specs.Views.{marker_view};
+ghost use Rattle.ul_index.specs.Catalogs.{IsCatalog, Packages};
 ghost use Rattle.ul_load.specs.Begun.{BeginsWith, KeepsFirst};
+ghost use Rattle.ul_load.specs.Conditions.{beginning};
 ghost use Rattle.ul_load.specs.Faults.{Cause, FailedAt, Gives, LoadGives};
 ghost use Rattle.ul_load.specs.Headline.{LoadPromises};
-ghost use Rattle.ul_load.specs.Loading.{beginning_of, document_path, next_name, next_progress};
+ghost use Rattle.ul_load.specs.Loading.{Loads, Traced, document_path, next_name, next_progress};
 ghost use Rattle.ul_load.specs.Progressing.{HasNext, HasOneMore, IsProgress};
+ghost use Rattle.ul_load.specs.Reads.{ReadsEach, ReadsFirst};
 ghost use Rattle.ul_load.specs.Views.{progress_view};
 
 use crate::documents::package_at;
@@ -17,8 +18,7 @@ use crate::{LoadFault, PACKAGES};
 use std::alloc::Global;
 use ul_files::Files;
 use ul_index::Catalog;
-use ul_marker::Marker;
-use ul_requirement::{Package, Requirement};
+use ul_project::Project;
 
 // Reads the document of the next name.
 fn follow<F: Files>(
@@ -35,6 +35,10 @@ fn follow<F: Files>(
     ensures grown { Remembers (F.reads files.old) (F.reads files.new) }
     ensures cause { Cause (F.faults files.old) (F.faults files.new) (F.last_failed files.new) result }
     ensures failed { FailedAt (λ p. p ≡ document_path folder.now (next_name (progress_view progress.old))) result }
+    ensures reads { ReadsFirst (F.reads files.old) (F.reads files.new)
+        (document_path folder.now (next_name (progress_view progress.old)) ∷ []) }
+    ensures each { OnOk result (ReadsEach (F.reads files.old) (F.reads files.new)
+        (document_path folder.now (next_name (progress_view progress.old)) ∷ [])) }
     ensures kept { OnOk result (IsProgress (progress_view progress.new)) }
     ensures one { OnOk result (HasOneMore (progress_view progress.old) (progress_view progress.new)) }
     ensures first { OnOk result (KeepsFirst (progress_view progress.old).packages
@@ -50,21 +54,18 @@ fn load_all<F: Files>(
     alloc: Global,
     files: &mut F,
     folder: &str,
-    project: &Package,
-    environments: &[Marker],
-    constraints: &[Requirement],
-    overrides: &[Requirement],
+    project: &Project,
 ) -> Result<Catalog, LoadFault>
-    requires { length project.now.releases ≡ 1 }
-    ensures told { ByReads (F.reads files.new) (λ m. LoadGives m folder.now
-        (beginning_of project.now (map marker_view environments.now) constraints.now overrides.now) result) }
+    ensures told { ByReads (F.reads files.new) (λ m. LoadGives m folder.now (beginning project.now) result) }
+    ensures once { ByReads (F.reads files.new) (λ m. (t : Traced Packages) → Loads m folder.now (beginning project.now) t
+        → ReadsFirst (F.reads files.old) (F.reads files.new) t.0) }
     ensures same { F.map files.new ≡ F.map files.old }
     ensures grown { Remembers (F.reads files.old) (F.reads files.new) }
     ensures cause { Cause (F.faults files.old) (F.faults files.new) (F.last_failed files.new) result }
     ensures catalog { IfOk result IsCatalog }
-    ensures first { IfOk result (BeginsWith project.now) }
+    ensures first { IfOk result (BeginsWith project.now.package) }
 {
-    let mut progress = Progress::begin(alloc, project, environments, constraints, overrides)?;
+    let mut progress = Progress::begin(alloc, project)?;
     for _turn in 0..PACKAGES {
         if !progress.has_next() {
             let catalog = progress.catalog(alloc)?;
@@ -77,34 +78,21 @@ fn load_all<F: Files>(
 
 /// The catalog of a project, from the index documents in a folder, or the first fault.
 ///
-/// `project` is the project's package, with its one release; the comparisons of `environments`, `constraints` and `overrides`
-/// count as the project's own. The catalog has the project first, and then each name that a requirement asks for, in
-/// the order in which the names are met; the document of each is read once, at `FOLDER/NAME.json`, and a name without
-/// a document is a package without releases. At each document the faults are looked at in this order: `Read`,
-/// `TooLong`, `TooManyBytes`, `Document`, `TooManyReleases`, `TooManyPackages`, `TooManyAtoms`; the last two also
-/// before the first document.
-pub fn load<F: Files>(
+/// The comparisons of the project's environments, of the conditions of its sources, of its constraints and of its
+/// overrides count as its own. The catalog has the project's package first, and then each name that a requirement asks
+/// for, in the order in which the names are met; the document of each is read once, at `FOLDER/NAME.json`, and a name
+/// without a document is a package without releases. At each document the faults are looked at in this order: `Read`,
+/// `TooLong`, `TooManyBytes`, `Document`, `TooManyReleases`, `TooManyPackages`, `TooManyAtoms`; the last two also before
+/// the first document.
+pub fn load_project<F: Files>(
     alloc: Global,
     files: &mut F,
     folder: &str,
-    project: &Package,
-    environments: &[Marker],
-    constraints: &[Requirement],
-    overrides: &[Requirement],
+    project: &Project,
 ) -> Result<Catalog, LoadFault>
-    requires { length project.now.releases ≡ 1 }
     ensures { LoadPromises (F.map files.old) (F.map files.new) (F.reads files.old) (F.reads files.new)
         (F.faults files.old) (F.faults files.new)
-        (F.last_failed files.new) folder.now
-        (beginning_of project.now (map marker_view environments.now) constraints.now overrides.now) result }
+        (F.last_failed files.new) folder.now (beginning project.now) result }
 {
-    load_all(
-        alloc,
-        files,
-        folder,
-        project,
-        environments,
-        constraints,
-        overrides,
-    )
+    load_all(alloc, files, folder, project)
 }

@@ -1,10 +1,10 @@
 //! What was loaded so far.
 
-ghost use Rattle.std.specs.Prelude.{◌≡◌, ◌∷◌, ◌≤◌, ◌+◌, ◌↔◌, [], IfErr, IfOk, IsTrue, OnOk, length, map};
-ghost use Rattle.ul_marker.specs.Views.{marker_view};
+ghost use Rattle.std.specs.Prelude.{◌≡◌, ◌≢◌, ◌∷◌, ◌≤◌, ◌+◌, ◌↔◌, [], Err, IfErr, IfOk, IsTrue, OnOk, length};
 ghost use Rattle.ul_load.specs.Begun.{BeginsWith, KeepsFirst};
+ghost use Rattle.ul_load.specs.Conditions.{beginning};
 ghost use Rattle.ul_load.specs.Faults.{Gives, IsOfBytes};
-ghost use Rattle.ul_load.specs.Loading.{beginning_of, comparisons_with, first_progress, met_within, names_of, names_with, most_packages, most_releases, next_name, own_atoms, progress_with, requirements_of, total_bytes, within};
+ghost use Rattle.ul_load.specs.Loading.{comparisons_with, first_progress, met_within, names_of, names_with, most_packages, most_releases, next_name, own_atoms, progress_with, requirements_of, total_bytes, within};
 ghost use Rattle.ul_load.specs.Progressing.{HasNext, HasOneMore, IsNextPackage, IsProgress};
 ghost use Rattle.ul_load.specs.Views.{atoms_view, progress_view};
 
@@ -16,6 +16,7 @@ use std::alloc::{AllocError, Global};
 use ul_base::Name;
 use ul_index::Catalog;
 use ul_marker::Marker;
+use ul_project::{NameSources, Project};
 use ul_requirement::{Package, Release, Requirement};
 
 /// The names that were met, the packages of the first of them, the bytes of the documents, how many releases they list,
@@ -43,19 +44,18 @@ fn first_names(alloc: Global, project: &Package) -> Result<IndexSet<Name>, Alloc
 }
 
 // The different comparisons of the project.
-fn own_comparisons(
-    alloc: Global,
-    project: &Package,
-    environments: &[Marker],
-    constraints: &[Requirement],
-    overrides: &[Requirement],
-) -> Result<Comparisons, AllocError>
-    ensures { IfOk result (λ s. atoms_view s ≡ comparisons_with []
-        (own_atoms (beginning_of project.now (map marker_view environments.now) constraints.now overrides.now))) }
+fn own_comparisons(alloc: Global, project: &Project) -> Result<Comparisons, AllocError>
+    ensures { IfOk result (λ s. atoms_view s ≡ comparisons_with [] (own_atoms (beginning project.now))) }
 {
+    let package: &Package = &project.package;
+    let environments: &Vec<Marker> = &project.environments;
+    let sources: &Vec<NameSources> = &project.sources;
+    let constraints: &Vec<Requirement> = &project.constraints;
+    let overrides: &Vec<Requirement> = &project.overrides;
     let mut comparisons = Comparisons::new(alloc);
-    comparisons.add_releases(alloc, project.releases())?;
+    comparisons.add_releases(alloc, package.releases())?;
     comparisons.add_markers(alloc, environments)?;
+    comparisons.add_sources(alloc, sources)?;
     comparisons.add_requirements(alloc, constraints)?;
     comparisons.add_requirements(alloc, overrides)?;
     Ok(comparisons)
@@ -72,23 +72,16 @@ fn first_packages(alloc: Global, project: &Package) -> Result<Vec<Package>, Allo
 
 impl Progress {
     /// The project alone.
-    pub(crate) fn begin(
-        alloc: Global,
-        project: &Package,
-        environments: &[Marker],
-        constraints: &[Requirement],
-        overrides: &[Requirement],
-    ) -> Result<Progress, LoadFault>
-        requires { length project.now.releases ≡ 1 }
-        ensures told { Gives progress_view result (within (first_progress
-            (beginning_of project.now (map marker_view environments.now) constraints.now overrides.now))) }
+    pub(crate) fn begin(alloc: Global, project: &Project) -> Result<Progress, LoadFault>
+        ensures told { Gives progress_view result (within (first_progress (beginning project.now))) }
         ensures kept { IfOk result (λ p. IsProgress (progress_view p)) }
-        ensures first { IfOk result (λ p. BeginsWith project.now (progress_view p).packages) }
+        ensures first { IfOk result (λ p. BeginsWith project.now.package (progress_view p).packages) }
         ensures bytes { IfErr result IsOfBytes }
     {
-        let names = first_names(alloc, project)?;
-        let packages = first_packages(alloc, project)?;
-        let comparisons = own_comparisons(alloc, project, environments, constraints, overrides)?;
+        let package: &Package = &project.package;
+        let names = first_names(alloc, package)?;
+        let packages = first_packages(alloc, package)?;
+        let comparisons = own_comparisons(alloc, project)?;
         let progress = Progress {
             names,
             packages,
@@ -105,6 +98,7 @@ impl Progress {
         ensures told { Gives (λ _. progress_view self.now) result (met_within (progress_view self.now)) }
         ensures names { OnOk result (length (progress_view self.now).names ≤ most_packages) }
         ensures bytes { IfErr result IsOfBytes }
+        ensures sure { result ≢ Err LoadFault.NoMemory }
     {
         if self.names.len() > PACKAGES {
             return Err(LoadFault::TooManyPackages);

@@ -7,7 +7,7 @@ use Rattle.ul_version.specs.Reading.{is_white}
 use Rattle.ul_version.proofs.ForCallers.{bind_some, cond_some, inside}
 use Rattle.ul_specifier.specs.Reading.{clause_with, trimmed_text}
 use Rattle.ul_specifier.specs.declared.clause.Op.{Op}
-use Rattle.ul_specifier.specs.declared.clause.Op.TheVariants.{Equal, Unequal, AtLeast, AtMost, More, Less, Compatible}
+use Rattle.ul_specifier.specs.declared.clause.Op.TheVariants.{Equal, Unequal, AtLeast, AtMost, More, Less, Compatible, Distinct}
 use Rattle.ul_comparison.specs.Atoms.{is_extras, is_text, may_stand}
 use Rattle.ul_comparison.specs.Formulas.{Formula, Formulas, formulas_of, python, python_list, text}
 use Rattle.ul_comparison.specs.declared.variable.AtomKind.{AtomKind}
@@ -64,6 +64,7 @@ text_told v AtLeast literal f n e = one_told (Named v) (opaquely v Kind.Below li
 text_told v AtMost literal f n e = one_told (Named v) (opaquely v Kind.AtMost literal true) f e (opaque_told v Kind.AtMost literal true)
 text_told v More literal f n e = one_told (Named v) (opaquely v Kind.AtMost literal false) f e (opaque_told v Kind.AtMost literal false)
 text_told v Compatible literal f n e = absurd (cc e)
+text_told v Distinct literal f n e = absurd (cc e)
 
 python_told : (v : Variable) (op : Op) (literal : List ℕ) (full : Option Bool) (f : Formula) → is_extras v ≡ false → python_sign v op literal full ≡ Some f → Told (Named v) f
 python_told v op literal None f n e = text_told v op literal f n e
@@ -80,6 +81,7 @@ sign_told Extra AtMost literal f e = absurd (cc e)
 sign_told Extra More literal f e = absurd (cc e)
 sign_told Extra Less literal f e = absurd (cc e)
 sign_told Extra Compatible literal f e = absurd (cc e)
+sign_told Extra Distinct literal f e = absurd (cc e)
 sign_told (Named v) op literal f e =
     let own = none_else (is_extras v) (python_sign v op literal (python_full v)) f e in
     python_told v op literal (python_full v) f own.0 own.1

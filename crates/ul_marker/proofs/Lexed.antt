@@ -7,10 +7,11 @@ use Rattle.std.proofs.lemmas.Bool.{and_from, and_parts, cases_Bool, eq-eqb}
 use Rattle.std.proofs.lemmas.List.{append_assoc}
 use Rattle.std.proofs.lemmas.List.Prefix.{front_rest}
 use Rattle.ul_version.specs.Reading.{begins, is_white}
+use Rattle.ul_specifier.specs.Clauses.{is_exclusion}
 use Rattle.ul_specifier.specs.Grammar.{operator_text}
 use Rattle.ul_specifier.specs.Reading.{after_all, is_blank}
 use Rattle.ul_specifier.specs.declared.clause.Op.{Op}
-use Rattle.ul_specifier.specs.declared.clause.Op.TheVariants.{Equal, Unequal, AtLeast, AtMost, More, Less, Compatible}
+use Rattle.ul_specifier.specs.declared.clause.Op.TheVariants.{Equal, Unequal, AtLeast, AtMost, More, Less, Compatible, Distinct}
 use Rattle.ul_specifier.proofs.ForCallers.{is_equals, operator-read}
 use Rattle.ul_comparison.specs.Atoms.{has_byte, is_literal, is_literal_byte}
 use Rattle.ul_comparison.specs.Printed.{quote_of, quoted_text, variable_name}
@@ -76,15 +77,16 @@ literal-front q literal rest is open_one close_one h =
     rw (open_one, close_one, is, n, drop-front literal (q ∷ rest), take-append_seam literal (q ∷ rest), eq-eqb q q refl) refl
 
 -- a sign in front
-pub sign-front : (op : Op) (rest : List ℕ) → begins is_equals rest ≡ false → front_token (operator_text op ++ rest) ≡ Some (Sign op, rest)
+pub sign-front : (op : Op) (rest : List ℕ) → is_exclusion op ≡ false → begins is_equals rest ≡ false → front_token (operator_text op ++ rest) ≡ Some (Sign op, rest)
 unfolding front_token front_sign
-sign-front Equal rest e = rw (operator-read Equal rest e) refl
-sign-front Unequal rest e = rw (operator-read Unequal rest e) refl
-sign-front AtLeast rest e = rw (operator-read AtLeast rest e) refl
-sign-front AtMost rest e = rw (operator-read AtMost rest e) refl
-sign-front More rest e = rw (operator-read More rest e) refl
-sign-front Less rest e = rw (operator-read Less rest e) refl
-sign-front Compatible rest e = rw (operator-read Compatible rest e) refl
+sign-front Equal rest s e = rw (operator-read Equal rest s e) refl
+sign-front Unequal rest s e = rw (operator-read Unequal rest s e) refl
+sign-front AtLeast rest s e = rw (operator-read AtLeast rest s e) refl
+sign-front AtMost rest s e = rw (operator-read AtMost rest s e) refl
+sign-front More rest s e = rw (operator-read More rest s e) refl
+sign-front Less rest s e = rw (operator-read Less rest s e) refl
+sign-front Compatible rest s e = rw (operator-read Compatible rest s e) refl
+sign-front Distinct rest s e = absurd (true≢false s)
 
 -- ---- whole texts
 
@@ -211,14 +213,15 @@ pub or-front : (rest : List ℕ) → front_token (codes "or" ++ (32 ∷ rest)) �
 unfolding word_token
 or-front rest = word-front 111 (codes "r") (32 ∷ rest) Or refl refl refl
 
-operator-begins : (op : Op) (rest : List ℕ) → begins is_blank (operator_text op ++ rest) ≡ false
-operator-begins Equal rest = refl
-operator-begins Unequal rest = refl
-operator-begins AtLeast rest = refl
-operator-begins AtMost rest = refl
-operator-begins More rest = refl
-operator-begins Less rest = refl
-operator-begins Compatible rest = refl
+operator-begins : (op : Op) (rest : List ℕ) → is_exclusion op ≡ false → begins is_blank (operator_text op ++ rest) ≡ false
+operator-begins Equal rest s = refl
+operator-begins Unequal rest s = refl
+operator-begins AtLeast rest s = refl
+operator-begins AtMost rest s = refl
+operator-begins More rest s = refl
+operator-begins Less rest s = refl
+operator-begins Compatible rest s = refl
+operator-begins Distinct rest s = absurd (true≢false s)
 
 -- ---- comparisons
 
@@ -227,14 +230,14 @@ abbrev pub IsSubject : List ℕ → Token → Type 0
 IsSubject name t = (rest : List ℕ) → begins is_word_byte rest ≡ false → front_token (name ++ rest) ≡ Some (t, rest)
 
 -- a subject, a sign and a literal
-pub signed-lexes : (name : List ℕ) (t : Token) (op : Op) (literal rest : List ℕ) (ts : List Token) → IsSubject name t → is_literal literal ≡ true
+pub signed-lexes : (name : List ℕ) (t : Token) (op : Op) (literal rest : List ℕ) (ts : List Token) → is_exclusion op ≡ false → IsSubject name t → is_literal literal ≡ true
     → Lexes (after_all is_blank rest) ts → Lexes (name ++ (32 ∷ (operator_text op ++ (32 ∷ (quoted_text literal ++ rest))))) (t ∷ Sign op ∷ Literal literal ∷ ts)
-signed-lexes name t op literal rest ts subject h more =
+signed-lexes name t op literal rest ts spelled subject h more =
     let last = lexes-then (quoted_text literal ++ rest) (Literal literal) rest ts (quoted-front literal rest h) more in
     let middle = lexes-next (operator_text op ++ (32 ∷ (quoted_text literal ++ rest))) (Sign op) (quoted_text literal ++ rest) (Literal literal ∷ ts)
-    (sign-front op (32 ∷ (quoted_text literal ++ rest)) refl) (quoted-begins literal rest h) last in
+    (sign-front op (32 ∷ (quoted_text literal ++ rest)) spelled refl) (quoted-begins literal rest h) last in
     lexes-next (name ++ (32 ∷ (operator_text op ++ (32 ∷ (quoted_text literal ++ rest))))) t (operator_text op ++ (32 ∷ (quoted_text literal ++ rest))) (Sign op ∷ Literal literal ∷ ts)
-    (subject (32 ∷ (operator_text op ++ (32 ∷ (quoted_text literal ++ rest)))) refl) (operator-begins op (32 ∷ (quoted_text literal ++ rest))) middle
+    (subject (32 ∷ (operator_text op ++ (32 ∷ (quoted_text literal ++ rest)))) refl) (operator-begins op (32 ∷ (quoted_text literal ++ rest)) spelled) middle
 
 -- `in`, or `not in`
 abbrev pub in_tokens : Bool → List Token

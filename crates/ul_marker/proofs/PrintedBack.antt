@@ -9,7 +9,7 @@ use Rattle.std.proofs.lemmas.List.Elements.{All-cons, All-head, All-nil, All-tai
 use Rattle.ul_version.specs.Fields.{IsVersion, plain}
 use Rattle.ul_version.specs.Reading.{begins, is_white}
 use Rattle.ul_base.specs.Names.{name_of}
-use Rattle.ul_specifier.specs.Clauses.{IsClause}
+use Rattle.ul_specifier.specs.Clauses.{IsClause, IsSpelled, is_exclusion}
 use Rattle.ul_specifier.specs.Grammar.{operator_text}
 use Rattle.ul_specifier.specs.Reading.{after_all, before_all, clause_with, is_blank, trimmed_text}
 use Rattle.ul_specifier.specs.declared.clause.Op.{Op}
@@ -74,11 +74,15 @@ bound-is false major minor patch v = record {
   compatible = λ e. absurd (true≢false (sym e));
 }
 
+bound-spelled : (lower : Bool) (major minor patch : ℕ) → IsSpelled (bound_clause lower major minor patch)
+bound-spelled true major minor patch = refl
+bound-spelled false major minor patch = refl
+
 bound-read : (lower : Bool) (major minor patch : ℕ) → major < 2 ^ 32 → minor < 2 ^ 32 → patch < 2 ^ 32
     → clause_with (bound_op lower) (interpreter_text major minor patch) ≡ Some (bound_clause lower major minor patch)
 bound-read lower major minor patch a b c =
     ap (clause_with (bound_op lower)) (interpreter-version major minor patch)
-    ∙ clause-read (bound_clause lower major minor patch) (bound-is lower major minor patch (interpreter-is major minor patch a b c))
+    ∙ clause-read (bound_clause lower major minor patch) (bound-is lower major minor patch (interpreter-is major minor patch a b c)) (bound-spelled lower major minor patch)
 
 -- ---- what the tokens say
 
@@ -154,11 +158,11 @@ spaced : (name word q rest : List ℕ) → (name ++ ((32 ∷ (word ++ (32 ∷ []
 spaced name word q rest =
     three-parts name (32 ∷ (word ++ (32 ∷ []))) q rest ∙ ap (λ t. name ++ (32 ∷ t)) (append_assoc word (32 ∷ []) (q ++ rest))
 
-signed-text : (name : List ℕ) (t : Token) (op : Op) (literal rest : List ℕ) (ts : List Token) → IsSubject name t → is_literal literal ≡ true
+signed-text : (name : List ℕ) (t : Token) (op : Op) (literal rest : List ℕ) (ts : List Token) → is_exclusion op ≡ false → IsSubject name t → is_literal literal ≡ true
     → Lexes (after_all is_blank rest) ts → Lexes ((name ++ ((32 ∷ (operator_text op ++ (32 ∷ []))) ++ quoted_text literal)) ++ rest) (t ∷ Sign op ∷ Literal literal ∷ ts)
-signed-text name t op literal rest ts subject h more =
+signed-text name t op literal rest ts spelled subject h more =
     subst (λ text. Lexes text (t ∷ Sign op ∷ Literal literal ∷ ts)) (sym (spaced name (operator_text op) (quoted_text literal) rest))
-    (signed-lexes name t op literal rest ts subject h more)
+    (signed-lexes name t op literal rest ts spelled subject h more)
 
 atom-lexes : (kind : AtomKind) (v : Variable) (literal : List ℕ) (holds : Bool) (rest : List ℕ) (ts : List Token) → is_literal literal ≡ true
     → begins is_word_byte rest ≡ false → Lexes (after_all is_blank rest) ts
@@ -175,26 +179,26 @@ atom-lexes Within v literal true rest ts h e more =
 atom-lexes Within v literal false rest ts h e more =
     subst (λ text. Lexes text (atom_tokens Within v literal false ++ ts)) (sym (spaced (variable_name v) (codes "not in") (quoted_text literal) rest))
     (within-lexes (variable_name v) (Named v) false literal rest ts (name-front v) h more)
-atom-lexes Below v literal true rest ts h e more = signed-text (variable_name v) (Named v) Less literal rest ts (name-front v) h more
-atom-lexes Below v literal false rest ts h e more = signed-text (variable_name v) (Named v) AtLeast literal rest ts (name-front v) h more
-atom-lexes AtMostKind v literal true rest ts h e more = signed-text (variable_name v) (Named v) AtMost literal rest ts (name-front v) h more
-atom-lexes AtMostKind v literal false rest ts h e more = signed-text (variable_name v) (Named v) More literal rest ts (name-front v) h more
-atom-lexes Same v literal true rest ts h e more = signed-text (variable_name v) (Named v) Equal literal rest ts (name-front v) h more
-atom-lexes Same v literal false rest ts h e more = signed-text (variable_name v) (Named v) Unequal literal rest ts (name-front v) h more
+atom-lexes Below v literal true rest ts h e more = signed-text (variable_name v) (Named v) Less literal rest ts refl (name-front v) h more
+atom-lexes Below v literal false rest ts h e more = signed-text (variable_name v) (Named v) AtLeast literal rest ts refl (name-front v) h more
+atom-lexes AtMostKind v literal true rest ts h e more = signed-text (variable_name v) (Named v) AtMost literal rest ts refl (name-front v) h more
+atom-lexes AtMostKind v literal false rest ts h e more = signed-text (variable_name v) (Named v) More literal rest ts refl (name-front v) h more
+atom-lexes Same v literal true rest ts h e more = signed-text (variable_name v) (Named v) Equal literal rest ts refl (name-front v) h more
+atom-lexes Same v literal false rest ts h e more = signed-text (variable_name v) (Named v) Unequal literal rest ts refl (name-front v) h more
 
 comparison-lexes : (c : Comparison) → IsComparison c → (rest : List ℕ) (ts : List Token) → begins is_word_byte rest ≡ false
     → Lexes (after_all is_blank rest) ts → Lexes (comparison_text c ++ rest) (printed_tokens c ++ ts)
 unfolding comparison_text atom_text
 comparison-lexes (bound true major minor patch) is rest ts e more =
-    signed-text (variable_name PythonFullVersion) (Named PythonFullVersion) AtLeast (interpreter_text major minor patch) rest ts (name-front PythonFullVersion)
+    signed-text (variable_name PythonFullVersion) (Named PythonFullVersion) AtLeast (interpreter_text major minor patch) rest ts refl (name-front PythonFullVersion)
     (interpreter-literal major minor patch is.0 is.1 is.2) more
 comparison-lexes (bound false major minor patch) is rest ts e more =
-    signed-text (variable_name PythonFullVersion) (Named PythonFullVersion) Less (interpreter_text major minor patch) rest ts (name-front PythonFullVersion)
+    signed-text (variable_name PythonFullVersion) (Named PythonFullVersion) Less (interpreter_text major minor patch) rest ts refl (name-front PythonFullVersion)
     (interpreter-literal major minor patch is.0 is.1 is.2) more
-comparison-lexes (extra_is literal true) is rest ts e more = signed-text (codes "extra") Extra Equal literal rest ts extra-front is.0 more
-comparison-lexes (extra_is literal false) is rest ts e more = signed-text (codes "extra") Extra Unequal literal rest ts extra-front is.0 more
-comparison-lexes (text_is v literal true) is rest ts e more = signed-text (variable_name v) (Named v) Equal literal rest ts (name-front v) is.1 more
-comparison-lexes (text_is v literal false) is rest ts e more = signed-text (variable_name v) (Named v) Unequal literal rest ts (name-front v) is.1 more
+comparison-lexes (extra_is literal true) is rest ts e more = signed-text (codes "extra") Extra Equal literal rest ts refl extra-front is.0 more
+comparison-lexes (extra_is literal false) is rest ts e more = signed-text (codes "extra") Extra Unequal literal rest ts refl extra-front is.0 more
+comparison-lexes (text_is v literal true) is rest ts e more = signed-text (variable_name v) (Named v) Equal literal rest ts refl (name-front v) is.1 more
+comparison-lexes (text_is v literal false) is rest ts e more = signed-text (variable_name v) (Named v) Unequal literal rest ts refl (name-front v) is.1 more
 comparison-lexes (atom_is a holds) is rest ts e more = atom-lexes a.kind a.variable a.literal holds rest ts is.literal e more
 
 -- ---- how texts begin and end

@@ -16,7 +16,7 @@ use Rattle.ul_version.proofs.ForCallers.{versions}
 use Rattle.ul_version.proofs.ForCallers.{cond_some, inside}
 use Rattle.ul_specifier.specs.Reading.{after_all, clause_with, is_blank, operator, trimmed_text}
 use Rattle.ul_specifier.specs.declared.clause.Op.{Op}
-use Rattle.ul_specifier.specs.declared.clause.Op.TheVariants.{Equal, Unequal, AtLeast, AtMost, More, Less, Compatible}
+use Rattle.ul_specifier.specs.declared.clause.Op.TheVariants.{Equal, Unequal, AtLeast, AtMost, More, Less, Compatible, Distinct}
 use Rattle.ul_specifier.proofs.ForCallers.{clause_with-clause}
 use Rattle.ul_comparison.specs.Atoms.{is_extras, is_implementation_version, is_literal, is_literal_byte, is_text, has_byte, may_compare, may_stand}
 use Rattle.ul_marker.specs.Comparisons.{comparison_of, containment, equality, extra_literal, extra_sign, in_sides, is_not_in, literal_of, mirror_sign, opaquely, parts_versions, python_full, python_sign, python_within, sign_formula, signed_sides, text_sign, three, variable_within, versions_of, within}
@@ -173,6 +173,7 @@ extra-formula AtMost literal f h e = absurd (cc e)
 extra-formula More literal f h e = absurd (cc e)
 extra-formula Less literal f h e = absurd (cc e)
 extra-formula Compatible literal f h e = absurd (cc e)
+extra-formula Distinct literal f h e = absurd (cc e)
 
 opaque-formula : (variable : Variable) (kind : AtomKind) (literal : List ℕ) (positive : Bool) (f : Formula) → is_literal literal ≡ true → may_compare kind variable ≡ true → may_stand variable literal ≡ true
     → Some (opaquely variable kind literal positive) ≡ Some f → IsFormula f
@@ -199,6 +200,7 @@ text-formula variable AtLeast literal f h may e = opaque-formula variable Kind.B
 text-formula variable AtMost literal f h may e = opaque-formula variable Kind.AtMost literal true f h may (text_stands variable literal may) e
 text-formula variable More literal f h may e = opaque-formula variable Kind.AtMost literal false f h may (text_stands variable literal may) e
 text-formula variable Compatible literal f h may e = absurd (cc e)
+text-formula variable Distinct literal f h may e = absurd (cc e)
 
 python-formula : (variable : Variable) (op : Op) (literal : List ℕ) (full : Option Bool) (f : Formula) → is_literal literal ≡ true → is_extras variable ≡ false → python_full variable ≡ full
     → python_sign variable op literal full ≡ Some f → IsFormula f

@@ -8,7 +8,7 @@ use Rattle.ul_version.specs.Fields.{Fields}
 use Rattle.ul_version.specs.Reading.{◌>>=◌, version_of}
 use Rattle.ul_specifier.specs.Reading.{clause_with}
 use Rattle.ul_specifier.specs.declared.clause.Op.{Op}
-use Rattle.ul_specifier.specs.declared.clause.Op.TheVariants.{Equal, Unequal, AtLeast, AtMost, More, Less, Compatible}
+use Rattle.ul_specifier.specs.declared.clause.Op.TheVariants.{Equal, Unequal, AtLeast, AtMost, More, Less, Compatible, Distinct}
 use Rattle.ul_comparison.specs.Atoms.{is_extras, is_text, may_stand}
 use Rattle.ul_comparison.specs.Formulas.{Formula, extra, python, python_list, text, opaque}
 use Rattle.ul_comparison.specs.declared.variable.AtomKind.{AtomKind}
@@ -69,7 +69,8 @@ extra_sign other literal = None
 abbrev pub equality : Variable → List ℕ → Bool → Formula
 equality variable literal equal = if is_text variable then text variable literal equal else opaquely variable Kind.Same literal equal
 
--- a text variable or `implementation_version` and a literal: `>=` is the negation of `<`, and `>` of `<=`
+-- a text variable or `implementation_version` and a literal: `>=` is the negation of `<`, and `>` of `<=`; `~=` says
+-- nothing of texts, and an exclusion has no sign
 abbrev pub text_sign : Variable → Op → List ℕ → Option Formula
 text_sign variable Equal literal = Some (equality variable literal true)
 text_sign variable Unequal literal = Some (equality variable literal false)
@@ -78,6 +79,7 @@ text_sign variable AtLeast literal = Some (opaquely variable Kind.Below literal 
 text_sign variable AtMost literal = Some (opaquely variable Kind.AtMost literal true)
 text_sign variable More literal = Some (opaquely variable Kind.AtMost literal false)
 text_sign variable Compatible literal = None
+text_sign variable Distinct literal = None
 
 -- a version of Python, or another variable, and a literal
 abbrev pub python_sign : Variable → Op → List ℕ → Option Bool → Option Formula
@@ -90,7 +92,7 @@ sign_formula Extra op literal = extra_sign op literal
 sign_formula (Named variable) op literal = if is_extras variable then None else python_sign variable op literal (python_full variable)
 sign_formula other op literal = None
 
--- the sign that says the same with its sides exchanged; `~=` has none
+-- the sign that says the same with its sides exchanged; `~=` and an exclusion have none
 abbrev pub mirror_sign : Op → Option Op
 mirror_sign Equal = Some Equal
 mirror_sign Unequal = Some Unequal
@@ -99,6 +101,7 @@ mirror_sign AtMost = Some AtLeast
 mirror_sign More = Some Less
 mirror_sign Less = Some More
 mirror_sign Compatible = None
+mirror_sign Distinct = None
 
 -- a version of Python in a list of versions, or another variable as a substring of a literal
 abbrev pub python_within : Variable → List ℕ → Bool → Option Bool → Option Formula

@@ -62,7 +62,7 @@ fn extra_sign(alloc: Global, op: Op, literal: &Literal) -> Result<Marker, Marker
     match op {
         Op::Equal => extra(alloc, literal, true),
         Op::Unequal => extra(alloc, literal, false),
-        Op::AtLeast | Op::AtMost | Op::More | Op::Less | Op::Compatible => {
+        Op::AtLeast | Op::AtMost | Op::More | Op::Less | Op::Compatible | Op::Distinct => {
             Err(MarkerFault::NoReading)
         }
     }
@@ -128,7 +128,7 @@ fn text_sign(
         Op::AtLeast => opaque(alloc, variable, AtomKind::Below, literal, false),
         Op::AtMost => opaque(alloc, variable, AtomKind::AtMost, literal, true),
         Op::More => opaque(alloc, variable, AtomKind::AtMost, literal, false),
-        Op::Compatible => Err(MarkerFault::NoReading),
+        Op::Compatible | Op::Distinct => Err(MarkerFault::NoReading),
     }
 }
 
@@ -188,7 +188,7 @@ fn mirrored(op: Op) -> Option<Op>
         Op::AtMost => Some(Op::AtLeast),
         Op::More => Some(Op::Less),
         Op::Less => Some(Op::More),
-        Op::Compatible => None,
+        Op::Compatible | Op::Distinct => None,
     }
 }
 

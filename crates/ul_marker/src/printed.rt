@@ -90,7 +90,7 @@ fn is_lower(op: Op) -> Option<bool>
     match op {
         Op::AtLeast => Some(true),
         Op::Less => Some(false),
-        Op::Equal | Op::Unequal | Op::AtMost | Op::More | Op::Compatible => None,
+        Op::Equal | Op::Unequal | Op::AtMost | Op::More | Op::Compatible | Op::Distinct => None,
     }
 }
 

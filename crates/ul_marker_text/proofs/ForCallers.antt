@@ -8,6 +8,6 @@ pub use Rattle.ul_marker_text.proofs.Levels.{printable_readable, truth_readable}
 -- one text, one tree
 pub use Rattle.ul_marker_text.proofs.MarkerTrees.{one_text, star_is_true}
 -- a tree's text as a marker
-pub use Rattle.ul_marker_text.proofs.SaidTruths.{text_reads}
+pub use Rattle.ul_marker_text.proofs.SaidTruths.{node_reads, text_reads}
 -- the bytes of texts
 pub use Rattle.ul_marker_text.proofs.PlainTexts.{marker_plain, marker_10, marker_92}

@@ -17,6 +17,7 @@ pub mod NodeCode
 pub mod TextsRead
 pub mod PlainTexts
 pub mod MarkersRead
+pub mod ReadAnswers
 pub mod ForCallers
 pub mod Mapped
 pub mod Levels

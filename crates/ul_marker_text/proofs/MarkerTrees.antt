@@ -10,7 +10,7 @@ use Rattle.std.proofs.lemmas.Slice.Eq.{bytes_eq-Decides}
 use Rattle.ul_base.specs.Names.{is_name, name_of, normal_form}
 use Rattle.ul_version.specs.Reading.{◌>>=◌}
 use Rattle.ul_specifier.specs.declared.clause.Op.{Op}
-use Rattle.ul_specifier.specs.declared.clause.Op.TheVariants.{Equal as Eq, Unequal, AtLeast, AtMost, More, Less as Lt, Compatible}
+use Rattle.ul_specifier.specs.declared.clause.Op.TheVariants.{Equal as Eq, Unequal, AtLeast, AtMost, More, Less as Lt, Compatible, Distinct}
 use Rattle.ul_comparison.specs.Formulas.{Formula, Formulas, extra, python, python_list, text, opaque, all, any, none, more, formulas_of, IsFormula, AreFormulas, IsExtraLiteral}
 use Rattle.ul_comparison.specs.Printed.{comparison_formula}
 use Rattle.ul_marker.specs.PrintedPaths.{path_formula, paths_formula}
@@ -64,6 +64,7 @@ clause_reduced AtMost release = tt
 clause_reduced More release = tt
 clause_reduced Lt release = bound_reduced false (packed_number (slice_index release 0) (slice_index release 1) (slice_index release 2))
 clause_reduced Compatible release = tt
+clause_reduced Distinct release = tt
 
 reads_itself : (k : List ℕ) → is_name k ≡ true → name_of k ≡ Some (normal_form k)
 unfolding name_of

@@ -2,6 +2,7 @@ pub mod Headline
 pub mod MarkerText
 pub mod MarkerOfText
 pub mod Faults
+pub mod IfRead
 pub mod Examples
 pub mod Printing
 pub mod Rows

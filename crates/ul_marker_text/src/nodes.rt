@@ -10,6 +10,7 @@ ghost use Rattle.ul_nodes.specs.Plain.{Plain, branch, node, carries, text_cmp};
 ghost use Rattle.ul_nodes.specs.Reduced.{Fits};
 ghost use Rattle.ul_tree.specs.TreeFacts.{IsTree};
 ghost use Rattle.ul_tree.specs.Views.{tree_view};
+ghost use Rattle.ul_marker_text.specs.IfRead as if_read;
 ghost use Rattle.ul_marker_text.specs.NodeViews as Views;
 ghost use Rattle.ul_marker_text.specs.NodeViews.{first_level, keys_of_other, others_view, KeyAnswer, KeysAnswer, LiteralAnswer};
 ghost use Rattle.ul_marker_text.specs.Nodes as Nodes;
@@ -31,6 +32,17 @@ use ul_tree::join::closed;
 
 // ---- keys
 
+// Whether a text is the normal form of the name that was read of it.
+fn normal_if_read(text: &str, read: Result<Name, NameFault>) -> Result<bool, AllocError>
+    ensures { result ≡ if_read.normal_if_read text.now read }
+{
+    match read {
+        Ok(name) => Ok(name.text() == text),
+        Err(NameFault::NoReading) => Ok(false),
+        Err(NameFault::NoMemory) => Err(AllocError),
+    }
+}
+
 // Whether a text is an extra: empty, or a name in its normal form.
 fn is_extra(alloc: Global, text: &str) -> Result<bool, AllocError>
     ensures { IfOk result (λ b. IsTrue b ↔ IsExtra text.now) }
@@ -38,13 +50,7 @@ fn is_extra(alloc: Global, text: &str) -> Result<bool, AllocError>
     if text.is_empty() {
         return Ok(true);
     }
-    match Name::read(alloc, text) {
-        Ok(name) => Ok(name.text() == text),
-        Err(fault) => match fault {
-            NameFault::NoReading => Ok(false),
-            NameFault::NoMemory => Err(AllocError),
-        },
-    }
+    normal_if_read(text, Name::read(alloc, text))
 }
 
 // The literal of a comparison, if it has one.

@@ -1,5 +1,6 @@
 //! The paths of a marker that joins paths by `or`, and comparisons by `and`, as texts of trees do.
-ghost use Rattle.std.specs.Prelude.{◌≡◌, ◌∷◌, [], List, IfOk, Err, map};
+ghost use Rattle.std.specs.Prelude.{◌≡◌, ◌∷◌, [], List, IfOk, IfErr, Err, map};
+ghost use Rattle.ul_marker.specs.PrintedViews.{IsNoComparison};
 ghost use Rattle.ul_marker.specs.Views.{marker_view};
 ghost use Rattle.ul_marker.specs.declared.fault.MarkerFault.TheVariants.{NoReading};
 ghost use Rattle.ul_marker_text.specs.Rows.{conjuncts, disjuncts, IsAlone, IsNoRow, IsNoRows};
@@ -10,6 +11,17 @@ use std::alloc::Global;
 use ul_marker::printed::{Comparison, printed_comparison};
 use ul_marker::{Marker, MarkerFault};
 
+// The comparison that a marker is.
+fn comparison_of<'m>(part: &'m Marker) -> Result<Comparison<'m>, MarkerFault>
+    ensures said { IfOk result (λ c. said c ≡ marker_view part.now) }
+    ensures refused { IfErr result (λ fault. (fault ≡ NoReading) × IsNoComparison (marker_view part.now)) }
+{
+    match printed_comparison(part) {
+        None => Err(MarkerFault::NoReading),
+        Some(comparison) => Ok(comparison),
+    }
+}
+
 // The comparisons that markers are.
 fn comparisons<'m>(alloc: Global, parts: &'m [Marker]) -> Result<Vec<Comparison<'m>>, MarkerFault>
     ensures said { IfOk result (λ v. map said v.items ≡ map marker_view parts.now) }
@@ -17,9 +29,9 @@ fn comparisons<'m>(alloc: Global, parts: &'m [Marker]) -> Result<Vec<Comparison<
 {
     let mut found = Vec::new(alloc);
     for part in parts {
-        match printed_comparison(part) {
-            None => return Err(MarkerFault::NoReading),
-            Some(comparison) => found.push(comparison)?,
+        match comparison_of(part) {
+            Ok(comparison) => found.push(comparison)?,
+            Err(fault) => return Err(fault),
         }
     }
     Ok(found)
@@ -30,12 +42,12 @@ fn comparison<'m>(alloc: Global, part: &'m Marker) -> Result<Vec<Comparison<'m>>
     ensures said { IfOk result (λ v. map said v.items ≡ marker_view part.now ∷ []) }
     ensures refused { result ≡ Err NoReading → IsNoRow (marker_view part.now ∷ []) }
 {
-    match printed_comparison(part) {
-        None => Err(MarkerFault::NoReading),
-        Some(comparison) => {
+    match comparison_of(part) {
+        Ok(comparison) => {
             let found = vec![in alloc; comparison]?;
             Ok(found)
         }
+        Err(fault) => Err(fault),
     }
 }
 

@@ -1,15 +1,17 @@
 //! The text of a tree, both ways.
-ghost use Rattle.std.specs.Prelude.{◌≡◌, ◌≢◌, ℕ, List, [], IfOk, IfErr, Err, Some, true, false, string_bytes, option_map};
+ghost use Rattle.std.specs.Prelude.{◌≡◌, ◌≢◌, ◌≤◌, ◌<◌, ◌&&◌, ℕ, List, [], IfOk, IfErr, Err, Some, true, false, length, not, string_bytes, option_map};
 ghost use Rattle.std.specs.Str.{bytes_eq};
 ghost use Rattle.ul_marker.specs.Reading.{printed_marker_of};
 ghost use Rattle.ul_marker.specs.Views.{marker_view};
 ghost use Rattle.ul_marker.specs.declared.fault.MarkerFault.TheVariants.{NoReading};
+ghost use Rattle.ul_tree.specs.FirstParts.{is_false as is_false_plain};
 ghost use Rattle.ul_tree.specs.Paths.{is_printable as is_printable_plain};
 ghost use Rattle.ul_nodes.specs.Plain.{Plain, truth};
 ghost use Rattle.ul_nodes.specs.Reduced.{IsReduced};
 ghost use Rattle.ul_tree.specs.TreeFacts.{IsTree};
 ghost use Rattle.ul_tree.specs.Views.{tree_view};
 ghost use Rattle.ul_marker_text.specs.Faults.{IsTextFault};
+ghost use Rattle.ul_marker_text.specs.IfRead as if_read;
 ghost use Rattle.ul_marker_text.specs.MarkerOfText as spec;
 ghost use Rattle.ul_marker_text.specs.MarkerOfText.{is_readable, marker_of_text};
 ghost use Rattle.ul_marker_text.specs.MarkerText.{marker_text};
@@ -23,7 +25,7 @@ use crate::printing::print;
 use crate::rows::rows;
 use crate::steps::{Step, steps};
 use std::alloc::{AllocError, Global};
-use ul_base::owned::{beside, refused};
+use ul_base::owned::refused;
 use ul_marker::printed::Comparison;
 use ul_marker::{Marker, MarkerFault};
 use ul_tree::part::{asks_extra, is_false, known, truth_value};
@@ -47,7 +49,8 @@ fn whole_text(alloc: Global, tree: &Tree) -> Result<String, AllocError>
 ///
 /// # Errors
 ///
-/// `TooLong` exactly where more than 4,096 paths lead to true, or one has more than 512 nodes.
+/// `TooLong` exactly where more than 4,096 paths lead to true, or one has more than 512 nodes: no memory is taken before
+/// that is known.
 pub fn text(alloc: Global, tree: &Tree) -> Result<String, TextFault>
     requires reduced { IsReduced (tree_view tree.now) }
     requires not_false { tree_view tree.now ≢ truth false }
@@ -62,6 +65,17 @@ pub fn text(alloc: Global, tree: &Tree) -> Result<String, TextFault>
     Ok(text)
 }
 
+// A path, if it hasn't too many steps.
+fn path_if_short<'r, 'm>(path: Vec<Step<'r, 'm>>) -> Result<Vec<Step<'r, 'm>>, MarkerFault>
+    ensures short { IfOk result (λ short. (short ≡ path.entry) × (length short.items ≤ 512)) }
+    ensures long { IfErr result (λ fault. (fault ≡ NoReading) × (512 < length path.entry.items)) }
+{
+    if path.len() > MOST_LEVELS {
+        return Err(MarkerFault::NoReading);
+    }
+    Ok(path)
+}
+
 // The steps of paths, if none has too many.
 fn paths_of_rows<'r, 'm>(
     alloc: Global,
@@ -74,10 +88,11 @@ fn paths_of_rows<'r, 'm>(
     let mut found = Vec::new(alloc);
     for row in rows {
         let path = steps(alloc, row)?;
-        if path.len() > MOST_LEVELS {
-            return Err(MarkerFault::NoReading);
-        }
-        found.push(path)?;
+        let short = match path_if_short(path) {
+            Ok(short) => short,
+            Err(fault) => return Err(fault),
+        };
+        found.push(short)?;
     }
     Ok(found)
 }
@@ -127,13 +142,34 @@ fn regrouped(alloc: Global, text: &str) -> Result<Tree, MarkerFault>
     }
 }
 
-// Whether a tree has this text.
+// Whether a tree has this text; one that is false everywhere has none.
 fn has_text(alloc: Global, tree: &Tree, text: &str) -> Result<bool, AllocError>
     requires { IsTree tree.now }
-    ensures { IfOk result (λ b. b ≡ bytes_eq (marker_text (tree_view tree.now)) text.now) }
+    ensures { IfOk result (λ b. b ≡ not (is_false_plain (tree_view tree.now))
+        && bytes_eq (marker_text (tree_view tree.now)) text.now) }
 {
+    if is_false(tree) {
+        return Ok(false);
+    }
     let again = whole_text(alloc, tree)?;
     Ok(again.as_str() == text)
+}
+
+// A tree, if it was told to have the text that is read.
+fn tree_if_spelled(tree: Tree, told: Result<bool, AllocError>) -> Result<Tree, MarkerFault>
+    ensures { result ≡ if_read.tree_if_spelled tree told }
+{
+    match told {
+        Ok(true) => Ok(tree),
+        Ok(false) => {
+            drop(tree);
+            Err(MarkerFault::NoReading)
+        }
+        Err(_) => {
+            drop(tree);
+            Err(MarkerFault::NoMemory)
+        }
+    }
 }
 
 /// The tree whose text this is.
@@ -157,17 +193,8 @@ pub fn read(alloc: Global, text: &str) -> Result<Tree, MarkerFault>
         Ok(tree) => tree,
         Err(fault) => return Err(fault),
     };
-    if is_false(&tree) {
-        drop(tree);
-        return Err(MarkerFault::NoReading);
-    }
     let told = has_text(alloc, &tree, text);
-    let (tree, has_text) = beside(tree, told)?;
-    if has_text {
-        return Ok(tree);
-    }
-    drop(tree);
-    Err(MarkerFault::NoReading)
+    tree_if_spelled(tree, told)
 }
 
 // Whether a tree is neither true nor false everywhere, and asks for no extra.
@@ -175,6 +202,22 @@ fn is_region(tree: &Tree) -> bool
     ensures { result ≡ spec.is_region (tree_view tree.now) }
 {
     truth_value(tree).is_none() && !asks_extra(tree)
+}
+
+// The tree that was read, if it is a region.
+fn region_if_read(read: Result<Tree, MarkerFault>) -> Result<Option<Tree>, AllocError>
+    ensures { result ≡ if_read.region_if_read read }
+{
+    match read {
+        Ok(tree) => {
+            if is_region(&tree) {
+                return Ok(Some(tree));
+            }
+            Ok(refused(tree))
+        }
+        Err(MarkerFault::NoReading) => Ok(None),
+        Err(MarkerFault::NoMemory) => Err(AllocError),
+    }
 }
 
 /// The tree whose text this is, where it is neither true nor false everywhere, asks for no extra, and has at most 512
@@ -189,16 +232,5 @@ pub fn read_marker(alloc: Global, bytes: &[u8]) -> Result<Option<Tree>, AllocErr
     let Ok(text) = str::from_utf8(bytes) else {
         return Ok(None);
     };
-    match read(alloc, text) {
-        Ok(tree) => {
-            if is_region(&tree) {
-                return Ok(Some(tree));
-            }
-            Ok(refused(tree))
-        }
-        Err(fault) => match fault {
-            MarkerFault::NoReading => Ok(None),
-            MarkerFault::NoMemory => Err(AllocError),
-        },
-    }
+    region_if_read(read(alloc, text))
 }

@@ -10,7 +10,7 @@ use Rattle.std.proofs.lemmas.List.{length-take-le, take_all}
 use Rattle.ul_version.specs.Fields.{Fields, is_pre_of, is_post_of, without_local}
 use Rattle.ul_version.specs.Order.{has_release_front, release_cmp, suffix_cmp, version_cmp}
 use Rattle.ul_version.specs.declared.fields.Segment.{Segment}
-use Rattle.ul_specifier.specs.Clauses.{ClauseFields, IsClause, has_local, is_equality, is_filled}
+use Rattle.ul_specifier.specs.Clauses.{ClauseFields, IsClause, has_local, is_filled, may_have_local}
 use Rattle.ul_specifier.specs.Meaning.{is_at_least, is_less, is_more, is_of_release, matches, meets_clause, meets_op}
 use Rattle.ul_specifier.specs.declared.clause.Op.{Op}
 use Rattle.ul_specifier.specs.declared.clause.Op.TheVariants as op
@@ -75,12 +75,17 @@ unequal_meets s part v h f e =
     (λ i c. not (equals_by (h i) (f i) c))
     ∙ of_op s op.Unequal (λ c. not (equals_by (equality_part s) s.version c)) e (λ c. ap not (matches_is s.version c s.prefix))
 
+-- the exclusion of V
+pub distinct_meets : (s : ClauseFields) (v : Fields) → v ≡ s.version → s.op ≡ op.Distinct → (λ c. not (equals_by Whole v c)) ≡ meets_clause s
+distinct_meets s v f e =
+    (λ i c. not (equals_by Whole (f i) c)) ∙ of_op s op.Distinct (λ c. not (equals_by Whole s.version c)) e (λ c. refl)
+
 -- ---- `>=`, `<=` and `~=`
 
--- only `==` and `!=` have local parts
-no_local : (s : ClauseFields) → IsClause s → is_equality s.op ≡ false → has_local s.version ≡ false
+-- only `==`, `!=` and exclusions have local parts
+no_local : (s : ClauseFields) → IsClause s → may_have_local s.op ≡ false → has_local s.version ≡ false
 no_local s is e = elim (cases_Bool (has_local s.version)) [
-  | inl h ↦ absurd (both_ways (is_equality s.op) e (is.local h))
+  | inl h ↦ absurd (both_ways (may_have_local s.op) e (is.local h))
   | inr h ↦ h
 ]
 
@@ -89,17 +94,17 @@ from_is v c h = ap (λ (w : Fields). not (is_lt (version_cmp (without_local c) w
 
 -- `>=V`
 pub from_meets : (s : ClauseFields) (v : Fields) → IsClause s → v ≡ s.version → s.op ≡ op.AtLeast → is_from v ≡ meets_clause s
-from_meets s v is f e = ap is_from f ∙ of_op s op.AtLeast (is_from s.version) e (λ c. from_is s.version c (no_local s is (ap is_equality e)))
+from_meets s v is f e = ap is_from f ∙ of_op s op.AtLeast (is_from s.version) e (λ c. from_is s.version c (no_local s is (ap may_have_local e)))
 
 -- `<=V`
 pub up_to_meets : (s : ClauseFields) (v : Fields) → IsClause s → v ≡ s.version → s.op ≡ op.AtMost → is_up_to v ≡ meets_clause s
 up_to_meets s v is f e = ap is_up_to f ∙ of_op s op.AtMost (is_up_to s.version) e (λ c.
-    ap (λ (w : Fields). not (is_gt (version_cmp (without_local c) w))) (bare s.version (no_local s is (ap is_equality e))))
+    ap (λ (w : Fields). not (is_gt (version_cmp (without_local c) w))) (bare s.version (no_local s is (ap may_have_local e))))
 
 -- `~=V`
 pub compatible_meets : (s : ClauseFields) (v : Fields) → IsClause s → v ≡ s.version → s.op ≡ op.Compatible → is_compatible_with v ≡ meets_clause s
 compatible_meets s v is f e = ap is_compatible_with f ∙ of_op s op.Compatible (is_compatible_with s.version) e (λ c.
-    ap (λ (b : Bool). b && equals_by (Prefix (length s.version.release - 1)) s.version c) (from_is s.version c (no_local s is (ap is_equality e)))
+    ap (λ (b : Bool). b && equals_by (Prefix (length s.version.release - 1)) s.version c) (from_is s.version c (no_local s is (ap may_have_local e)))
     ∙ ap (λ (b : Bool). is_at_least s.version c && b) (begins_is (length s.version.release - 1) s.version c (omega arith)))
 
 -- ---- `>` and `<`
@@ -165,6 +170,7 @@ strict_before op.AtMost v c p n h = cc
 strict_before op.More v c p n h = more_before v c (comes_before v c h)
 strict_before op.Less v c p n h = less_before v c (comes_before v c h) (not_before v c h)
 strict_before op.Compatible v c p n h = cc
+strict_before op.Distinct v c p n h = cc
 
 strict_after : (o : Op) (v c : Fields) (p : Bool) → is_strict o ≡ true → side Release v c ≡ Greater → meets_op o v p c ≡ admits_after o
 strict_after op.Equal v c p n h = cc
@@ -174,6 +180,7 @@ strict_after op.AtMost v c p n h = cc
 strict_after op.More v c p n h = more_after v c (comes_after v c h) (not_after v c h)
 strict_after op.Less v c p n h = less_after v c (comes_after v c h)
 strict_after op.Compatible v c p n h = cc
+strict_after op.Distinct v c p n h = cc
 
 -- a strict clause treats all versions before its version's release alike
 pub met_before : (s : ClauseFields) (c : Fields) → is_strict s.op ≡ true → side Release s.version c ≡ Less → meets_clause s c ≡ not (admits_after s.op)

@@ -6,7 +6,7 @@ use Rattle.ul_version.specs.Fields.{Fields}
 use Rattle.ul_specifier.specs.Clauses.{ClauseFields, has_local}
 use Rattle.ul_specifier.specs.Meaning.{meets_clause}
 use Rattle.ul_specifier.specs.declared.clause.Op.{Op}
-use Rattle.ul_specifier.specs.declared.clause.Op.TheVariants.{Equal, Unequal, AtLeast, AtMost, More, Less, Compatible}
+use Rattle.ul_specifier.specs.declared.clause.Op.TheVariants.{Equal, Unequal, AtLeast, AtMost, More, Less, Compatible, Distinct}
 use Rattle.ul_ranges.specs.Flags.{both, either, less}
 use Rattle.ul_prepared.specs.Parts.{side}
 use Rattle.ul_prepared.specs.declared.clauses.Operation.{Operation}
@@ -30,7 +30,7 @@ is_up_to V c = not (is_gt (side Public V c))
 abbrev pub is_compatible_with : Fields → Fields → Bool
 is_compatible_with V c = is_from V c && equals_by (Prefix (length V.release - 1)) V c
 
--- by which part `==` and `!=` compare
+-- by which part `==` and `!=` compare; an exclusion compares by the whole
 abbrev pub equality_part : ClauseFields → Part
 equality_part s = if s.prefix then Prefix (length s.version.release) else if has_local s.version then Whole else Public
 
@@ -43,6 +43,7 @@ is_strict AtMost = false
 is_strict More = true
 is_strict Less = true
 is_strict Compatible = false
+is_strict Distinct = false
 
 -- whether an operator is `>`: of the two it admits the versions after its version's release, and `<` those before it
 abbrev pub admits_after : Op → Bool
@@ -53,6 +54,7 @@ admits_after AtMost = false
 admits_after More = true
 admits_after Less = false
 admits_after Compatible = false
+admits_after Distinct = false
 
 -- whether there is a version that meets the clause
 abbrev pub is_met : ClauseFields → Option Fields → Bool

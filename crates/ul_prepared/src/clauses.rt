@@ -235,6 +235,7 @@ fn clause_set(alloc: Global, clause: &Clause, versions: &[Version]) -> Result<Or
         Op::AtMost => set_up_to(alloc, version, versions),
         Op::Compatible => compatible_set(alloc, version, versions),
         Op::More | Op::Less => strict_set(alloc, clause, versions),
+        Op::Distinct => unequal_set(alloc, Part::Whole, version, versions),
     }
 }
 

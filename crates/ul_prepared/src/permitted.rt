@@ -11,7 +11,7 @@ use ul_base::owned::beside;
 use ul_ranges::Ordinals;
 use ul_requirement::same_specifiers;
 use ul_specifier::{Clause, Op, Specifiers};
-use ul_version::Version;
+use ul_version::{Segment, Version};
 
 /// The versions of a name that specifiers permit.
 #[derive(Drop)]
@@ -53,6 +53,7 @@ fn number_of(op: Op) -> u64 {
         Op::AtLeast => 5,
         Op::Less => 6,
         Op::More => 7,
+        Op::Distinct => 8,
     }
 }
 
@@ -66,6 +67,29 @@ fn suffix_print(seed: u64, version: &Version) -> u64 {
     mixed(print, version.dev.unwrap_or(0))
 }
 
+// A number of a part of a local part.
+fn segment_print(seed: u64, segment: &Segment) -> u64 {
+    match segment {
+        Segment::Number(number) => mixed(seed, *number),
+        Segment::Word(word) => {
+            let mut print = seed;
+            for byte in word.as_str().as_bytes() {
+                print = mixed(print, *byte as u64);
+            }
+            print
+        }
+    }
+}
+
+// A number of a local part, by which alone exclusions often differ.
+fn local_print(seed: u64, version: &Version) -> u64 {
+    let mut print = seed;
+    for segment in &version.local {
+        print = segment_print(print, segment);
+    }
+    print
+}
+
 // A number of a clause: equal clauses have equal ones, and others mostly not.
 fn print_of(seed: u64, clause: &Clause) -> u64 {
     let version: &Version = &clause.version;
@@ -73,7 +97,7 @@ fn print_of(seed: u64, clause: &Clause) -> u64 {
     for number in &version.release {
         print = mixed(print, *number);
     }
-    suffix_print(print, version)
+    local_print(suffix_print(print, version), version)
 }
 
 // A number of specifiers on a name: equal ones have equal ones, and others mostly not.

@@ -1,5 +1,5 @@
 -- What was read, before what is left to read; and parts that are refused.
-use Rattle.std.proofs.Common.{◌≡◌, ◌++◌, ◌+◌, ℕ, List, [], ◌∷◌, refl, ap, sym, append_assoc, append-nil}
+use Rattle.std.proofs.Common.{◌≡◌, ◌++◌, ◌+◌, ℕ, List, [], ◌∷◌, refl, ap, sym, ◌∙◌, append_assoc, append-nil}
 use Rattle.std.proofs.lemmas.Result.{err_from_is_err_and}
 use Rattle.std.specs.Prelude.{Result, Ok, Err, IsErrAnd}
 use Rattle.ul_project.specs.Answers.{Gives}
@@ -51,7 +51,8 @@ read_handed_on view view' read fault answer part whole is of given refused =
 abbrev pub behind : {B : Type 0} → List B → Reading (List B) → Reading (List B)
 behind found rest = rest >>= λ ys. Ok (found ++ ys)
 
-then_one : {B : Type 0} (found : List B) (y : B) (rest : Reading (List B)) → behind found (rest >>= λ ys. Ok (y ∷ ys)) ≡ behind (found ++ y ∷ []) rest
+-- one more stands behind what was found
+pub then_one : {B : Type 0} (found : List B) (y : B) (rest : Reading (List B)) → behind found (rest >>= λ ys. Ok (y ∷ ys)) ≡ behind (found ++ y ∷ []) rest
 then_one found y (Ok ys) = ap Ok (sym (append_assoc found (y ∷ []) ys))
 then_one found y (Err e) = refl
 
@@ -76,3 +77,28 @@ each-fault read i found x xs f e = rw e refl
 pub each-end : {A B : Type 0} (read : ℕ → A → Reading B) (i : ℕ) (found : List B) → behind found (each_from read i []) ≡ Ok found
 unfolding each_from
 each-end read i found = ap Ok (append-nil found)
+
+-- ---- reading that doesn't look at the numbers
+
+module _ {A B : Type 0} (read : A → Reading B) where
+  -- what is read, whatever the first number is
+  any_number : (i j : ℕ) (xs : List A) → each_from (λ n. read) i xs ≡ each_from (λ n. read) j xs
+  unfolding each_from
+  any_number i j [] = refl
+  any_number i j (x ∷ xs) = ap (λ rest. read x >>= λ y. rest >>= λ ys. Ok (y ∷ ys)) (any_number (i + 1) (j + 1) xs)
+
+  -- one more is read
+  pub unnumbered-next : (found after : List B) (before rest : List A) (x : A) (y : B) → before ≡ x ∷ rest → read x ≡ Ok y → after ≡ found ++ y ∷ []
+      → behind found (each_from (λ n. read) 0 before) ≡ behind after (each_from (λ n. read) 0 rest)
+  unnumbered-next found after before rest x y b e s =
+      ap (λ xs. behind found (each_from (λ n. read) 0 xs)) b ∙ each-next (λ n. read) 0 found after x rest y e s
+      ∙ ap (behind after) (any_number 1 0 rest)
+
+  -- one is refused
+  pub unnumbered-fault : (found : List B) (before rest : List A) (x : A) (f : Fault) → before ≡ x ∷ rest → read x ≡ Err f
+      → behind found (each_from (λ n. read) 0 before) ≡ Err f
+  unnumbered-fault found before rest x f b e = ap (λ xs. behind found (each_from (λ n. read) 0 xs)) b ∙ each-fault (λ n. read) 0 found x rest f e
+
+  -- nothing is left
+  pub unnumbered-end : (found : List B) (before : List A) → before ≡ [] → behind found (each_from (λ n. read) 0 before) ≡ Ok found
+  unnumbered-end found before b = ap (λ xs. behind found (each_from (λ n. read) 0 xs)) b ∙ each-end (λ n. read) 0 found

@@ -6,6 +6,7 @@ mod GroupExtras
 mod ExtraMarkers
 mod GroupNames
 mod DevGroup
+mod SourceNames
 mod Regions
 mod ProjectRegions
 mod NoFiles

@@ -1,39 +1,30 @@
--- Lists that were put in order, before those that are left to read.
-use Rattle.std.proofs.Common.{◌≡◌, ◌||◌, ◌∙◌, not, ℕ, List, [], ◌∷◌, fold, Bool, true, false, Option, Some, refl, is_some, cond}
+-- Lists that were read, or put in order, before those that are left.
+use Rattle.std.proofs.Common.{◌≡◌, ◌++◌, ◌||◌, ◌∙◌, not, ℕ, List, [], ◌∷◌, Bool, true, false, Option, Some, refl, ap, sym, append-nil, is_some, cond}
 use Rattle.std.specs.Prelude.{Ok, Err}
 use Rattle.std.specs.BTreeMap.{is_at}
 use Rattle.std.specs.Map.{lookup}
 use Rattle.toml.specs.Data.{Data, Members, no_members, member}
 use Rattle.ul_base.specs.Names.{name_cmp}
-use Rattle.ul_project.specs.Lists.{Named, group_extra, has_name, is_new, list_at, lists_in, names_of, put_list}
-use Rattle.ul_project.specs.Results.{◌>>=◌}
+use Rattle.ul_project.specs.Lists.{Named, group_extra, has_name, is_new, list_at, lists_in, names_of}
 use Rattle.ul_project.specs.Shapes.{Fault, Reading}
-
--- lists that were put in order, and those that are read of the rest, put among them
-abbrev pub put_behind : {L : Type 0} → List (Named L) → Reading (List (Named L)) → Reading (List (Named L))
-put_behind found rest = rest >>= λ lists. Ok (fold put_list found lists)
-
-put_one : {L : Type 0} (found : List (Named L)) (list : Named L) (rest : Reading (List (Named L)))
-    → put_behind found (rest >>= λ lists. Ok (list ∷ lists)) ≡ put_behind (put_list found list) rest
-put_one found list (Ok lists) = refl
-put_one found list (Err e) = refl
+use Rattle.ul_project.proofs.EachRead.{behind, then_one}
 
 -- one more list is read
 pub lists-next : {L : Type 0} (no_name : Fault) (read : List ℕ → Option Data → Reading L) (found after : List (Named L)) (key : List ℕ) (d : Data) (ms : Members) (list : Named L)
-    → list_at no_name read key d ≡ Ok list → after ≡ put_list found list → put_behind found (lists_in no_name read (member key d ms)) ≡ put_behind after (lists_in no_name read ms)
+    → list_at no_name read key d ≡ Ok list → after ≡ found ++ list ∷ [] → behind found (lists_in no_name read (member key d ms)) ≡ behind after (lists_in no_name read ms)
 unfolding lists_in
-lists-next no_name read found after key d ms list e s = rw (e, s) (put_one found list (lists_in no_name read ms))
+lists-next no_name read found after key d ms list e s = rw (e, s) (then_one found list (lists_in no_name read ms))
 
 -- one list is refused
 pub lists-fault : {L : Type 0} (no_name : Fault) (read : List ℕ → Option Data → Reading L) (found : List (Named L)) (key : List ℕ) (d : Data) (ms : Members) (f : Fault)
-    → list_at no_name read key d ≡ Err f → put_behind found (lists_in no_name read (member key d ms)) ≡ Err f
+    → list_at no_name read key d ≡ Err f → behind found (lists_in no_name read (member key d ms)) ≡ Err f
 unfolding lists_in
 lists-fault no_name read found key d ms f e = rw e refl
 
 -- no list is left
-pub lists-end : {L : Type 0} (no_name : Fault) (read : List ℕ → Option Data → Reading L) (found : List (Named L)) → put_behind found (lists_in no_name read no_members) ≡ Ok found
+pub lists-end : {L : Type 0} (no_name : Fault) (read : List ℕ → Option Data → Reading L) (found : List (Named L)) → behind found (lists_in no_name read no_members) ≡ Ok found
 unfolding lists_in
-lists-end no_name read found = refl
+lists-end no_name read found = ap Ok (append-nil found)
 
 -- ---- names
 

@@ -1,13 +1,16 @@
 -- The values of an array.
-use Rattle.std.proofs.Common.{◌≡◌, ◌+◌, ◌==◌, ◌<◌, ◌≤◌, ℕ, suc, List, [], ◌∷◌, Some, false, arith, Vec, BTreeMap, String, Global, refl, ap, sym, ◌∙◌, drop, length, get_or}
+use Rattle.std.proofs.Common.{◌≡◌, ◌+◌, ◌==◌, ◌<◌, ◌≤◌, ℕ, suc, List, [], ◌∷◌, Some, true≢false, false, arith, Vec, BTreeMap, String, Global, refl, ap, sym, ◌∙◌, drop, length, get_or}
 use Rattle.std.proofs.lemmas.Bool.Decides.{nat_tests}
 use Rattle.std.proofs.lemmas.List.{drop_more, drop_all}
+use Rattle.std.specs.Prelude.{Ok}
 use Rattle.toml.specs.Data.{Data, array, table}
 use Rattle.toml.specs.View.{view, items_view, members_view}
 use Rattle.toml.proofs.Views.{Entry, view-Array, view-Table}
 use Rattle.toml.specs.declared.value.Value.{Value, Array, Table}
 use Rattle.ul_project.specs.GroupLists.{member_count}
+use Rattle.ul_project.specs.Sources.{some_items}
 use Rattle.ul_project.specs.Toml.{items_list, says_nothing}
+use Rattle.ul_project.specs.declared.path.ProjectPath.{ProjectPath}
 
 -- the values from one place on
 abbrev pub values_from : ℕ → List Value → List Data
@@ -42,3 +45,8 @@ nothing_array v = ap (λ d. says_nothing (Some d)) (view-Array v) ∙ nothing_it
 
 pub nothing_table : (m : BTreeMap (String Global) Value) → says_nothing (Some (view (Table m))) ≡ (length m.entries == 0)
 nothing_table m = ap (λ d. says_nothing (Some d)) (view-Table m) ∙ nothing_members m.entries
+
+-- values of which there are some are handed on
+pub some_values : (path : ProjectPath) (vs : List Value) → (length vs == 0) ≡ false → some_items path (items_list (items_view vs)) ≡ Ok (items_list (items_view vs))
+some_values path [] e = absurd (true≢false e)
+some_values path (v ∷ vs) e = refl

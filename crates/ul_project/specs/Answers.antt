@@ -79,6 +79,7 @@ abbrev pub place_of : ArrayPlace → Place
 place_of (lent.Key k) = place.Key k
 place_of (lent.Extra name) = place.Extra name.now
 place_of (lent.Group name) = place.Group name.now
+place_of (lent.Sources name) = place.Sources name.now
 
 -- what a file requires
 abbrev pub required_view : Required → RequiredFields

@@ -10,9 +10,12 @@ use Rattle.ul_requirement.specs.declared.wish.Strategy.{Strategy}
 use Rattle.ul_nodes.specs.Plain.{Plain, truth}
 use Rattle.ul_tree.specs.Regions.{IsRegionTree}
 use Rattle.ul_project.specs.Groups.{GroupFields}
+use Rattle.ul_project.specs.Lists.{Named}
+use Rattle.ul_project.specs.Sources.{SourceFields}
 
--- a project: a package with one release, its extras, how many requirements each has, the environments that it names, the region of the worlds that it
--- supports, how versions are preferred, which pre-releases count, how regions are split, its groups, constraints and overrides
+-- a project: a package with one release, its extras, how many requirements each has, the environments that it names, the
+-- region of the worlds that it supports, how versions are preferred, which pre-releases count, how regions are split, its
+-- groups, the sources of names, in byte order of these, its constraints and its overrides
 pub record ProjectFields : Type 0 where
   pub «package» : PackageFields
   pub extras : List (List ℕ)
@@ -23,6 +26,7 @@ pub record ProjectFields : Type 0 where
   pub prereleases : Prereleases
   pub strategy : Strategy
   pub groups : List GroupFields
+  pub sources : List (Named (List SourceFields))
   pub constraints : List RequirementFields
   pub overrides : List RequirementFields
 

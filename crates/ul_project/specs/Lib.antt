@@ -6,6 +6,7 @@ pub mod Requirements
 pub mod Extras
 pub mod GroupLists
 pub mod DevDependencies
+pub mod Sources
 pub mod Settings
 pub mod Region
 pub mod Lists

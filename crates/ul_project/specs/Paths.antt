@@ -36,11 +36,12 @@ key_text key.Resolution = codes "tool.uv.resolution"
 key_text key.Prerelease = codes "tool.uv.prerelease"
 key_text key.ForkStrategy = codes "tool.uv.fork-strategy"
 
--- the path of a place; extras and groups stand under their normal forms
+-- the path of a place; extras, groups and names with sources stand under their normal forms
 abbrev pub place_text : Place → List ℕ
 place_text (place.Key k) = key_text k
 place_text (place.Extra name) = codes "project.optional-dependencies." ++ name
 place_text (place.Group name) = codes "dependency-groups." ++ name
+place_text (place.Sources name) = codes "tool.uv.sources." ++ name
 
 -- a path: a place, or an entry of the array there, counted from 0
 abbrev pub path_text : ProjectPath → List ℕ

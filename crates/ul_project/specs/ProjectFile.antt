@@ -1,6 +1,6 @@
 -- A project file: a `pyproject.toml` (PEP 621, PEP 735), with keys of uv. The checks are made in the order in which
 -- they stand here, and the first that fails answers. Other keys and tables are passed over.
-use Rattle.std.specs.Prelude.{ℕ, List, [], ◌∷◌, ◌++◌, codes, map, false, Ok}
+use Rattle.std.specs.Prelude.{ℕ, List, [], ◌∷◌, ◌++◌, codes, map, false, None, Ok}
 use Rattle.std.specs.List.Sorted.{IsStrictlySortedBy}
 use Rattle.toml.specs.Data.{Members, get_member}
 use Rattle.ul_base.specs.Names.{name_cmp}
@@ -20,6 +20,7 @@ use Rattle.ul_project.specs.Requirements.{requirements_at}
 use Rattle.ul_project.specs.Results.{◌>>=◌, or_fault}
 use Rattle.ul_project.specs.Settings.{SettingsFields, settings_in}
 use Rattle.ul_project.specs.Shapes.{Reading, at_key, not_toml, table_at}
+use Rattle.ul_project.specs.Sources.{of_others}
 use Rattle.ul_project.specs.Toml.{toml_of}
 use Rattle.ul_project.specs.declared.group.GroupEntry.{GroupEntry}
 use Rattle.ul_project.specs.declared.path.Place.TheVariants.{Key}
@@ -86,7 +87,7 @@ package_with name version requirements = record {
   name = name;
   entries = 1;
   prereleases = Allow;
-  releases = record { version = version; python = []; requirements = requirements; yanked = false; files = [] } ∷ [];
+  releases = record { version = version; python = []; requirements = requirements; yanked = false; files = []; source = None } ∷ [];
 }
 
 -- the project that a file says, with a region
@@ -101,6 +102,7 @@ project_with region file = record {
   prereleases = file.settings.prereleases;
   strategy = file.settings.strategy;
   groups = file.groups;
+  sources = of_others file.head.name file.settings.sources;
   constraints = file.settings.constraints;
   overrides = file.settings.overrides;
 }

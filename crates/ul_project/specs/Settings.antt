@@ -12,10 +12,12 @@ use Rattle.ul_requirement.specs.declared.wish.Prereleases.TheVariants.{Disallow,
 use Rattle.ul_requirement.specs.declared.wish.Strategy.{Strategy}
 use Rattle.ul_requirement.specs.declared.wish.Strategy.TheVariants.{Fewest, RequiresPython, Deep}
 use Rattle.ul_project.specs.DevDependencies.{dev_dependencies_in}
+use Rattle.ul_project.specs.Lists.{Named}
 use Rattle.ul_project.specs.Profiles.{profile_at}
 use Rattle.ul_project.specs.Requirements.{bounds_at}
 use Rattle.ul_project.specs.Results.{◌>>=◌, each_from, or_fault}
 use Rattle.ul_project.specs.Shapes.{Reading, at_key, items_at, optional_table_at, shape, text_at, text_or, unsupported}
+use Rattle.ul_project.specs.Sources.{SaidSource, SourceFields, all_supported, said_sources}
 use Rattle.ul_project.specs.Toml.{says_nothing}
 use Rattle.ul_project.specs.declared.path.Place.TheVariants.{Key}
 use Rattle.ul_project.specs.declared.path.ProjectKey.{ProjectKey}
@@ -50,12 +52,19 @@ strictly_silent Strict uv = do
   _ ← silent_at key.Workspace (get_member (codes "workspace") uv)
   silent_at key.DevDependencies (get_member (codes "dev-dependencies") uv)
 
--- none of the keys that aren't supported says anything
-unfoldable pub all_silent : Profile → Members → Reading (Unit {0})
-all_silent profile uv = do
-  _ ← silent_at key.Sources (get_member (codes "sources") uv)
+-- the sources that a profile reads: `strict` doesn't support them
+unfoldable pub said_in : Profile → Members → Reading (List (Named (List SaidSource)))
+said_in Strict uv = silent_at key.Sources (get_member (codes "sources") uv) >>= λ _. Ok []
+said_in Wide uv = said_sources Wide (get_member (codes "sources") uv)
+
+-- the sources; no key that isn't supported says anything, and no source asks for what isn't
+unfoldable pub sources_in : Profile → Members → Reading (List (Named (List SourceFields)))
+sources_in profile uv = do
+  said ← said_in profile uv
   _ ← silent_at key.Conflicts (get_member (codes "conflicts") uv)
-  strictly_silent profile uv
+  sources ← all_supported said
+  _ ← strictly_silent profile uv
+  Ok sources
 
 -- ---- lists of requirements
 
@@ -149,6 +158,7 @@ choices_in profile uv = do
 
 -- what is asked of the resolver
 pub record SettingsFields : Type 0 where
+  pub sources : List (Named (List SourceFields))
   pub constraints : List RequirementFields
   pub overrides : List RequirementFields
   pub environments : List Formula
@@ -156,9 +166,10 @@ pub record SettingsFields : Type 0 where
   pub prereleases : Prereleases
   pub strategy : Strategy
 
--- what a file asks of the resolver, with what was read of lists, environments and words
-abbrev pub settings_with : List RequirementFields × List RequirementFields × List RequirementFields → List Formula → Mode × Prereleases × Strategy → SettingsFields
-settings_with listed environments choices = record {
+-- what a file asks of the resolver, with what was read of sources, lists, environments and words
+abbrev pub settings_with : List (Named (List SourceFields)) → List RequirementFields × List RequirementFields × List RequirementFields → List Formula → Mode × Prereleases × Strategy → SettingsFields
+settings_with sources listed environments choices = record {
+  sources = sources;
   constraints = listed.0;
   overrides = listed.1;
   environments = environments;
@@ -171,8 +182,8 @@ settings_with listed environments choices = record {
 unfoldable pub settings_in : Profile → List (List ℕ) → Members → Reading (List RequirementFields × SettingsFields)
 settings_in profile extras document = do
   uv ← uv_at document
-  _ ← all_silent profile uv
+  sources ← sources_in profile uv
   listed ← listed_in profile extras uv
   environments ← environments_at (get_member (codes "environments") uv)
   choices ← choices_in profile uv
-  Ok (listed.2, settings_with listed environments choices)
+  Ok (listed.2, settings_with sources listed environments choices)

@@ -13,6 +13,7 @@ use Rattle.ul_requirement.specs.declared.wish.Strategy.TheVariants.{Fewest, Deep
 use Rattle.ul_project.specs.ProjectFile.{file_of}
 use Rattle.ul_project.specs.Region.{is_supported}
 use Rattle.ul_project.specs.Settings.{SettingsFields}
+use Rattle.ul_project.specs.Sources.{sources_path}
 use Rattle.ul_project.specs.Shapes.{at_key, not_toml, requirement_fault, shape, unsupported}
 use Rattle.ul_project.specs.declared.group.GroupEntry.TheVariants.{Needs, Include}
 use Rattle.ul_project.specs.declared.path.Place.TheVariants as place
@@ -23,7 +24,7 @@ use Rattle.ul_project.specs.declared.path.ProjectPath.TheVariants.{Whole, Entry}
 
 -- nothing is asked of the resolver
 abbrev pub plain_settings : SettingsFields
-plain_settings = record { constraints = []; overrides = []; environments = []; mode = Highest; prereleases = IfNecessaryOrExplicit; strategy = Fewest }
+plain_settings = record { sources = []; constraints = []; overrides = []; environments = []; mode = Highest; prereleases = IfNecessaryOrExplicit; strategy = Fewest }
 
 -- a requirement of a name, with a marker
 abbrev pub named_requirement : List ℕ → Option Formula → RequirementFields
@@ -60,11 +61,24 @@ pub record SaidFiles : Type 0 where
         extras = [];
         sizes = [];
         groups = [];
-        settings = record { constraints = named_requirement (codes "c") None ∷ []; overrides = []; environments = []; mode = Lowest; prereleases = IfNecessaryOrExplicit; strategy = Deep };
+        settings = record { sources = []; constraints = named_requirement (codes "c") None ∷ []; overrides = []; environments = []; mode = Lowest; prereleases = IfNecessaryOrExplicit; strategy = Deep };
       })
 
 -- what some files of the profile `wide` say
 pub record WideFiles : Type 0 where
+  pub sources : file_of (codes "[project]\nname = 'a'\n[tool.uv.sources]\nT_U = [{ index = 'Beta', marker = \"os_name == 'nt'\" }, { path = '../t' }]\nb = { git = 'x' }\n[tool.unilock]\nprofile = 'wide'\n")
+      ≡ Ok (record {
+        head = record { name = codes "a"; version = plain (0 ∷ []); python = [] };
+        requirements = [];
+        extras = [];
+        sizes = [];
+        groups = [];
+        settings = record plain_settings {
+          sources = (codes "b", record { label = codes "direct"; condition = None } ∷ [])
+              ∷ (codes "t-u", record { label = codes "beta"; condition = Some (text OsName (codes "nt") true) } ∷ record { label = codes "direct"; condition = None } ∷ [])
+              ∷ [];
+        };
+      })
   pub addresses : file_of (codes "[project]\nname = 'a'\ndependencies = [\"b[x] @ https://c/d ; os_name == 'nt'\"]\n[tool.unilock]\nprofile = 'wide'\n")
       ≡ Ok (record {
         head = record { name = codes "a"; version = plain (0 ∷ []); python = [] };
@@ -124,6 +138,13 @@ pub record LaterFaults : Type 0 where
 
 -- and of the profile `wide`
 pub record WideFaults : Type 0 where
+  pub source_keys_first : file_of (codes "[project]\nname = 'a'\n[tool.uv.sources]\nb-c = 1\n'b.C' = {}\n[tool.unilock]\nprofile = 'wide'\n") ≡ Err (shape (at_key key.Sources))
+  pub no_source : file_of (codes "[project]\nname = 'a'\n[tool.uv.sources]\nb = []\nc = 1\n[tool.unilock]\nprofile = 'wide'\n") ≡ Err (shape (sources_path (codes "b")))
+  pub index_direct : file_of (codes "[project]\nname = 'a'\n[tool.uv.sources]\nb = { index = 'Direct' }\n[tool.unilock]\nprofile = 'wide'\n") ≡ Err (shape (sources_path (codes "b")))
+  pub source_of_extra : file_of (codes "[project]\nname = 'a'\n[tool.uv.sources]\nb = { marker = \"extra == 'x'\" }\n[tool.unilock]\nprofile = 'wide'\n") ≡ Err (shape (sources_path (codes "b")))
+  pub own_source_first : file_of (codes "[project]\nname = 'a'\n[tool.uv]\nconflicts = 1\nsources = { A = 1 }\n[tool.unilock]\nprofile = 'wide'\n") ≡ Err (shape (sources_path (codes "a")))
+  pub conflicts_before_asked : file_of (codes "[project]\nname = 'a'\n[tool.uv]\nconflicts = 1\nsources = { b = { extra = 'x' } }\n[tool.unilock]\nprofile = 'wide'\n") ≡ Err (unsupported (at_key key.Conflicts))
+  pub source_asks : file_of (codes "[project]\nname = 'a'\n[tool.uv]\nsources = { b = [{}, { group = 'x' }], C = { extra = 'y' } }\n[tool.unilock]\nprofile = 'wide'\n") ≡ Err (unsupported (sources_path (codes "c")))
   pub address_first : file_of (codes "[project]\nname = 'a'\ndependencies = ['b', 'a @ ', 'a==']\n[tool.unilock]\nprofile = 'wide'\n") ≡ Err (requirement_fault (Entry (place.Key key.Dependencies) 1))
   pub uv_first : file_of (codes "[project]\nname = 'a'\n[tool]\nuv = 1\nunilock = 1\n") ≡ Err (shape (at_key key.Uv))
   pub unilock_first : file_of (codes "[project]\nname = 'a'\n[tool]\nunilock = 1\n[tool.uv]\nsources = 1\n") ≡ Err (shape (at_key key.Unilock))

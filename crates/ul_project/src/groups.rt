@@ -47,7 +47,7 @@ impl Model for Entries {
 }
 
 // The name that a value is.
-fn name_in(alloc: Global, value: Option<&Value>) -> Result<Option<Name>, AllocError>
+pub(crate) fn name_in(alloc: Global, value: Option<&Value>) -> Result<Option<Name>, AllocError>
     ensures { IfOk result (λ n. n ≡ GroupLists.name_in (value_view value.entry)) }
 {
     let Some(Value::String(text)) = value else {

@@ -18,6 +18,7 @@ mod region;
 mod requirements;
 mod settings;
 mod shapes;
+mod sources;
 
 pub use extras::{joined_markers, of_extra};
 pub use fault::ProjectFault;
@@ -27,3 +28,4 @@ pub use path::{Place, ProjectKey, ProjectPath};
 pub use profile::Profile;
 pub use projects::Project;
 pub use reading::project;
+pub use sources::{NameSources, Source};

@@ -5,11 +5,12 @@ ghost use Rattle.std.specs.Map.{keys_of};
 ghost use Rattle.toml.specs.Data.{Data};
 ghost use Rattle.toml.specs.View.{table_view, view};
 ghost use Rattle.ul_base.specs.Names.{name_of};
-ghost use Rattle.ul_project.specs.Answers.{Gives};
+ghost use Rattle.ul_project.specs.Answers.{Gives, list_view};
 ghost use Rattle.ul_project.specs.Lists as Lists;
 ghost use Rattle.ul_project.specs.Shapes.{Reading, at_key, shape};
 ghost use Rattle.ul_project.specs.declared.profile.Profile.{Profile};
 
+use crate::kept::with_read;
 use crate::shapes::at_key;
 use crate::{Profile, ProjectFault, ProjectKey};
 use std::alloc::{AllocError, Global};
@@ -137,6 +138,37 @@ fn list_at<L: NamedList>(
     }
 }
 
+// The lists of a table, in byte order of its keys.
+pub(crate) fn lists_in<L: NamedList>(
+    alloc: Global,
+    profile: Profile,
+    place: ProjectKey,
+    table: &Table,
+) -> Result<Vec<(Name, L)>, ProjectFault>
+    ensures { Gives list_view result
+        (Lists.lists_in (shape (at_key place)) (L.list_at profile) (table_view table.now)) }
+{
+    let mut lists = Vec::new(alloc);
+    for (key, value) in table.iter() {
+        lists = with_read(lists, list_at(alloc, profile, place, key.as_str(), value))?;
+    }
+    Ok(lists)
+}
+
+// Lists in byte order of their names.
+pub(crate) fn by_name<L: Drop>(
+    alloc: Global,
+    lists: Vec<(Name, L)>,
+) -> Result<BTreeMap<Name, L>, AllocError>
+    ensures { IfOk result (λ m. m.entries ≡ Lists.by_name lists.items) }
+{
+    let mut ordered = BTreeMap::new(alloc);
+    for (name, list) in lists {
+        drop(ordered.insert(name, list)?);
+    }
+    Ok(ordered)
+}
+
 // The lists of a table, in byte order of their names.
 pub(crate) fn ordered_lists<L: NamedList>(
     alloc: Global,
@@ -147,10 +179,7 @@ pub(crate) fn ordered_lists<L: NamedList>(
     ensures { Gives (λ m. m.entries) result
         (Lists.ordered_lists (shape (at_key place)) (L.list_at profile) (table_view table.now)) }
 {
-    let mut lists = BTreeMap::new(alloc);
-    for (key, value) in table.iter() {
-        let (name, list) = list_at(alloc, profile, place, key.as_str(), value)?;
-        drop(lists.insert(name, list)?);
-    }
-    Ok(lists)
+    let lists: Vec<(Name, L)> = lists_in(alloc, profile, place, table)?;
+    let ordered = by_name(alloc, lists)?;
+    Ok(ordered)
 }

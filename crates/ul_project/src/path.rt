@@ -71,6 +71,8 @@ pub enum Place {
     Extra(Name),
     /// The list of a group, under its normal form: `dependency-groups.NAME`.
     Group(Name),
+    /// The sources of a name, under its normal form: `tool.uv.sources.NAME`.
+    Sources(Name),
 }
 
 /// The place of an array that is read: a [`Place`] whose name is lent.
@@ -81,6 +83,7 @@ pub(crate) enum ArrayPlace<'a> {
     Key(ProjectKey),
     Extra(&'a Name),
     Group(&'a Name),
+    Sources(&'a Name),
 }
 
 /// A path of a project file: a place, or an entry of the array there. Entries count from 0.
@@ -134,6 +137,7 @@ impl Place {
             Place::Key(key) => String::from_str(alloc, key.text()),
             Place::Extra(name) => extra_text(alloc, name),
             Place::Group(name) => group_text(alloc, name),
+            Place::Sources(name) => sources_text(alloc, name),
         }
     }
 }
@@ -147,6 +151,7 @@ impl<'a> ArrayPlace<'a> {
             ArrayPlace::Key(key) => Ok(Place::Key(key)),
             ArrayPlace::Extra(name) => Ok(Place::Extra(name.copy(alloc)?)),
             ArrayPlace::Group(name) => Ok(Place::Group(name.copy(alloc)?)),
+            ArrayPlace::Sources(name) => Ok(Place::Sources(name.copy(alloc)?)),
         }
     }
 
@@ -182,6 +187,15 @@ fn group_text(alloc: Global, name: &Name) -> Result<String, AllocError>
 {
     let name = name.text();
     let text = format!(in alloc; "dependency-groups.{name}")?;
+    Ok(text)
+}
+
+// The path of the sources of a name.
+fn sources_text(alloc: Global, name: &Name) -> Result<String, AllocError>
+    ensures { IfOk result (λ t. string_bytes t ≡ place_text (Place.Sources name.now)) }
+{
+    let name = name.text();
+    let text = format!(in alloc; "tool.uv.sources.{name}")?;
     Ok(text)
 }
 

@@ -1,6 +1,6 @@
 //! Projects.
 
-use crate::Group;
+use crate::{Group, NameSources};
 use std::marker::Model;
 use ul_base::Name;
 use ul_marker::Marker;
@@ -29,6 +29,8 @@ pub struct Project {
     pub prereleases: Prereleases,
     pub strategy: Strategy,
     pub groups: Vec<Group>,
+    /// The sources of `tool.uv.sources`, in byte order of their names, without those of the project's own name.
+    pub sources: Vec<NameSources>,
     /// The requirements of `tool.uv.constraint-dependencies`.
     pub constraints: Vec<Requirement>,
     /// The requirements of `tool.uv.override-dependencies`.
@@ -48,7 +50,7 @@ impl Model for Project {
 
     ghost coded = { Prim.hlevel (codes, formula_code, plain_code) };
 
-    ghost view = { λ p. record { «package» = p.package; extras = p.extras.items; sizes = p.sizes.items; environments = map marker_view p.environments.items; region = tree_view p.region; mode = p.mode; prereleases = p.prereleases; strategy = p.strategy; groups = p.groups.items; constraints = p.constraints.items; overrides = p.overrides.items } };
+    ghost view = { λ p. record { «package» = p.package; extras = p.extras.items; sizes = p.sizes.items; environments = map marker_view p.environments.items; region = tree_view p.region; mode = p.mode; prereleases = p.prereleases; strategy = p.strategy; groups = p.groups.items; sources = p.sources.items; constraints = p.constraints.items; overrides = p.overrides.items } };
 
-    ghost invariant = { λ p. IsProject (record { «package» = p.package; extras = p.extras.items; sizes = p.sizes.items; environments = map marker_view p.environments.items; region = tree_view p.region; mode = p.mode; prereleases = p.prereleases; strategy = p.strategy; groups = p.groups.items; constraints = p.constraints.items; overrides = p.overrides.items }) };
+    ghost invariant = { λ p. IsProject (record { «package» = p.package; extras = p.extras.items; sizes = p.sizes.items; environments = map marker_view p.environments.items; region = tree_view p.region; mode = p.mode; prereleases = p.prereleases; strategy = p.strategy; groups = p.groups.items; sources = p.sources.items; constraints = p.constraints.items; overrides = p.overrides.items }) };
 }

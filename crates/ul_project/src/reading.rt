@@ -20,6 +20,7 @@ use crate::region::region;
 use crate::requirements::requirements_at;
 use crate::settings::{Settings, settings_in};
 use crate::shapes::{document, table_at, value_at};
+use crate::sources::of_others;
 use crate::{Group, Profile, Project, ProjectFault, ProjectKey};
 use std::alloc::{AllocError, Global};
 use std::collections::BTreeMap;
@@ -176,6 +177,7 @@ fn package_of(
         requirements,
         yanked: false,
         files: Vec::new(alloc),
+        source: None,
     };
     let releases = with_one(Vec::new(alloc), release);
     let (name, releases) = beside(name, releases)?;
@@ -201,11 +203,8 @@ fn project_with(alloc: Global, region: Tree, file: File) -> Result<Project, Allo
         groups,
         settings,
     } = file;
-    let package = package_of(alloc, head.name, head.version, requirements);
-    let lists = (extras, sizes, groups);
-    let (kept, package) = beside((region, lists, settings), package)?;
-    let (region, (extras, sizes, groups), settings) = kept;
     let Settings {
+        sources,
         constraints,
         overrides,
         environments,
@@ -213,6 +212,14 @@ fn project_with(alloc: Global, region: Tree, file: File) -> Result<Project, Allo
         prereleases,
         strategy,
     } = settings;
+    let lists = (extras, sizes, groups, constraints, overrides, environments);
+    let sources = of_others(alloc, &head.name, sources);
+    let (kept, sources) = beside((region, head, requirements, lists), sources)?;
+    let (region, head, requirements, lists) = kept;
+    let package = package_of(alloc, head.name, head.version, requirements);
+    let (kept, package) = beside((region, lists, sources), package)?;
+    let (region, lists, sources) = kept;
+    let (extras, sizes, groups, constraints, overrides, environments) = lists;
     Ok(Project {
         package,
         extras,
@@ -223,6 +230,7 @@ fn project_with(alloc: Global, region: Tree, file: File) -> Result<Project, Allo
         prereleases,
         strategy,
         groups,
+        sources,
         constraints,
         overrides,
     })
@@ -256,8 +264,8 @@ fn project_of(alloc: Global, file: File) -> Result<Project, ProjectFault>
 /// The project that a project file says: a `pyproject.toml` (PEP 621, PEP 735), with keys of uv.
 ///
 /// The checks are made in this order, and the first that fails answers; other keys and tables are passed over. An
-/// absent key passes unless said otherwise. Places count from 0, and extras and groups stand in paths under their
-/// normal forms. The profile is `wide` where `tool.unilock.profile` is that text, else `strict`.
+/// absent key passes unless said otherwise. Places count from 0, and extras, groups and names with sources stand in
+/// paths under their normal forms. The profile is `wide` where `tool.unilock.profile` is that text, else `strict`.
 ///
 /// 1. `NotToml` comes exactly where `toml` doesn't read the bytes.
 /// 2. `project` is a table and `project.name` a name, and both are there; `project.version` is a version, and `0`
@@ -274,9 +282,14 @@ fn project_of(alloc: Global, file: File) -> Result<Project, ProjectFault>
 ///    extra of the project; its lists follow, in byte order of the keys. Each is an array, and each entry a
 ///    requirement as in 5, or a table with the one key `include-group`, whose text is a name.
 /// 8. `tool`, `tool.uv` and `tool.unilock` are tables, and `tool.unilock.profile` is `strict` or `wide`.
-/// 9. The keys of uv that the profile doesn't support say nothing. Constraints and overrides are lists as in 5, without
-///    extras and without markers that ask for one, else `Unsupported`. Under `wide`, `tool.uv.dev-dependencies` is a list
-///    as in 5; where it has entries, `group-dev` is no extra of the project, and they follow those of the group `dev`.
+/// 9. The keys of uv that the profile doesn't support say nothing. Under `wide`, `tool.uv.sources` is read, before
+///    `tool.uv.conflicts` is looked at: a table whose keys are names, of which no two have one normal form; its values
+///    follow, in byte order of the keys, each a table or an array of one or more tables. In such a table `index` is a
+///    name other than `direct`, `marker` a marker without `extra`, and `extra` and `group` are names. A source with one
+///    of these two is `Unsupported`, after `tool.uv.conflicts`. Sources of the project's own name are left out.
+///    Then constraints and overrides are lists as in 5, without extras and without markers that ask for one, else
+///    `Unsupported`. Under `wide`, `tool.uv.dev-dependencies` is a list as in 5; where it has entries, `group-dev` is no
+///    extra of the project, and they follow those of the group `dev`.
 /// 10. `tool.uv.environments` is a marker or an array of markers; the empty array asks for nothing.
 /// 11. `tool.uv.resolution`, `tool.uv.prerelease` and `tool.uv.fork-strategy` are words that are known.
 /// 12. `EmptyRegion` comes exactly where all this passes and no world is supported: none whose interpreter meets

@@ -4,7 +4,7 @@ ghost use Rattle.std.specs.Prelude.{◌≡◌, ◌∷◌, [], IfErr, IfOk, map};
 ghost use Rattle.toml.specs.View.{items_view, table_view, view};
 ghost use Rattle.ul_comparison.specs.Formulas.{AreFormulas, IsFormula};
 ghost use Rattle.ul_marker.specs.Views.{marker_view, markers_view};
-ghost use Rattle.ul_project.specs.Answers.{Gives, asked_view, formulas_view, listed_view, members_view, value_view};
+ghost use Rattle.ul_project.specs.Answers.{Gives, asked_view, formulas_view, list_view, listed_view, members_view, value_view};
 ghost use Rattle.ul_project.specs.Lists.{names_of};
 ghost use Rattle.ul_project.specs.Results.{each_from};
 ghost use Rattle.ul_project.specs.Settings as spec;
@@ -20,6 +20,7 @@ use crate::requirements::bounds_at;
 use crate::shapes::{
     at_key, entry_text, items_at, optional_table_at, says_nothing, text_or, value_at, value_in,
 };
+use crate::sources::{SaidSources, Sources, all_supported, said_sources};
 use crate::{Place, Profile, ProjectFault, ProjectKey, ProjectPath};
 use std::alloc::Global;
 use std::collections::BTreeMap;
@@ -33,6 +34,7 @@ use ul_requirement::{Mode, Prereleases, Requirement, Strategy};
 /// What is asked of the resolver.
 #[derive(Drop)]
 pub(crate) struct Settings {
+    pub(crate) sources: BTreeMap<Name, Sources>,
     pub(crate) constraints: Vec<Requirement>,
     pub(crate) overrides: Vec<Requirement>,
     pub(crate) environments: Vec<Marker>,
@@ -53,7 +55,7 @@ impl Model for Settings {
 
     ghost coded = { Prim.hlevel (codes, formula_code) };
 
-    ghost view = { λ s. record { constraints = s.constraints.items; overrides = s.overrides.items; environments = map marker_view s.environments.items; mode = s.mode; prereleases = s.prereleases; strategy = s.strategy } };
+    ghost view = { λ s. record { sources = s.sources.entries; constraints = s.constraints.items; overrides = s.overrides.items; environments = map marker_view s.environments.items; mode = s.mode; prereleases = s.prereleases; strategy = s.strategy } };
 
     ghost invariant = { λ s. AreFormulas (markers_view s.environments.items) };
 }
@@ -98,14 +100,40 @@ fn strictly_silent(profile: Profile, uv: Option<&Table>) -> Result<(), ProjectFa
     )
 }
 
-// None of the keys that aren't supported says anything.
-#[tactic(auto, unfolding(crate::specs::Settings::all_silent))]
-fn all_silent(profile: Profile, uv: Option<&Table>) -> Result<(), ProjectFault>
-    ensures { Gives (λ _. tt) result (spec.all_silent profile (members_view uv.entry)) }
+// The sources that a profile reads.
+#[tactic(auto, unfolding(crate::specs::Settings::said_in))]
+fn said_in(
+    alloc: Global,
+    profile: Profile,
+    uv: Option<&Table>,
+) -> Result<Vec<(Name, SaidSources)>, ProjectFault>
+    ensures { Gives list_view result (spec.said_in profile (members_view uv.entry)) }
 {
-    silent_at(ProjectKey::Sources, value_in(uv, "sources"))?;
-    silent_at(ProjectKey::Conflicts, value_in(uv, "conflicts"))?;
-    strictly_silent(profile, uv)
+    let value = value_in(uv, "sources");
+    match profile {
+        Profile::Strict => {
+            silent_at(ProjectKey::Sources, value)?;
+            Ok(Vec::new(alloc))
+        }
+        Profile::Wide => said_sources(alloc, Profile::Wide, value),
+    }
+}
+
+// The sources; no key that isn't supported says anything, and no source asks for what isn't.
+#[tactic(auto, unfolding(crate::specs::Settings::sources_in))]
+fn sources_in(
+    alloc: Global,
+    profile: Profile,
+    uv: Option<&Table>,
+) -> Result<BTreeMap<Name, Sources>, ProjectFault>
+    ensures { Gives (λ m. m.entries) result (spec.sources_in profile (members_view uv.entry)) }
+{
+    let said = said_in(alloc, profile, uv)?;
+    let silent = silent_at(ProjectKey::Conflicts, value_in(uv, "conflicts"));
+    let (said, _silent) = read_beside(said, silent)?;
+    let sources = all_supported(alloc, said)?;
+    let (sources, _silent) = read_beside(sources, strictly_silent(profile, uv))?;
+    Ok(sources)
 }
 
 // The constraints, the overrides, and the requirements of the group `dev`.
@@ -340,14 +368,16 @@ pub(crate) fn settings_in(
         (spec.settings_in profile (names_of extras.now.entries) (table_view document.now)) }
 {
     let uv = uv_at(document)?;
-    all_silent(profile, uv)?;
-    let listed = listed_in(alloc, profile, extras, uv)?;
+    let sources = sources_in(alloc, profile, uv)?;
+    let listed = listed_in(alloc, profile, extras, uv);
+    let (sources, listed) = read_beside(sources, listed)?;
     let environments = environments_at(alloc, value_in(uv, "environments"));
-    let (listed, environments) = read_beside(listed, environments)?;
-    let (kept, choices) = read_beside((listed, environments), choices_in(profile, uv))?;
-    let ((constraints, overrides, dev), environments) = kept;
+    let (kept, environments) = read_beside((sources, listed), environments)?;
+    let (kept, choices) = read_beside((kept, environments), choices_in(profile, uv))?;
+    let ((sources, (constraints, overrides, dev)), environments) = kept;
     let (mode, prereleases, strategy) = choices;
     let settings = Settings {
+        sources,
         constraints,
         overrides,
         environments,

@@ -1,7 +1,6 @@
 //! The rows of releases.
-ghost use Rattle.std.specs.Prelude.{◌≡◌, ◌≤◌, IfOk, IfSome, IsTrue, All, length, map, option_map};
+ghost use Rattle.std.specs.Prelude.{◌≡◌, ◌≤◌, IfOk, IfSome, All, length, map};
 ghost use Rattle.ul_algebra.specs.Answers.{IsDiagram};
-ghost use Rattle.ul_marker.specs.Views.{marker_view};
 ghost use Rattle.ul_requirement.specs.Truth.{applies_at};
 ghost use Rattle.ul_index.specs.Catalogs.{is_release_fit};
 ghost use Rattle.ul_region.specs.Truths.{IsGrown, IsTruthAt};
@@ -18,29 +17,8 @@ use std::sync::Wait;
 use ul_algebra::Algebra;
 use ul_base::Node;
 use ul_base::owned::with_made;
-use ul_marker::Marker;
 use ul_ranges::SharedList;
 use ul_requirement::{Release, Requirement};
-
-// Whether two requirements have no marker.
-fn have_none(one: &Option<Marker>, other: &Option<Marker>) -> bool
-    ensures { IsTrue result → option_map marker_view one.now ≡ option_map marker_view other.now }
-{
-    match (one, other) {
-        (None, None) => true,
-        _ => false,
-    }
-}
-
-// Whether two requirements have no marker, or are the same.
-fn are_alike(one: &Requirement, other: &Requirement) -> bool
-    ensures { IsTrue result → one.now.marker ≡ other.now.marker }
-{
-    if have_none(&one.marker, &other.marker) {
-        return true;
-    }
-    one.same(other)
-}
 
 // The place that stands beside the last of the requirements that have one, if that has the same marker as this one.
 fn last_place(
@@ -55,7 +33,7 @@ fn last_place(
     if count == 0 {
         return None;
     }
-    if are_alike(requirements[count - 1], requirement) {
+    if requirements[count - 1].has_marker_of(requirement) {
         return Some(places[count - 1]);
     }
     None
@@ -81,7 +59,7 @@ fn new_place<R: Wait>(
 }
 
 // The place of a requirement's truth at a node, behind those of requirements before it. At one node the truth follows from
-// the marker, so a requirement that is like the one before it has its place.
+// the marker, so a requirement with the marker of the one before it has its place.
 fn truth_place<R: Wait>(
     rt: &R,
     alloc: Global,

@@ -63,13 +63,16 @@ pub record IsFile (f : FileFields) : Type 0 where
 abbrev pub FilesRise : List FileFields → Type 0
 FilesRise = IsStrictlySortedBy (on (λ f. f.file) (slice_cmp nat_cmp))
 
--- a release: its version, the interpreters that it asks for, and its requirements
+-- a release: its version, the interpreters that it asks for, its requirements, and where it comes from: the name of a
+-- package index that isn't the usual one, or `direct` for a path, a URL, a repository or a member of a workspace; none
+-- where nothing is said
 pub record ReleaseFields : Type 0 where
   pub version : Fields
   pub python : List ClauseFields
   pub requirements : List RequirementFields
   pub yanked : Bool
   pub files : List FileFields
+  pub source : Option (List ℕ)
 
 -- what is true of each release
 pub record IsRelease (r : ReleaseFields) : Type 0 where

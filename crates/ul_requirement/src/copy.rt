@@ -95,6 +95,16 @@ fn copy_files(alloc: Global, files: &[FileEntry]) -> Result<Vec<FileEntry>, Allo
     Ok(list)
 }
 
+// An equal source, where there is one.
+fn copy_source(alloc: Global, source: &Option<Name>) -> Result<Option<Name>, AllocError>
+    ensures { IfOk result (λ s. s ≡ source.now) }
+{
+    match source {
+        Some(source) => Ok(Some(source.copy(alloc)?)),
+        None => Ok(None),
+    }
+}
+
 impl Release {
     /// An equal release. It shares the list of requirements.
     pub fn copy(&self, alloc: Global) -> Result<Release, AllocError>
@@ -107,12 +117,15 @@ impl Release {
         let requirements = self.requirements.copy()?;
         let files: &Vec<FileEntry> = &self.files;
         let files = copy_files(alloc, files)?;
+        let source: &Option<Name> = &self.source;
+        let source = copy_source(alloc, source)?;
         Ok(Release {
             version,
             python,
             requirements,
             yanked: self.yanked,
             files,
+            source,
         })
     }
 }

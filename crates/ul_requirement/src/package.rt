@@ -45,6 +45,9 @@ pub struct Release {
     /// Whether it was withdrawn (PEP 592).
     pub yanked: bool,
     pub files: Vec<FileEntry>,
+    /// Where it comes from: the name of a package index that isn't the usual one, or `direct` for a path, a URL, a
+    /// repository or a member of a workspace; none where nothing is said.
+    pub source: Option<Name>,
 }
 
 impl Model for Release {
@@ -56,9 +59,9 @@ impl Model for Release {
 
     ghost coded = { Prim.hlevel (codes, formula_code) };
 
-    ghost view = { λ r. record { version = r.version; python = r.python; requirements = r.requirements; yanked = r.yanked; files = r.files.items } };
+    ghost view = { λ r. record { version = r.version; python = r.python; requirements = r.requirements; yanked = r.yanked; files = r.files.items; source = r.source } };
 
-    ghost invariant = { λ r. IsRelease (record { version = r.version; python = r.python; requirements = r.requirements; yanked = r.yanked; files = r.files.items }) };
+    ghost invariant = { λ r. IsRelease (record { version = r.version; python = r.python; requirements = r.requirements; yanked = r.yanked; files = r.files.items; source = r.source }) };
 }
 
 /// A package: its usable releases, in the order of its document.

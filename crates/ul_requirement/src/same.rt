@@ -227,6 +227,13 @@ impl Requirement {
             && same_specifiers(&self.specifiers, &other.specifiers)
             && same_optional(&self.marker, &other.marker)
     }
+
+    /// Whether two requirements have the same marker, or none.
+    pub fn has_marker_of(&self, other: &Requirement) -> bool
+        ensures { IsTrue result → self.now.marker ≡ other.now.marker }
+    {
+        same_optional(&self.marker, &other.marker)
+    }
 }
 
 /// Whether two lists have the same requirements in the same order.

@@ -3,8 +3,8 @@ use Rattle.std.proofs.Common.{refl}
 use Rattle.ul_version.specs.Order.{padded_release, release_cmp, has_release_front, version_cmp}
 use Rattle.ul_version.specs.Reading.{after_white, before_white, after_word, digits, after_digits, value_after, number, required_number, marked_digits, epoch, points, release, pre, post, dev, segment, segments, local, fields_of, version_of}
 use Rattle.ul_specifier.specs.Meaning.{meets_clause}
-use Rattle.ul_specifier.specs.Reading.{after_all, before_all, operator, star_clause, plain_clause, clause_after, clause_with, clause_of, clauses_of, specifiers_of}
-use Rattle.ul_specifier.specs.Vectors.{Meetings, NoReadings, Readings, Summaries, is_met, lower_of, names_pre_in, pins_in}
+use Rattle.ul_specifier.specs.Reading.{operator, star_clause, plain_clause, clause_after, clause_with, clause_of, clauses_of, specifiers_of}
+use Rattle.ul_specifier.specs.Vectors.{Exclusions, Meetings, NoReadings, Readings, Summaries, is_met, is_other, lower_of, names_pre_in, pins_in}
 
 pub meetings : Meetings
 unfolding after_white before_white after_word digits after_digits value_after number required_number marked_digits epoch points release pre post dev segment segments local fields_of version_of operator star_clause plain_clause clause_after clause_with clause_of clauses_of specifiers_of padded_release release_cmp has_release_front version_cmp meets_clause is_met lower_of names_pre_in pins_in
@@ -78,4 +78,20 @@ summaries = record {
   pin = refl;
   local_not_pinned = refl;
   front_not_pinned = refl;
+}
+
+pub exclusions : Exclusions
+unfolding after_white before_white after_word digits after_digits value_after number required_number marked_digits epoch points release pre post dev segment segments local fields_of version_of operator star_clause plain_clause clause_after clause_with padded_release release_cmp has_release_front version_cmp meets_clause is_other
+exclusions = record {
+  itself = refl;
+  local_of_it = refl;
+  post_of_it = refl;
+  local_itself = refl;
+  without_its_local = refl;
+  other_local = refl;
+  no_bound = refl;
+  no_pre_release = refl;
+  no_pin = refl;
+  no_text = refl;
+  no_star = refl;
 }

@@ -14,17 +14,37 @@ use Rattle.ul_version.specs.Order.{has_release_front, numbers_cmp, padded_releas
 use Rattle.ul_version.specs.declared.fields.Pre.{Pre}
 use Rattle.ul_version.specs.declared.fields.Segment.{Segment}
 use Rattle.ul_version.proofs.ForCallers.{front-differs, get_or-padded, length-padded}
-use Rattle.ul_specifier.specs.Clauses.{ClauseFields, IsClause, has_local, is_bare, is_equality}
-use Rattle.ul_specifier.specs.Laws.{CompatibleIsTwoParts, LessIsNegation, LowerIsSettled, LowerIsWeaker, MoreIsNegation, ReadsClauses, UnequalIsNegation}
+use Rattle.ul_specifier.specs.Clauses.{ClauseFields, IsClause, has_local, is_bare, may_have_local}
+use Rattle.ul_specifier.specs.Laws.{CompatibleIsTwoParts, DistinctIsOther, LessIsNegation, LowerIsSettled, LowerIsWeaker, MoreIsNegation, ReadsClauses, UnequalIsNegation}
 use Rattle.ul_specifier.specs.Meaning.{begins_as, is_of_release, lower_clause, lower_list, lower_op, meets_clause, meets_list, meets_op}
 use Rattle.ul_specifier.specs.declared.clause.Op.{Op}
-use Rattle.ul_specifier.specs.declared.clause.Op.TheVariants.{Equal, Unequal, AtLeast, AtMost, More, Less, Compatible}
-use Rattle.ul_specifier.proofs.Public.{plain-own, public-bare}
+use Rattle.ul_specifier.specs.declared.clause.Op.TheVariants.{Equal, Unequal, AtLeast, AtMost, More, Less, Compatible, Distinct}
+use Rattle.ul_specifier.proofs.Public.{distinct-public, plain-own, public-bare}
+use Rattle.ul_specifier.proofs.Spelled.{clause_with-spelled, specifiers-spelled}
 use Rattle.ul_specifier.proofs.Texts.{clause_with-clause, specifiers-clauses}
 
 pub unequal : UnequalIsNegation
 unfolding meets_clause
 unequal V c prefix = refl
+
+-- a version equals another where its public part does, unless it has a local part that the other hasn't
+pub distinct : DistinctIsOther
+unfolding meets_clause
+distinct V c prefix = elim (cases_Bool (has_local V)) [
+  | inl some ↦ rw some (either-way (is_eq (version_cmp c V)) (has_local c))
+  | inr none ↦ rw none (sym (distinct-public c V none) ∙ swap (has_local c) (is_eq (version_cmp (without_local c) V)))
+]
+  where
+    either-way : (b l : Bool) → not b ≡ (not b || (l && false))
+    either-way true true = refl
+    either-way true false = refl
+    either-way false l = refl
+
+    swap : (l b : Bool) → (l || not b) ≡ (not b || (l && true))
+    swap true true = refl
+    swap true false = refl
+    swap false true = refl
+    swap false false = refl
 
 pub compatible : CompatibleIsTwoParts
 unfolding meets_clause
@@ -150,7 +170,7 @@ equal_bound V false release bare h = elim (cases_Bool (has_local V)) [
 
 no-local : (s : ClauseFields) → Compatible ≡ s.op → IsClause s → has_local s.version ≡ false
 no-local s e is = elim (cases_Bool (has_local s.version)) [
-  | inl some ↦ absurd (true≢false (sym (is.local some) ∙ ap (λ (op : Op). is_equality op) (sym e)))
+  | inl some ↦ absurd (true≢false (sym (is.local some) ∙ ap (λ (op : Op). may_have_local op) (sym e)))
   | inr none ↦ none
 ]
 
@@ -163,6 +183,7 @@ lower-met AtLeast s release e is h = rw (← e) h
 lower-met AtMost s release e is h = tt
 lower-met More s release e is h = rw (← e) h
 lower-met Less s release e is h = tt
+lower-met Distinct s release e is h = tt
 lower-met Compatible s release e is h =
     rw (public-bare s.version (no-local s e is)) (and_parts _ _ h).0
 
@@ -192,6 +213,7 @@ settled_op AtMost s bounds e = refl
 settled_op More s bounds e = rw (← e) refl
 settled_op Less s bounds e = refl
 settled_op Compatible s bounds e = refl
+settled_op Distinct s bounds e = refl
 
 pub settled : LowerIsSettled
 settled [] = refl
@@ -199,4 +221,7 @@ settled (s ∷ clauses) =
     settled_op s.op s (lower_list clauses) refl ∙ ap (λ (l : List ClauseFields). cons_option (lower_clause s) l) (settled clauses)
 
 pub reads : ReadsClauses
-reads = record { one = clause_with-clause; list = specifiers-clauses }
+reads = record {
+  one = λ op text c e. (clause_with-clause op text c e, clause_with-spelled op text c e);
+  list = λ text cs e. (specifiers-clauses text cs e, specifiers-spelled text cs e);
+}

@@ -10,11 +10,11 @@ use Rattle.ul_version.specs.Fields.{Fields, without_local, is_pre_of, is_post_of
 use Rattle.ul_version.specs.Order.{version_cmp, release_cmp, local_cmp, pre_place, post_place, dev_place, place_cmp}
 use Rattle.ul_version.specs.declared.fields.Segment.{Segment}
 use Rattle.ul_version.proofs.ForCallers.{version_ties}
-use Rattle.ul_specifier.specs.Clauses.{ClauseFields, IsClause, has_local, is_filled, is_equality, is_bare}
+use Rattle.ul_specifier.specs.Clauses.{ClauseFields, IsClause, has_local, is_filled, may_have_local, is_bare}
 use Rattle.ul_specifier.specs.Meaning.{matches, is_more, is_less, is_of_release, meets_op, meets_clause}
 use Rattle.ul_specifier.specs.Public.{own_op, public_matches, public_op}
 use Rattle.ul_specifier.specs.declared.clause.Op.{Op}
-use Rattle.ul_specifier.specs.declared.clause.Op.TheVariants.{Equal, Unequal, AtLeast, AtMost, More, Less, Compatible}
+use Rattle.ul_specifier.specs.declared.clause.Op.TheVariants.{Equal, Unequal, AtLeast, AtMost, More, Less, Compatible, Distinct}
 
 with_segments : Fields → List Segment → Fields
 with_segments f l = record f { local = l }
@@ -113,6 +113,22 @@ pub matches-public : (f V : Fields) (prefix : Bool) → has_local V ≡ false �
 matches-public f V true h = refl
 matches-public f V false h = rw h refl
 
+-- ---- exclusions
+
+other_local : (f V : Fields) (o : Ordering) → has_local V ≡ false → has_local f ≡ true → version_cmp f V ≡ o → is_eq o ≡ false
+other_local f V Answer.Less h some e = refl
+other_local f V Answer.Greater h some e = refl
+other_local f V Answer.Equal h some e =
+    absurd (true≢false (sym some ∙ ap (λ (l : List Segment). is_filled l) (version_ties f V e).local ∙ h))
+
+-- a version with a local part is none that has none
+pub distinct-public : (f V : Fields) → has_local V ≡ false
+    → (has_local f || not (is_eq (version_cmp (without_local f) V))) ≡ not (is_eq (version_cmp f V))
+distinct-public f V h = elim (cases_Bool (has_local f)) [
+  | inl some ↦ rw (some, other_local f V (version_cmp f V) h some refl) refl
+  | inr none ↦ rw (none, public-bare f none) refl
+]
+
 public_bare-op : (op : Op) (prefix : Bool) (V f : Fields) → has_local V ≡ false → public_op op prefix V (without_local f) (has_local f) ≡ meets_op op V prefix f
 public_bare-op Equal prefix V f h = matches-public f V prefix h
 public_bare-op Unequal prefix V f h = ap (λ (b : Bool). not b) (matches-public f V prefix h)
@@ -121,6 +137,7 @@ public_bare-op AtMost prefix V f h = refl
 public_bare-op More prefix V f h = more-public f V
 public_bare-op Less prefix V f h = less-public f V h
 public_bare-op Compatible prefix V f h = refl
+public_bare-op Distinct prefix V f h = distinct-public f V h
 
 -- the public part decides
 pub public-meets : (s : ClauseFields) (f : Fields) (b : Bool) → has_local s.version ≡ false → b ≡ has_local f
@@ -146,7 +163,7 @@ unstarred s is local = elim (cases_Bool s.prefix) [
   | inr plain_one ↦ plain_one
 ]
 
-own_equal : (op : Op) (V : Fields) (prefix : Bool) (f : Fields) → is_equality op ≡ true → prefix ≡ false → has_local V ≡ true
+own_equal : (op : Op) (V : Fields) (prefix : Bool) (f : Fields) → may_have_local op ≡ true → prefix ≡ false → has_local V ≡ true
     → own_op op (is_eq (version_cmp f V)) ≡ meets_op op V prefix f
 own_equal Equal V prefix f e p l = rw (p, l) refl
 own_equal Unequal V prefix f e p l = rw (p, l) refl
@@ -155,6 +172,7 @@ own_equal AtMost V prefix f e p l = absurd (true≢false (sym e))
 own_equal More V prefix f e p l = absurd (true≢false (sym e))
 own_equal Less V prefix f e p l = absurd (true≢false (sym e))
 own_equal Compatible V prefix f e p l = absurd (true≢false (sym e))
+own_equal Distinct V prefix f e p l = refl
 
 -- such a clause asks whether a version is the clause's own
 pub own-meets : (s : ClauseFields) (f : Fields) (b : Bool) → IsClause s → has_local s.version ≡ true → b ≡ is_eq (version_cmp f s.version)

@@ -1,25 +1,25 @@
 -- Reading agrees with the grammar.
-use Rattle.std.proofs.Common.{◌≡◌, ◌≢◌, ◌↔◌, ◌⊎◌, inl, inr, ℕ, zero, suc, ◌+◌, ◌-◌, ◌<◌, ◌≤◌, List, [], ◌∷◌, ◌++◌, length, drop, take, refl, sym, ap, subst, ◌∙◌, arith, Bool, true, false, true≢false, Option, Some, None}
-use Rattle.std.specs.Prelude.{All, ◌&&◌, ◌||◌, not, ◌==◌, nat_eq, codes}
+use Rattle.std.proofs.Common.{◌≡◌, ◌⊎◌, inl, inr, ℕ, zero, suc, ◌-◌, ◌<◌, List, [], ◌∷◌, ◌++◌, length, drop, take, refl, sym, ap, subst, ◌∙◌, arith, Bool, true, false, true≢false, Option, Some, None}
+use Rattle.std.specs.Prelude.{All, not, ◌==◌, nat_eq, codes}
 use Rattle.std.specs.List.{list_all, slice_split, starts_with, ends_with, join_with_byte}
 use borrow.Author.Tests.{eqb-true}
 use Rattle.std.specs.Cmp.Lexicographic.{same_text, other_text}
 use Rattle.std.proofs.Math.Seq.{take-append_seam}
 use Rattle.std.proofs.lemmas.Bool.{and_parts, and_from, cases_Bool}
 use Rattle.std.proofs.lemmas.Bool.Decides.{nat_tests}
-use Rattle.std.proofs.lemmas.List.{append_assoc, append-nil, drop_all, length-append, take-append-drop}
+use Rattle.std.proofs.lemmas.List.{length-append, take-append-drop}
 use Rattle.std.proofs.lemmas.List.Folds.{list_all-append}
 use Rattle.std.proofs.lemmas.List.Prefix.{end_rest}
 use Rattle.std.proofs.lemmas.List.Splits.{join_with_byte-slice_split, length-slice_split, slice_split_at, slice_split_none}
 use Rattle.ul_version.specs.Fields.{Fields}
-use Rattle.ul_version.specs.Reading.{◌>>=◌, begins, is_white, or_else, version_of}
+use Rattle.ul_version.specs.Reading.{begins, is_white, or_else, version_of}
 use Rattle.ul_version.proofs.ForCallers.{bind_some, cond_some}
-use Rattle.ul_specifier.specs.Clauses.{ClauseFields, is_bare}
-use Rattle.ul_specifier.specs.Grammar.{AreClauses, EndsInStar, IsOneClause, IsOperand, IsPiece, IsRunOperand, operator_text, Spells, SpellsClause}
-use Rattle.ul_specifier.specs.Reading.{after_all, after_front, after_operator, before_all, before_end, clause_after, clause_of, clause_with, clauses_of, is_blank, is_comma, is_version_byte, list_pieces, may_stand, operator, specifiers_of, star_of, star_clause, trimmed_text, unless_last, plain_clause, version_clause}
+use Rattle.ul_specifier.specs.Clauses.{ClauseFields, IsSpelled, is_bare, is_exclusion}
+use Rattle.ul_specifier.specs.Grammar.{AreClauses, EndsInStar, IsOperand, IsPiece, IsRunOperand, operator_text, Spells, SpellsClause}
+use Rattle.ul_specifier.specs.Reading.{after_all, after_operator, before_all, before_end, clause_after, clause_of, clause_with, clauses_of, is_blank, is_comma, is_version_byte, list_pieces, may_stand, operator, specifiers_of, star_of, star_clause, trimmed_text, unless_last, plain_clause, version_clause}
 use Rattle.ul_specifier.specs.declared.clause.Op.{Op}
-use Rattle.ul_specifier.specs.declared.clause.Op.TheVariants.{Equal, Unequal, AtLeast, AtMost, More, Less, Compatible}
-use Rattle.ul_specifier.proofs.Texts.{list_of, listed_last, listed_more}
+use Rattle.ul_specifier.specs.declared.clause.Op.TheVariants.{Equal, Unequal, AtLeast, AtMost, More, Less, Compatible, Distinct}
+use Rattle.ul_specifier.proofs.Texts.{clauses_of-each, list_of, listed_last, listed_more}
 
 -- ---- tests of each byte
 
@@ -184,6 +184,27 @@ operand-op : (op : Op) (text : List ℕ) (c : ClauseFields) → IsOperand op tex
 operand-op op text c (IsOperand.version_alone V never is stands so) = ap (λ (d : ClauseFields). d.op) so
 operand-op op text c (IsOperand.version_and_star front V prefix ends is bare star so) = ap (λ (d : ClauseFields). d.op) so
 
+-- no operand stands with an exclusion
+operand-spelled_op : (op : Op) (text : List ℕ) (c : ClauseFields) → IsOperand op text c → is_exclusion op ≡ false
+operand-spelled_op op text c (IsOperand.version_alone V never is stands so) = falls (is_exclusion op) (and_parts (not (is_exclusion op)) _ stands).0
+operand-spelled_op op text c (IsOperand.version_and_star front V prefix ends is bare star so) = starred op star
+  where
+    starred : (op : Op) {prefix : Bool} → star_of op ≡ Some prefix → is_exclusion op ≡ false
+    starred Equal e = refl
+    starred Unequal e = refl
+    starred AtLeast e = refl
+    starred AtMost e = refl
+    starred More e = refl
+    starred Less e = refl
+    starred Compatible e = refl
+    starred Distinct e = cc e
+
+-- what is read after an operator is no exclusion
+after-no_exclusion : (op : Op) (text : List ℕ) (c : ClauseFields) → clause_after op text ≡ Some c → IsSpelled c
+after-no_exclusion op text c e =
+    let is = (after-spelled op text c e).1 in
+    ap is_exclusion (operand-op op text c is) ∙ operand-spelled_op op text c is
+
 -- ---- operators
 
 -- an operator and what follows it are the text
@@ -227,17 +248,18 @@ other-way b h = elim (cases_Bool (nat_eq 61 b)) [
 ]
 
 -- an operator in front is read
-pub operator-read : (op : Op) (rest : List ℕ) → begins is_equals rest ≡ false → operator (operator_text op ++ rest) ≡ Some (op, rest)
+pub operator-read : (op : Op) (rest : List ℕ) → is_exclusion op ≡ false → begins is_equals rest ≡ false → operator (operator_text op ++ rest) ≡ Some (op, rest)
 unfolding operator
-operator-read Equal rest h = refl
-operator-read Unequal rest h = refl
-operator-read AtLeast rest h = refl
-operator-read AtMost rest h = refl
-operator-read Compatible rest h = refl
-operator-read More [] h = refl
-operator-read More (b ∷ rest) h = rw (other-way b h) refl
-operator-read Less [] h = refl
-operator-read Less (b ∷ rest) h = rw (other-way b h) refl
+operator-read Equal rest s h = refl
+operator-read Unequal rest s h = refl
+operator-read AtLeast rest s h = refl
+operator-read AtMost rest s h = refl
+operator-read Compatible rest s h = refl
+operator-read More [] s h = refl
+operator-read More (b ∷ rest) s h = rw (other-way b h) refl
+operator-read Less [] s h = refl
+operator-read Less (b ∷ rest) s h = rw (other-way b h) refl
+operator-read Distinct rest s h = absurd (true≢false s)
 
 -- ---- one clause
 
@@ -279,7 +301,7 @@ one-read : (text : List ℕ) (c : ClauseFields) → IsPiece text c → clause_of
 unfolding clause_of
 one-read text c (blanks, operand, h, (run, is), whole) =
     let found : operator (trimmed_text is_blank text) ≡ Some (c.op, blanks ++ operand) =
-    ap operator whole ∙ operator-read c.op (blanks ++ operand) (no-equals blanks operand h run) in
+    ap operator whole ∙ operator-read c.op (blanks ++ operand) (operand-spelled_op c.op operand c is) (no-equals blanks operand h run) in
     rw (found, blanks-skipped is_blank blanks operand h (begins-other is_blank operand not-blank run)) (after-read c.op operand c run is)
 
 -- ---- no comma in a clause
@@ -298,6 +320,7 @@ operator-no-comma AtMost = refl
 operator-no-comma More = refl
 operator-no-comma Less = refl
 operator-no-comma Compatible = refl
+operator-no-comma Distinct = refl
 
 piece-no-comma : (text : List ℕ) (c : ClauseFields) → IsPiece text c → list_all no_comma text ≡ true
 piece-no-comma text c (blanks, operand, h, (run, is), whole) =
@@ -313,16 +336,17 @@ piece-no-comma text c (blanks, operand, h, (run, is), whole) =
 
 -- a clause's text isn't empty
 piece-filled : (text : List ℕ) (c : ClauseFields) → IsPiece text c → 0 < length text
-piece-filled [] c (blanks, operand, h, is, whole) = absurd (empty-operator c.op (blanks ++ operand) whole)
+piece-filled [] c (blanks, operand, h, is, whole) = absurd (empty-operator c.op (blanks ++ operand) (operand-spelled_op c.op operand c is.1) whole)
   where
-    empty-operator : (op : Op) (rest : List ℕ) → [] ≡ operator_text op ++ rest → ⊥
-    empty-operator Equal rest e = cc e
-    empty-operator Unequal rest e = cc e
-    empty-operator AtLeast rest e = cc e
-    empty-operator AtMost rest e = cc e
-    empty-operator More rest e = cc e
-    empty-operator Less rest e = cc e
-    empty-operator Compatible rest e = cc e
+    empty-operator : (op : Op) (rest : List ℕ) → is_exclusion op ≡ false → [] ≡ operator_text op ++ rest → ⊥
+    empty-operator Equal rest s e = cc e
+    empty-operator Unequal rest s e = cc e
+    empty-operator AtLeast rest s e = cc e
+    empty-operator AtMost rest s e = cc e
+    empty-operator More rest s e = cc e
+    empty-operator Less rest s e = cc e
+    empty-operator Compatible rest s e = cc e
+    empty-operator Distinct rest s e = true≢false s
 piece-filled (b ∷ text) c is = omega arith
 
 -- ---- lists
@@ -395,6 +419,20 @@ one-spelled op text c e = after-spelled op (trimmed_text is_white text) c e
 pub with-read : (op : Op) (text : List ℕ) (c : ClauseFields) → SpellsClause op text c → clause_with op text ≡ Some c
 unfolding clause_with
 with-read op text c h = after-read op (trimmed_text is_white text) c h.0 h.1
+
+-- no exclusion is read
+pub clause_with-spelled : (op : Op) (text : List ℕ) (c : ClauseFields) → clause_with op text ≡ Some c → IsSpelled c
+unfolding clause_with
+clause_with-spelled op text c e = after-no_exclusion op _ c e
+
+clause_of-spelled : (text : List ℕ) (c : ClauseFields) → clause_of text ≡ Some c → IsSpelled c
+unfolding clause_of
+clause_of-spelled text c e =
+    let (o, is, some) = bind_some (operator (trimmed_text is_blank text)) _ c e in after-no_exclusion o.0 _ c some
+
+pub specifiers-spelled : (text : List ℕ) (cs : List ClauseFields) → specifiers_of text ≡ Some cs → All IsSpelled cs
+unfolding specifiers_of
+specifiers-spelled text cs e = clauses_of-each IsSpelled clause_of-spelled _ cs e
 
 -- what is read in two ways is one
 pub one_of : {X : Type 0} {x y : X} → Some x ≡ Some y → x ≡ y

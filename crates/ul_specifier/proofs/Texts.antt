@@ -1,23 +1,18 @@
 -- Lemmas on the pieces of a specifier's text.
-use Rattle.std.proofs.Common.{◌≡◌, ℕ, zero, suc, ◌+◌, ◌-◌, ◌<◌, ◌≤◌, List, [], ◌∷◌, ◌++◌, length, drop, take, get_or, refl, sym, ap, subst, ◌∙◌, arith, Bool, true, false, true≢false, Option, Some, None}
+use Rattle.std.proofs.Common.{◌≡◌, ℕ, zero, suc, ◌<◌, List, [], ◌∷◌, ◌++◌, length, refl, sym, ap, subst, ◌∙◌, arith, Bool, true, false, true≢false, Option, Some, None}
 use Rattle.std.specs.Prelude.{All, ◌&&◌, ◌||◌, not, ◌==◌}
-use Rattle.std.proofs.lemmas.List.{drop_more, drop_all, take_more, get_or-take, length-take, take-append-drop, append-nil, append_assoc}
-use Rattle.std.proofs.lemmas.Bool.{and_parts, and_from, ltb-true}
-use Rattle.std.proofs.lemmas.Bool.Decides.{nat_tests}
-use Rattle.std.proofs.lemmas.List.Splits.{slice_split_none, slice_split_at, length-slice_split}
-use Rattle.std.proofs.lemmas.Str.{IsUtf8-from_ascii}
-use Rattle.std.proofs.lemmas.Str.Ascii.{IsAscii-from_all}
+use Rattle.std.proofs.lemmas.List.{append-nil, append_assoc}
+use Rattle.std.proofs.lemmas.Bool.{and_parts, ltb-true}
+use Rattle.std.proofs.lemmas.List.Splits.{length-slice_split}
 use Rattle.std.proofs.lemmas.List.Elements.{All-cons, All-nil}
-use Rattle.std.proofs.lemmas.Grind.{get_or_default_zero}
-use Rattle.std.specs.Str.{IsUtf8}
 use Rattle.std.specs.List.{list_all, slice_split}
 use Rattle.ul_version.specs.Fields.{Fields, IsVersion}
 use Rattle.ul_version.specs.Reading.{◌>>=◌, version_of}
 use Rattle.ul_version.proofs.ForCallers.{bind_some, cond_some, versions}
-use Rattle.ul_specifier.specs.Clauses.{ClauseFields, IsClause, has_local, is_bare, is_compatible, is_equality}
-use Rattle.ul_specifier.specs.Reading.{after_all, before_all, unless_last, is_version_byte, is_comma, list_pieces, clause_of, clauses_of, clause_after, clause_with, version_clause, before_end, star_clause, plain_clause, star_of, may_stand, operator, specifiers_of}
+use Rattle.ul_specifier.specs.Clauses.{ClauseFields, IsClause, has_local, is_bare, is_compatible, is_equality, is_exclusion}
+use Rattle.ul_specifier.specs.Reading.{before_all, is_version_byte, is_comma, list_pieces, clause_of, clauses_of, clause_after, clause_with, version_clause, star_clause, plain_clause, star_of, may_stand, operator, specifiers_of}
 use Rattle.ul_specifier.specs.declared.clause.Op.{Op}
-use Rattle.ul_specifier.specs.declared.clause.Op.TheVariants.{Equal, Unequal, AtLeast, AtMost, More, Less, Compatible}
+use Rattle.ul_specifier.specs.declared.clause.Op.TheVariants.{Equal, Unequal, AtLeast, AtMost, More, Less, Compatible, Distinct}
 use Rattle.ul_specifier.proofs.Public.{bare_no_local}
 
 -- ---- the end of a text
@@ -44,6 +39,7 @@ star-equality More prefix e h = cc e
 star-equality Less true e h = cc e
 star-equality Less false e h = absurd (true≢false (sym h))
 star-equality Compatible prefix e h = cc e
+star-equality Distinct prefix e h = cc e
 
 star-compatible : (op : Op) (prefix : Bool) → star_of op ≡ Some prefix → is_compatible op ≡ true → ⊥
 star-compatible Equal prefix e h = true≢false (sym h)
@@ -53,6 +49,7 @@ star-compatible AtMost prefix e h = true≢false (sym h)
 star-compatible More prefix e h = true≢false (sym h)
 star-compatible Less prefix e h = true≢false (sym h)
 star-compatible Compatible prefix e h = cc e
+star-compatible Distinct prefix e h = cc e
 
 pub bare-clause : (op : Op) (V : Fields) (prefix : Bool) → star_of op ≡ Some prefix → is_bare V ≡ true → IsVersion V
     → IsClause (record { op = op; version = V; prefix = prefix })
@@ -63,10 +60,10 @@ bare-clause op V prefix star bare v = record {
   compatible = λ e. absurd (star-compatible op prefix star e);
 }
 
-local-stands : (e l k : Bool) → ((e || not l) && k) ≡ true → l ≡ true → e ≡ true
-local-stands true l k h s = refl
-local-stands false true k h s = absurd (true≢false (sym h))
-local-stands false false k h s = absurd (true≢false (sym s))
+local-stands : (e l k x : Bool) → ((e || not l) && k) ≡ true → l ≡ true → (e || x) ≡ true
+local-stands true l k x h s = refl
+local-stands false true k x h s = absurd (true≢false (sym h))
+local-stands false false k x h s = absurd (true≢false (sym s))
 
 long-stands : (e c k : Bool) → (e && (not c || k)) ≡ true → c ≡ true → k ≡ true
 long-stands true true k h s = h
@@ -77,8 +74,8 @@ pub standing-clause : (op : Op) (V : Fields) → may_stand op V ≡ true → IsV
 standing-clause op V h v = record {
   version = v;
   prefix = λ e. absurd (true≢false (sym e));
-  local = local-stands (is_equality op) (has_local V) _ h;
-  compatible = λ e. ltb-true 1 (length V.release) (long-stands _ (is_compatible op) _ h e);
+  local = local-stands (is_equality op) (has_local V) _ (is_exclusion op) (and_parts (not (is_exclusion op)) _ h).1;
+  compatible = λ e. ltb-true 1 (length V.release) (long-stands _ (is_compatible op) _ (and_parts (not (is_exclusion op)) _ h).1 e);
 }
 
 inside : (x y : ClauseFields) → Some x ≡ Some y → x ≡ y
@@ -115,19 +112,21 @@ clause_of-clause : (text : List ℕ) (c : ClauseFields) → clause_of text ≡ S
 unfolding clause_of
 clause_of-clause text c e = let (o, is, some) = bind_some (operator _) _ _ e in clause_after-clause o.0 _ c some
 
-clauses_of-clauses : (pieces : List (List ℕ)) (cs : List ClauseFields) → clauses_of pieces ≡ Some cs → All IsClause cs
+-- what holds of each clause that is read holds of each of a list
+pub clauses_of-each : (P : ClauseFields → Type 0) → ((text : List ℕ) (c : ClauseFields) → clause_of text ≡ Some c → P c)
+    → (pieces : List (List ℕ)) (cs : List ClauseFields) → clauses_of pieces ≡ Some cs → All P cs
 unfolding clauses_of
-clauses_of-clauses [] cs e =
-    let same : [] ≡ cs = cc e in subst (λ (l : List ClauseFields). All IsClause l) same (All-nil IsClause)
-clauses_of-clauses (piece ∷ pieces) cs e =
+clauses_of-each P one [] cs e =
+    let same : [] ≡ cs = cc e in subst (λ (l : List ClauseFields). All P l) same (All-nil P)
+clauses_of-each P one (piece ∷ pieces) cs e =
     let (c, is, more) = bind_some (clause_of piece) _ _ e in
     let (ds, are, some) = bind_some (clauses_of pieces) _ _ more in
     let same : c ∷ ds ≡ cs = cc some in
-    subst (λ (l : List ClauseFields). All IsClause l) same (All-cons IsClause c ds (clause_of-clause piece c is) (clauses_of-clauses pieces ds are))
+    subst (λ (l : List ClauseFields). All P l) same (All-cons P c ds (one piece c is) (clauses_of-each P one pieces ds are))
 
 pub specifiers-clauses : (text : List ℕ) (cs : List ClauseFields) → specifiers_of text ≡ Some cs → All IsClause cs
 unfolding specifiers_of
-specifiers-clauses text cs e = clauses_of-clauses _ cs e
+specifiers-clauses text cs e = clauses_of-each IsClause clause_of-clause _ cs e
 
 -- ---- lists
 

@@ -7,9 +7,9 @@ use Rattle.ul_version.specs.Reading.{is_white, version_of}
 use Rattle.ul_specifier.specs.Clauses.{ClauseFields, is_bare}
 use Rattle.ul_specifier.specs.Reading.{is_blank, is_version_byte, may_stand, star_of, trimmed_text}
 use Rattle.ul_specifier.specs.declared.clause.Op.{Op}
-use Rattle.ul_specifier.specs.declared.clause.Op.TheVariants.{Equal, Unequal, AtLeast, AtMost, More, Less, Compatible}
+use Rattle.ul_specifier.specs.declared.clause.Op.TheVariants.{Equal, Unequal, AtLeast, AtMost, More, Less, Compatible, Distinct}
 
--- operator = "==" | "!=" | ">=" | "<=" | ">" | "<" | "~="
+-- operator = "==" | "!=" | ">=" | "<=" | ">" | "<" | "~=". An exclusion has none, and no operand stands with it.
 abbrev pub operator_text : Op → List ℕ
 operator_text Equal = codes "=="
 operator_text Unequal = codes "!="
@@ -18,6 +18,7 @@ operator_text AtMost = codes "<="
 operator_text More = codes ">"
 operator_text Less = codes "<"
 operator_text Compatible = codes "~="
+operator_text Distinct = []
 
 -- the text ends in `.*`
 abbrev pub EndsInStar : List ℕ → Type 0

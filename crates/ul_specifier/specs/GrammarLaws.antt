@@ -1,6 +1,6 @@
 -- What holds of the texts of specifiers and the clauses that they spell.
 use Rattle.std.specs.Prelude.{◌≡◌, ◌↔◌, ℕ, All, List, Some}
-use Rattle.ul_specifier.specs.Clauses.{ClauseFields, IsClause}
+use Rattle.ul_specifier.specs.Clauses.{ClauseFields, IsClause, IsSpelled}
 use Rattle.ul_specifier.specs.Grammar.{Spells, SpellsClause}
 use Rattle.ul_specifier.specs.Reading.{clause_with, specifiers_of}
 use Rattle.ul_specifier.specs.declared.clause.Op.{Op}
@@ -15,7 +15,7 @@ pub record SpelledOnce : Type 0 where
   pub list : (text : List ℕ) (cs ds : List ClauseFields) → Spells text cs → Spells text ds → cs ≡ ds
   pub one : (op : Op) (text : List ℕ) (c d : ClauseFields) → SpellsClause op text c → SpellsClause op text d → c ≡ d
 
--- every clause, and every list of clauses, is read from some text
+-- every clause but an exclusion, and every list of such clauses, is read from some text
 pub record EveryClauseIsRead : Type 0 where
-  pub one : (c : ClauseFields) → IsClause c → (text : List ℕ) × (clause_with c.op text ≡ Some c)
-  pub list : (cs : List ClauseFields) → All IsClause cs → (text : List ℕ) × (specifiers_of text ≡ Some cs)
+  pub one : (c : ClauseFields) → IsClause c → IsSpelled c → (text : List ℕ) × (clause_with c.op text ≡ Some c)
+  pub list : (cs : List ClauseFields) → All IsClause cs → All IsSpelled cs → (text : List ℕ) × (specifiers_of text ≡ Some cs)

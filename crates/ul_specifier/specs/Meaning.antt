@@ -5,9 +5,9 @@ use Rattle.std.specs.List.{list_all, list_any, filter_map}
 use Rattle.std.specs.Ordering.{is_lt, is_gt, is_eq}
 use Rattle.ul_version.specs.Fields.{Fields, is_pre_of, is_post_of, plain, without_local}
 use Rattle.ul_version.specs.Order.{version_cmp, release_cmp, has_release_front}
-use Rattle.ul_specifier.specs.Clauses.{ClauseFields, has_local, is_equal, is_unequal}
+use Rattle.ul_specifier.specs.Clauses.{ClauseFields, has_local, is_equal, is_negative}
 use Rattle.ul_specifier.specs.declared.clause.Op.{Op}
-use Rattle.ul_specifier.specs.declared.clause.Op.TheVariants.{Equal, Unequal, AtLeast, AtMost, More, Less, Compatible}
+use Rattle.ul_specifier.specs.declared.clause.Op.TheVariants.{Equal, Unequal, AtLeast, AtMost, More, Less, Compatible, Distinct}
 
 -- c has V's epoch and V's release, padded with zeros
 abbrev pub is_of_release : Fields → Fields → Bool
@@ -52,7 +52,12 @@ matches V false c = equals V c
 abbrev pub equal_clause : Fields → ClauseFields
 equal_clause V = record { op = Equal; version = V; prefix = false }
 
--- the table of PEP 440: for each operator, which c it admits beside V, with and without `.*`
+-- the exclusion of V
+abbrev pub distinct_clause : Fields → ClauseFields
+distinct_clause V = record { op = Distinct; version = V; prefix = false }
+
+-- the table of PEP 440, and the exclusion of a version, which no text spells: for each operator, which c it admits
+-- beside V, with and without `.*`
 abbrev pub meets_op : Op → Fields → Bool → Fields → Bool
 meets_op Equal V prefix c = matches V prefix c
 meets_op Unequal V prefix c = not (matches V prefix c)
@@ -61,6 +66,7 @@ meets_op AtMost V prefix c = is_at_most V c
 meets_op More V prefix c = is_more V c
 meets_op Less V prefix c = is_less V c
 meets_op Compatible V prefix c = is_at_least V c && begins_as (series V) c
+meets_op Distinct V prefix c = not (is_eq (version_cmp c V))
 
 -- whether a version meets a clause
 unfoldable pub meets_clause : ClauseFields → Fields → Bool
@@ -70,9 +76,9 @@ meets_clause s c = meets_op s.op s.version s.prefix c
 abbrev pub meets_list : List ClauseFields → Fields → Bool
 meets_list clauses c = list_all (λ s. meets_clause s c) clauses
 
--- whether a clause other than `!=` has a pre-release
+-- whether a clause other than `!=` and an exclusion has a pre-release
 abbrev pub names_pre_of : List ClauseFields → Bool
-names_pre_of clauses = list_any (λ s. not (is_unequal s.op) && is_pre_of s.version) clauses
+names_pre_of clauses = list_any (λ s. not (is_negative s.op) && is_pre_of s.version) clauses
 
 -- whether a clause is `==V` without `.*`, with V equal to c
 abbrev pub pins_clause : Fields → ClauseFields → Bool
@@ -98,6 +104,7 @@ lower_op AtMost s = None
 lower_op More s = Some s
 lower_op Less s = None
 lower_op Compatible s = Some (at_least (without_local s.version))
+lower_op Distinct s = None
 
 -- the lower bound of one clause
 abbrev pub lower_clause : ClauseFields → Option ClauseFields

@@ -7,7 +7,7 @@ use Rattle.ul_version.specs.Order.{version_cmp}
 use Rattle.ul_specifier.specs.Clauses.{ClauseFields}
 use Rattle.ul_specifier.specs.Meaning.{begins_as, is_of_release, series}
 use Rattle.ul_specifier.specs.declared.clause.Op.{Op}
-use Rattle.ul_specifier.specs.declared.clause.Op.TheVariants.{Equal, Unequal, AtLeast, AtMost, More, Less, Compatible}
+use Rattle.ul_specifier.specs.declared.clause.Op.TheVariants.{Equal, Unequal, AtLeast, AtMost, More, Less, Compatible, Distinct}
 
 -- what `==` asks for
 abbrev pub public_matches : Bool → Fields → Fields → Bool
@@ -31,13 +31,14 @@ public_op AtMost prefix V p local = not (is_gt (version_cmp p V))
 public_op More prefix V p local = public_more V p local
 public_op Less prefix V p local = public_less V p
 public_op Compatible prefix V p local = not (is_lt (version_cmp p V)) && begins_as (series V) p
+public_op Distinct prefix V p local = local || not (is_eq (version_cmp p V))
 
 -- the same of a clause whose version has no local part
 abbrev pub public_meets : ClauseFields → Fields → Bool → Bool
 public_meets s p local = public_op s.op s.prefix (without_local s.version) p local
 
--- a clause whose version has a local part asks with `!=` whether a version isn't its own, and else whether
--- it is
+-- a clause whose version has a local part asks with `!=` and as an exclusion whether a version isn't its own, and
+-- else whether it is
 abbrev pub own_op : Op → Bool → Bool
 own_op Equal own = own
 own_op Unequal own = not own
@@ -46,3 +47,4 @@ own_op AtMost own = own
 own_op More own = own
 own_op Less own = own
 own_op Compatible own = own
+own_op Distinct own = not own

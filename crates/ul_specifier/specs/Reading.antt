@@ -3,16 +3,16 @@
 --     clause = operator version [".*"]
 -- Space and tab may stand around clauses and between an operator and its version, and white space of any
 -- kind at the ends of the text. A comma after the last clause and `.*` with `>=` and `<` are beyond PEP 440.
-use Rattle.std.specs.Prelude.{ℕ, ◌-◌, ◌==◌, ◌&&◌, ◌||◌, Bool, true, false, not, nat_eq, nat_lt, List, [], ◌∷◌, length, take, drop, codes, Option, Some, None, if◌then◌else◌}
+use Rattle.std.specs.Prelude.{ℕ, ◌==◌, ◌&&◌, ◌||◌, Bool, true, false, not, nat_lt, List, [], ◌∷◌, length, codes, Option, Some, None, if◌then◌else◌}
 use Rattle.std.specs.Char.{is_ascii_alphanumeric}
-use Rattle.std.specs.List.{list_all, slice_split, starts_with, ends_with}
+use Rattle.std.specs.List.{list_all, slice_split}
 use Rattle.ul_version.specs.Ascii.{text_between}
 pub use Rattle.ul_version.specs.Ascii.{after_all, after_front, before_all, before_end, is_blank, unless_last}
 use Rattle.ul_version.specs.Fields.{Fields}
 use Rattle.ul_version.specs.Reading.{◌>>=◌, is_white, or_else, version_of}
-use Rattle.ul_specifier.specs.Clauses.{ClauseFields, has_local, is_bare, is_compatible, is_equality}
+use Rattle.ul_specifier.specs.Clauses.{ClauseFields, has_local, is_bare, is_compatible, is_equality, is_exclusion}
 use Rattle.ul_specifier.specs.declared.clause.Op.{Op}
-use Rattle.ul_specifier.specs.declared.clause.Op.TheVariants.{Equal, Unequal, AtLeast, AtMost, More, Less, Compatible}
+use Rattle.ul_specifier.specs.declared.clause.Op.TheVariants.{Equal, Unequal, AtLeast, AtMost, More, Less, Compatible, Distinct}
 
 -- ---- white space
 
@@ -53,14 +53,17 @@ star_of AtMost = None
 star_of More = None
 star_of Less = Some false
 star_of Compatible = None
+star_of Distinct = None
 
 -- a version before `.*`, which has an epoch and a release alone
 unfoldable pub star_clause : Op → Fields → Option ClauseFields
 star_clause op V = star_of op >>= λ prefix. if is_bare V then Some (record { op = op; version = V; prefix = prefix }) else None
 
--- a version with a local part stands with `==` and `!=` alone, and `~=` needs two release numbers
+-- a version with a local part stands with `==` and `!=` alone, `~=` needs two release numbers, and no text has an
+-- exclusion
 abbrev pub may_stand : Op → Fields → Bool
-may_stand op V = (is_equality op || not (has_local V)) && (not (is_compatible op) || nat_lt 1 (length V.release))
+may_stand op V =
+    not (is_exclusion op) && ((is_equality op || not (has_local V)) && (not (is_compatible op) || nat_lt 1 (length V.release)))
 
 -- a version without `.*`
 unfoldable pub plain_clause : Op → Fields → Option ClauseFields

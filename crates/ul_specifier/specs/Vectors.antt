@@ -5,9 +5,9 @@ use Rattle.ul_version.specs.Fields.{Fields, plain}
 use Rattle.ul_version.specs.Reading.{◌>>=◌, version_of}
 use Rattle.ul_version.specs.declared.fields.Segment.TheVariants.{Word}
 use Rattle.ul_specifier.specs.Clauses.{ClauseFields}
-use Rattle.ul_specifier.specs.Meaning.{lower_list, meets_list, names_pre_of, pins_of}
+use Rattle.ul_specifier.specs.Meaning.{distinct_clause, lower_list, meets_clause, meets_list, names_pre_of, pins_of}
 use Rattle.ul_specifier.specs.Reading.{clause_with, specifiers_of}
-use Rattle.ul_specifier.specs.declared.clause.Op.TheVariants.{Equal, Unequal, AtLeast, More, Less, Compatible}
+use Rattle.ul_specifier.specs.declared.clause.Op.TheVariants.{Equal, Unequal, AtLeast, More, Less, Compatible, Distinct}
 
 -- whether the version of a text meets the specifier of a text
 unfoldable pub is_met : List ℕ → List ℕ → Option Bool
@@ -35,9 +35,27 @@ pub record Meetings : Type 0 where
   pub every_clause : is_met (codes ">=1, !=1.5.*, <2") (codes "1.5.2") ≡ Some false
   pub no_clause : is_met [] (codes "1!0.dev0") ≡ Some true
 
--- a clause without `.*` of a version with a release alone
+-- a version with a release alone
 abbrev pub one_five : Fields
 one_five = plain (1 ∷ 5 ∷ [])
+
+-- whether the version of a text meets the exclusion of another's
+unfoldable pub is_other : List ℕ → List ℕ → Option Bool
+is_other excluded version = version_of excluded >>= λ V. version_of version >>= λ c. Some (meets_clause (distinct_clause V) c)
+
+-- versions that meet the exclusion of one, and versions that don't; and what an exclusion is none of
+pub record Exclusions : Type 0 where
+  pub itself : is_other (codes "1") (codes "1.0") ≡ Some false
+  pub local_of_it : is_other (codes "1") (codes "1+c") ≡ Some true
+  pub post_of_it : is_other (codes "1") (codes "1.0.post1") ≡ Some true
+  pub local_itself : is_other (codes "1+c") (codes "1.0+C") ≡ Some false
+  pub without_its_local : is_other (codes "1+c") (codes "1") ≡ Some true
+  pub other_local : is_other (codes "1+c") (codes "1+d") ≡ Some true
+  pub no_bound : lower_list (distinct_clause one_five ∷ []) ≡ []
+  pub no_pre_release : names_pre_of (distinct_clause (record one_five { dev = Some 1 }) ∷ []) ≡ false
+  pub no_pin : pins_of (distinct_clause one_five ∷ []) one_five ≡ false
+  pub no_text : clause_with Distinct (codes "1.5") ≡ None
+  pub no_star : clause_with Distinct (codes "1.5.*") ≡ None
 
 -- texts and what they are read as
 pub record Readings : Type 0 where

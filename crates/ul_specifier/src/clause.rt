@@ -20,13 +20,16 @@ pub enum Op {
     Less,
     /// `~=`
     Compatible,
+    /// Any version but this one, its local part counted: an exclusion, which no text spells. A project's
+    /// sources exclude releases by it.
+    Distinct,
 }
 
 /// One clause of a specifier: an operator and a version, and whether `.*` follows the version.
 ///
 /// `.*` stands with `==` and `!=` after a version that has an epoch and a release alone, a local part
-/// stands with `==` and `!=` alone, and `~=` has at least two release numbers. Contracts see a clause as
-/// the record `ClauseFields` of these parts.
+/// stands with `==`, `!=` and `Distinct` alone, and `~=` has at least two release numbers. Contracts see a
+/// clause as the record `ClauseFields` of these parts.
 #[derive(Drop)]
 pub struct Clause {
     pub op: Op,

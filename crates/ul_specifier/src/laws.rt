@@ -1,14 +1,15 @@
 //! Laws of clauses, and worked examples: each function's contract is proved, and its body does nothing.
 
 ghost use Rattle.ul_specifier.specs.GrammarLaws.{EveryClauseIsRead, ReadingIsGrammar, SpelledOnce};
-ghost use Rattle.ul_specifier.specs.Laws.{CompatibleIsTwoParts, LessIsNegation, LowerIsSettled, LowerIsWeaker, MoreIsNegation, ReadsClauses, UnequalIsNegation};
-ghost use Rattle.ul_specifier.specs.Vectors.{Meetings, NoReadings, Readings, Summaries};
+ghost use Rattle.ul_specifier.specs.Laws.{CompatibleIsTwoParts, DistinctIsOther, LessIsNegation, LowerIsSettled, LowerIsWeaker, MoreIsNegation, ReadsClauses, UnequalIsNegation};
+ghost use Rattle.ul_specifier.specs.Vectors.{Exclusions, Meetings, NoReadings, Readings, Summaries};
 
-/// `!=` is the negation of `==`, and `~=V` is `>=V` and the `==` of V's release without its last number
-/// with `.*`.
+/// `!=` is the negation of `==`, an exclusion is it but for local parts, and `~=V` is `>=V` and the `==` of V's
+/// release without its last number with `.*`.
 pub fn operators_are_related()
     ensures unequal { UnequalIsNegation }
     ensures compatible { CompatibleIsTwoParts }
+    ensures distinct { DistinctIsOther }
 {}
 
 /// `>=V` and `<V` part the versions that are no pre-releases and have no local part, and `<=V` and `>V`
@@ -30,20 +31,21 @@ pub fn reading_is_grammar()
     ensures once { SpelledOnce }
 {}
 
-/// Every clause, and every list of clauses, is read from some text.
+/// Every clause but an exclusion, and every list of such clauses, is read from some text.
 pub fn every_clause_is_read()
     ensures { EveryClauseIsRead }
 {}
 
-/// What is read are clauses: `.*`, local parts and the length of a release are as the operators allow.
+/// What is read are clauses and no exclusions: `.*`, local parts and the length of a release are as the operators allow.
 pub fn read_is_clauses()
     ensures { ReadsClauses }
 {}
 
-/// Worked examples of meaning, readings, texts without a reading, lower bounds, pre-releases and pins.
+/// Worked examples of meaning, readings, texts without a reading, lower bounds, pre-releases, pins and exclusions.
 pub fn examples()
     ensures meetings { Meetings }
     ensures readings { Readings }
     ensures no_readings { NoReadings }
     ensures summaries { Summaries }
+    ensures exclusions { Exclusions }
 {}

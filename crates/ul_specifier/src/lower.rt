@@ -45,7 +45,7 @@ fn lower_bound(alloc: Global, clause: &Clause) -> Result<Option<Clause>, AllocEr
     match clause.op {
         Op::AtLeast | Op::More => Ok(Some(clause.copy(alloc)?)),
         Op::Equal | Op::Compatible => Ok(Some(at_least(alloc, &clause.version)?)),
-        Op::Unequal | Op::AtMost | Op::Less => Ok(None),
+        Op::Unequal | Op::AtMost | Op::Less | Op::Distinct => Ok(None),
     }
 }
 

@@ -39,7 +39,7 @@ impl Clause {
         ensures { result ≡ own_op self.now.op own }
     {
         match self.op {
-            Op::Unequal => !own,
+            Op::Unequal | Op::Distinct => !own,
             _ => own,
         }
     }
@@ -75,6 +75,7 @@ fn meets_public(clause: &Clause, candidate: &Public, local: bool) -> bool
         Op::More => is_more(&version, candidate, local),
         Op::Less => is_less(&version, candidate),
         Op::Compatible => !candidate.cmp(&version).is_lt() && is_of_series(&version, candidate),
+        Op::Distinct => local || !candidate.cmp(&version).is_eq(),
     }
 }
 
@@ -133,12 +134,12 @@ impl Specifiers {
         true
     }
 
-    /// Whether some clause other than `!=` has a pre-release.
+    /// Whether some clause other than `!=` and an exclusion has a pre-release.
     pub fn names_pre(&self) -> bool
         ensures { result ≡ names_pre_of self.now }
     {
         for clause in &self.clauses {
-            if !matches!(clause.op, Op::Unequal) && clause.version.is_pre() {
+            if !matches!(clause.op, Op::Unequal | Op::Distinct) && clause.version.is_pre() {
                 return true;
             }
         }

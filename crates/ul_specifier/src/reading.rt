@@ -109,7 +109,7 @@ fn star_of(op: Op) -> Option<bool>
     match op {
         Op::Equal | Op::Unequal => Some(true),
         Op::AtLeast | Op::Less => Some(false),
-        Op::AtMost | Op::More | Op::Compatible => None,
+        Op::AtMost | Op::More | Op::Compatible | Op::Distinct => None,
     }
 }
 
@@ -162,6 +162,7 @@ fn may_stand(op: Op, version: &Version) -> bool
         Op::Equal | Op::Unequal => true,
         Op::AtLeast | Op::AtMost | Op::More | Op::Less => !has_local(version),
         Op::Compatible => !has_local(version) && version.release.len() > 1,
+        Op::Distinct => false,
     }
 }
 
@@ -214,7 +215,7 @@ impl Clause {
     /// White space at both ends of the text is dropped. `.*` may follow a version that has an epoch and a
     /// release alone, with `==` and `!=`; with `>=` and `<` it is read and dropped, where PEP 440 has no
     /// `.*`. A local part may stand with `==` and `!=` alone, without `.*`, and `~=` needs two release
-    /// numbers. `NoReading` is the answer exactly where the text has no reading.
+    /// numbers. No text has an exclusion. `NoReading` is the answer exactly where the text has no reading.
     #[tactic(auto, unfolding(crate::specs::Reading::clause_with))]
     pub fn read(alloc: Global, sign: Op, text: &str) -> Result<Clause, SpecFault>
         ensures read { IfOk result (λ c. spec.clause_with sign text.now ≡ Some c) }

@@ -15,7 +15,7 @@ use Rattle.ul_version.specs.Order.{padded_release, release_cmp, has_release_fron
 use Rattle.ul_specifier.specs.Clauses.{ClauseFields}
 use Rattle.ul_specifier.specs.Meaning.{meets_clause, meets_op}
 use Rattle.ul_specifier.specs.declared.clause.Op.{Op}
-use Rattle.ul_specifier.specs.declared.clause.Op.TheVariants.{Equal, Unequal, AtLeast, AtMost, More, Less, Compatible}
+use Rattle.ul_specifier.specs.declared.clause.Op.TheVariants.{Equal, Unequal, AtLeast, AtMost, More, Less, Compatible, Distinct}
 
 -- the first number of a release, which is 0 if it has none, and the others
 abbrev pub first_of_release : List ℕ → ℕ
@@ -119,6 +119,7 @@ alike_op AtMost V prefix xs ys e f g = rw e refl
 alike_op More V prefix xs ys e f g = rw e refl
 alike_op Less V prefix xs ys e f g = rw e refl
 alike_op Compatible V prefix xs ys e f g = rw (e, g) refl
+alike_op Distinct V prefix xs ys e f g = rw e refl
 
 -- a clause is met alike where the version compares alike and begins alike
 pub alike_meets : (s : ClauseFields) (xs ys : List ℕ) → Alike s.version.release xs ys → meets_clause s (plain xs) ≡ meets_clause s (plain ys)

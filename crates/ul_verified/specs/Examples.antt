@@ -59,7 +59,7 @@ on_other = on_other_at []
 
 -- a release of these interpreters and requirements
 abbrev pub release_at : Fields → List ClauseFields → List RequirementFields → ReleaseFields
-release_at v python qs = record { version = v; python = python; requirements = qs; yanked = false; files = [] }
+release_at v python qs = record { version = v; python = python; requirements = qs; yanked = false; files = []; source = None }
 
 -- a package of this name with these releases, each an entry of its index document
 abbrev pub package_of : List ℕ → List ReleaseFields → PackageFields
@@ -82,6 +82,7 @@ project_of qs xs =
       strategy = Fewest;
       prereleases = IfNecessaryOrExplicit;
       groups = [];
+      sources = [];
       constraints = [];
       overrides = [];
     }

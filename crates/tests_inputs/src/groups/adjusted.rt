@@ -1,4 +1,4 @@
-//! Catalogs adjusted by constraints and overrides.
+//! Catalogs adjusted by constraints, overrides and sources.
 //!
 //! A row has the lines of a project file, which `~` ends; the two packages of the catalog behind the project, between
 //! which a `~` stands, each with its name and the versions of its index document; and the packages as they are adjusted.
@@ -29,6 +29,19 @@ dependencies = ['P']~[tool.uv]~override-dependencies = ['p==0']|x []~y []|p 0: p
 [project.optional-dependencies]~group-a = ["q[x]; os_name == 'a'"]~[tool.uv]~constraint-dependencies = ['q<3']~override-dependencies = ['q==2']|x []~y []|p 0: q+x==2;A q<3;A ~x ~y ~
 dependencies = ['t']~[dependency-groups]~a = [{include-group = 'b'}, 'q']~b = ["t>1; os_name == 'a'"]~[tool.uv]~constraint-dependencies = ['q<3']~override-dependencies = ['t==1']|x []~y []|p 0: t==1 t==1;A q;AB q<3;AB t==1; ~x ~y ~
 dependencies = ['a']~[tool.uv]~constraint-dependencies = ["a; os_name == 'a'"]|a [{"version": "1", "requires_dist": ["a"]}, {"version": "2", "requires_dist": ["a!=1", "b", "a<3"]}]~x []|p 0: a a;aA ~a 1: a a;aA 2: a!=1 a;aA b a<3 a;aA ~x ~"#;
+
+// Rows of sources, which are read under the profile `wide` alone.
+const SOURCES: &str =
+    r#"dependencies = ['t']~[tool.unilock]~profile = 'wide'~[tool.uv.sources]~t = { index = 'Beta' }|t [{"version": "1"}, {"version": "2", "source": "beta"}, {"version": "3", "source": "c"}]~u [{"version": "5", "requires_dist": ["t>1", "t; os_name == 'a'", "v"]}]|p 0: t t!==1!==3 ~t 1: 2: 3: ~u 5: t>1 t!==1!==3 t;aA t!==1!==3;aA v ~
+dependencies = ['t']~[tool.uv.sources]~t = { index = 'beta' }|t [{"version": "1"}]~u []|p 0: t ~t 1: ~u ~
+dependencies = ['t']~[tool.unilock]~profile = 'wide'~[tool.uv.sources]~t = { index = 'beta', marker = "os_name == 'a'" }|t [{"version": "1"}, {"version": "2", "source": "beta"}]~u []|p 0: t t!==1;aA t!==2;bB ~t 1: 2: ~u ~
+dependencies = ["t; os_name == 'a'"]~[tool.unilock]~profile = 'wide'~[tool.uv.sources]~t = { index = 'beta', marker = "os_name == 'a'" }|t [{"version": "1"}, {"version": "2", "source": "beta"}]~u []|p 0: t;aA t!==1;aA t!==2; ~t 1: 2: ~u ~
+dependencies = ['t']~[tool.unilock]~profile = 'wide'~[tool.uv.sources]~t = [{ index = 'beta', marker = "os_name == 'a'" }, { path = '../t', marker = "os_name != 'a' and python_version < '3'" }]|t [{"version": "1"}, {"version": "2", "source": "beta"}, {"version": "3", "source": "direct"}]~u []|p 0: t t!==1!==3;aA t!==1!==2; t!==2!==3;bB ~t 1: 2: 3: ~u ~
+dependencies = ['t']~[tool.unilock]~profile = 'wide'~[tool.uv.sources]~t = [{ index = 'beta', marker = "os_name == 'a'" }, { index = 'c' }]|t [{"version": "1"}, {"version": "2", "source": "beta"}, {"version": "3", "source": "C"}]~u []|p 0: t t!==1!==3;aA t!==1!==2 ~t 1: 2: 3: ~u ~
+dependencies = ['t==4']~[tool.unilock]~profile = 'wide'~[tool.uv]~constraint-dependencies = ['t<9']~override-dependencies = ["t>0; os_name == 'b'"]~[tool.uv.sources]~t = { git = 'https://example.org/t' }|t [{"version": "1+local", "source": "not a name!"}, {"version": "2", "source": "direct"}]~u []|p 0: t>0;bB t!==1+local;bB t<9;bB t!==1+local;bB ~t 1+local: 2: ~u ~
+dependencies = ['u', 't']~[tool.unilock]~profile = 'wide'~[tool.uv.sources]~u = { index = 'c' }~t = { index = 'beta' }~p = { workspace = true }|t [{"version": "1", "requires_dist": ["u", "p"]}]~u [{"version": "2", "requires_dist": ["u"]}, {"version": "3", "requires_dist": ["u"], "source": "c"}]|p 0: u u!==2 t t!==1 ~t 1: u u!==2 p ~u 2: u u!==2 3: u u!==2 ~
+dependencies = ['v']~[tool.unilock]~profile = 'wide'~[tool.uv.sources]~v = { index = 'c' }|t []~u []|p 0: v v ~t ~u ~
+dependencies = ['t[x]']~[dependency-groups]~a = ["t>0"]~[tool.unilock]~profile = 'wide'~[tool.uv.sources]~T = { index = 'c' }|t [{"version": "1"}]~u []|p 0: t+x t!==1 t>0;AB t!==1;AB ~t 1: ~u ~"#;
 
 // The package of a name and the versions of its index document.
 fn package(alloc: Global, text: &str) -> Option<Package> {
@@ -152,6 +165,13 @@ fn requirements_are_replaced_and_followed(rt: HostRuntime) {
     }
 }
 
+#[test]
+fn sources_are_constraints(rt: HostRuntime) {
+    for line in SOURCES.split('\n') {
+        assert!(rt; is_row(rt.alloc(), line), "{line}");
+    }
+}
+
 fn names(alloc: Global, count: u64) -> String {
     let mut names = String::new(alloc);
     for number in 0..count {
@@ -183,4 +203,67 @@ fn many_adjusted(alloc: Global, count: u64) -> usize {
 #[test]
 fn many_names_are_adjusted(rt: HostRuntime) {
     assert!(rt; many_adjusted(rt.alloc(), 30_000) == 240_005);
+}
+
+// The releases of so many versions, none of which comes from a source.
+fn releases(alloc: Global, count: u64) -> String {
+    let mut versions = String::new(alloc);
+    for number in 0..count {
+        let comma = if number == 0 { "" } else { ", " };
+        let _ = write!(versions, "{comma}{{\"version\": \"{number}\"}}");
+    }
+    versions
+}
+
+const FROM_BETA: &str =
+    "dependencies = ['t', 't>0', 't>1']~[tool.unilock]~profile = 'wide'~[tool.uv.sources]~t = { index = 'beta' }";
+
+// In how many pieces exclusions cut what is told where all of so many releases come from elsewhere.
+fn many_excluded(alloc: Global, count: u64) -> usize {
+    let versions = releases(alloc, count);
+    match format!(in alloc; "t [{versions}]~u []") {
+        Ok(packages) => {
+            let told = adjusted(alloc, FROM_BETA, packages.as_str());
+            told.as_str().split("!==").count()
+        }
+        Err(_) => 0,
+    }
+}
+
+// Each of the three requirements is followed by one that excludes each of the releases.
+#[test]
+fn many_releases_are_excluded(rt: HostRuntime) {
+    assert!(rt; many_excluded(rt.alloc(), 2_000) == 6_001);
+}
+
+// So many sources of a name under conditions that are true nowhere.
+fn sources(alloc: Global, count: u64) -> String {
+    let mut sources = String::new(alloc);
+    for number in 0..count {
+        let _ = write!(
+            sources,
+            "{{ index = 'i{number}', marker = \"os_name == 'x'\" }}, "
+        );
+    }
+    sources
+}
+
+// In how many pieces exclusions cut what is told of a name with so many sources.
+fn many_sources(alloc: Global, count: u64) -> usize {
+    let sources = sources(alloc, count);
+    match format!(in alloc;
+        "dependencies = ['t']~[tool.unilock]~profile = 'wide'~[tool.uv.sources]~t = [{sources}]"
+    ) {
+        Ok(lines) => {
+            let told = adjusted(alloc, lines.as_str(), "t [{\"version\": \"1\"}]~u []");
+            told.as_str().split("!==").count()
+        }
+        Err(_) => 0,
+    }
+}
+
+// The marker of the rest has one level for them all, however many they are.
+#[test]
+fn many_sources_are_constraints(rt: HostRuntime) {
+    assert!(rt; many_sources(rt.alloc(), 30_000) == 30_001);
 }

@@ -28,6 +28,7 @@ fn sign(op: Op) -> &'static str {
         Op::More => ">",
         Op::Less => "<",
         Op::Compatible => "~=",
+        Op::Distinct => "!==",
     }
 }
 

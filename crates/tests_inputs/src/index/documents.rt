@@ -8,7 +8,8 @@ use std::fmt::Write;
 use tests_rows::{cells, put, put_number};
 use ul_base::Name;
 use ul_index::{Catalog, IndexFault, Place, document, eligible};
-use ul_requirement::{FileEntry, Package, Prereleases, Release};
+use ul_requirement::{FileEntry, Package, Prereleases, Release, same_specifiers};
+use ul_specifier::{Clause, Op, Specifiers};
 use ul_version::Version;
 
 // What documents of `a` are read as. A row has what is told of it; whether its text is a whole document, entries or
@@ -46,6 +47,10 @@ const DOCUMENTS: &str = "not JSON|d|\n\
     2:1/0;|e|{\"version\": \"1\"}, {\"version\": \"2\", \"requires_dist\": [\"b\", \"b @ https://x\"]}\n\
     3:1.0/0;1.0+x/0;|e|{\"version\": \"1.0\"}, {\"version\": \"1\", \"yanked\": true}, {\"version\": \"1.0+x\"}\n\
     2:|e|{\"version\": \"1\", \"requires_dist\": [\"!!\"]}, {\"version\": \"1.0\"}\n\
+    2:1/0@my-index;2/0@direct;|e|{\"version\": \"1\", \"source\": \"My_Index\"}, {\"source\": \"direct\", \"version\": \"2\"}\n\
+    3:1/0;2/0;3/0;|e|{\"version\": \"1\", \"source\": \"https://x\"}, {\"version\": \"2\", \"source\": \"\"}, {\"version\": \"3\", \"source\": \"-x\"}\n\
+    3:1/0;2/0;3/0;|e|{\"version\": \"1\", \"source\": null}, {\"version\": \"2\", \"source\": [\"x\"]}, {\"version\": \"3\", \"source\": 1}\n\
+    1:1/0@b;|e|{\"version\": \"1\", \"source\": \"a\", \"source\": \"b\"}\n\
     1:1/0 B=09 b.whl=ab;|f|{\"file\": \"b.whl\", \"sha256\": \"AbN\", \"size\": 1}, {\"file\": \"B\", \"sha256\": \"09N\"}\n\
     shape versions[0].files[0]|f|1\n\
     shape versions[0].files[0]|f|{\"sha256\": \"00N\"}\n\
@@ -105,6 +110,14 @@ const MODES: &str = "disallow|a|2/2+1 |1 2rc1|\"a\", \"b\"\n\
     if-necessary-or-explicit|a|2/1+1 2rc1 |1 2rc1|\"a>=2rc1\"\n\
     if-necessary-or-explicit|b|2/2-|1 2rc1|\"a\", \"b\"";
 
+// The versions of a document that exclusions leave, the versions that they exclude, and those of the document. A local
+// part counts on both sides.
+const EXCLUDED: &str = "1.0+x 1.0.post1 2 |1|1.0 1.0+x 1.0.post1 2\n\
+    1.0 1.0.post1 2 |1.0+X|1.0 1.0+x 1.0.post1 2\n\
+    1.0+y |1.0+x 2 1.0|1.0 1.0+x 1.0+y 2.0\n\
+    1.0 1.0+x |1a1 1.0+x.1 1!1.0 1.0.post1|1.0 1.0+x\n\
+    |1 2|1 2.0.0";
+
 // Puts the name of a file, and the first two digits of its sum.
 fn put_file(told: &mut String, entry: &FileEntry) {
     put(told, " ");
@@ -119,11 +132,21 @@ fn put_version(alloc: Global, told: &mut String, version: &Version) {
     }
 }
 
-// Puts a release in short: its version, `!` where it was withdrawn, how many requirements it has, and its files.
+// Puts where a release comes from, if it says that.
+fn put_source(told: &mut String, source: &Option<Name>) {
+    if let Some(source) = source {
+        put(told, "@");
+        put(told, source.text());
+    }
+}
+
+// Puts a release in short: its version, `!` where it was withdrawn, how many requirements it has, its source and its
+// files.
 fn put_release(alloc: Global, told: &mut String, release: &Release) {
     put_version(alloc, told, &release.version);
     put(told, if release.yanked { "!/" } else { "/" });
     put_number(told, release.requirements.as_slice().len() as u64);
+    put_source(told, &release.source);
     for entry in &release.files {
         put_file(told, entry);
     }
@@ -450,6 +473,75 @@ fn modes_of_pre_releases(rt: HostRuntime) {
     for line in MODES.lines() {
         assert!(rt; is_mode_row(rt.alloc(), line), "{line}");
     }
+}
+
+// The exclusions of versions, with a space between each two.
+fn exclusions(alloc: Global, texts: &str) -> Option<Specifiers> {
+    let mut clauses = Vec::new(alloc);
+    for text in texts.split(' ') {
+        let version = Version::read(alloc, text).ok()?;
+        let clause = Clause {
+            op: Op::Distinct,
+            version,
+            prefix: false,
+        };
+        clauses.push(clause).ok()?;
+    }
+    Some(Specifiers { clauses })
+}
+
+// Puts the versions of the releases that meet a list, with a space behind each.
+fn put_met(alloc: Global, told: &mut String, list: &Specifiers, releases: &[Release]) {
+    for release in releases {
+        if list.meets(&release.version) {
+            put_version(alloc, told, &release.version);
+            put(told, " ");
+        }
+    }
+}
+
+// The versions of a document that exclusions leave.
+fn left(alloc: Global, excluded: &str, versions: &str) -> Option<String> {
+    let list = exclusions(alloc, excluded)?;
+    let found = releases(alloc, versions)?;
+    let mut told = String::new(alloc);
+    put_met(alloc, &mut told, &list, found.releases());
+    drop(found);
+    drop(list);
+    Some(told)
+}
+
+fn is_left(alloc: Global, excluded: &str, versions: &str, want: &str) -> bool {
+    match left(alloc, excluded, versions) {
+        Some(told) => told.as_str() == want,
+        None => false,
+    }
+}
+
+fn is_excluded_row(alloc: Global, line: &str) -> bool {
+    let (want, rest) = cells(line, '|');
+    let (excluded, versions) = cells(rest, '|');
+    is_left(alloc, excluded, versions, want)
+}
+
+// Whether the exclusions of two texts are the same list.
+fn are_same(alloc: Global, one: &str, other: &str) -> Option<bool> {
+    let some = exclusions(alloc, one)?;
+    let others = exclusions(alloc, other)?;
+    let same = same_specifiers(&some, &others);
+    drop(some);
+    drop(others);
+    Some(same)
+}
+
+#[test]
+fn exclusions_leave_all_releases_but_one(rt: HostRuntime) {
+    let alloc = rt.alloc();
+    for line in EXCLUDED.lines() {
+        assert!(rt; is_excluded_row(alloc, line), "{line}");
+    }
+    assert!(rt; are_same(alloc, "1.0+x 2", "1.0+X 2") == Some(true));
+    assert!(rt; are_same(alloc, "1.0+x 2", "1.0 2") == Some(false));
 }
 
 // Which entries have the same requirements: all, every other one, or none.

@@ -226,6 +226,7 @@ fn sign(op: Op) -> &'static str {
         Op::More => ">",
         Op::Less => "<",
         Op::Compatible => "~=",
+        Op::Distinct => "!==",
     }
 }
 

@@ -146,6 +146,17 @@ fn number(cell: &str) -> u64 {
     cell.parse::<u64>().unwrap_or(0)
 }
 
+// The file of a project with so many different conditions of the sources of `t`, and a source of `u` without one.
+fn conditions(alloc: Global, count: u64) -> String {
+    let mut text = String::new(alloc);
+    put(&mut text, "[tool.unilock]\nprofile = 'wide'\n");
+    put(&mut text, A);
+    put(&mut text, "[tool.uv.sources]\nu = { path = '../u' }\n");
+    let piece = "{ index = 'b', marker = \"'s#' in os_name\" }, ";
+    put_list(alloc, &mut text, "t = [", piece, count);
+    text
+}
+
 // So many comparisons in a project's requirements, in each list of its settings, and in the document of `a`.
 fn comparisons_told(alloc: Global, row: &str) -> String {
     let (own, rest) = cells(row, ' ');
@@ -157,7 +168,8 @@ fn comparisons_told(alloc: Global, row: &str) -> String {
 }
 
 // What is told, and the case: names of a release, names of the project, entries of a document, the name of a document
-// of 16 MiB, or comparisons of a project, of each list of its settings, and of the document of `a`.
+// of 16 MiB, comparisons of a project, of each list of its settings, and of the document of `a`, or conditions of
+// sources.
 const NUMBERS: &str = "20000 packages|names 19998\n\
     packages|names 19999\n\
     read ix/n0.json|own 19999\n\
@@ -171,7 +183,9 @@ const NUMBERS: &str = "20000 packages|names 19998\n\
     2 packages|comparisons 100 20 96\n\
     comparisons|comparisons 100 20 97\n\
     2 packages|comparisons 100 52 0\n\
-    comparisons|comparisons 98 53 0";
+    comparisons|comparisons 98 53 0\n\
+    2 packages|conditions 256\n\
+    comparisons|conditions 257";
 
 fn case_told(alloc: Global, kind: &str, cell: &str) -> String {
     match kind {
@@ -179,6 +193,7 @@ fn case_told(alloc: Global, kind: &str, cell: &str) -> String {
         "own" => own_names_told(alloc, number(cell)),
         "releases" => releases_told(alloc, number(cell)),
         "comparisons" => comparisons_told(alloc, cell),
+        "conditions" => told_of_a(alloc, conditions(alloc, number(cell)).as_str(), ""),
         _ => bytes_told(alloc, cell),
     }
 }

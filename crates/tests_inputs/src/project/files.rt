@@ -48,6 +48,10 @@ const ROWS: &str = "not TOML#w#[\n\
     shape tool#w#tool = 1~[project]~name = 'a'\n\
     shape tool.uv#p#[tool]~uv = 1\n\
     unsupported tool.uv.sources#u#sources = { a = 1 }\n\
+    unsupported tool.uv.sources#u#sources = { a = { index = 'b' } }\n\
+    unsupported tool.uv.sources#u#sources = { demo = {} }\n\
+    unsupported tool.uv.sources#u#sources = { 'a!' = 1 }~environments = 1\n\
+    unsupported tool.uv.sources#u#sources = [1]\n\
     unsupported tool.uv.conflicts#u#conflicts = [1]\n\
     unsupported tool.uv.index#u#index = 1\n\
     unsupported tool.uv.extra-index-url#u#extra-index-url = 'x'\n\
@@ -109,6 +113,7 @@ const ROWS: &str = "not TOML#w#[\n\
     demo 0 | | a-c= b= @c a | | | 1 0 1 highest fewest#p#[dependency-groups]~'A.c' = []~b = [{include-group = 'C'}, 'a']\n\
     demo 0 | | | a:1 a; | b | 1 0 1 highest fewest#u#constraint-dependencies = ['a<2', \"a; os_name == 'x'\"]~override-dependencies = ['b']\n\
     demo 0 | | | | | 1 0 1 highest fewest#u#environments = []~sources = {}~index = []~workspace = {}~managed = true\n\
+    demo 0 | | | | | 1 0 1 highest fewest#u#sources = []\n\
     demo 0 | | | | | 1 0 1 highest fewest#u#conflicts = []~extra-index-url = []~find-links = {}~dev-dependencies = []\n\
     demo 0 | | | | | 1 1 1 lowest fewest#u#environments = \"os_name == 'x'\"~resolution = 'lowest'\n\
     demo 0 | | | | | 1 2 2 lowest-direct requires-python#u#environments = [\"os_name == 'x'\", \"os_name == 'y'\"]~resolution = 'lowest-direct'~fork-strategy = 'requires-python'\n\

@@ -3,7 +3,7 @@ use std::alloc::Global;
 use std::fmt::Write;
 use tests_rows::{put, put_number};
 use ul_base::Name;
-use ul_project::{Group, GroupEntry, Project, ProjectFault, ProjectPath, project};
+use ul_project::{Group, GroupEntry, NameSources, Project, ProjectFault, ProjectPath, project};
 use ul_requirement::{Mode, Prereleases, Release, Requirement, Strategy};
 use ul_tree::paths;
 
@@ -62,8 +62,28 @@ fn put_release(alloc: Global, told: &mut String, release: &Release) {
     }
     put(told, " ");
     put_requirements(told, release.requirements.as_slice());
-    if release.yanked || !release.files.is_empty() || !release.python.clauses.is_empty() {
+    let has_source = release.source.is_some();
+    if release.yanked
+        || has_source
+        || !release.files.is_empty()
+        || !release.python.clauses.is_empty()
+    {
         put(told, "?");
+    }
+}
+
+// Puts the sources of a name: their labels, each with `;` where it has a condition.
+fn put_sources(told: &mut String, named: &NameSources) {
+    put(told, " ");
+    put(told, named.name.text());
+    let mut sign = "=";
+    for source in &named.sources {
+        put(told, sign);
+        put(told, source.label.text());
+        if source.condition.is_some() {
+            put(told, ";");
+        }
+        sign = ",";
     }
 }
 
@@ -106,7 +126,8 @@ fn put_settings(told: &mut String, project: &Project) {
 }
 
 // Puts a project in short: name and version, how many entries, releases and bounds it has, its requirements, extras and
-// groups, constraints and overrides, how many environments and paths of the region, mode, strategy and pre-releases.
+// groups, constraints and overrides, how many environments and paths of the region, mode, strategy and pre-releases, and
+// the sources of names.
 fn put_project(alloc: Global, told: &mut String, project: &Project) {
     put_name(told, &project.package.name);
     for release in &project.package.releases {
@@ -125,6 +146,9 @@ fn put_project(alloc: Global, told: &mut String, project: &Project) {
     put(told, "| ");
     put_requirements(told, &project.overrides);
     put_settings(told, project);
+    for named in &project.sources {
+        put_sources(told, named);
+    }
 }
 
 fn put_path(alloc: Global, told: &mut String, kind: &str, path: &ProjectPath) {

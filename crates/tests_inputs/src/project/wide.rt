@@ -30,7 +30,7 @@ const ROWS: &str = "shape tool.unilock#p#[tool]~unilock = 1\n\
     unsupported tool.uv.override-dependencies[0]#x#override-dependencies = [\"a @ u ; extra == 'x'\"]\n\
     requirement tool.uv.override-dependencies[0]#x#override-dependencies = ['a @']\n\
     demo 0 | | | | | 1 0 1 highest fewest#x#index = 1~extra-index-url = 'x'~find-links = ['x']~workspace = { members = [] }\n\
-    unsupported tool.uv.sources#x#workspace = 1~conflicts = 1~sources = { a = 1 }\n\
+    unsupported tool.uv.conflicts#x#workspace = 1~conflicts = 1~sources = { a = {} }\n\
     unsupported tool.uv.conflicts#x#constraint-dependencies = 1~conflicts = [1]\n\
     shape tool.uv.constraint-dependencies#x#dev-dependencies = 1~constraint-dependencies = 1\n\
     shape tool.uv.override-dependencies#x#dev-dependencies = 1~override-dependencies = 1\n\

@@ -109,6 +109,52 @@ fn absent(alloc: Global, count: u64) -> String {
     text
 }
 
+// Nodes c10000 and so on, demo, z: demo needs each of the others, and each of their versions one that z lacks.
+fn clashing(alloc: Global, count: u64) -> String {
+    let mut text = String::new(alloc);
+    put_number(&mut text, count);
+    put(&mut text, " ");
+    for k in 0..count {
+        put_number_behind(&mut text, "c", k.saturating_add(10000));
+        put_lacking(&mut text, count);
+    }
+    put(&mut text, "demo");
+    for k in 0..count {
+        put_number_behind(&mut text, if k == 0 { "|" } else { "," }, k);
+        put_number_behind(&mut text, " ", count);
+        put_number_behind(&mut text, " 0 ", count);
+    }
+    put(&mut text, ";z");
+    put_rows(&mut text, count, "|");
+    text
+}
+
+// As many versions, each of which needs one that the node behind demo lacks.
+fn put_lacking(text: &mut String, count: u64) {
+    for _ in 0..count {
+        put_number_behind(text, "|", count.saturating_add(1));
+        put_number_behind(text, " ", count);
+        put(text, " 0 0");
+    }
+    put(text, ";");
+}
+
+// The needs of the last of them.
+fn clashing_core(alloc: Global, count: u64) -> String {
+    let mut text = String::new(alloc);
+    let last = count.saturating_add(9999);
+    put_number_behind(&mut text, "core: ", count.saturating_add(1));
+    for k in 0..count {
+        put_number_behind(&mut text, ", c", last);
+        put_number_behind(&mut text, " ", k.saturating_add(1));
+        put(&mut text, " needs z {}");
+    }
+    put_number_behind(&mut text, ", demo 1 needs c", last);
+    put(&mut text, " ");
+    put_all(&mut text, count);
+    text
+}
+
 fn is_size(alloc: Global, text: &str, want: &str) -> bool {
     match read_problem(alloc, text, "newest") {
         Some(problem) => is_core(alloc, &problem, want),
@@ -138,4 +184,12 @@ fn the_core_of_a_large_problem_has_its_lines(rt: HostRuntime) {
             wide_core(alloc, 99).as_str()
         )
     );
+}
+
+// Of packages that each clash alone the last, with the needs of each of its versions.
+#[test]
+fn the_core_of_packages_that_clash_is_the_last_one(rt: HostRuntime) {
+    let alloc = rt.alloc();
+    let want = clashing_core(alloc, 50);
+    assert!(rt; is_size(alloc, clashing(alloc, 50).as_str(), want.as_str()));
 }

@@ -83,6 +83,21 @@ const GRID: &str = "grid ==1.0|111000000011100000000000000000;\
     grid ==1!1.*|000000000000000000000000001110;\
     grid !=1!1.*|111111111111111111111111110001";
 
+// For each version those of the list above that meet its exclusion, as PyPA's `packaging` 21.3 answers `!=` of two
+// versions.
+const EXCLUDED: &str = "1.0|000111111111111111111111111111;\
+    1.0.0|000111111111111111111111111111;\
+    1.0a1|111101111111111111111111111111;\
+    1.0.post1|111111101111111111111111111111;\
+    1.0.dev1|111011111111111111111111111111;\
+    1.1|111111111111111010111111111111;\
+    1!1.0|111111111111111111111111110111;\
+    1.0+cpu|111111111101111111111111111111;\
+    1.0+CPU-2|111111111110111111111111111111;\
+    1.0+03|111111111111011111111111111111;\
+    1.0.post1+x|111111111111101111111111111111;\
+    3|111111111111111111111111111111";
+
 // A specifier, and what is wanted of it, by the letter of the first word:
 // - `met`: a version, and whether it meets the specifier; in the last rows also why `packaging` 24 answers otherwise;
 // - `refused`: it has no reading; the last ones, with the reason, are read by `packaging` 24;
@@ -207,8 +222,8 @@ fn is_example(alloc: Global, list: &Specifiers, row: &str) -> bool {
     meets(alloc, list, version) == want
 }
 
-fn pins_one(alloc: Global, list: &Specifiers) -> &'static str {
-    match Version::read(alloc, "1") {
+fn pins(alloc: Global, list: &Specifiers, version: &str) -> &'static str {
+    match Version::read(alloc, version) {
         Ok(version) => digit(list.pins(&version)),
         Err(_) => "no version",
     }
@@ -216,7 +231,7 @@ fn pins_one(alloc: Global, list: &Specifiers) -> &'static str {
 
 fn is_summed_up(alloc: Global, list: &Specifiers, row: &str) -> bool {
     let (names_pre, pinned) = cells(row, ' ');
-    digit(list.names_pre()) == names_pre && pins_one(alloc, list) == pinned
+    digit(list.names_pre()) == names_pre && pins(alloc, list, "1") == pinned
 }
 
 fn put_clause(alloc: Global, text: &mut String, clause: &Clause) {
@@ -337,5 +352,54 @@ fn lists_are_read_and_met(rt: HostRuntime) {
         for line in table.split(';') {
             assert!(rt; is_row(rt.alloc(), line), "{line}");
         }
+    }
+}
+
+// The list of the exclusion of a version alone.
+fn exclusion(alloc: Global, text: &str) -> Option<Specifiers> {
+    let version = Version::read(alloc, text).ok()?;
+    let clause = Clause {
+        op: Op::Distinct,
+        version,
+        prefix: false,
+    };
+    let clauses = vec![in alloc; clause].ok()?;
+    Some(Specifiers { clauses })
+}
+
+// Whether a list names no pre-release, doesn't pin a version and has no lower bound.
+fn asks_no_more(alloc: Global, list: &Specifiers, version: &str) -> bool {
+    !list.names_pre() && pins(alloc, list, version) == "0" && is_lower(alloc, list, "")
+}
+
+// Whether the text of a version isn't read as an exclusion.
+fn is_unread(alloc: Global, text: &str) -> bool {
+    match Clause::read(alloc, Op::Distinct, text) {
+        Ok(clause) => {
+            drop(clause);
+            false
+        }
+        Err(fault) => matches!(fault, SpecFault::NoReading),
+    }
+}
+
+fn is_excluded_row(alloc: Global, line: &str) -> bool {
+    let (text, want) = cells(line, '|');
+    match exclusion(alloc, text) {
+        Some(list) => {
+            let is_right = is_met_as(alloc, &list, want)
+                && asks_no_more(alloc, &list, text)
+                && is_unread(alloc, text);
+            drop(list);
+            is_right
+        }
+        None => false,
+    }
+}
+
+#[test]
+fn exclusions_are_met_by_all_versions_but_one(rt: HostRuntime) {
+    for line in EXCLUDED.split(';') {
+        assert!(rt; is_excluded_row(rt.alloc(), line), "{line}");
     }
 }

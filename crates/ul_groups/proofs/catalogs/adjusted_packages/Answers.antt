@@ -6,10 +6,10 @@ use Rattle.ul_groups.proofs.catalogs.adjusted_packages.Goals as goal
 
 pub loop-found-preserved : goal.loop-found-preserved
 loop-found-preserved c =
-    made_next (adjusted_package (at_name c.args.constraints.now.entries) (at_name c.args.overrides.now.entries)) _ _ _ _ _ c.adjusted_package.result
-    c.in_ok-list-2.ensures c.adjusted_package.ensures c.loop-found-test.true c.found-item.is c.loop-found.invariant
+    made_next (adjusted_package (at_name c.args.constraints.now.entries) (at_name c.args.overrides.now.entries) (at_name c.args.sources.now.entries)) _ _ _ _ _ c.adjusted_package-made.result
+    c.in_ok-list-2.ensures c.adjusted_package-made.ensures c.loop-found-test.true c.found-item.is c.loop-found.invariant
 
 pub returns : goal.returns
 returns c =
-    made_all (adjusted_package (at_name c.args.constraints.now.entries) (at_name c.args.overrides.now.entries)) c.args.packages.now _
+    made_all (adjusted_package (at_name c.args.constraints.now.entries) (at_name c.args.overrides.now.entries) (at_name c.args.sources.now.entries)) c.args.packages.now _
     c.loop-found.found-index (omega arith) c.loop-found.invariant

@@ -1,9 +1,10 @@
-use Rattle.std.proofs.Common.{◌≡◌, ◌∙◌, arith}
+use Rattle.std.proofs.Common.{◌≡◌, ◌∙◌, [], ◌∷◌, arith, refl}
 use Rattle.std.proofs.lemmas.Result.{err_from_is_err_and}
 use Rattle.ul_files.specs.Files.{content}
 use Rattle.ul_load.specs.Loading.{file_content, document_path, package_at, package_from}
 use Rattle.ul_load.proofs.DocumentSteps.{step_gives, step_refuses}
 use Rattle.ul_load.proofs.FaultCauses.{no_failed_path, same_count}
+use Rattle.ul_load.proofs.ReadOnce.{each_first, first_of_none, on_ok}
 use Rattle.ul_load.proofs.documents.package_at.Goals as goal
 
 pub returns-in_err-found-clause-told : goal.returns-in_err-found-clause-told
@@ -53,3 +54,23 @@ returns-clause-failed g c = no_failed_path c.package_of.result _ c.package_of.en
 
 pub returns-clause-next : goal.returns-clause-next
 returns-clause-next g c = c.package_of.ensures.next
+
+pub returns-in_err-path-clause-reads : goal.returns-in_err-path-clause-reads
+returns-in_err-path-clause-reads g c = first_of_none _ (document_path c.args.folder.now c.args.name.now ∷ [])
+
+pub returns-in_err-found-clause-reads : goal.returns-in_err-found-clause-reads
+returns-in_err-found-clause-reads g c =
+    let path = document_path c.args.folder.now c.args.name.now in
+    let path_is : c.as_str.result.now ≡ path = c.as_str.ensures.value ∙ c.in_ok-path.ensures in
+    each_first _ _ (path ∷ []) [] (path ∷ []) refl (rw path_is at c.in_err-found.ensures.reads)
+
+pub returns-clause-reads : goal.returns-clause-reads
+returns-clause-reads g c =
+    let path = document_path c.args.folder.now c.args.name.now in
+    let path_is : c.as_str.result.now ≡ path = c.as_str.ensures.value ∙ c.in_ok-path.ensures in
+    each_first _ _ (path ∷ []) [] (path ∷ []) refl (rw path_is at c.in_ok-found.ensures.reads)
+
+pub returns-clause-each : goal.returns-clause-each
+returns-clause-each g c =
+    let path_is : c.as_str.result.now ≡ document_path c.args.folder.now c.args.name.now = c.as_str.ensures.value ∙ c.in_ok-path.ensures in
+    on_ok c.package_of.result _ (rw path_is at c.in_ok-found.ensures.reads)

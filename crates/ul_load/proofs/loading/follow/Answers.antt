@@ -5,6 +5,7 @@ use Rattle.ul_load.specs.Loading.{next_name, package_at, progress_with, within}
 use Rattle.ul_load.specs.Views.{progress_view}
 use Rattle.ul_load.proofs.DocumentSteps.{step_gives, step_refuses}
 use Rattle.ul_load.proofs.FaultCauses.{cause_on, no_failed_path, same_count}
+use Rattle.ul_load.proofs.ReadOnce.{first_of_none, on_ok}
 use Rattle.ul_load.proofs.loading.follow.Goals as goal
 
 pub returns-in_err-name-clause-told : goal.returns-in_err-name-clause-told
@@ -68,3 +69,15 @@ returns-clause-first g c = c.add.ensures.first
 
 pub returns-clause-one : goal.returns-clause-one
 returns-clause-one g c = c.add.ensures.one
+
+pub returns-in_err-name-clause-reads : goal.returns-in_err-name-clause-reads
+returns-in_err-name-clause-reads g c = first_of_none _ _
+
+pub returns-in_err-found-clause-reads : goal.returns-in_err-found-clause-reads
+returns-in_err-found-clause-reads g c = rw c.in_ok-name.ensures at c.in_err-found.ensures.reads
+
+pub returns-clause-reads : goal.returns-clause-reads
+returns-clause-reads g c = rw c.in_ok-name.ensures at c.in_ok-found.ensures.reads
+
+pub returns-clause-each : goal.returns-clause-each
+returns-clause-each g c = on_ok c.add.result _ (rw c.in_ok-name.ensures at c.in_ok-found.ensures.each)

@@ -1,7 +1,7 @@
 use Rattle.std.proofs.Common.{◌≡◌, Bool, IfOk, ap, map, subst, sym, ◌∙◌}
 use Rattle.ul_version.specs.Fields.{Fields}
 use Rattle.ul_specifier.specs.Clauses.{ClauseFields, IsClause}
-use Rattle.ul_prepared.proofs.Admitted.{compatible_meets, equal_meets, from_meets, unequal_meets, up_to_meets}
+use Rattle.ul_prepared.proofs.Admitted.{compatible_meets, distinct_meets, equal_meets, from_meets, unequal_meets, up_to_meets}
 use Rattle.ul_prepared.proofs.clauses.clause_set.Goals as goal
 
 pub returns-in-Equal : goal.returns-in-Equal
@@ -38,3 +38,10 @@ returns-in-Compatible c =
     let own = ap (λ (s : ClauseFields). s.op) c.clause.view_is in
     subst (λ (p : Fields → Bool). IfOk c.compatible_set.result (λ s. s ≡ map p c.args.versions.now))
     (compatible_meets c.args.clause.now _ (subst IsClause c.clause.view_is c.clause.invariant) version (sym own ∙ c.in-Compatible.is)) c.compatible_set.ensures
+
+pub returns-in-Distinct : goal.returns-in-Distinct
+returns-in-Distinct c =
+    let version = ap (λ (s : ClauseFields). s.version) c.clause.view_is in
+    let own = ap (λ (s : ClauseFields). s.op) c.clause.view_is in
+    subst (λ (p : Fields → Bool). IfOk c.unequal_set-in-Distinct.result (λ s. s ≡ map p c.args.versions.now))
+    (distinct_meets c.args.clause.now _ version (sym own ∙ c.in-Distinct.is)) c.unequal_set-in-Distinct.ensures
