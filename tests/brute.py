@@ -134,7 +134,10 @@ class Brute:
         for it, truth in self.applied(region, node, rank):
             if it.name not in split:
                 found = enumerate(self.eligible(it.name))
-                permitted = frozenset(k for k, other in found if meets(it.clauses, other.version))
+                permitted = frozenset(
+                    k for k, other in found
+                    if meets(it.clauses, other.version) and it.source in (None, other.source)
+                )  # fmt: skip
                 made += [Need(target, permitted, truth) for target in it.targets]
         return made
 

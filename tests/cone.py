@@ -2,7 +2,8 @@
 
 python3 tests/cone.py prints, for each tier of docs/HEADLINE.md, the files in an order in which they can be read (each
 behind those that it uses), with how many of their definitions the statement reaches; with --page the first tier as one
-page, comments and definitions in reading order; with --write it puts the lists into that page, and writes docs/SOUND.md.
+page, comments and definitions in reading order; with --write it puts the lists into that page, and writes
+docs/SOUND.md.
 """
 
 from __future__ import annotations
@@ -18,12 +19,16 @@ TOP = Path(__file__).resolve().parent.parent
 TIERS = [("ul_sound", "Sound", "IsSound"), ("ul_program", "Headline", "Headline")]
 USE = re.compile(r"^(?:unfoldable\s+)?(?:pub\s+)?use (Rattle\.[\w.+]+?)(?:\.\{([^}]*)\}| as (\w+))?\s*$", re.M)
 # The head of a definition: with a word for its kind, or in a block and for a lemma its name and its type alone.
-HEAD = re.compile(r"(?:(?:abbrev|unfoldable|record|data|type|pub)\s+)*(?:abbrev|unfoldable|record|data)\s+(?:pub\s+)?([^\s:(]+)")
+HEAD = re.compile(
+    r"(?:(?:abbrev|unfoldable|record|data|type|pub)\s+)*(?:abbrev|unfoldable|record|data)\s+(?:pub\s+)?([^\s:(]+)"
+)
 PLAIN_HEAD = re.compile(r"(?:pub\s+)?([^\s:(){}=]+)\s+:\s")
 # The head of a block: definitions that name each other, or that share parameters.
 BLOCK = re.compile(r"(?:abbrev\s+|unfoldable\s+)*mutual\s*$|(?:pub\s+)?module\s+\S+\s*(.*)\bwhere\s*$")
 # How docs/SOUND.md begins.
-PAGE_BEGINS = "A lock is right where this holds of it: in each world that the project supports, with each list of its extras."
+PAGE_BEGINS = (
+    "A lock is right where this holds of it: in each world that the project supports, with each list of its extras."
+)
 WORD = re.compile(r"[^\s(){}\[\],;.λ∷]+")
 
 
@@ -207,10 +212,11 @@ READING = (
     "Read the last section first, for what is wanted, and then from the top. A type that has no definition here is the"
     " code's, in `src/` of its crate, and a word that has none is the standard library's. A catalog has its project's"
     " constraints and overrides already, so these aren't spoken of.\n\n"
-    "Letters, where whole things are spoken of: `c` a catalog, `p` a project, `l` a lock, `w` a world, `q` a requirement,"
-    " `n`, `m` and `t` nodes or their names, `v` and `u` versions, `V` that of a clause, `r` a release, `e` an edge, `x` and"
-    " `y` extras, and each with an `s` a list of them. Below, in bytes, parts of versions and trees, a letter is what its"
-    " type and the comment say; the levels of a tree are 0 the extra, 1 the interpreter, 2 to 9 the texts, 10 comparisons."
+    "Letters, where whole things are spoken of: `c` a catalog, `p` a project, `l` a lock, `w` a world,"
+    " `q` a requirement, `n`, `m` and `t` nodes or their names, `v` and `u` versions, `V` that of a clause,"
+    " `r` a release, `e` an edge, `x` and `y` extras, and each with an `s` a list of them. Below, in bytes, parts of"
+    " versions and trees, a letter is what its type and the comment say; the levels of a tree are 0 the extra,"
+    " 1 the interpreter, 2 to 9 the texts, 10 comparisons."
 )
 
 

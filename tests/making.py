@@ -32,6 +32,8 @@ BUILT = [
 ]
 PROGRAM = next((it for it in BUILT if it.is_file()), BUILT[0])
 SKIPPED: Dict[str, List[str]] = {}
+# What stands for a file's SHA-256 where nobody looks at the file.
+SUM = "0123456789abcdef" * 4
 
 
 @atexit.register

@@ -6,7 +6,7 @@ draws COUNT projects (1,000) of FEWEST to MOST packages (50 to 300), locks them 
 a line for each way: how long it took, and the processor time of all its processes. Beside the first is a fourth of the
 sum of the single calls, which four cores could do it in at best; the ratios of the others are to this fourth, and to
 the processor time of the single calls, which tells more where something else runs. The cluster is a scheduler and two
-workers of two threads, where an interpreter has `distributed`.
+workers of two threads, where an interpreter has `distributed` (on Debian the package python3-distributed).
 """
 
 from __future__ import annotations
@@ -84,6 +84,8 @@ def cluster(python: str) -> Iterator[str]:
 
 
 def main(count: int = 1000, fewest: int = 50, most: int = 300) -> None:
+    if not PROGRAM.is_file():
+        sys.exit("many_figures: the program isn't built (./unilock builds it)")
     with tempfile.TemporaryDirectory() as held:
         room = Path(held)
         folders = drawn(room, count, fewest, most)

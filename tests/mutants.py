@@ -243,8 +243,8 @@ def made_of(world: World) -> Made:
 
 
 class Plain(NamedTuple):
-    """A file as a page lists it, read plainly; its hash in any spelling. One that isn't sure is listed for readers alone
-    that take a quote elsewhere than behind `=` for the begin of a value."""
+    """A file as a page lists it, read plainly; its hash in any spelling. One that isn't sure is listed for readers
+    alone that take a quote elsewhere than behind `=` for the begin of a value."""
 
     name: str
     url: str

@@ -3,7 +3,7 @@
 from __future__ import annotations
 
 import re
-from typing import Iterable, NamedTuple
+from typing import Any, Iterable, NamedTuple, Optional
 
 from plain import ALL_SPACE, SPACE, TRUE, NoReading, Version, marker, normal_name, specifiers, version
 
@@ -30,10 +30,14 @@ BY_URL = re.compile(
 
 
 class Requirement(NamedTuple):
+    """A requirement; `source` says where a release has to come from that meets it: None is anywhere, and the empty text
+    where no source is named."""
+
     name: str
     extras: tuple
     clauses: tuple
     marker: tuple
+    source: Optional[str] = None
 
     @property
     def targets(self) -> list:
@@ -79,6 +83,7 @@ class Project(NamedTuple):
     strategy: str
     constraints: tuple
     overrides: tuple
+    sources: dict
 
 
 def project(text: str) -> Project:
@@ -110,7 +115,15 @@ def project(text: str) -> Project:
         uv.get("fork-strategy", "fewest"),
         tuple(map(read_one, uv.get("constraint-dependencies", []))),
         tuple(map(read_one, uv.get("override-dependencies", []))),
+        {normal_name(name): sources(it) for name, it in uv.get("sources", {}).items()} if is_wide else {},
     )
+
+
+def sources(value: Any) -> tuple:
+    """The sources of a name, each with its label and its condition."""
+    listed = value if isinstance(value, list) else [value]
+    conditions = [marker(it["marker"]) if "marker" in it else TRUE for it in listed]
+    return tuple((normal_name(it.get("index", "direct")), one) for it, one in zip(listed, conditions))
 
 
 def expanded(groups: dict, name: str, seen: set) -> list:
@@ -134,6 +147,7 @@ class Release(NamedTuple):
     requirements: tuple
     yanked: bool
     files: tuple
+    source: str = ""
 
 
 def releases(document: dict) -> list:
@@ -153,12 +167,22 @@ def releases(document: dict) -> list:
         except NoReading:
             continue
         files = sorted((it["file"], it["sha256"].lower()) for it in entry.get("files") or [])
-        found.append(Release(read, python, wanted, entry.get("yanked") not in (None, False), tuple(files)))
+        found.append(
+            Release(read, python, wanted, entry.get("yanked") not in (None, False), tuple(files), source_of(entry))
+        )
     return found
 
 
+def source_of(entry: dict) -> str:
+    try:
+        return normal_name(entry.get("source") or "")
+    except (NoReading, TypeError):
+        return ""
+
+
 def adjusted(project: Project, requirements: Iterable[Requirement]) -> tuple:
-    """A release's requirements with the project's overrides in their place and its constraints behind them."""
+    """A release's requirements with the project's overrides in their place, and its constraints and then what its
+    sources ask for behind them."""
     replaced: list = []
     for it in requirements:
         mine = [other for other in project.overrides if other.name == it.name]
@@ -171,4 +195,15 @@ def adjusted(project: Project, requirements: Iterable[Requirement]) -> tuple:
         for other in project.constraints:
             if other.name == it.name:
                 made.append(other._replace(marker=("and", it.marker, other.marker)))
-    return tuple(made)
+    return tuple(other for it in made for other in (it, *sourced(project, it)))
+
+
+def sourced(project: Project, it: Requirement) -> list:
+    """What the project's sources of a name ask for where a requirement on it is true: where the condition of one holds,
+    a release that comes from there; where none holds, one that comes from none."""
+    listed = project.sources.get(it.name, ()) if it.name != project.name else ()
+    made = [Requirement(it.name, (), (), ("and", it.marker, condition), label) for label, condition in listed]
+    if listed and TRUE not in [condition for _, condition in listed]:
+        none = ("and", it.marker, *(("not", condition) for _, condition in listed))
+        made.append(Requirement(it.name, (), (), none, ""))
+    return made

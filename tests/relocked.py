@@ -6,30 +6,46 @@
 - After one is left out, no version of what stays does: one that names no pre-release and pins no version, since such a
   one is what makes a pre-release or a yanked version eligible.
 - A project that can be locked without an old lock is locked with any.
+
+`tools/fuzz --relock` asks this alone of the projects that are drawn.
 """
 
 from __future__ import annotations
 
 import os
 import random
+import tempfile
+from contextlib import contextmanager
 from pathlib import Path
-from typing import Any, Callable, Dict, List, Optional, Tuple
+from typing import Any, Callable, Dict, Iterator, List, NamedTuple, Optional, Tuple
+from unittest import mock
 
+import drawn
 import program as under_test
-from unilock_tools import documents, locks, project, project_text, relocking, vendored, worlds
+from unilock_tools import documents, locks, program, project, project_text, relocking, vendored, worlds
 from unilock_tools.console import Refused
 from unilock_tools.readings import requirement_of
 from unilock_tools.versions import version, version_of
 
-Must = Callable[[bool, str], None]
+# Of these answers none names a file.
+REMEMBERED = (0, relocking.REFUSED, relocking.REJECTED)
+
+
+class Finding(Exception):
+    """An answer for which something doesn't hold that must."""
+
+
+def must(holds: bool, rule: str) -> None:
+    if not holds:
+        raise Finding(rule)
 
 
 class Again:
     """A project that was locked, in a folder of its own, which is locked again after a change."""
 
-    def __init__(self, folder: Path, must: Must) -> None:
+    def __init__(self, folder: Path) -> None:
         os.environ["UNILOCK"] = str(under_test.PROGRAM)
-        self.folder, self.must = folder, must
+        self.folder = folder
         self.tables: Dict[str, Any] = vendored.toml_of(str(folder / "pyproject.toml"))
         self.text = (folder / "made.lock").read_text(encoding="utf-8")
         self.lock = locks.read(self.text, "made.lock")
@@ -59,12 +75,12 @@ class Again:
             if worlds.holds(self.lock.supported, machine):
                 before, after = (worlds.Walked(it, machine).versions() for it in (self.lock, new))
                 changed = [it for it in before if it in after and before[it] != after[it]]
-                self.must(not changed, f"{rule}: {changed} on {worlds.described(machine)}")
+                must(not changed, f"{rule}: {changed} on {worlds.described(machine)}")
 
     def twice(self) -> None:
         files = relocking.Files(str(self.folder / "pyproject.toml"), str(self.folder / "ix"), 1)
         again = relocking.kept(files, str(self.folder / "made.lock"), self.lock).answer
-        self.must(again.text == self.text, f"a lock that is right isn't kept: {again.text[:300]!r}")
+        must(again.text == self.text, f"a lock that is right isn't kept: {again.text[:300]!r}")
 
     def added(self, rng: random.Random) -> None:
         listed = self.tables["project"].get("dependencies", [])
@@ -100,7 +116,7 @@ class Again:
             if known:
                 chosen[name] = rng.choice(known)
         old = locks.preferences(self.lock, [], {name: normal_text(it) for name, it in chosen.items()})
-        self.must(self.made(None, old) is not None, f"it is locked, but not with the old lock {chosen}")
+        must(self.made(None, old) is not None, f"it is locked, but not with the old lock {chosen}")
 
 
 def normal_text(spelled: str) -> str:
@@ -108,10 +124,10 @@ def normal_text(spelled: str) -> str:
     return spelled if read is None else read.text()
 
 
-def ask(folder: Path, must: Must, rng: random.Random) -> None:
+def ask(folder: Path, rng: random.Random) -> None:
     """Asks all of a project in a folder that has its lock as `made.lock`; what the tools don't read is passed over."""
     try:
-        again = Again(folder, must)
+        again = Again(folder)
     except Refused:
         return
     steps: List[Callable[[], None]] = [
@@ -119,3 +135,57 @@ def ask(folder: Path, must: Must, rng: random.Random) -> None:
     ]  # fmt: skip
     for step in steps:
         step()
+
+
+def contents(path: Path) -> object:
+    """What a word of a call stands for: the bytes of a file, those of the files of a folder, or nothing but itself."""
+    if path.is_dir():
+        return tuple(sorted((it.name, it.read_bytes()) for it in path.iterdir()))
+    return path.read_bytes() if path.is_file() else path.name
+
+
+@contextmanager
+def asked_once() -> Iterator[None]:
+    """In this process the program isn't asked again what it has answered: the same command of files that hold the
+    same."""
+    known: Dict[Tuple[object, ...], program.Answer] = {}
+    answer = program.answer
+
+    def remembered(words: List[str], folder: Optional[str] = None) -> program.Answer:
+        question = (words[0], *(contents(Path(folder or "", it)) for it in words[1:]))
+        found = known.get(question) or answer(words, folder)
+        if found.status in REMEMBERED:
+            known[question] = found
+        return found
+
+    with mock.patch.object(program, "answer", remembered):
+        yield
+
+
+class Asked(NamedTuple):
+    """How a drawn project came out: whether it was locked, so that the rest was asked, and what doesn't hold, with its
+    files then."""
+
+    is_locked: bool
+    finding: str
+    files: Dict[str, bytes]
+
+
+def asked(seed: int, number: int) -> Asked:
+    """A drawn project of which nothing is asked but what must hold of locking it again."""
+    rng = random.Random(f"{seed}/{number}")
+    with tempfile.TemporaryDirectory(prefix="unilock-relocked-") as held:
+        folder = Path(held)
+        drawn.write(folder, drawn.inputs(rng))
+        made = under_test.said(under_test.call(folder, "lock pyproject.toml ix 1"))
+        if made.status != 0:
+            return Asked(False, "", {})
+        (folder / "made.lock").write_text(made.text, encoding="utf-8", newline="\n")
+        try:
+            with asked_once():
+                ask(folder, rng)
+        except Finding as fault:
+            return Asked(True, str(fault), drawn.folder_files(folder))
+        except Exception as fault:  # a fault of the tools is a finding too
+            return Asked(True, f"{type(fault).__name__}: {fault}", drawn.folder_files(folder))
+        return Asked(True, "", {})

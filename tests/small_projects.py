@@ -107,3 +107,38 @@ def small(rng: random.Random) -> Small:
         if rng.random() < 0.98:
             documents[name.lower().replace(".", "-")] = document(rng, spelled(rng, name), below)
     return Small(project_text(rng, names), documents)
+
+
+LABELS = ["beta", "gamma", "Direct"]
+
+
+def sourced(made: Small) -> Small:
+    """A small project, one in six with sources of some of its names. That is drawn by its own text, so that all else is
+    drawn as without."""
+    rng = random.Random(made.project)
+    if rng.random() < 0.83 or not made.documents:
+        return made
+    names = rng.sample(sorted(made.documents), min(len(made.documents), rng.choice([1, 1, 2])))
+    lines, documents = "", dict(made.documents)
+    for name in names:
+        labels = rng.sample(LABELS, rng.choice([1, 1, 2]))
+        lines += f"{name} = {sources(rng, labels)}\n"
+        documents[name] = with_sources(rng, documents[name], labels)
+    return Small(f'{made.project}\n[tool.uv.sources]\n{lines}\n[tool.unilock]\nprofile = "wide"\n', documents)
+
+
+def sources(rng: random.Random, labels: list) -> str:
+    """The sources of a name, each of an index or of none, most under a marker; two are mostly told apart by one."""
+    text = rng.choice(MARKERS[:6])
+    pair = [text, text.replace("==", "!=") if "==" in text else text.translate(str.maketrans("<>", "><"))]
+    listed = []
+    for label, one in zip(labels, pair if rng.random() < 0.8 else [rng.choice(MARKERS[:-2]) for _ in labels]):
+        keys = ['path = "."' if label == "Direct" else f'index = "{label}"']
+        keys += [f'marker = "{one}"'] if len(labels) == 2 or rng.random() < 0.7 else []
+        listed.append(f"{{ {', '.join(keys)} }}")
+    return listed[0] if len(listed) == 1 and rng.random() < 0.5 else f"[{', '.join(listed)}]"
+
+
+def with_sources(rng: random.Random, document: dict, labels: list) -> dict:
+    drawn = [(it, rng.choice([None, *labels, *labels, rng.choice(LABELS)])) for it in document["versions"]]
+    return {**document, "versions": [it if label is None else {**it, "source": label} for it, label in drawn]}

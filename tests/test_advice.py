@@ -6,11 +6,10 @@ from __future__ import annotations
 import unittest
 from typing import List
 
-from making import Folder, document, want_program
+from making import SUM, Folder, document, want_program
 from unilock_tools import advice, locks, poetry, vendored
 
 START = '[project]\nname = "demo"\nversion = "0.1"\nrequires-python = ">=3.9"\n'
-SUM = "0123456789abcdef" * 4
 SLIPS = [
     ('dependencies = ["a[speed]"]\n', "no release of a in the index requires anything for the extra speed"),
     ('dependencies = ["y==1"]\n', "y 1, which it pins, is yanked: it leaks"),

@@ -11,6 +11,7 @@ from making import Folder
 from unilock_tools import edges, linked, marker_texts, markers, project, reduced, tables
 from unilock_tools.edges import Need
 from unilock_tools.foreign import Target
+from unilock_tools.toml_texts import tables_text
 
 PROJECT = """[project]
 name = "demo"
@@ -70,7 +71,7 @@ class Edges(Folder):
 
     def test_a_project_file_with_some_of_its_extras(self) -> None:
         made = project.load(str(self.write("pyproject.toml", PROJECT)))
-        text = reduced.text_of(reduced.tables_of(made, ["all"]))
+        text = tables_text(reduced.tables_of(made, ["all"]))
         again = project.load(str(self.write("reduced.toml", text)))
         self.assertEqual(again.extras(), ["all", "x"])
         self.assertEqual([it.requirement.text for it in again.requirements], ["a", "demo[x]", "b"])

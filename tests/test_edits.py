@@ -16,8 +16,8 @@ from making import TOP, tool
 
 TRY_EDITS = tool("try-edits")
 RESULTS = TOP / "docs" / "edits.txt"
-# Each edit of the gate is a check of its crate, so only those that tell most are tried there, about four a crate.
-MOST_OF_GATE = 208
+# Each edit of the gate is a check of its crate, so only those of crates that are checked soon are tried there.
+MOST_OF_GATE = 73
 
 
 # Stands for `rt`: refuses each edit of the crates that it is asked for but those named `weak`, and writes into what was

@@ -42,7 +42,8 @@ class AsJson(Explained):
         text = (EXAMPLE / "lock.txt").read_text(encoding="utf-8")
         words = ["explain", EXAMPLE / "pyproject.toml", EXAMPLE / "ix", "--from", "-"]
         found = json.loads(self.ran(*words, "--json", into=text).stdout)
-        self.assertEqual(found["sentences"][0], "No choice of versions serves the project where sys_platform == 'win32'.")
+        refused = "No choice of versions serves the project where sys_platform == 'win32'."
+        self.assertEqual(found["sentences"][0], refused)
         shown = " ".join(self.ran(*words, into=text).stdout.split())
         self.assertEqual(" ".join(" ".join(found["sentences"]).split()), shown)
 
@@ -235,9 +236,13 @@ class Places(Explained):
             self.place("unsupported project.dependencies[0]", '[project]\ndependencies = ["a @ https://x/y"]\n'),
         )
         self.assertIn(
-            "the program has no place for sources; `tools/lock` follows those",
+            "the strict profile has no place for it; the wide profile reads it, and `tools/lock` follows it.",
             self.place("unsupported tool.uv.sources", "[tool.uv.sources]\na = { path = '.' }\n"),
         )
+        said = self.place("unsupported tool.uv.sources.a", "[tool.uv.sources]\na = { index = 'b', extra = 'c' }\n")
+        self.assertIn("tool.uv.sources.a: it would count for extras alone that exclude each other, and those", said)
+        said = self.place("shape tool.uv.sources.a-b", "[tool.uv.sources]\nA_b = { index = 'direct' }\n")
+        self.assertIn('tool.uv.sources.a-b: it is {"index": "direct"}; wanted: a table, or a list of tables, in', said)
 
     def test_lines_of_files_that_are_not_of_their_form(self) -> None:
         self.assertIn("line 2: name = \"x", self.place("not TOML", '[project]\nname = "x\n'))

@@ -77,7 +77,8 @@ class Headline(unittest.TestCase):
     def test_the_page_of_the_first_tier_is_that_of_the_sources(self) -> None:
         crate, file, name = cone.TIERS[0]
         found = (cone.TOP / "docs" / "SOUND.md").read_text(encoding="utf-8")
-        self.assertEqual(found, cone.page(cone.Cone(crate, file, name), name), "python3 tests/cone.py --write writes it")
+        made = cone.page(cone.Cone(crate, file, name), name)
+        self.assertEqual(found, made, "python3 tests/cone.py --write writes it")
 
     def test_the_page_has_each_definition_once(self) -> None:
         reached = cone.Cone(*cone.TIERS[0]).reached
@@ -122,7 +123,8 @@ class Headline(unittest.TestCase):
             file = cone.SpecFile(path)
             bodies = [line for lines in file.lines.values() for line in lines]
             parts = {word for line in bodies for word in re.findall(r"^ {2,}(?:pub )?(\S+) :", line)}
-            handed_on = set(re.findall(r"\w+", " ".join(re.findall(r"^(?:unfoldable )?pub use (.*)$", file.text, re.M))))
+            uses = re.findall(r"^(?:unfoldable )?pub use (.*)$", file.text, re.M)
+            handed_on = set(re.findall(r"\w+", " ".join(uses)))
             with self.subTest(file=path):
                 self.assertEqual(names - set(file.definitions) - parts - handed_on, set())
 

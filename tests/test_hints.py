@@ -230,9 +230,15 @@ class Texts(unittest.TestCase):
             '[project]\nname = "d"\nversion = "1"\ndependencies = ["a; os_name == \'nt\'", "b\\\\c \\u007f é"]\n'
             'urls = { "x y" = "z" }\n[project.optional-dependencies]\nx = ["q"]\n[dependency-groups]\n'
             't = ["p", { include-group = "u" }]\nu = []\n[tool.uv]\nexclude-newer = 2024-01-01\nmanaged = true\n'
+            '[tool.uv.sources]\nq = [{ index = "i", marker = "os_name == \'nt\'" }, {}]\n"r.s" = {}\n[tool.unilock]\n'
         )
         read = vendored.toml_reader().loads
-        self.assertEqual(read(project_text.toml_text(read(text))), read(text))
+        made = project_text.toml_text(read(text))
+        self.assertEqual(read(made), read(text))
+        listed = """q = [{ index = "i", marker = "os_name == 'nt'" }, {}]"""
+        self.assertIn(f'\n\n[tool.uv.sources]\n{listed}\n"r.s" = {{}}\n', made)
+        others = {**read(text), "tool": {"uv": 1, "other": {}}, "build-system": {}}
+        self.assertEqual(set(read(project_text.toml_text(others))), {"project", "dependency-groups"})
 
 
 if __name__ == "__main__":

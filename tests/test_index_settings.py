@@ -18,6 +18,7 @@ from making import Folder, plain_wheel
 from serving import Server
 from unilock_tools import chosen, index_settings, pip_runs, sync, uv_runs, vendored
 from unilock_tools.console import Refused
+from unilock_tools.labels import Label
 from unilock_tools.workspaces import Workspace
 
 UV = '[project]\nname = "p"\n[tool.uv]\nindex-url = "https://uv/simple"\n'
@@ -111,10 +112,9 @@ class Settings(Folder):
         text = DEFAULT + '[tool.uv.sources]\nA_b = { index = "One" }\n'
         found = self.settings(text, UNILOCK_DEFAULT_INDEX="https://other/simple")
         self.assertEqual((found.usual.url, found.indexes[0].is_explicit), ("https://other/simple", True))
-        self.assertEqual(found.sources, {"a-b": "one"})
-        wanted = found.of_source("a-b")
-        self.assertEqual(None if wanted is None else wanted.url, "https://one/simple")
-        self.assertEqual(self.settings(text).of_source("a-b"), self.settings(text).usual)
+        self.assertEqual(found.sources, {"a-b": (Label("one"),)})
+        self.assertEqual(found.called("one").url, "https://one/simple")
+        self.assertEqual(self.settings(text).called("one"), self.settings(text).usual)
 
     def test_one_address_is_asked_once(self) -> None:
         found = self.settings(DEFAULT, "https://x/simple", "https://x/simple/", UV_INDEX="https://x/simple")
@@ -143,8 +143,16 @@ class Settings(Folder):
             ('find-links = ["a\\u0000b"]', "is no folder that is there"),
             ("sources.a.index = 'gone'", "tool.uv.sources.a: there is no index gone; tool.uv.index"),
             ("sources.a.index = 1", "tool.uv.sources.a: its `index` is no name"),
-            ("sources.a = { index = 'x', marker = \"os_name == 'nt'\" }", "or under a condition, isn't supported"),
-            ("sources.a = [{ index = 'x' }, { path = 'y' }]", "tool.uv.sources.a: an index beside other sources"),
+            ("sources.a = [{ path = 'y' }, { index = 'x' }]", "tool.uv.sources.a: there is no index x; tool.uv.index"),
+            ("sources.a = { index = 'Direct' }", "tool.uv.sources.a: its `index` is no name"),
+            ("sources.a = { index = 'x', extra = 'y' }", "a source with extra: it would count for extras alone that"),
+            ("sources.a = { index = 'x', group = 'y' }", "a source with group: it would count for extras alone that"),
+            ("sources.a = { index = 'x', marker = 1 }", "tool.uv.sources.a: its `marker` is no text"),
+            ("sources.a = { index = 'x', marker = 'win32' }", "tool.uv.sources.a: its `marker`: the marker ends too"),
+            (
+                "sources.a = { index = 'x', marker = \"extra == 'y'\" }",
+                "its `marker` asks for an extra, which a source",
+            ),
         ]:
             with self.subTest(entry):
                 self.refused(said, f"[tool.uv]\n{entry}\n")
@@ -154,6 +162,14 @@ class Settings(Folder):
     def test_a_source_that_names_no_index_is_another_matter(self) -> None:
         self.assertEqual(self.settings("[tool.uv.sources]\na = { path = 'x' }\nb = [{ git = 'y' }]\n").sources, {})
         self.assertEqual(self.settings("[tool.uv]\nsources = 1\n").sources, {})
+
+    def test_sources_under_markers(self) -> None:
+        nt, other = "os_name == 'nt'", "os_name != 'nt'"
+        listed = f'[{{ index = "Two", marker = "{nt}" }}, {{ path = "a" }}]'
+        text = f"{SECOND}explicit = true\n[tool.uv.sources]\na = {listed}\n"
+        found = self.settings(f'{text}b = {{ path = "b", marker = "{other}" }}\n')
+        self.assertEqual(found.sources, {"a": (Label("two", nt), Label("direct")), "b": (Label("direct", other),)})
+        self.assertEqual([it.name for it in found.asked()], ["two", "one"])
 
     def of_sync(self, text: str, *words: str) -> dict[str, str]:
         """The variables that an installer is given for a project file."""

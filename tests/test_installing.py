@@ -111,9 +111,9 @@ class Told(Sourced):
         os.chdir(self.top)
         self.addCleanup(os.chdir, here)
         with mock.patch.dict(os.environ, self.environment(), clear=True):
-            means = placed.means_of(lock, ["g", "wh"])
-            found = placed.places(workspaces.found_for(Path("pyproject.toml")), lock, "unilock.lock", means)
             picks = [Pick("g", "1", (), ""), Pick("wh", "5", (), "")]
+            means = placed.means_of(lock, picks)
+            found = placed.places(workspaces.found_for(Path("pyproject.toml")), lock, picks, "unilock.lock", means)
             for it in placed.sourced(picks, found, True):
                 with placed.taken(it, means) as spec:
                     self.assertTrue(spec.startswith(f"{it.pick.name} @ file:///"), spec)
@@ -134,13 +134,13 @@ class Told(Sourced):
         self.assertEqual(list(made.lines("install", "remove")), ["install c 1", "remove c 1"])
         metadata, file = Metadata("wh", "5", None, ()), File("wh.whl", "0" * 64)
         place = Place("wh", sources.ByPath("wh.whl"), metadata, (file,), Path("wh.whl"))
-        found, pick = {"wh": place}, Pick("wh", "5", (), "")
+        found, pick = {("wh", "5"): place}, Pick("wh", "5", (), "")
         made = sync.change(lock, [pick], there, True, found=found, stamps=stamps)
         self.assertEqual([it.pick.name for it in made.sourced], ["wh"])
         stamps.keep(made.sourced, ["c"])
         self.assertEqual(list(placed.Stamps(self.top).found), ["wh"])
         self.assertEqual(sync.change(lock, [pick], there, True, found=found, stamps=stamps).sourced, ())
-        found = {"wh": place._replace(files=(File("wh.whl", "1" * 64),))}
+        found = {("wh", "5"): place._replace(files=(File("wh.whl", "1" * 64),))}
         self.assertEqual(len(sync.change(lock, [pick], there, True, found=found, stamps=stamps).sourced), 1)
 
 

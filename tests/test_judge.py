@@ -28,8 +28,6 @@ SCENARIO = tool("scenario")
 FOLDER = TOP / "examples" / "scenarios"
 DRAWN = int(os.environ.get("JUDGED", "50"))
 NOWHERE = "platform_machine == 'nowhere'"
-# A hash in locks of other tools, which the tests of these take too.
-SUM = "0123456789abcdef" * 4
 # A scenario whose project has a requirement by a URL, which is fetched.
 BY_URL = "url_in_project_wide"
 

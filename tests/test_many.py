@@ -1,5 +1,5 @@
-"""Many projects at once: what each row says, that no job ends the run, that a run goes on where it was broken off, and a
-cluster of workers of which one is lost."""
+"""Many projects at once: what each row says, that no job ends the run, that a run goes on where it was broken off, and
+a cluster of workers of which one is lost."""
 
 from __future__ import annotations
 
@@ -144,7 +144,7 @@ class Rows(Projects):
         self.assertEqual(rows["faulty"], ("failed", place))
 
     def test_sources_are_put_together_by_the_tool(self) -> None:
-        """The program alone refuses a project with sources, and the member that the source gives stands in no index."""
+        """The release that a source gives stands in no index folder, so the program alone finds none that serves."""
         want_program(self)
         self.program = PROGRAM
         head = '[project]\nname = "{}"\nversion = "1"\nrequires-python = ">=3.9"\n'
@@ -330,7 +330,8 @@ class Cluster(Projects):
         return made
 
     def worker(self) -> subprocess.Popen[bytes]:
-        return self.started("dask_worker", f"tcp://127.0.0.1:{self.port}", "--nthreads", "1", "--no-nanny", "--no-dashboard")
+        words = [f"tcp://127.0.0.1:{self.port}", "--nthreads", "1", "--no-nanny", "--no-dashboard"]
+        return self.started("dask_worker", *words)
 
     def test_a_worker_that_is_lost_has_its_jobs_done_by_the_other(self) -> None:
         self.verified_while(30, self.workers[0].kill)
@@ -352,10 +353,12 @@ class Cluster(Projects):
         # One has an index of its own, the others share one.
         self.write("all/00/ix/b.json", "{}")
         program = Path(str(self.program))
-        program.write_text(program.read_text(encoding="utf-8").replace("case $(cat", "sleep 0.3\ncase $(cat"), encoding="utf-8")
+        text = program.read_text(encoding="utf-8").replace("case $(cat", "sleep 0.3\ncase $(cat")
+        program.write_text(text, encoding="utf-8")
         words = ["verify", "all", "--send", "--json", "--scheduler", f"tcp://127.0.0.1:{self.port}"]
         line = [self.python, "-m", "unilock_tools", "many", *words]
-        run = subprocess.Popen(line, cwd=self.top, env=self.environ, stdout=subprocess.PIPE, stderr=subprocess.PIPE, text=True)
+        pipe = subprocess.PIPE
+        run = subprocess.Popen(line, cwd=self.top, env=self.environ, stdout=pipe, stderr=pipe, text=True)
         self.until_called()
         happens()
         out, errors = run.communicate(timeout=120)

@@ -103,7 +103,8 @@ class OfTheFile(Served):
 
     def test_no_project_file(self) -> None:
         said = self.ran("lock", status=3).stderr
-        self.assertTrue(said.startswith("lock: pyproject.toml: there is no such file\n  The least that is read:\n"), said)
+        begin = "lock: pyproject.toml: there is no such file\n  The least that is read:\n"
+        self.assertTrue(said.startswith(begin), said)
         least = [it.strip() for it in said.splitlines()[2:]]
         self.assertEqual(least[0], "[project]")
         with Server(self.wheels) as server:

@@ -4,8 +4,8 @@ from __future__ import annotations
 
 import unittest
 
-from making import document
-from test_judge import SUM, Judging
+from making import SUM, document
+from test_judge import Judging
 from unilock_tools import pylock_rows
 
 PROJECT = """[project]

@@ -6,11 +6,10 @@ import unittest
 from typing import Any, Dict, List
 from unittest import mock
 
-from making import TOP, Folder, document, tool, want_program
+from making import SUM, TOP, Folder, document, tool, want_program
 from unilock_tools import locks, mending, pinned, program, project, relocking, vendored, worlds
 
 SCENARIO = tool("scenario")
-SUM = "0123456789abcdef" * 4
 FORKS = """a 2
     w<2; sys_platform == 'win32'
     w

@@ -6,9 +6,9 @@ from __future__ import annotations
 import unittest
 
 import canonical
-from making import document
+from making import SUM, document
 from program import call, said
-from test_judge import FOLDER, SCENARIO, SUM, Judging
+from test_judge import FOLDER, SCENARIO, Judging
 from unilock_tools import locks, requirement_rows
 
 PROJECT = """[project]
@@ -128,7 +128,8 @@ class Rows(Judging):
 
     def test_a_fault_of_the_whole_project_file_is_told(self) -> None:
         """Though the file is judged by a part of it."""
-        self.write("pyproject.toml", PROJECT.replace("[tool.uv]", "[tool.uv]\nconflicts = [[{ extra = 'more' }, { extra = 'most' }]]"))
+        conflicts = "conflicts = [[{ extra = 'more' }, { extra = 'most' }]]"
+        self.write("pyproject.toml", PROJECT.replace("[tool.uv]", f"[tool.uv]\n{conflicts}"))
         self.assertIn("tool.uv.conflicts", self.said(ROWS, 3))
 
     def test_what_export_prints_is_right(self) -> None:

@@ -52,7 +52,8 @@ class Words(unittest.TestCase):
         self.assertNotIn("web-app", machines["Linux, Python 3.12"])
 
     def test_a_machine_that_a_lock_is_not_made_for_is_left_out(self) -> None:
-        text = WEB_APP.read_text(encoding="utf-8").replace("python_full_version >= '3.9.0'", "sys_platform == 'linux'", 1)
+        text = WEB_APP.read_text(encoding="utf-8")
+        text = text.replace("python_full_version >= '3.9.0'", "sys_platform == 'linux'", 1)
         machines = show.machines_told(locks.read(text, "lock"))
         self.assertEqual({it["machine"].partition(",")[0] for it in machines}, {"Linux"})
 
@@ -72,7 +73,8 @@ class Words(unittest.TestCase):
         self.assertEqual(json.loads(text), {"a": "</script><b>&amp;"})
 
     def test_a_refusal(self) -> None:
-        text = "no selection serves this fork\nfork: 0\nregion: sys_platform == 'win32'\nworld: x\ncore: 1\nq 1 needs z {}\n"
+        text = "no selection serves this fork\nfork: 0\nregion: sys_platform == 'win32'\nworld: x\ncore: 1\n"
+        text += "q 1 needs z {}\n"
         told = show.refusal_told(text)
         self.assertEqual((told["region"], told["needs"]), ("on Windows", [["q 1", "z {}"]]))
 
@@ -120,7 +122,8 @@ class Pages(Folder):
 
     def test_a_package_says_why_and_where(self) -> None:
         page = self.shown(WEB_APP)
-        page.value("[...document.querySelectorAll('.list button')].find((it) => it.textContent.startsWith('colorama')).click()")
+        buttons = "[...document.querySelectorAll('.list button')]"
+        page.value(f"{buttons}.find((it) => it.textContent.startsWith('colorama')).click()")
         self.assertIn("Why it is there: web-app 1.2.0 → colorama 0.4.6", self.text())
         self.assertIn("on Windows", self.text())
         self.assertEqual(page.value("document.querySelectorAll('svg .here').length"), 1)
@@ -149,7 +152,8 @@ class Pages(Folder):
         other = WEB_APP.read_text(encoding="utf-8").replace("sys_platform == 'win32'", "os_name == 'nt'")
         page = self.shown(WEB_APP, self.write("other.lock", other))
         page.value("document.getElementById('tab-changes').click()")
-        self.assertIn("needs colorama 0.4.6 where os_name == 'nt', no longer where sys_platform == 'win32'", self.text())
+        moved = "where os_name == 'nt', no longer where sys_platform == 'win32'"
+        self.assertIn(f"needs colorama 0.4.6 {moved}", self.text())
 
     def test_the_graph_of_a_small_lock(self) -> None:
         page = self.shown(WEB_APP)

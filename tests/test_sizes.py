@@ -111,7 +111,8 @@ class Sizes(Folder):
 
     def test_a_derivation_is_read_up_to_its_limit(self) -> None:
         """Each step of such a derivation lists the releases that are left, so it grows by the square of the clashes."""
-        for releases, status, said in [(MOST_DERIVED, 0, "accepted\n"), (TOO_MANY, 4, f"limit: text-bytes {MOST_TEXT}\n")]:
+        limit = f"limit: text-bytes {MOST_TEXT}\n"
+        for releases, status, said in [(MOST_DERIVED, 0, "accepted\n"), (TOO_MANY, 4, limit)]:
             self.clashing(releases)
             why = self.said("why p.toml ix 4")
             self.assertEqual((why.status, why.text.count("\n")), (1, 4 + 2 * releases + 3))

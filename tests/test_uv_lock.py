@@ -7,8 +7,8 @@ import json
 import unittest
 from typing import Any, Dict
 
-from making import document
-from test_judge import SUM, Judging
+from making import SUM, document
+from test_judge import Judging
 from unilock_tools import judge, locks, uv_lock
 
 PROJECT = """[project]

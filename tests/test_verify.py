@@ -6,12 +6,11 @@ from __future__ import annotations
 import unittest
 from typing import Any, Dict, List
 
-from making import TOP, Folder, document, want_program
+from making import SUM, TOP, Folder, document, want_program
 from unilock_tools import locks
 
 REVIEW = TOP / "examples" / "review"
 PROJECT = '[project]\nname = "demo"\nversion = "0.1"\nrequires-python = ">=3.9"\n'
-SUM = "0123456789abcdef" * 4
 
 
 class Verified(Folder):

@@ -8,7 +8,7 @@ from __future__ import annotations
 import re
 from typing import Any, Dict, Iterator, List, Optional, Tuple
 
-from . import documents, markers, project, worlds
+from . import documents, labels, markers, project, worlds
 from .console import Refused
 from .locks import Lock
 from .machine import PLATFORMS
@@ -183,6 +183,21 @@ def index_slips(wanted: Project, index: str) -> Iterator[str]:
             continue
         known = [(version_of(spelled), entry) for spelled, entry in found]
         yield from (f"{placed.place}: {text}" for text in release_slips(wanted, placed, known))
+
+
+def unsourced(wanted: Project, index: str) -> Iterator[str]:
+    """The sources of which an index folder has no release, so that nothing serves where they count."""
+    for name, listed in sorted(wanted.sources.items()):
+        try:
+            found = documents.releases_of(documents.load(index, name))
+        except Refused:
+            continue
+        sources = {labels.source_of(entry) for _, entry in found}
+        for one in listed if found else ():
+            if one.name not in sources:
+                where = labels.told(one.name) + (f", where {one.marker}" if one.marker else "")
+                lacks = f"{labels.PLACE}.{name}: no release of {name} in the index comes from {where}"
+                yield f"{lacks}; its releases: {labels.releases_told(found)}"
 
 
 def release_slips(

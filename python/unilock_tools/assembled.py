@@ -1,9 +1,10 @@
-"""The project file that the program is handed where the tools settle what it doesn't read: sources, and workspaces.
+"""The project file that the program is handed where the tools settle what it doesn't read: URLs, and workspaces.
 
-A requirement by a URL becomes one on its name, and `tool.uv.sources` goes: the index folder has of such a name the one
-release that its source gives, so no other can be chosen. A workspace becomes one project: the root's, or one that is
-named after the root's folder and requires each member; the extra `workspace` requires all members with all their extras
-and groups, so that one lock holds for all of them. The root's settings count for the whole workspace.
+A requirement by a URL becomes one on its name: the index folder has of such a name the one release that the URL gives,
+so no other can be chosen. Of `tool.uv.sources` stays what the program reads: the index of each, or that it has none,
+and its marker. A workspace becomes one project: the root's, or one that is named after the root's folder and requires
+each member; the extra `workspace` requires all members with all their extras and groups, so that one lock holds for all
+of them. The root's settings count for the whole workspace.
 
 The file is one of the wide profile. One that says `strict` is handed on as it stands.
 """
@@ -16,18 +17,16 @@ import re
 import tempfile
 from collections.abc import Iterator
 from pathlib import Path
-from typing import Any, NamedTuple
+from typing import NamedTuple
 
-from . import scripts, sources, workspaces
+from . import labels, scripts, sources, workspaces
 from .console import Refused, escaped
-from .index_settings import uv_table
-from .profile import Tables, has_sources, said, table
+from .profile import Tables, has_sources, said, table, uv_table
 from .profile import tables_of as tables_of_text
 from .project import Project
 from .source_trees import without_urls
-from .toml_texts import toml_key, toml_lines
+from .toml_texts import tables_text
 from .vendored import has_toml_reader, toml_of
-from .versions import normal_name
 from .workspaces import Member, Workspace, requires_python
 
 # The extra of the root that stands for all that the members ask for.
@@ -49,15 +48,17 @@ def extras_of(member: Member) -> list[str]:
 def tables_of(workspace: Workspace) -> Tables:
     """The tables of the file that is put together. Sources that have no reading are refused."""
     root = without_urls(workspace.tables)
-    sources.wanted(workspace.tables, str(workspace.path))
+    sources.wanted(workspace.tables, str(workspace.path), is_own=True)
     for member in workspace.members.values():
-        sources.wanted(member.tables, str(member.folder / workspaces.FILE))
+        sources.wanted(member.tables, str(member.folder / workspaces.FILE), is_own=True)
     if "workspace" in uv_table(root) and not workspace.is_declared:
         raise Refused(f"{workspace.path}: tool.uv.workspace: it isn't a table", 3)
     made: Tables = {"project": project_table(workspace, root)}
     if "dependency-groups" in root:
         made["dependency-groups"] = root["dependency-groups"]
     settings = {key: it for key, it in uv_table(root).items() if key not in ("sources", "workspace")}
+    named = labels.as_tables(workspaces.labels_in(workspace))
+    settings.update({"sources": named} if named else {})
     unilock = {"profile": "wide", **table(table(root.get("tool")).get("unilock"))}
     return {**made, "tool": {"uv": settings, "unilock": unilock}}
 
@@ -86,50 +87,19 @@ def with_all(member: Member) -> str:
 
 
 def index_tables(named: str, workspace: Workspace | None) -> Tables:
-    """The tables that say which indexes are asked: those of the root's file, with the indexes that its members' sources
-    name. A package is of one index in the whole workspace."""
+    """The tables that say which indexes are asked: those of the root's file, with the sources of the whole workspace as
+    the program reads them."""
     if workspace is None:
         return toml_of(named)
     tables = workspace.tables
-    found = dict(table(uv_table(tables).get("sources")))
-    kept = {normal_name(name): (it, workspace.path) for name, it in found.items() if names_index(it)}
-    for member in workspace.members.values():
-        path = member.folder / workspaces.FILE
-        for name, it in table(uv_table(member.tables).get("sources")).items():
-            one = kept.setdefault(normal_name(name), (it, path)) if names_index(it) else (it, path)
-            if one[0] != it:
-                raise Refused(f"{path}: tool.uv.sources.{name}: its index isn't the one that {one[1]} names", 3)
-            if names_index(it) and normal_name(name) not in map(normal_name, found):
-                found[name] = it
-    tool = table(tables.get("tool"))
-    return {**tables, "tool": {**tool, "uv": {**uv_table(tables), "sources": found}}}
-
-
-def names_index(source: object) -> bool:
-    return any("index" in table(it) for it in (source if isinstance(source, list) else [source]))
+    uv = {**uv_table(tables), "sources": labels.as_tables(workspaces.labels_in(workspace))}
+    return {**tables, "tool": {**table(tables.get("tool")), "uv": uv}}
 
 
 def text_of(workspace: Workspace) -> str:
     """The file that is put together, as a text."""
-    lines = [f"# Put together from {escaped(str(workspace.path))} for unilock."]
-    for name, found in flat("", tables_of(workspace)):
-        lines += ["", f"[{name}]", *(f"{toml_key(key)} = {toml_lines(it)}" for key, it in found.items())]
-    return "\n".join(lines) + "\n"
-
-
-def flat(above: str, tables: Tables) -> list[tuple[str, dict[str, Any]]]:
-    """Each table that has values of its own, by its whole name; the extras and the settings stand in tables below."""
-    found: list[tuple[str, dict[str, Any]]] = []
-    for key, value in tables.items():
-        name = f"{above}.{toml_key(key)}" if above else toml_key(key)
-        if not isinstance(value, dict):
-            continue
-        inner = {it: one for it, one in value.items() if isinstance(one, dict) and name in ("tool", "project")}
-        own = {it: one for it, one in value.items() if it not in inner}
-        if own or name not in ("tool",):
-            found.append((name, own))
-        found += flat(name, inner)
-    return found
+    head = f"# Put together from {escaped(str(workspace.path))} for unilock."
+    return f"{head}\n\n{tables_text(tables_of(workspace))}"
 
 
 class Given(NamedTuple):

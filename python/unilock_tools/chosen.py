@@ -30,6 +30,10 @@ class Pick(NamedTuple):
     extras: Tuple[str, ...]
     marker: str
 
+    @property
+    def key(self) -> Tuple[str, str]:
+        return self.name, self.version
+
     def requirement(self) -> str:
         extras = f"[{','.join(self.extras)}]" if self.extras else ""
         return f"{self.name}{extras}=={self.version}" + (f" ; {self.marker}" if self.marker else "")

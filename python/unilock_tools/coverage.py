@@ -29,7 +29,8 @@ from typing import Any, NamedTuple
 from . import chosen, console, documents, markers, own_index, platforms, printing, scripts, vendored, worlds
 from .chosen import Pick
 from .console import Refused
-from .index_settings import DIRECT, uv_table
+from .index_settings import uv_table
+from .labels import DIRECT
 from .locks import Lock
 from .markers import Join, Marker, NoMarker
 from .platforms import Platform

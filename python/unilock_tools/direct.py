@@ -2,7 +2,8 @@
 
 Each source is followed to its one release: a folder's or a member's project file, or its build; a file's metadata; the
 commit that a repository is at. What that requires by sources or URLs of its own is followed too; a path inside a
-repository stays inside it, and is at the same commit. Two sources of one name are refused, whoever names them.
+repository stays inside it, and is at the same commit. Two sources of one name are refused, whoever names them. A source
+of a name that none of the projects requires itself is followed where others lead to the name.
 
 In the index folder such a release says `source = direct`; a file of it is pinned by its hash, a repository by its
 commit and a hash of all that the commit has: `NAME-COMMIT.git`. What an index folder has of the same source is taken
@@ -13,17 +14,19 @@ from __future__ import annotations
 
 import os
 import re
-from collections.abc import Iterator
+from collections.abc import Collection, Iterator, Mapping
+from functools import cached_property
 from pathlib import Path
 from typing import NamedTuple
 
-from . import direct_files, documents, source_trees, sources, workspaces
+from . import direct_files, documents, labels, source_trees, sources, workspaces
 from .archives import Metadata
 from .building import Builder
 from .console import Refused
 from .direct_files import Means
 from .documents import File, Projects
-from .index_settings import DIRECT, uv_table
+from .index_settings import uv_table
+from .labels import DIRECT, Labels
 from .locks import Lock
 from .profile import Tables
 from .requirement_texts import parts_of
@@ -76,8 +79,8 @@ class Place(NamedTuple):
 def commits_of(lock: Lock | None) -> dict[str, str]:
     """The commits that a lock's files pin, by the names of their packages."""
     packages = [] if lock is None else lock.packages
-    found = {it.name: commit_in(it.name, [file for file, _ in it.files]) for it in packages}
-    return {name: it for name, it in found.items() if it is not None}
+    found = [(it.name, commit_in(it.name, [file for file, _ in it.files])) for it in packages]
+    return {name: it for name, it in found if it is not None}
 
 
 def commit_in(name: str, files: list[str]) -> str | None:
@@ -87,13 +90,18 @@ def commit_in(name: str, files: list[str]) -> str | None:
 
 
 class Direct:
-    """The places of all names that come from a source."""
+    """The places of all names that come from a source; `also` are names to which others lead."""
 
-    def __init__(self, workspace: Workspace, means: Means) -> None:
-        self.workspace, self.means = workspace, means
+    def __init__(self, workspace: Workspace, means: Means, also: Collection[str] = ()) -> None:
+        self.workspace, self.means, self.also = workspace, means, also
         self.places: dict[str, Place] = {}
         self.warned: list[str] = []
         self.todo: list[tuple[str, Source, Base]] = []
+
+    @cached_property
+    def listed(self) -> dict[str, Labels]:
+        """The sources of each name in the whole workspace."""
+        return workspaces.labels_in(self.workspace)
 
     def gather(self) -> Direct:
         """Follows the sources of the project and of all members, and then those of what they lead to."""
@@ -101,27 +109,42 @@ class Direct:
         own = Base(self.workspace.folder, str(self.workspace.path), declared)
         self.todo += [(name, Member(), own) for name in sorted(self.workspace.members)]
         self.todo += self.named_in(self.workspace.tables, own, True)
+        for tables, base in self.bases(own):
+            listed = sources.read(tables, base.shown, True)
+            self.todo += [(name, it, base) for name, it in listed.items() if name in self.also]
         for at in range(MOST_PLACES):
             if at == len(self.todo):
                 return self
             self.take(*self.todo[at])
         raise Refused(f"{self.workspace.path}: more than {MOST_PLACES:,} sources are followed", 4)
 
+    def bases(self, own: Base) -> Iterator[tuple[Tables, Base]]:
+        """The project and the members of its workspace."""
+        yield self.workspace.tables, own
+        for it in self.workspace.members.values():
+            yield it.tables, own._replace(folder=it.folder, shown=str(it.folder))
+
+    def left(self) -> set[str]:
+        """The names that no index has by their sources, and that nobody has led to so far."""
+        named = {name for name, found in self.listed.items() if any(it.name == DIRECT for it in found)}
+        return named - set(self.places) - {self.workspace.name}
+
     def named_in(self, tables: Tables, base: Base, groups: bool) -> Iterator[tuple[str, Source, Base]]:
         """The names that a project requires by sources. Where it says none its workspace's root does; a member's name
         is the member's."""
         file = base.shown if base.shown.endswith(".toml") else f"{base.shown}/{workspaces.FILE}"
         workspace = base.workspace
-        above = {} if workspace is None else sources.read(workspace.tables, str(workspace.path))
+        is_own = tables is self.workspace.tables or workspace is self.workspace
+        above = {} if workspace is None else sources.read(workspace.tables, str(workspace.path), is_own)
         members = {} if workspace is None else workspace.members
-        for name, source, is_above in sources.followed(tables, file, groups, above, members):
+        for name, source, is_above in sources.followed(tables, file, groups, above, members, is_own):
             if name != self.workspace.name:
                 folder = workspace.folder if is_above and workspace is not None else base.folder
                 yield name, source, base._replace(folder=folder)
 
     def take(self, name: str, source: Source, base: Base) -> None:
         """Follows one source to its release, and notes what that requires by sources."""
-        if self.means.pins is not None and name not in self.means.pins:
+        if self.means.pins is not None and not self.is_locked(name, source, self.means.pins.get(name)):
             return
         known, path = self.places.get(name), self.path_of(name, source, base)
         if known is not None and (known.path is None) == (path is None):
@@ -141,6 +164,17 @@ class Direct:
         self.places[name] = place
         here = base._replace(shown=f"{name} {found.version}")
         self.todo += [(it, one, here) for it, one in place.inner if it != self.workspace.name]
+
+    def is_locked(self, name: str, source: Source, files: Mapping[str, str] | None) -> bool:
+        """Whether a lock's package may come from a source; of a name that an index may have too, by its files."""
+        listed = self.listed.get(name)
+        if files is None or listed is None or labels.is_direct(listed):
+            return files is not None
+        if isinstance(source, ByGit):
+            return name in self.means.kept
+        if isinstance(source, ByUrl):
+            return direct_files.file_at(source, name) in files
+        return name in self.means.trees or (isinstance(source, ByPath) and Path(source.path).name in files)
 
     def path_of(self, name: str, source: Source, base: Base) -> Path | None:
         """The folder or the file of a source on this machine."""
@@ -193,6 +227,7 @@ class Direct:
     def projects(self) -> Projects:
         """The releases, as an index folder has them."""
         made = Projects()
+        made.beside = self.beside()
         for name, place in self.places.items():
             plain = tuple(parts_of(it).text() for it in place.metadata.requires_dist)
             release = made.add(place.told(), place.metadata._replace(requires_dist=plain))
@@ -202,6 +237,10 @@ class Direct:
                 release.by_url = [f"{it} @ {sources.url_of(one)}" for it, one in place.inner]
         return made
 
+    def beside(self) -> set[str]:
+        """The names of which an index may have releases too."""
+        return {it for it in self.places if it in self.listed and not labels.is_direct(self.listed[it])}
+
     def question(self) -> list[object]:
         """What tells these releases from others, but for what addresses and repositories have meanwhile."""
         found: list[object] = []
@@ -209,6 +248,16 @@ class Direct:
             here = [] if place.path is None else [*place.metadata, *((it.name, it.sha256) for it in place.files)]
             found.append([name, place.source.shown(), *here])
         return found
+
+
+def led_to(workspace: Workspace, folder: Path) -> set[str]:
+    """The names of which an index folder has a release that no index has, since somebody led to them."""
+    if not folder.is_dir():
+        return set()
+    listed = workspaces.labels_in(workspace)
+    named = [name for name, found in listed.items() if any(it.name == DIRECT for it in found)]
+    documented = [(name, documents.load(str(folder), name)) for name in named]
+    return {name for name, it in documented if it and any(one.get("source") == DIRECT for one in it["versions"])}
 
 
 def around(folder: Path, within: Path | None = None) -> Workspace | None:

@@ -7,7 +7,7 @@ from __future__ import annotations
 import contextlib
 import json
 import tempfile
-from collections.abc import Iterator, Mapping
+from collections.abc import Collection, Iterator, Mapping
 from dataclasses import dataclass, field
 from pathlib import Path
 from typing import IO, Any, NamedTuple
@@ -19,7 +19,7 @@ from .cache import Cache
 from .console import Refused
 from .documents import Document, File
 from .fetching import Fetcher
-from .index_settings import DIRECT
+from .labels import DIRECT
 from .repositories import Repositories
 from .requirement_texts import parts_of
 from .source_trees import Builds, Tree
@@ -54,7 +54,7 @@ class Means:
     """By what sources are followed: repositories, what may be built, a cache, and how a server is asked; with an index
     folder whose documents count where they are of the same source. `kept` are commits that stay while their branches
     have them. With `pins`, the files of a lock's packages with their hashes, only these packages are followed, and
-    repositories are at the commits of `kept`, whatever a source says."""
+    repositories are at the commits of `kept`, whatever a source says; of `trees` some package has no file."""
 
     repositories: Repositories
     builds: Builds
@@ -62,6 +62,7 @@ class Means:
     known: Path | None = None
     kept: Mapping[str, str] = field(default_factory=dict)
     pins: Mapping[str, Mapping[str, str]] | None = None
+    trees: Collection[str] = ()
     tries: int = 4
     timeout: float = 30
     deadline: float = 900
@@ -258,8 +259,8 @@ def release_of(found: Found, first: object) -> documents.Release:
 def in_folder(folder: Path, name: str, source: ByUrl | ByGit) -> Found | None:
     """What an index folder has of a source: one release, of one file that is told to come from there."""
     document = documents.load(str(folder), name)
-    entries = [] if document is None else document["versions"]
-    files = entries[0].get("files") or [] if len(entries) == 1 and entries[0].get("source") == DIRECT else []
+    entries = [] if document is None else [it for it in document["versions"] if it.get("source") == DIRECT]
+    files = entries[0].get("files") or [] if len(entries) == 1 else []
     if len(files) != 1 or not isinstance(files[0].get("url"), str):
         return None
     if entries[0].get("asked", "") != sources.asked(source):

@@ -120,7 +120,7 @@ class Doctor:
                 yield self.error(place, places.wrong_requirement(entry))
             elif not isinstance(entry, (str, dict)):
                 yield self.error(place, "it isn't a text")
-        for key in keys.REFUSED_BY_TOOLS if self.is_wide else keys.REFUSED:
+        for key in keys.REFUSED_BY_WIDE if self.is_wide else keys.REFUSED:
             if self.settings.get(key) not in (None, [], {}):
                 yield Finding("error", f"tool.uv.{key}: {places.UNSUPPORTED['tool.uv.' + key]}")
         yield from self.choices()
@@ -219,6 +219,7 @@ class Doctor:
             yield Finding("note", f"no index folder was looked at; `{command('index')}` makes one")
             return
         yield from (Finding("warning", it) for it in advice.index_slips(project, self.index))
+        yield from (Finding("warning", it) for it in advice.unsourced(project, self.index))
         names = sorted(it[:-5] for it in os.listdir(self.index) if it.endswith(".json"))
         walk = _Reach(self.index, project)
         for name in sorted(walk.absent):

@@ -10,7 +10,7 @@ import json
 import os
 from dataclasses import dataclass, field
 from pathlib import Path
-from typing import Any, Dict, Iterable, Iterator, List, NamedTuple, Optional, Tuple
+from typing import Any, Dict, Iterable, Iterator, List, NamedTuple, Optional, Set, Tuple
 
 from . import archives, console, places
 from .archives import Metadata, Refused, sha256_of
@@ -36,7 +36,7 @@ class File(NamedTuple):
 @dataclass
 class Release:
     """One version of a project, with the files that were found of it; `source` is the name of the index that it comes
-    from, where that isn't the usual one."""
+    from, where that isn't the usual one or a source names it, or `direct`."""
 
     metadata: Metadata
     first: object
@@ -51,12 +51,21 @@ class Release:
 
 
 class Projects:
-    """Projects in normal form, each with its releases by the key of their version."""
+    """Projects in normal form, each with its releases by the key of their version. Those in `beside` may have others,
+    of package indexes."""
 
     def __init__(self) -> None:
         self.releases: Dict[str, Dict[Key, Release]] = {}
+        self.beside: Set[str] = set()
         self.count = 0
         self.size = 0
+
+    def copy(self) -> "Projects":
+        """Others with the same releases, to which more may be added."""
+        made = Projects()
+        made.releases = {name: dict(it) for name, it in self.releases.items()}
+        made.beside, made.count, made.size = set(self.beside), self.count, self.size
+        return made
 
     def add(self, path: object, metadata: Metadata) -> Release:
         """The release of these metadata, new or as it was."""

@@ -16,11 +16,13 @@ from typing import Any, Callable, Dict, Iterator, List, NamedTuple, Optional, Se
 from . import documents, locks, markers, program
 from .called import command
 from .console import Refused
+from .profile import Tables
 from .project import Placed, Project
-from .project_text import Tables, changed, toml_text, toml_value
+from .project_text import changed, toml_text
 from .readings import Requirement
 from .refusal import Need, Refusal
 from .relocking import Files
+from .toml_texts import toml_value
 from .versions import Clause, NoReading, Version, specifiers_of, version
 
 SECONDS = 20.0

@@ -17,7 +17,10 @@ metadata files (PEP 658), ranges of wheels or whole wheels, and pages in JSON (P
 
 Names with a source (`tool.uv.sources`: path, url, git or workspace), and those that are required by a URL, have the one
 release that this gives, with `source = direct` in its entry, and no server is asked for them; of a repository the entry
-has the commit. A name has one source, everywhere: several under markers are refused.
+has the commit. Where a name's sources have markers, each index that they name is asked, and the usual ones where some
+supported environment is in none of them; each release says which source it is of, and the program takes it where that
+counts. Of a version that several have the first counts: that of no index, then in the order of the sources. Only the
+project and the members of its workspace may have sources with markers, and of one name one alone may be no index.
 
 A release that unilock will not be able to use is kept and warned of, with the entry that it can't read.
 
@@ -44,11 +47,11 @@ import contextlib
 import os
 import sys
 from pathlib import Path
-from typing import Any, Dict, List, Optional
+from typing import Any, Dict, List, Optional, Set
 
 from . import (
-    assembled, building, console, direct, direct_files, documents, folders, index_settings, project, scripts, terminal,
-    walk,
+    assembled, building, console, direct, direct_files, documents, folders, index_settings, labels, project, scripts,
+    terminal, walk,
 )  # fmt: skip
 from .archives import Refused
 from .building import Builder
@@ -127,35 +130,62 @@ def from_files(
     return gathered, passed
 
 
-def from_sources(asked: argparse.Namespace, workspace: Workspace, gathered: Projects, url: str) -> List[str]:
-    """Adds the releases that come from sources, and says which files they are in the place of."""
+def from_sources(
+    asked: argparse.Namespace, workspace: Workspace, url: str, also: Set[str]
+) -> direct.Direct:
+    """The releases that come from sources; `also` are names that others lead to."""
     means = direct_files.means_of(asked, cache_of(asked), url)
     means.tries, means.timeout, means.deadline = asked.tries, asked.timeout, asked.deadline
-    found = direct.Direct(workspace, means).gather()
-    twice = sorted(set(gathered.releases) & set(found.places))
-    gathered.releases.update(found.projects().releases)
-    return [*(f"{it}: its files are passed over, since it comes from {found.places[it].told()}" for it in twice),
-            *found.warnings()]  # fmt: skip
+    return direct.Direct(workspace, means, also).gather()
 
 
-def from_server(asked: argparse.Namespace, path: Path, gathered: Projects, builder: Optional[Builder]) -> List[str]:
+def beside_files(files: Projects, found: Optional[direct.Direct]) -> "tuple[Projects, List[str]]":
+    """The releases of files with those that come from sources, and which files these are in the place of. Files of a
+    name that is of one index stand for that one's."""
+    made = files.copy()
+    if found is None:
+        return made, []
+    for name, listed in found.listed.items():
+        if len(listed) == 1 and not labels.is_conditional(listed):
+            for release in made.releases.get(name, {}).values():
+                release.source = listed[0].name
+    twice = sorted(set(files.releases) & set(found.places))
+    given = found.projects()
+    made.releases.update(given.releases)
+    made.beside |= given.beside
+    passed = (f"{it}: its files are passed over, since it comes from {found.places[it].told()}" for it in twice)
+    return made, [*passed, *found.warnings()]
+
+
+def from_server(
+    asked: argparse.Namespace, path: Path, files: Projects, builder: Optional[Builder]
+) -> "tuple[Projects, List[str]]":
+    """The releases that a project can reach, with those of files, and what is warned of."""
     with assembled.given(str(path)) as given:
         read, tables = project.load(given.project), assembled.index_tables(given.named, given.workspace)
     cache, settings = cache_of(asked), index_settings.of_words(asked, tables, Path(given.named).parent)
-    warned = [] if given.workspace is None else from_sources(asked, given.workspace, gathered, settings.usual.url)
     patience = Patience(asked.tries, asked.timeout, asked.deadline)
-    client = Indexes(settings, cache, builder, patience, Stated(tables))
+    client = Indexes(settings, cache, builder, patience, Stated(tables), read.supported())
     choice = walk.Choice(asked.newest, None if asked.before is None else walk.instant(asked.before))
-    shown: contextlib.AbstractContextManager[Optional[Meter]] = contextlib.nullcontext()
-    if not asked.quiet:
-        shown = Meter("index", "look-up", asked.color)
-    with shown as meter:
-        walking = walk.Walk(client, read, choice, gathered, asked.jobs, meter)
-        walking.run(it.requirement for it in read.requirements)
+    also: Set[str] = set()
+    while True:
+        found = None if given.workspace is None else from_sources(asked, given.workspace, settings.usual.url, also)
+        gathered, warned = beside_files(files, found)
+        shown: contextlib.AbstractContextManager[Optional[Meter]] = contextlib.nullcontext()
+        if not asked.quiet:
+            shown = Meter("index", "look-up", asked.color)
+        with shown as meter:
+            walking = walk.Walk(client, read, choice, gathered, asked.jobs, meter)
+            walking.run(it.requirement for it in read.requirements)
+        # A source of a name that others led to is followed, and what it requires walked.
+        more = set() if found is None else found.left() & set(walking.reached)
+        if not more:
+            break
+        also |= more
     if not asked.quiet:
         several = f"; asked {client.told()}" if len(client.asked) > 1 else settings.usual.shown()
         console.say(f"index: {client.fetched().told()}{several}")
-    return [*warned, *walking.warnings(), *([cache.fault] if cache.fault else [])]
+    return gathered, [*warned, *walking.warnings(), *([cache.fault] if cache.fault else [])]
 
 
 def cache_of(asked: argparse.Namespace) -> Cache:
@@ -184,7 +214,8 @@ def run(asked: argparse.Namespace) -> int:
     for mark in asked.yanked:
         gathered.mark_yanked(mark)
     for path in projects:
-        warned += from_server(asked, path, gathered, builder)
+        gathered, more = from_server(asked, path, gathered, builder)
+        warned += more
     warned += [] if builder is None else builder.warnings()
     folders.replace_folder(asked.out, gathered.documents())
     if not asked.quiet:

@@ -8,7 +8,7 @@ Before it come, in this order: places of links (`find-links`); the further index
 `UNILOCK_INDEX`, of the project file (`tool.uv.index`, then `extra-index-url`), of `UV_INDEX` and `UV_EXTRA_INDEX_URL`,
 and of `PIP_EXTRA_INDEX_URL` or pip's configuration. `indexes` asks the first of them that has a name, and no other. An
 `explicit` index is asked for those names alone whose source names it (`tool.uv.sources`), and such a name is asked of
-no other.
+no other, unless its sources have markers.
 
 NAME=URL in the words or in UNILOCK_INDEX gives an index of the project file another address. A user and a password may
 stand in an address, in the variables UNILOCK_INDEX_NAME_USERNAME and UNILOCK_INDEX_NAME_PASSWORD, in .netrc, or in the
@@ -28,11 +28,13 @@ from typing import Any, NamedTuple
 from urllib.parse import SplitResult, quote, unquote, urlsplit, urlunsplit
 from urllib.request import url2pathname
 
+from . import labels
 from .addresses import no_address, shown
 from .console import Refused
 from .keyrings import Secret
+from .labels import Labels, is_name
 from .profile import uv_table as uv_table
-from .versions import NAME, normal_name
+from .versions import normal_name
 
 SERVER = "https://pypi.org/simple/"
 OWN_VARIABLES = ("UNILOCK_DEFAULT_INDEX", "UNILOCK_INDEX_URL")
@@ -41,11 +43,8 @@ VARIABLES = ("PIP_INDEX_URL", "UV_DEFAULT_INDEX", "UV_INDEX_URL")
 FURTHER_VARIABLES = ("UV_INDEX", "UV_EXTRA_INDEX_URL", "PIP_EXTRA_INDEX_URL")
 # The sections of pip's configuration that speak for an installation, the later before the earlier.
 SECTIONS = ("global", "install")
-# What `source` of a document's entry says of a release that no index has, so no index may be called so.
-DIRECT = "direct"
 # More indexes than anybody has: of each name all of them may be asked.
 MOST_INDEXES = 100
-CONDITIONS = ("marker", "extra", "group")
 
 
 class Variables(NamedTuple):
@@ -107,24 +106,27 @@ class Index(NamedTuple):
 
 
 class Settings(NamedTuple):
-    """The indexes in the order in which they are asked, the usual one last, and the index of each name whose source
-    names one."""
+    """The indexes in the order in which they are asked, the usual one last, and the sources of each name of which an
+    index is asked."""
 
     indexes: tuple[Index, ...]
-    sources: dict[str, str]
+    sources: dict[str, Labels]
 
     @property
     def usual(self) -> Index:
         return self.indexes[-1]
 
-    def of_source(self, name: str) -> Index | None:
-        """The index that a package's source names."""
-        found = self.sources.get(name)
-        return None if found is None else next(it for it in self.indexes if it.name == found)
+    def called(self, name: str) -> Index:
+        """The index of a name that a source has."""
+        return next(it for it in self.indexes if it.name == name)
+
+    def named(self) -> set[str]:
+        """The names of the indexes that sources name."""
+        return {it for found in self.sources.values() for it in labels.of_indexes(found)}
 
     def asked(self) -> list[Index]:
         """The indexes that some name may be asked of."""
-        named = set(self.sources.values())
+        named = self.named()
         return [it for it in self.indexes if not it.is_explicit or it.name in named]
 
 
@@ -204,10 +206,6 @@ def project_index(number: int, entry: object, folder: Path) -> Index:
     if not is_server(entry["url"]):
         raise Refused(f'{place}: its url is no address of a server; a folder wants format = "flat"', 3)
     return Index(entry["url"], "tool.uv.index", **more)
-
-
-def is_name(text: object) -> bool:
-    return isinstance(text, str) and NAME.match(text) is not None and normal_name(text) != DIRECT
 
 
 class Listed(NamedTuple):
@@ -315,21 +313,12 @@ def elsewhere() -> Iterator[Index]:
         yield from (found._replace(url=it) for it in found.url.split())
 
 
-def named_sources(tables: Mapping[str, Any]) -> dict[str, str]:
-    """The index that `tool.uv.sources` names for a package, for each for which it names one."""
-    sources, found = uv_table(tables).get("sources", {}), {}
-    for spelled, value in sources.items() if isinstance(sources, dict) else []:
-        entries = value if isinstance(value, list) else [value]
-        listed = [it for it in entries if isinstance(it, dict) and "index" in it]
-        if not listed:
-            continue
-        place = f"tool.uv.sources.{normal_name(spelled)}"
-        if not is_name(listed[0]["index"]):
-            raise Refused(f"{place}: its `index` is no name", 3)
-        if len(entries) > 1 or any(key in listed[0] for key in CONDITIONS):
-            raise Refused(f"{place}: an index beside other sources, or under a condition, isn't supported", 3)
-        found[normal_name(spelled)] = normal_name(listed[0]["index"])
-    return found
+def named_sources(tables: Mapping[str, Any]) -> dict[str, Labels]:
+    """The sources of each name of which an index is asked, as `tool.uv.sources` says."""
+    if not isinstance(uv_table(tables).get("sources", {}), dict):
+        # What it has to be is told by who follows sources.
+        return {}
+    return {name: it for name, it in labels.read(tables, "").items() if not labels.is_direct(it)}
 
 
 def without_doubles(indexes: Iterable[Index], wanted: Collection[str]) -> list[Index]:
@@ -365,12 +354,14 @@ def settings(words: Words, tables: Mapping[str, Any], folder: Path) -> Settings:
     found += [addressed(it) for it in own.indexes if it != usual]
     found += [named_index(it, "tool.uv.extra-index-url") for it in texts_at(tables, "extra-index-url")]
     sources = named_sources(tables)
-    made = Settings((*without_doubles([*found, *elsewhere()], set(sources.values())), addressed(usual)), sources)
+    wanted = Settings((), sources).named()
+    made = Settings((*without_doubles([*found, *elsewhere()], wanted), addressed(usual)), sources)
     known = {it.name for it in made.indexes}
-    for name, wanted in sources.items():
-        if wanted not in known:
-            ways = f"tool.uv.index, --index {wanted}=URL or {OWN_FURTHER} names one"
-            raise Refused(f"tool.uv.sources.{name}: there is no index {wanted}; {ways}", 3)
+    for name, listed in sources.items():
+        absent = next((it for it in labels.of_indexes(listed) if it not in known), None)
+        if absent is not None:
+            ways = f"tool.uv.index, --index {absent}=URL or {OWN_FURTHER} names one"
+            raise Refused(f"{labels.PLACE}.{name}: there is no index {absent}; {ways}", 3)
     return made
 
 

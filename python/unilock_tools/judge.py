@@ -41,6 +41,7 @@ from .required import Required
 from .rows import Rows
 from .tables import NOT_JUDGED, Unread
 from .terminal import Screen, add_color
+from .toml_texts import tables_text
 from .vendored import toml_reader
 from .versions import normal_name
 
@@ -175,7 +176,7 @@ def again(
     condition = linked.together(texts)
     some = linked.project_of(wanted, condition)
     path = files.folder / "linked.toml"
-    path.write_text(reduced.text_of(some.tables), encoding="utf-8")
+    path.write_text(tables_text(some.tables), encoding="utf-8")
     found = read(asked, some)
     found.supported = every([found.supported, condition])
     try:
@@ -224,7 +225,7 @@ def judged_rows(found: Rows, wanted: project.Project, files: Files) -> Judged:
         # That the whole project file is read is the program's to say.
         answer_on(files, lock)
         path = files.folder / "reduced.toml"
-        path.write_text(reduced.text_of(some.tables), encoding="utf-8")
+        path.write_text(tables_text(some.tables), encoding="utf-8")
         files = files._replace(project=str(path))
     first = verdict(files, some, lock)
     if first.status == RIGHT:

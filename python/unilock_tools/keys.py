@@ -20,12 +20,12 @@ READ = {
     "tool.uv.resolution": "highest, lowest or lowest-direct",
     "tool.uv.prerelease": "under the strict profile if-necessary-or-explicit alone",
     "tool.uv.fork-strategy": "fewest (the default), requires-python or deep",
+    "tool.uv.sources": "refused by the strict profile; `index` or else none, and `marker`: where releases come from",
 }
-# What the strict profile refuses; the wide one refuses the first two alone, reads the last one and passes the others
-# over.
+# What the strict profile refuses; the wide one reads the first and the last one, refuses the second and passes the
+# others over.
 REFUSED = ["sources", "conflicts", "index", "extra-index-url", "find-links", "workspace", "dev-dependencies"]
-# Of these the tools settle sources before they hand a file on.
-REFUSED_BY_TOOLS = ["conflicts"]
+REFUSED_BY_WIDE = ["conflicts"]
 PASSED_OVER_BY_WIDE = {
     "index": "`tools/lock` and `tools/index` ask it",
     "extra-index-url": "`tools/lock` and `tools/index` ask it, before the usual index",

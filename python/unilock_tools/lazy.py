@@ -75,8 +75,8 @@ class Locked:
 
 class Lazy:
     """One project and one server. `old` is a lock whose versions are tried first; with `keep` it stays where it is
-    right, and where it leads to nothing it is left out. Of the names in `given` the server isn't asked: these are their
-    releases."""
+    right, and where it leads to nothing it is left out. Of the names in `given` the server isn't asked, but for those
+    that may have other releases beside these."""
 
     def __init__(
         self,
@@ -90,7 +90,7 @@ class Lazy:
         given: Projects | None = None,
     ) -> None:
         self.client, self.project, self.choice = client, project, choice
-        self.given = {} if given is None else given.releases
+        self.given = Projects() if given is None else given
         self.workers, self.old, self.jobs = workers, old, jobs
         self.word = "relock" if keep and old is not None else "lock"
         self.names: dict[str, Name] = {}
@@ -226,34 +226,40 @@ class Lazy:
         """Reads names that are like those which the server doesn't have and the project requires, so that they can be
         tried in their place."""
         own = {it.requirement.name for it in self.project.requirements} - {self.project.name}
-        absent = [name for name in sorted(own - set(self.given)) if not self.names[name].listed]
+        absent = [name for name in sorted(own - set(self.given.releases)) if not self.names[name].listed]
         told, known = list(self.absent), set(self.names)
         self.reach((name, requirement_of(it)) for name in absent for it in usual_names.alike(name, known - {name}))
         # That the server doesn't have such a name either is nothing to tell.
         self.absent = told
 
     def reach_names(self, names: set[str]) -> None:
-        fresh = sorted(names - set(self.names) - set(self.given))
-        for name in sorted(names & set(self.given) - set(self.names)):
-            self.names[name] = Name(known={key: it.metadata for key, it in self.given[name].items()})
-        if len(self.names) + len(fresh) > walk.MOST_PACKAGES:
+        fresh = names - set(self.names)
+        asked = sorted(it for it in fresh if it not in self.given.releases or it in self.given.beside)
+        for name in sorted(fresh - set(asked)):
+            self.names[name] = self.beside_given(name, None)
+        if len(self.names) + len(asked) > walk.MOST_PACKAGES:
             raise console.Refused(f"more than {walk.MOST_PACKAGES:,} packages are reached", 4)
         with ThreadPoolExecutor(self.jobs) as pool:
-            for name, page in zip(fresh, pool.map(self.client.page, fresh)):
+            for name, page in zip(asked, pool.map(self.client.page, asked)):
                 self.pages += page is not None
-                left = [] if page is None else list(page.passed)
-                self.names[name] = Name(listed=self.listed(name, page), left=left)
+                if page is None:
+                    self.absent.append(self.client.lacks(name))
+                self.names[name] = self.beside_given(name, page)
 
-    def listed(self, name: str, page: ProjectPage | None) -> list[ListedRelease]:
+    def beside_given(self, name: str, page: ProjectPage | None) -> Name:
+        """What is known of a name at first: the releases that are given of it, and those that its page lists beside
+        them."""
+        known = {key: it.metadata for key, it in self.given.releases.get(name, {}).items()}
         if page is None:
-            self.absent.append(self.client.lacks(name))
-            return []
-        found = page.releases
+            return Name(known=known)
+        self.absent += page.lacking
+        found, left = walk.beside_given(page, set(known))
         if self.choice.before is not None:
             found = walk.uploaded_before(name, found, self.choice.before)
-        if not found:
+        if not found and not known:
             self.absent.append(walk.no_release(name, page))
-        return sorted(found, key=lambda it: it.version.key, reverse=True)
+        listed = sorted(found, key=lambda it: it.version.key, reverse=True)
+        return Name(listed=listed, known=known, left=[*page.passed, *left])
 
     def permitted(self, name: str) -> list[ListedRelease]:
         """The unknown releases that the project's own bounds permit, final ones first, the newest first."""
@@ -299,8 +305,8 @@ class Lazy:
         """The known releases, with their files."""
         gathered = Projects()
         for name, one in self.names.items():
-            if name in self.given:
-                gathered.releases[name] = self.given[name]
+            if name in self.given.releases:
+                gathered.releases[name] = dict(self.given.releases[name])
             for release in one.listed:
                 metadata = one.known.get(release.version.key)
                 if metadata is not None:

@@ -8,10 +8,12 @@ it is whole; on any other answer the old lock stays as it was. A file that isn't
 
 A name with a source (`tool.uv.sources`: path, url, git or workspace), or required by a URL, has the one release that
 this gives, and no other can be chosen: a folder speaks by its project file, a file by its metadata, a repository by
-the commit that its branch or tag is at, which the lock keeps until the name is upgraded. A name has one source,
-everywhere: several under markers are refused. Folders of this machine are built where their files don't say what they
-require, unless --no-build is said; what comes from elsewhere only with --build. In a workspace the root's file is found
-from every folder, and one lock holds for all members. --show-project prints the file that is put together of all that.
+the commit that its branch or tag is at, which the lock keeps until the name is upgraded. A name may have several
+sources under markers: where the marker of one holds, a release comes from there, whoever requires the name, and where
+none holds from no source; one of them at most may be no index. Folders of this machine are built where their files
+don't say what they require, unless --no-build is said; what comes from elsewhere only with --build. In a workspace the
+root's file is found from every folder, and one lock holds for all members. --show-project prints the file that is put
+together of all that.
 
 The package indexes are those of the words, of UNILOCK_DEFAULT_INDEX and UNILOCK_INDEX, of the project file
 (`tool.uv.index`, `extra-index-url`, `find-links`), and of uv's and pip's settings; of each name the first that has it
@@ -42,10 +44,9 @@ from pathlib import Path
 from typing import Callable, Dict, Iterator, List, NamedTuple, Optional
 
 from . import (
-    advice, assembled, console, diff, direct, direct_files, explain, folders, hints, index_settings, locks, overlaid,
-    own_index, pinned, places, printing, program, project, relocking, verdicts,
+    advice, assembled, console, diff, explain, folders, gathering, hints, locks, overlaid, own_index, pinned, places,
+    printing, program, project, relocking, verdicts,
 )  # fmt: skip
-from .cache import Cache, usual_folder
 from .called import command, named
 from .console import Refused
 from .project_text import changed, toml_text
@@ -256,21 +257,6 @@ def refuse_unread(asked: argparse.Namespace) -> None:
             raise fault_of(answered, Files(asked.project, empty, 1), lock_path(asked))
 
 
-def gathered(asked: argparse.Namespace, kept: own_index.Kept, known: Optional[Path]) -> Optional[direct.Direct]:
-    """The releases that come from sources; a commit of the old lock stays unless it is to be chosen anew."""
-    if asked.workspace is None:
-        return None
-    source = index_settings.source(asked.index_url, asked.workspace.tables)
-    means = direct_files.means_of(asked, Cache(usual_folder()), source.url)
-    commits = {} if kept.anew else direct.commits_of(kept.lock)
-    means.known, means.kept = known, {name: it for name, it in commits.items() if name not in kept.pins}
-    found = direct.Direct(asked.workspace, means).gather()
-    if not asked.quiet:
-        for text in found.warnings():
-            console.say(f"lock: warning: {text}")
-    return found
-
-
 def fetched(
     asked: argparse.Namespace, old: Old, pins: Dict[str, Optional[str]], held: ExitStack
 ) -> own_index.Fetched:
@@ -278,8 +264,7 @@ def fetched(
     kept = own_index.Kept(lock_path(asked), old.lock, pins, asked.upgrade)
     if own_index.is_wanted(asked):
         refuse_unread(asked)
-        given = gathered(asked, kept, own_index.known(asked, kept))
-        found = own_index.folder_for(asked, kept, given)
+        given, found = gathering.asked_for(asked, kept)
         if found.refusal is not None:
             return found
     else:
@@ -287,7 +272,7 @@ def fetched(
         if not os.path.isdir(index):
             makes = f"`{command('index')} {asked.named} {index}` makes it"
             raise Refused(f"{index}: there is no such folder; {makes}", 3)
-        given, found = gathered(asked, kept, Path(index)), own_index.Fetched(Path(index))
+        given, found = gathering.beside(asked, kept, Path(index)), own_index.Fetched(Path(index))
     return own_index.Fetched(Path(held.enter_context(overlaid.overlaid(str(found.folder), given))))
 
 

@@ -8,8 +8,11 @@ membership in a list of versions. Standard library alone.
 from __future__ import annotations
 
 import difflib
+import itertools
+import math
 import operator
 import re
+from functools import lru_cache
 from typing import Any, Callable, Dict, Iterator, List, Mapping, NamedTuple, Optional, Tuple, Union
 
 from . import versions
@@ -36,6 +39,10 @@ MIRRORED = {"<": ">", "<=": ">=", ">": "<", ">=": "<=", "==": "==", "!=": "!="}
 DEEPEST = 64
 # A marker of so many comparisons at so many interpreters counts as one that can hold, without being asked.
 MOST_ASKED = 1 << 20
+# So many environments are looked at for one that meets none of some conditions.
+MOST_LOOKED_AT = 1 << 14
+# So many comparisons of an interpreter keep their truth: few of them are asked, again and again.
+MOST_KEPT = 1 << 14
 
 
 class NoMarker(Exception):
@@ -230,6 +237,7 @@ def holds(atom: Atom, value: str) -> bool:
     return ordered(op, left, right)
 
 
+@lru_cache(maxsize=MOST_KEPT)
 def python_holds(op: str, literal: str, value: str) -> bool:
     found = versions.version_of(value)
     if op in ("in", "not in"):
@@ -278,3 +286,27 @@ def possible(marker: Optional[Marker], bound: str, extras: List[str]) -> bool:
             if truth(marker, {"python_version": short, "python_full_version": point, "extra": extra}) is not False:
                 return True
     return False
+
+
+def is_left(conditions: List[Marker], within: Optional[Marker]) -> bool:
+    """Whether some environment within a region meets none of the conditions. True, too, where texts are compared
+    otherwise than by `==` and `!=`, or too many environments would have to be looked at."""
+    whole = Join("and", [*conditions, *([] if within is None else [within])])
+    values: Dict[str, List[str]] = {}
+    points: List[Dict[str, str]] = [{}]
+    for atom in atoms(whole):
+        if atom.variable in PYTHONS and not atom.contains:
+            continue
+        if atom.variable not in TEXTS or atom.contains or atom.op not in ("==", "!="):
+            return True
+        # No literal has this byte, so it stands for all other texts.
+        values.setdefault(atom.variable, ["\0"]).append(atom.literal)
+    if any(it.variable in PYTHONS for it in atoms(whole)):
+        full = python_points(whole, "")
+        points = [{"python_full_version": it, "python_version": ".".join(it.split(".")[:2])} for it in full]
+    lists = [sorted(set(it)) for it in values.values()]
+    if len(points) * math.prod(map(len, lists)) > MOST_LOOKED_AT:
+        return True
+    machines = [dict(zip(values, it)) for it in itertools.product(*lists)]
+    known = ({**point, **machine} for point in points for machine in machines)
+    return any(truth(within, it) and not any(truth(one, it) for one in conditions) for it in known)

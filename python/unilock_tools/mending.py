@@ -18,6 +18,7 @@ from .locks import Edge, Lock, Package
 from .markers import Atom, Marker, NoMarker
 from .project import Project
 from .readings import Requirement
+from .toml_texts import toml_value
 from .versions import version_of
 
 OPPOSITE = {"==": "!=", "<": ">=", ">": "<=", "in": "not in"}
@@ -166,9 +167,9 @@ def canonical(texts: Sequence[str], wanted: Project) -> Dict[str, str]:
             document = {"name": name, "versions": [{"version": "1"}]}
             (index / f"{name}.json").write_text(json.dumps(document), encoding="utf-8")
         lines = ["[project]", 'name = "markers"', 'version = "0"']
-        lines += [f"requires-python = {json.dumps(wanted.requires_python)}"] if wanted.requires_python else []
-        lines += [f"dependencies = {json.dumps([f'{name}; {text}' for name, text in named.items()])}", "[tool.uv]"]
-        lines += [f"{key} = {json.dumps(it)}" for key, it in settings.items()]
+        lines += [f"requires-python = {toml_value(wanted.requires_python)}"] if wanted.requires_python else []
+        lines += [f"dependencies = {toml_value([f'{name}; {text}' for name, text in named.items()])}", "[tool.uv]"]
+        lines += [f"{key} = {toml_value(it)}" for key, it in settings.items()]
         (Path(held) / "pyproject.toml").write_text("\n".join(lines) + "\n", encoding="utf-8")
         answered = program.answer(["lock", str(Path(held) / "pyproject.toml"), str(index), "1"])
     if answered.status != 0:

@@ -15,7 +15,8 @@ import os
 from typing import Iterator, List, NamedTuple, Optional, Tuple
 
 from . import (
-    assembled, chosen, console, documents, folders, locks, markers, own_index, project, scripts, terminal, worlds,
+    assembled, chosen, console, documents, folders, labels, locks, markers, own_index, project, scripts, terminal,
+    worlds,
 )  # fmt: skip
 from .called import command
 from .console import Refused
@@ -42,13 +43,17 @@ def parser() -> console.Parser:
 
 
 def newest(name: str, locked: Version, index: str) -> Optional[Tuple[str, Version]]:
-    """The newest version of a package that counts."""
-    known = []
+    """The newest version of a package that counts, of those that come from the same source."""
+    known, sources = [], {}
     for spelled, entry in documents.releases_of(documents.load(index, name)):
         found = version(spelled)
         yanked = entry.get("yanked")
+        if found is not None:
+            sources[found.key] = labels.source_of(entry)
         if found is not None and yanked is not True and not isinstance(yanked, str):
             known.append((spelled, found))
+    if locked.key in sources:
+        known = [it for it in known if sources[it[1].key] == sources[locked.key]]
     final = [it for it in known if not it[1].is_pre]
     counted = known if locked.is_pre or not final else final
     return max(counted, key=lambda it: it[1].key) if counted else None

@@ -39,11 +39,13 @@ FURTHER_WORDS = ("indexes", "find_links")
 
 
 class Fetched(NamedTuple):
-    """The own folder; and where nothing serves the project, the refusal and the fetching that found it."""
+    """The own folder; and where nothing serves the project, the refusal and the fetching that found it; and the names
+    that were reached, where anybody was asked."""
 
     folder: Path
     refusal: lazy.Locked | None = None
     fetching: lazy.Lazy | None = None
+    reached: frozenset[str] = frozenset()
 
     @contextlib.contextmanager
     def working(self) -> Iterator[str]:
@@ -179,7 +181,8 @@ def folder_for(asked: argparse.Namespace, kept: Kept, direct: Direct | None = No
     if not asked.refresh and is_current(folder, wanted, kept):
         return Fetched(folder)
     cache = Cache(usual_folder())
-    client = Indexes(settings, cache, building.of_words(asked, cache, settings.usual.url), stated=Stated(tables))
+    builder = building.of_words(asked, cache, settings.usual.url)
+    client = Indexes(settings, cache, builder, stated=Stated(tables), supported=read.supported())
     if not asked.quiet:
         console.say(f"lock: asking {console.escaped(client.told())}")
     choice = walk.Choice(None, None if asked.before is None else walk.instant(asked.before))
@@ -200,7 +203,8 @@ def folder_for(asked: argparse.Namespace, kept: Kept, direct: Direct | None = No
         console.say(f"lock: {client.fetched().told()}, {folder}")
         for text in [*found.warnings, *([cache.fault] if cache.fault else [])]:
             console.say(f"lock: warning: {console.escaped(text)}")
-    return Fetched(folder, found, fetching) if found.answer.status == 1 else Fetched(folder)
+    reached = frozenset(fetching.names)
+    return Fetched(folder, found, fetching, reached) if found.answer.status == 1 else Fetched(folder, reached=reached)
 
 
 def with_way_out(fault: Refused, asked: argparse.Namespace, index: index_settings.Index, folder: Path) -> Refused:

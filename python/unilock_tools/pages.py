@@ -51,7 +51,7 @@ class Listed(NamedTuple):
 @dataclass
 class ListedRelease:
     """A version of a project with its files as the page lists them; `source` is the name of the index that lists it,
-    where that isn't the usual one."""
+    where that isn't the usual one, or that a source names."""
 
     version: Version
     files: List[Listed] = field(default_factory=list)
@@ -101,10 +101,12 @@ class Passed(NamedTuple):
 
 @dataclass
 class ProjectPage:
-    """The releases of a page, the newest first, and what was passed over."""
+    """The releases of a page, the newest first, and what was passed over; of a page that is made of several what is
+    told of those that aren't there."""
 
     releases: List[ListedRelease]
     passed: List[Passed]
+    lacking: List[str] = field(default_factory=list)
 
 
 class NoFile(Exception):

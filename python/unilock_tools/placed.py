@@ -10,16 +10,16 @@ import shutil
 import tempfile
 from collections.abc import Iterable, Iterator, Mapping
 from pathlib import Path
-from typing import NamedTuple
+from typing import Dict, NamedTuple, Tuple
 
 from . import archives, assembled, direct_files, scripts, source_trees, sources, workspaces
 from .cache import Cache, usual_folder
 from .called import command
 from .chosen import Pick
 from .console import Refused
-from .direct import Direct, Place, commit_in, commits_of
+from .direct import Direct, Place, commit_in
 from .direct_files import Means
-from .locks import Lock
+from .locks import Lock, Package
 from .own_project import Own
 from .repositories import Repositories
 from .source_trees import Builds, Trusted
@@ -29,16 +29,39 @@ from .workspaces import Workspace
 
 # In the environment: what came from sources, each with what it was then.
 STAMPS = ".unilock-sources"
+# Where the packages of a lock come from that come from a source, by their names and versions.
+Places = Dict[Tuple[str, str], Place]
 
 
-def means_of(lock: Lock, names: Iterable[str]) -> Means:
+def means_of(lock: Lock, picks: Iterable[Pick]) -> Means:
     """By what the sources of a lock's packages are followed: nothing is built, and nothing is at another commit."""
     cache = Cache(usual_folder())
-    packages = {name: found[0] for name, found in lock.by_name().items() if name in set(names) and len(found) == 1}
-    trusted = Trusted({name: it.version for name, it in packages.items()})
+    packages = by_name(lock, picks)
+    trusted = Trusted({name: of_tree(it).version for name, it in packages.items()})
     repositories = Repositories(None if cache.folder is None else cache.folder / "git")
-    pins = {name: dict(it.files) for name, it in packages.items()}
-    return Means(repositories, Builds(trusted, trusted), cache, kept=commits_of(lock), pins=pins)
+    pins = {name: dict(file for one in it for file in one.files) for name, it in packages.items()}
+    commits = [(name, commit_of(of_tree(it))) for name, it in packages.items()]
+    kept = {name: it for name, it in commits if it is not None}
+    trees = {name for name, it in packages.items() if not of_tree(it).files}
+    return Means(repositories, Builds(trusted, trusted), cache, kept=kept, pins=pins, trees=trees)
+
+
+def by_name(lock: Lock, picks: Iterable[Pick]) -> dict[str, list[Package]]:
+    """The packages of a lock that are picked, by their names."""
+    found: dict[str, list[Package]] = {}
+    for name, version in dict.fromkeys(it.key for it in picks):
+        found.setdefault(name, []).append(lock.package(name, version))
+    return found
+
+
+def of_tree(packages: list[Package]) -> Package:
+    """The one of a name's packages that is a source tree, where one is: at a commit, or without files."""
+    commits = [it for it in packages if commit_of(it) is not None]
+    return next(iter([*commits, *(it for it in packages if not it.files), *packages]))
+
+
+def commit_of(package: Package) -> str | None:
+    return commit_in(package.name, [file for file, _ in package.files])
 
 
 def workspace_beside(lock: str) -> Workspace | None:
@@ -50,22 +73,36 @@ def workspace_beside(lock: str) -> Workspace | None:
     return workspaces.found_for(path) if path.is_file() else None
 
 
-def places(workspace: Workspace | None, lock: Lock, path: str, means: Means) -> dict[str, Place]:
-    """The places of the packages that a lock has from sources."""
+def places(workspace: Workspace | None, lock: Lock, picks: Iterable[Pick], path: str, means: Means) -> Places:
+    """The places of the picked packages that a lock has from sources."""
     found: dict[str, Place] = {}
+    beside: set[str] = set()
     if workspace is not None and assembled.is_wanted(workspace):
-        found = Direct(workspace, means).gather().places
-    for name, files in (means.pins or {}).items():
-        if name in found:
-            agreed(found[name], lock.by_name()[name][0].version, files, path)
-        elif commit_in(name, list(files)) is not None:
+        direct = Direct(workspace, means, means.pins or ()).gather()
+        found, beside = direct.places, direct.beside()
+    made: Places = {}
+    for name, packages in by_name(lock, picks).items():
+        if name not in found and any(commit_of(it) is not None for it in packages):
             raise Refused(f"{path}: {name} is locked at a commit, and the project file has no source of it")
-    return found
+        mine = [] if name not in found else [it for it in packages if name not in beside or is_of(found[name], it)]
+        for one in mine:
+            agreed(found[name], one.version, dict(one.files), path)
+            made[one.name, one.version] = found[name]
+    return made
 
 
-def of_lock(path: str, lock: Lock, names: Iterable[str]) -> dict[str, Place]:
+def is_of(place: Place, package: Package) -> bool:
+    """Whether a package is the one that no index has, of a name that an index may have too."""
+    if commit_of(package) is not None or (place.is_folder and not package.files):
+        return True
+    return same_version(place.metadata.version, package.version) and any(
+        it.name in dict(package.files) for it in place.files
+    )
+
+
+def of_lock(path: str, lock: Lock, picks: list[Pick]) -> Places:
     """The places of packages of the lock that stands at a path, by the project file beside it."""
-    return places(workspace_beside(path), lock, path, means_of(lock, names))
+    return places(workspace_beside(path), lock, picks, path, means_of(lock, picks))
 
 
 def address_of(place: Place) -> str:
@@ -139,12 +176,12 @@ class Stamps:
             self.found = made
 
 
-def sourced(picks: list[Pick], found: dict[str, Place], editable: bool) -> list[Sourced]:
+def sourced(picks: list[Pick], found: Places, editable: bool) -> list[Sourced]:
     """The packages from sources that are installed themselves: not those that are lists of requirements alone."""
     return [
-        Sourced(it, found[it.name], editable and is_editable(found[it.name]))
+        Sourced(it, found[it.key], editable and is_editable(found[it.key]))
         for it in picks
-        if it.name in found and found[it.name].is_package
+        if it.key in found and found[it.key].is_package
     ]
 
 

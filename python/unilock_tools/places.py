@@ -8,7 +8,7 @@ import re
 import sys
 from typing import Any, Iterator, List, Optional, Tuple
 
-from . import advice, console, poetry
+from . import advice, console, labels, poetry
 from .console import Refused
 from .locks import expected_at
 from .markers import NoMarker
@@ -42,11 +42,16 @@ SHAPES = {
     "tool.uv.constraint-dependencies": "a list of texts",
     "tool.uv.override-dependencies": "a list of texts",
     "tool.uv.environments": "a marker, or a list of markers",
+    "tool.uv.sources": "a table, whose keys are different names",
     "tool.uv.resolution": "one of \"highest\", \"lowest\" and \"lowest-direct\"",
     "document": "an object with `name` and `versions`",
     "name": "a text `name`",
     "versions": "a list `versions`",
 }
+SOURCE = (
+    "a table, or a list of tables, in which `index` is a name other than `direct`, `marker` a marker without `extra`, "
+    "and `extra` and `group` are names"
+)
 STRICT_INDEX = (
     "the strict profile has no place for it; index-url in [tool.uv] is asked, as are --index-url, --index and the "
     "variables of `tools/lock`; the wide profile passes it over, and the tools ask it"
@@ -60,7 +65,7 @@ OF_PIP = re.compile(r"\s*(?:-|\.|/|[A-Za-z+]+://|git\+)")
 UNSUPPORTED = {
     "project.dynamic": "what it names is read from the file alone, and nothing is built to learn it: it stands in "
     "[project], and not in `dynamic`",
-    "tool.uv.sources": "the program has no place for sources; `tools/lock` follows those of a file that isn't strict",
+    "tool.uv.sources": "the strict profile has no place for it; the wide profile reads it, and `tools/lock` follows it",
     "tool.uv.conflicts": "declared conflicts aren't supported; all extras and groups are locked together",
     "tool.uv.index": STRICT_INDEX,
     "tool.uv.extra-index-url": STRICT_INDEX,
@@ -160,6 +165,8 @@ def wrong_shape(place: str, value: Any, tables: Any = None) -> str:
         return wrong_entry(plain)
     if "[" in place:
         return "wanted: a text"
+    if place.startswith(f"{labels.PLACE}."):
+        return f"wanted: {SOURCE}"
     return f"wanted: {wanted}" if wanted else "it isn't of the form that is wanted there"
 
 
@@ -275,7 +282,8 @@ def malformed(path: str, place: str) -> List[str]:
     if word == "requirement" and isinstance(value, str):
         return [f"{where}: {ended(wrong_requirement(value))}"]
     if word == "unsupported":
-        reason = UNSUPPORTED.get(rest) or (wrong_requirement(value) if isinstance(value, str) else "it isn't supported")
+        reason = UNSUPPORTED.get(rest) or (labels.OF_EXTRAS if rest.startswith(f"{labels.PLACE}.") else "")
+        reason = reason or (wrong_requirement(value) if isinstance(value, str) else "it isn't supported")
         return [f"{where}: {ended(reason)}"]
     if word == "shape":
         has = "it isn't there" if value is None else f"it is {shown(value)}"

@@ -1,4 +1,5 @@
-"""Lines as a terminal shows them: wrapped at its width, the rest of a line set in below its beginning."""
+"""Lines as a terminal shows them: wrapped at its width, the rest of a line set in below its beginning; and lists of
+versions in them."""
 
 from __future__ import annotations
 
@@ -6,7 +7,7 @@ import re
 import shutil
 import sys
 import textwrap
-from typing import Optional, TextIO
+from typing import List, Optional, TextIO
 
 from .called import named
 
@@ -27,3 +28,10 @@ def wrapped(line: str, stream: Optional[TextIO] = None) -> str:
     inset = " " * (len(lead[0]) if lead and lead[0] else 2)
     width = max(40, shutil.get_terminal_size().columns)
     return textwrap.fill(line, width, subsequent_indent=inset, break_long_words=False, break_on_hyphens=False)
+
+
+def listed(versions: List[str]) -> str:
+    """Versions in a sentence; a long list by its ends."""
+    if len(versions) > 6:
+        return f"{versions[0]}, {versions[1]}, .. {versions[-1]} ({len(versions)} versions)"
+    return " or ".join(", ".join(versions).rsplit(", ", 1))

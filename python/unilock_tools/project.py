@@ -5,9 +5,10 @@ The program is the judge of the file; what it would refuse is refused here in th
 
 from __future__ import annotations
 
+from functools import cached_property
 from typing import Any, Dict, Iterator, List, NamedTuple, Optional, Set
 
-from . import profile
+from . import labels, profile
 from .console import Refused, escaped
 from .marker_texts import ALWAYS, every, of_bound, some
 from .readings import Requirement, requirement_of
@@ -124,6 +125,11 @@ class Project:
     def needs_prereleases(self) -> bool:
         """Whether those of a name count that has nothing else."""
         return self.prereleases == "allow" or self.prereleases.startswith("if-necessary")
+
+    @cached_property
+    def sources(self) -> Dict[str, labels.Labels]:
+        """The sources of each name for which `tool.uv.sources` has some; none where the program doesn't read them."""
+        return labels.read(self.tables, self.path) if profile.is_wide(self.tables) else {}
 
     def environments(self) -> List[str]:
         """The markers of `tool.uv.environments`; none where all are supported."""

@@ -3,38 +3,25 @@
 from __future__ import annotations
 
 import copy
-import datetime
-import json
-from typing import Any, Dict
+from collections.abc import Collection
+from typing import Any
 
 from . import places
+from .profile import Tables, table
+from .toml_texts import tables_text
 from .versions import normal_name
-
-Tables = Dict[str, Any]
-
-
-def toml_value(it: object) -> str:
-    if isinstance(it, bool):
-        return "true" if it else "false"
-    if isinstance(it, str):
-        return json.dumps(it, ensure_ascii=False).replace("\x7f", "\\u007f")
-    if isinstance(it, list):
-        return f"[{', '.join(map(toml_value, it))}]"
-    if isinstance(it, dict):
-        return f"{{{', '.join(f'{toml_value(str(key))} = {toml_value(value)}' for key, value in it.items())}}}"
-    return it.isoformat() if isinstance(it, (datetime.date, datetime.time)) else str(it)
 
 
 def toml_text(tables: Tables) -> str:
     """The tables that the program reads, as TOML."""
-    tool = tables.get("tool", {})
-    listed = [("project", tables.get("project")), ("dependency-groups", tables.get("dependency-groups"))]
-    listed += [(f"tool.{it}", tool.get(it)) for it in ("uv", "unilock") if isinstance(tool, dict)]
-    lines = []
-    for name, table in listed:
-        if isinstance(table, dict):
-            lines += [f"[{name}]", *(f"{toml_value(key)} = {toml_value(it)}" for key, it in table.items())]
-    return "\n".join(lines) + "\n"
+    kept = tables_at(tables, ("project", "dependency-groups"))
+    tool = tables_at(table(tables.get("tool")), ("uv", "unilock"))
+    return tables_text({**kept, "tool": tool} if tool else kept)
+
+
+def tables_at(tables: Tables, keys: Collection[str]) -> Tables:
+    """The tables at some keys, but for what isn't one."""
+    return {key: it for key, it in tables.items() if key in keys and isinstance(it, dict)}
 
 
 def changed(tables: Tables, place: str, value: object) -> Tables:

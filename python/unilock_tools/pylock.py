@@ -15,14 +15,13 @@ from __future__ import annotations
 import argparse
 import os
 from pathlib import Path
-from typing import Dict, List, NamedTuple, Optional, Tuple
+from typing import Collection, Dict, List, NamedTuple, Optional, Tuple
 
 from . import (
-    __version__, addresses, assembled, chosen, console, documents, index_settings, own_index, placed, sources,
+    __version__, addresses, assembled, chosen, console, direct, documents, index_settings, own_index, placed, sources,
 )  # fmt: skip
 from .chosen import Pick
 from .console import Refused
-from .direct import Place
 from .locks import Lock
 from .placed import is_editable
 from .sources import ByGit, ByUrl
@@ -30,7 +29,7 @@ from .toml_texts import Value, toml_value
 from .workspaces import Workspace
 
 
-class Placed(NamedTuple):
+class PlacedFile(NamedTuple):
     """A file with the place where it is found."""
 
     name: str
@@ -65,11 +64,13 @@ def parser() -> console.Parser:
 
 class Addresses(NamedTuple):
     """The addresses of the package indexes that are asked, by their names; the usual one's, where a file says so; and
-    whether it is the only one."""
+    whether it is the only one. Where others are asked before it, nothing tells which of them a release without a source
+    is of, if its name is among `sourced`: those of which a release has a source where a source names its index."""
 
     named: Dict[str, str] = {}
     usual: Optional[str] = None
     is_one: bool = True
+    sourced: Collection[str] = ()
 
 
 class Places:
@@ -85,44 +86,44 @@ class Places:
     ) -> None:
         self.index, self.folders, self.addresses, self.editable = index, folders, addresses, editable
         self.beside = os.path.dirname(os.path.abspath(out)) if out != "-" else os.getcwd()
-        self.documents: Dict[str, Dict[str, documents.Document]] = {}
-        # The names of the indexes that the files of a package are of, as its document says.
-        self.sources: Dict[str, Dict[str, object]] = {}
+        # What a package's document tells of each file with its hash, and the source of its release.
+        self.documents: Dict[str, Dict[Tuple[str, str], Tuple[documents.Document, object]]] = {}
 
-    def told(self, package: str, file: str, sha256: str) -> Optional[documents.Document]:
-        """What the index folder tells of a file, where the hash is the lock's."""
+    def told(self, package: str, file: str, sha256: str) -> Optional[Tuple[documents.Document, object]]:
+        """What the index folder tells of a file with the lock's hash, with the source of its release."""
         if self.index is None:
             return None
         if package not in self.documents:
             found = documents.load(self.index, package) or {"versions": []}
             pairs = [(it, release.get("source")) for release in found["versions"] for it in release.get("files") or []]
-            self.documents[package] = {it["file"]: it for it, _ in pairs}
-            self.sources[package] = {it["file"]: source for it, source in pairs}
-        entry = self.documents[package].get(file)
-        return entry if entry is not None and str(entry.get("sha256", "")).lower() == sha256 else None
+            keys = [(it["file"], str(it["sha256"]).lower()) for it, _ in pairs]
+            self.documents[package] = dict(zip(keys, pairs))
+        return self.documents[package].get((file, sha256))
 
     def address(self, package: str, files: List[Tuple[str, str]]) -> Optional[str]:
-        """The address of the package index that a package is of, where that is known."""
-        known = [file for file, summed in files if self.told(package, file, summed) is not None]
+        """The address of the package index that a release is of, where that is known."""
+        known = [found for it in files if (found := self.told(package, *it)) is not None]
         if not known:
             return self.addresses.usual if self.addresses.is_one else None
-        source = self.sources[package][known[0]]
-        return self.addresses.named.get(source) if isinstance(source, str) else self.addresses.usual
+        source = known[0][1]
+        if isinstance(source, str):
+            return self.addresses.named.get(source)
+        return None if package in self.addresses.sourced else self.addresses.usual
 
     def relative(self, path: Path) -> str:
         """A path as the file names it: from its own folder."""
         return os.path.relpath(path, self.beside).replace(os.sep, "/")
 
-    def place(self, package: str, file: str, sha256: str) -> Placed:
+    def place(self, package: str, file: str, sha256: str) -> PlacedFile:
         for folder in self.folders:
             path = os.path.join(folder, file)
             if os.path.isfile(path):
-                return Placed(file, sha256, None, self.relative(Path(path)), os.path.getsize(path))
-        entry = self.told(package, file, sha256)
-        if entry is None or "url" not in entry:
+                return PlacedFile(file, sha256, None, self.relative(Path(path)), os.path.getsize(path))
+        told = self.told(package, file, sha256)
+        if told is None or "url" not in told[0]:
             hint = "--index names an index folder made from a server, --files a folder that has it"
             raise Refused(f"no place is known of {file}; {hint}")
-        return Placed(file, sha256, address_in(entry, file), None, size_in(entry, file))
+        return PlacedFile(file, sha256, address_in(told[0], file), None, size_in(told[0], file))
 
 
 def address_in(entry: documents.Document, file: str) -> str:
@@ -141,7 +142,7 @@ def size_in(entry: documents.Document, file: str) -> Optional[int]:
     return found
 
 
-def file_value(file: Placed) -> Dict[str, Value]:
+def file_value(file: PlacedFile) -> Dict[str, Value]:
     found: Dict[str, Value] = {"name": file.name}
     if file.url is not None:
         found["url"] = file.url
@@ -153,17 +154,17 @@ def file_value(file: Placed) -> Dict[str, Value]:
     return found
 
 
-def package_text(lock: Lock, pick: Pick, places: Places, found: Dict[str, Place]) -> str:
-    if pick.name in found:
-        return sourced_text(pick, found[pick.name], places)
+def package_text(lock: Lock, pick: Pick, places: Places, found: placed.Places) -> str:
+    if pick.key in found:
+        return sourced_text(pick, found[pick.key], places)
     files = lock.package(pick.name, pick.version).files
     address = places.address(pick.name, files)
     lines = [*head_lines(pick, True), *([f"index = {toml_value(address)}"] if address else [])]
-    placed = [places.place(pick.name, file, summed) for file, summed in files]
-    if not placed:
+    listed = [places.place(pick.name, file, summed) for file, summed in files]
+    if not listed:
         raise Refused(f"the lock has no files of {pick.name} {pick.version}, since its index has none")
-    wheels = [it for it in placed if it.name.endswith(".whl")]
-    sources = [it for it in placed if not it.name.endswith(".whl")]
+    wheels = [it for it in listed if it.name.endswith(".whl")]
+    sources = [it for it in listed if not it.name.endswith(".whl")]
     if sources:
         lines.append(f"sdist = {toml_value(file_value(sources[0]))}")
     if wheels:
@@ -178,7 +179,7 @@ def head_lines(pick: Pick, is_stable: bool) -> List[str]:
     return [*lines, *([f"marker = {toml_value(pick.marker)}"] if pick.marker else [])]
 
 
-def sourced_text(pick: Pick, place: Place, places: Places) -> str:
+def sourced_text(pick: Pick, place: direct.Place, places: Places) -> str:
     """A package from a source, as a repository, a folder or an archive."""
     source, path = place.source, place.path
     if not place.is_package:
@@ -207,7 +208,7 @@ def git_facts(source: ByGit, commit: str) -> Dict[str, Value]:
     return {**found, "subdirectory": source.subdirectory} if source.subdirectory else found
 
 
-def pylock_text(lock: Lock, picks: List[Pick], places: Places, found: Dict[str, Place]) -> str:
+def pylock_text(lock: Lock, picks: List[Pick], places: Places, found: placed.Places) -> str:
     lines = ['lock-version = "1.0"']
     if lock.supported:
         lines.append(f"environments = {toml_value([lock.supported])}")
@@ -223,9 +224,9 @@ def addresses_of(asked: argparse.Namespace, workspace: Optional[Workspace]) -> A
     known = [(it, address_or_none(it)) for it in found.asked()]
     named = {it.name: address for it, address in known if it.name and address is not None}
     is_told = asked.index_url is not None or found.usual.place
-    nameless = [it for it, _ in known if not it.name and it != found.usual]
-    usual = address_or_none(found.usual) if is_told and not nameless else None
-    return Addresses(named, usual, len(known) == 1)
+    before = [it for it, _ in known if it != found.usual and not it.is_explicit]
+    usual = address_or_none(found.usual) if is_told and all(it.name for it in before) else None
+    return Addresses(named, usual, len(known) == 1, found.sources if before else ())
 
 
 def address_or_none(index: index_settings.Index) -> Optional[str]:
@@ -241,7 +242,7 @@ def run(asked: argparse.Namespace) -> int:
     with chosen.opened(asked) as (path, lock):
         picks = chosen.bases(chosen.everywhere(path, lock, chosen.extras_of(asked)))
         workspace = placed.workspace_beside(asked.lock)
-        found = placed.places(workspace, lock, asked.lock, placed.means_of(lock, [it.name for it in picks]))
+        found = placed.places(workspace, lock, picks, asked.lock, placed.means_of(lock, picks))
         places = Places(index, asked.files, asked.out, addresses_of(asked, workspace), not asked.no_editable)
         console.put(pylock_text(lock, picks, places, found), asked.out)
     return 0

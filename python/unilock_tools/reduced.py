@@ -6,7 +6,6 @@ from typing import Any, Dict, Iterable, List, Set
 
 from . import keys
 from .project import Project
-from .toml_texts import toml_text, toml_value
 from .versions import normal_name
 
 
@@ -38,12 +37,3 @@ def tables_of(project: Project, extras: Iterable[str]) -> Dict[str, Any]:
             groups[group].append(placed.requirement.text)
     uv = {key: value for key, value in project.settings.items() if f"tool.uv.{key}" in keys.READ}
     return {"project": {**table, "optional-dependencies": lists}, "dependency-groups": groups, "tool": {"uv": uv}}
-
-
-def text_of(tables: Dict[str, Any], path: str = "") -> str:
-    """Tables of texts and lists of texts as TOML."""
-    lines = [f"[{path}]"] if path else []
-    lines += [f"{toml_text(key)} = {toml_value(it)}" for key, it in tables.items() if not isinstance(it, dict)]
-    text = "\n".join(lines) + "\n"
-    below = [(key, it) for key, it in tables.items() if isinstance(it, dict)]
-    return text + "".join(text_of(it, f"{path}.{toml_text(key)}" if path else toml_text(key)) for key, it in below)

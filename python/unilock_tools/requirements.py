@@ -13,12 +13,12 @@ the machine isn't supported, or an extra isn't known); 70 the program can't be b
 from __future__ import annotations
 
 import argparse
-from typing import Dict, List, Optional
+from typing import List, Optional
 
 from . import chosen, console, placed
 from .chosen import Pick
-from .direct import Place
 from .locks import Lock
+from .placed import Places
 
 
 def parser() -> console.Parser:
@@ -32,9 +32,9 @@ def parser() -> console.Parser:
     return made
 
 
-def line_of(lock: Lock, pick: Pick, found: Dict[str, Place], hashes: bool) -> str:
+def line_of(lock: Lock, pick: Pick, found: Places, hashes: bool) -> str:
     """A package's line; one from a source by its address, with its hash where it is a file."""
-    place = found.get(pick.name)
+    place = found.get(pick.key)
     if place is None:
         return chosen.with_hashes(lock, [pick], hashes)
     if not place.is_package:
@@ -52,7 +52,7 @@ def run(asked: argparse.Namespace) -> int:
             picks = chosen.bases(chosen.everywhere(path, lock, extras))
         else:
             picks = chosen.on_machine(path, lock, extras, chosen.machine_file(asked.machine))
-        found = placed.of_lock(asked.lock, lock, [it.name for it in picks])
+        found = placed.of_lock(asked.lock, lock, picks)
         console.put("".join(line_of(lock, it, found, not asked.no_hashes) for it in picks), asked.out)
     return 0
 

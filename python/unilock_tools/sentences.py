@@ -4,9 +4,10 @@ from __future__ import annotations
 
 import difflib
 from pathlib import Path
-from typing import Any, Dict, Iterator, List, Optional, Tuple
+from typing import Any, Callable, Dict, Iterator, List, Optional, Tuple
 
-from . import documents, folders, markers
+from . import documents, folders, labels, markers
+from .printing import listed
 from .project import Project
 from .readings import Requirement, requirement_of
 from .refusal import Base, Cut, Need, Node, Python, Refusal, Step, Term, used
@@ -15,13 +16,6 @@ from .versions import NoReading, Version, meets, specifiers_of, version
 from .worlds import marker_of
 
 Named = Tuple[str, Requirement]
-
-
-def listed(versions: List[str]) -> str:
-    """Versions in a sentence; a long list by its ends."""
-    if len(versions) > 6:
-        return f"{versions[0]}, {versions[1]}, .. {versions[-1]} ({len(versions)} versions)"
-    return " or ".join(", ".join(versions).rsplit(", ", 1))
 
 
 class Teller:
@@ -99,10 +93,37 @@ class Teller:
         head = f"{self.node(need.node, need.versions)} needs {need.target}"
         if need.permitted:
             head += f" at {listed(need.permitted)}"
+        source = self.source_behind(need)
+        if source is not None:
+            place = f"{labels.PLACE}.{need.target.name}"
+            return f"{head} ({place}: it comes from {labels.told(source)})" + self.lack(need, source)
         return f"{head} ({causes or 'a requirement that was changed by the settings'})" + self.lack(need)
 
-    def lack(self, need: Need) -> str:
-        """Why no version is permitted, where none is."""
+    def source_behind(self, need: Need) -> Optional[str]:
+        """The source that permits these versions alone, where it is that and no requirement."""
+        name = need.target.name
+        found = self.project.sources.get(name)
+        if found is None:
+            return None
+        clauses = [it.clauses for _, it in self.behind(need, need.versions[0])]
+        if any(self.is_permitted(need, lambda spelled, _: meets(it, read(spelled))) for it in clauses):
+            return None
+        known = dict(self.refusal.world)
+        if "python_full_version" in known:
+            known["python_version"] = ".".join(known["python_full_version"].split(".")[:2])
+        counting = labels.counting(found, known)
+        of = (it for it in counting if self.is_permitted(need, lambda _, entry: labels.source_of(entry) == it))
+        return next(of, None)
+
+    def is_permitted(self, need: Need, counts: Callable[[str, Dict[str, Any]], bool]) -> bool:
+        """Whether the versions that a need permits are those that count, but for what is never chosen from."""
+        name, permitted = need.target.name, {read(it).key for it in need.permitted}
+        counted = {read(spelled).key: spelled for spelled, entry in self.usable(name) if counts(spelled, entry)}
+        others = [spelled for key, spelled in counted.items() if key not in permitted]
+        return permitted <= set(counted) and all(self.passed_over(name, it) for it in others)
+
+    def lack(self, need: Need, source: Optional[str] = None) -> str:
+        """Why no version is permitted, where none is; `source` where that is for want of releases from there."""
         if need.permitted:
             return ""
         name = need.target.name
@@ -112,6 +133,8 @@ class Teller:
         known = self.usable(name)
         if not known:
             return f", and the index has no version of {name} that can be used" + self.unusable(name, document)
+        if source is not None:
+            return f", and {self.unsourced(name, source)}" + self.unusable(name, document)
         reasons = []
         for _, it in self.behind(need, need.versions[0]):
             met = [spelled for spelled, _ in known if meets(it.clauses, read(spelled))]
@@ -124,6 +147,14 @@ class Teller:
         return (
             ", and " + "; ".join(reasons) if reasons else ", and no version is permitted"
         ) + self.unusable(name, document)
+
+    def unsourced(self, name: str, source: str) -> str:
+        """Why no release of a name counts that comes from a source."""
+        known = self.usable(name)
+        theirs = [spelled for spelled, entry in known if labels.source_of(entry) == source]
+        if theirs:
+            return "; ".join(self.passed_over(name, spelled) for spelled in theirs[:3])
+        return f"no release of {name} comes from {labels.told(source)}; its releases: {labels.releases_told(known)}"
 
     def alike(self, name: str) -> str:
         """Names of the index that are like one that it doesn't have."""

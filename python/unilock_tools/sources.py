@@ -1,9 +1,9 @@
 """Where packages come from that no index is asked for: `tool.uv.sources`, and requirements by a URL (PEP 508).
 
 A source is a folder, a wheel or a source distribution on disk (`path`), an address of a wheel or a source distribution
-(`url`), a commit of a repository (`git` with `rev`, `tag` or `branch`), or a member of the workspace. Each name has one
-source without a condition: several, told apart by markers, extras or groups, aren't read yet and are refused. A source
-that is a package index is the matter of who asks indexes, and is passed over here.
+(`url`), a commit of a repository (`git` with `rev`, `tag` or `branch`), or a member of the workspace. A name has one
+such source at most, beside sources that are package indexes and are the matter of who asks those. The project itself
+and the members of its workspace may have sources under a marker (`labels`); nobody else does.
 """
 
 from __future__ import annotations
@@ -13,12 +13,12 @@ from collections.abc import Collection, Iterator, Mapping
 from typing import Any, NamedTuple, Union
 from urllib.parse import parse_qs, quote, unquote, urlsplit, urlunsplit
 
-from . import addresses, console
+from . import addresses, console, labels
 from .console import Refused
-from .index_settings import CONDITIONS, uv_table
-from .profile import Tables, table, texts_in
+from .labels import CONDITIONS
+from .profile import Tables, table, texts_in, uv_table
 from .requirement_texts import parts_of
-from .versions import NAME, normal_name, version
+from .versions import version
 
 KINDS = ("path", "url", "git", "workspace", "index")
 REFERENCES = ("rev", "tag", "branch")
@@ -104,39 +104,36 @@ def required_texts(tables: Tables, groups: bool = True) -> Iterator[str]:
             yield from texts_in(uv_table(tables).get(key))
 
 
-def read(tables: Tables, path: str) -> dict[str, Source]:
-    """The sources of a project file by the names that they are of."""
-    listed = uv_table(tables).get("sources", {})
-    if not isinstance(listed, dict):
-        raise Refused(f"{path}: tool.uv.sources: it isn't a table", 3)
+def read(tables: Tables, path: str, is_own: bool = False) -> dict[str, Source]:
+    """The sources of a project file by the names that they are of; under conditions of the user's own project alone."""
     found: dict[str, Source] = {}
-    seen: set[str] = set()
-    for spelled, value in listed.items():
-        name = normal_name(spelled)
-        place = f"{path}: tool.uv.sources.{console.escaped(spelled)}"
-        if not NAME.match(spelled) or name in seen:
-            raise Refused(f"{place}: {'it is named twice' if name in seen else 'it is no name'}", 3)
-        seen.add(name)
-        source = one_source(place, value)
+    for name, (place, entries) in labels.tables_in(tables, path).items():
+        source = one_source(f"{path}: {place}", entries, is_own)
         if source is not None:
             found[name] = source
     return found
 
 
-def one_source(place: str, value: object) -> Source | None:
-    """The one source of a name; None of an index."""
-    listed = value if isinstance(value, list) else [value]
-    if not listed or not all(isinstance(it, dict) for it in listed):
-        raise Refused(f"{place}: it is neither a table nor a list of tables", 3)
-    conditions = sorted({key for it in listed for key in CONDITIONS if key in it})
-    if len(listed) > 1 or conditions:
-        what = f"{len(listed)} sources" if len(listed) > 1 else f"a source with {' and '.join(conditions)}"
-        raise Refused(f"{place}: {what}: a name has one source here, everywhere; leave one, without a condition", 3)
-    entry: dict[str, Any] = listed[0]
+def one_source(place: str, entries: list[Tables], is_own: bool) -> Source | None:
+    """The one source of a name that is no index; None where there is none."""
+    labels.labels_of(place, entries)
+    conditions = sorted({key for it in entries for key in CONDITIONS if key in it})
+    if not is_own and (len(entries) > 1 or conditions):
+        what = f"{len(entries)} sources" if len(entries) > 1 else f"a source with {' and '.join(conditions)}"
+        raise Refused(f"{place}: {what}: only the project and its workspace's members may say where each counts", 3)
+    kinds = [(kind_of(place, it), it) for it in entries]
+    direct = [of_entry(place, kind, it) for kind, it in kinds if kind != "index"]
+    if len(direct) > 1:
+        told = " and ".join(it.shown() for it in direct)
+        raise Refused(f"{place}: {told}: nothing tells their releases apart; one of them at most may be no index", 3)
+    return direct[0] if direct else None
+
+
+def kind_of(place: str, entry: Tables) -> str:
     kinds = [it for it in KINDS if it in entry]
     if len(kinds) != 1:
         raise Refused(f"{place}: it has {' and '.join(kinds) or 'none'} of {', '.join(KINDS)}, and one is wanted", 3)
-    return None if kinds[0] == "index" else of_entry(place, kinds[0], entry)
+    return kinds[0]
 
 
 def of_entry(place: str, kind: str, entry: dict[str, Any]) -> Source:
@@ -273,19 +270,24 @@ def named_by(tables: Tables, path: str, groups: bool = True) -> dict[str, Source
     return found
 
 
-def wanted(tables: Tables, path: str, groups: bool = True) -> dict[str, Source]:
+def wanted(tables: Tables, path: str, groups: bool = True, is_own: bool = False) -> dict[str, Source]:
     """The sources of the names that a file requires; a requirement's own URL counts before `tool.uv.sources`."""
     names = {parts_of(it).name for it in required_texts(tables, groups)}
-    listed = {name: it for name, it in read(tables, path).items() if name in names}
+    listed = {name: it for name, it in read(tables, path, is_own).items() if name in names}
     return {**listed, **named_by(tables, path, groups)}
 
 
 def followed(
-    tables: Tables, path: str, groups: bool, above: Mapping[str, Source], members: Collection[str]
+    tables: Tables,
+    path: str,
+    groups: bool,
+    above: Mapping[str, Source],
+    members: Collection[str],
+    is_own: bool = False,
 ) -> Iterator[tuple[str, Source, bool]]:
     """The sources of the names that a project requires: its own; else, told by True, what the root of its workspace
     says; else that a member has the name."""
-    own = wanted(tables, path, groups)
+    own = wanted(tables, path, groups, is_own)
     for name in dict.fromkeys(parts_of(it).name for it in required_texts(tables, groups)):
         if name in own or name in above:
             yield name, own[name] if name in own else above[name], name not in own

@@ -46,13 +46,12 @@ from .addresses import shown
 from .called import command
 from .chosen import Pick
 from .console import Refused
-from .direct import Place
 from .direct_files import Means
 from .index_settings import Variables
 from .locks import Lock
 from .own_project import Own
 from .pip_runs import Pip
-from .placed import Sourced, Stamps
+from .placed import Places, Sourced, Stamps
 from .terminal import Screen, add_color
 from .uv_runs import Uv
 from .vendored import has_toml_reader
@@ -145,16 +144,17 @@ def change(
     there: dict[str, str],
     keep: bool,
     own: Own | None = None,
-    found: dict[str, Place] | None = None,
+    found: Places | None = None,
     stamps: Stamps | None = None,
     editable: bool = True,
 ) -> Change:
     """What is to be done. What came from a source before and comes from an index now is removed first, whatever its
     version is."""
     names, places = {it.name for it in picks}, found or {}
+    direct = {it.name for it in picks if it.key in places}
     gone = [] if keep else [it for it in sorted(there) if it not in names | KEPT | {lock.root}]
-    left = {} if stamps is None else {it: 0 for it in stamps.found if it in there and it in names - set(places)}
-    plain = [it for it in picks if it.name not in places]
+    left = {} if stamps is None else {it: 0 for it in stamps.found if it in there and it in names - direct}
+    plain = [it for it in picks if it.name not in direct]
     wanted = [it for it in plain if it.name in left or not equal(it.version, there.get(it.name))]
     of_sources = placed.sourced(picks, places, editable)
     fresh = tuple(it for it in of_sources if stamps is None or not stamps.has(it, there))
@@ -323,8 +323,8 @@ def synced(asked: argparse.Namespace, path: str, lock: Lock) -> int:
         told = environments.environment_told_by(python, folder)
     extras = extras_of(asked, lock, tables)
     picks = [it._replace(extras=()) for it in given_on(asked, path, lock, extras, told.variables)]
-    means = placed.means_of(lock, [it.name for it in picks])
-    found = placed.places(workspace, lock, asked.lock, means)
+    means = placed.means_of(lock, picks)
+    found = placed.places(workspace, lock, picks, asked.lock, means)
     pip = None if fresh else installer(asked, folder, python, told.has_pip)
     there = {} if pip is None else pip.installed()
     fresh_own = None if own is None or own.is_installed(Path(folder), there) else own
@@ -335,7 +335,7 @@ def synced(asked: argparse.Namespace, path: str, lock: Lock) -> int:
         return 0
     indexes = indexes_of(asked, workspace, pip.variables)
     if isinstance(pip, Uv):
-        plain = chosen.with_hashes(lock, [it for it in picks if it.name not in found], not asked.no_hashes)
+        plain = chosen.with_hashes(lock, [it for it in picks if it.key not in found], not asked.no_hashes)
         wanted = uv_runs.Wanted(plain, placed.sourced(picks, found, not asked.no_editable), own)
         uv_runs.sync(pip, wanted, means, places_of(asked), indexes)
         kept(pip, made)

@@ -8,7 +8,7 @@ from __future__ import annotations
 
 from typing import Any, Dict, Iterator, List, NamedTuple, Optional, Sequence, Set, Tuple
 
-from . import documents, markers, worlds
+from . import documents, labels, markers, worlds
 from .locks import Lock, Package
 from .project import Project
 from .readings import Requirement, requirement_of
@@ -61,6 +61,7 @@ class Judge:
         self.environments = project.environments()
         own = [str(it.requirement.text.partition(";")[2]).strip() for it in project.requirements]
         texts = {*worlds.marker_texts(lock), *self.environments, *own}
+        texts |= {it.marker for found in project.sources.values() for it in found}
         for package in lock.packages:
             texts |= {text.partition(";")[2].strip() for text in self.texts(package)}
             texts |= {f"python_full_version >= '{it.version.text()}'" for it in self.bound(package)}
@@ -224,11 +225,24 @@ class Judge:
                     return f"the project allows `{one.text}` alone ({placed.place}), and {given}"
         return None
 
+    def unsourced(self, package: Package) -> Optional[str]:
+        """That a version doesn't come from where the project's sources say, on a machine that gets it."""
+        listed = self.project.sources.get(package.name)
+        source = labels.source_of(self.release(package) or {})
+        for machine, walked in [] if listed is None else self.walks:
+            counting = labels.counting(listed or (), machine)
+            if package.version in walked.versions().get(package.name, ()) and counting != [source]:
+                wanted = " and ".join(map(labels.told, counting))
+                given = f"the lock gives {package.name} {package.version} from {labels.told(source)}"
+                takes = f"the project takes {package.name} from {wanted} ({labels.PLACE}.{package.name})"
+                return f"on {worlds.described(machine)} {takes}, and {given}"
+        return None
+
     def fault(self, package: Package) -> Optional[str]:
         """What is wrong with a package of the lock, as far as the machines show."""
         try:
             if package.name != self.lock.root:
-                found = self.eligible(package) or self.bounded(package)
+                found = self.eligible(package) or self.bounded(package) or self.unsourced(package)
                 if found is not None:
                     return found
             return next((it for it in (self.at(package, *one) for one in self.walks) if it is not None), None)

@@ -22,7 +22,7 @@ from .project import Project
 from .readings import Requirement, requirement_of
 from .simple import PackageIndex
 from .terminal import Meter
-from .versions import NoReading, Version, meets, version
+from .versions import Key, NoReading, Version, meets, version
 
 # The names that the program meets at most.
 MOST_PACKAGES = 20_000
@@ -122,6 +122,22 @@ def allowed(found: List[ListedRelease], project: Project, name: str, choice: Cho
     return Allowed(final, others, later)
 
 
+def allowed_of_each(found: List[ListedRelease], project: Project, name: str, choice: Choice) -> Allowed:
+    """The releases of a name, those of each source by themselves: none takes the place of another's."""
+    sources = dict.fromkeys(it.source for it in found)
+    made = [allowed([it for it in found if it.source == one], project, name, choice) for one in sources]
+    taken, finals, later = ([it for one in listed for it in one] for listed in zip(*made)) if made else ([], [], [])
+    return Allowed(taken, finals, later)
+
+
+def beside_given(page: ProjectPage, given: Set[Key]) -> Tuple[List[ListedRelease], List[Passed]]:
+    """The releases of a page beside those that come from no index, and the files of versions that these have too."""
+    twice = [it for it in page.releases if it.version.key in given]
+    left = [Passed(file.name, f"{it.version.text()} is there from no index too, which counts first")
+            for it in twice for file in it.files]  # fmt: skip
+    return [it for it in page.releases if it.version.key not in given], left
+
+
 def pins(requirement: Requirement, found: Version) -> bool:
     return any(it.op == "==" and not it.prefix and it.version.key == found.key for it in requirement.clauses)
 
@@ -143,7 +159,8 @@ class Walk:
     ) -> None:
         self.client, self.project, self.choice, self.gathered = client, project, choice, known
         self.meter = meter
-        self.local = set(known.releases)
+        self.local = set(known.releases) - known.beside
+        self.given = {name: set(known.releases.get(name, ())) for name in known.beside}
         self.reached: Dict[str, Reached] = {}
         self.passed: Dict[Tuple[str, str], List[str]] = {}
         self.files: Dict[Tuple[str, str], List[str]] = {}
@@ -198,10 +215,11 @@ class Walk:
         if len(self.reached) == MOST_PACKAGES:
             raise console.Refused(f"more than {MOST_PACKAGES:,} packages are reached; `--newest N` reaches fewer", 4)
         one = self.reached[name] = Reached(by)
-        if name in self.local:
-            for release in self.gathered.releases[name].values():
-                one.required.append((f"{name} {release.metadata.version}", requirements_in(release.metadata)))
-        else:
+        for release in self.gathered.releases.get(name, {}).values():
+            one.required.append((f"{name} {release.metadata.version}", requirements_in(release.metadata)))
+            found = version(release.metadata.version)
+            one.usable += found is not None and not found.is_pre
+        if name not in self.local:
             self.start(lambda: self.client.page(name), lambda found: self.paged(name, found))
         return one
 
@@ -226,14 +244,15 @@ class Walk:
             return
         assert isinstance(found, ProjectPage)
         self.known += 1
-        for file in found.passed:
+        self.absent += [f"{it}, which {one.by} requires" for it in found.lacking]
+        listed, left = beside_given(found, self.given.get(name, set()))
+        for file in [*found.passed, *left]:
             self.files.setdefault((name, file.fault), []).append(file.file)
-        listed = found.releases
         if self.choice.before is not None:
             listed = uploaded_before(name, listed, self.choice.before)
-        if not listed:
+        if not listed and not self.given.get(name):
             self.absent.append(f"{no_release(name, found)}; {one.by} requires it")
-        taken, one.finals, one.later = allowed(listed, self.project, name, self.choice)
+        taken, one.finals, one.later = allowed_of_each(listed, self.project, name, self.choice)
         self.take(name, taken)
 
     def take(self, name: str, taken: List[ListedRelease]) -> None:

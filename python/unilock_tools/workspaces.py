@@ -12,10 +12,10 @@ from collections.abc import Iterator
 from pathlib import Path
 from typing import NamedTuple
 
-from . import console, markers
+from . import console, labels, markers, sources
 from .console import Refused
-from .index_settings import uv_table
-from .profile import Tables, table
+from .labels import Labels
+from .profile import Tables, table, uv_table
 from .vendored import has_toml_reader, toml_of
 from .versions import NAME, Version, meets, normal_name, specifiers_fault, specifiers_of, version_of
 
@@ -193,6 +193,23 @@ def shortest(folder: Path) -> Path:
     if here.is_relative_to(folder):
         return Path(*[".."] * (len(here.parts) - len(folder.parts)))
     return folder
+
+
+def labels_in(workspace: Workspace) -> dict[str, Labels]:
+    """The sources of each name in a whole workspace, whose projects agree on them. A requirement's own URL counts
+    before them."""
+    found: dict[str, tuple[Labels, Path]] = {}
+    by_url: set[str] = set()
+    members = [(it.tables, it.folder / FILE) for it in workspace.members.values()]
+    for tables, path in [(workspace.tables, workspace.path), *members]:
+        by_url |= set(sources.named_by(tables, str(path)))
+        for name, one in labels.read(tables, str(path)).items():
+            first, by = found.setdefault(name, (one, path))
+            if first != one:
+                is_one = len(first) == len(one) == 1 and not (first[0].marker or one[0].marker)
+                what = "its index isn't the one that" if is_one else "its sources aren't those that"
+                raise Refused(f"{path}: {labels.PLACE}.{name}: {what} {by} names", 3)
+    return {name: one for name, (one, _) in found.items() if name not in by_url}
 
 
 def requires_python(workspace: Workspace) -> str:
