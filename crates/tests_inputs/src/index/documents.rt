@@ -1,7 +1,8 @@
 //! Index documents and eligible releases.
 
-ghost use Rattle.std.specs.Prelude.{◌≡◌, ◌≤◌, IsTrue, false, length};
+ghost use Rattle.std.specs.Prelude.{◌≡◌, ◌≤◌, All, IfOk, IfSome, IsTrue, false, length};
 ghost use Rattle.std.specs.Str.{bytes_eq};
+ghost use Rattle.ul_specifier.specs.Clauses.{IsClause};
 
 use std::alloc::{AllocError, Global};
 use std::fmt::Write;
@@ -475,17 +476,38 @@ fn modes_of_pre_releases(rt: HostRuntime) {
     }
 }
 
+// The clause that a version alone doesn't meet.
+fn exclusion(alloc: Global, text: &str) -> Option<Clause>
+    ensures { IfSome result IsClause }
+{
+    let version = Version::read(alloc, text).ok()?;
+    Some(Clause {
+        op: Op::Distinct,
+        version,
+        prefix: false,
+    })
+}
+
+// Clauses, and one more.
+fn with_clause(clauses: Vec<Clause>, clause: Clause) -> Result<Vec<Clause>, AllocError>
+    requires clauses { All IsClause clauses.items }
+    requires clause { IsClause clause }
+    ensures { IfOk result (λ v. All IsClause v.items) }
+{
+    let mut clauses = clauses;
+    clauses.push(clause)?;
+    Ok(clauses)
+}
+
 // The exclusions of versions, with a space between each two.
 fn exclusions(alloc: Global, texts: &str) -> Option<Specifiers> {
     let mut clauses = Vec::new(alloc);
     for text in texts.split(' ') {
-        let version = Version::read(alloc, text).ok()?;
-        let clause = Clause {
-            op: Op::Distinct,
-            version,
-            prefix: false,
+        let clause = exclusion(alloc, text)?;
+        let Ok(more) = with_clause(clauses, clause) else {
+            return None;
         };
-        clauses.push(clause).ok()?;
+        clauses = more;
     }
     Some(Specifiers { clauses })
 }
