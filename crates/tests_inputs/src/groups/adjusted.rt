@@ -33,7 +33,7 @@ dependencies = ['a']~[tool.uv]~constraint-dependencies = ["a; os_name == 'a'"]|a
 // Rows of sources, which are read under the profile `wide` alone.
 const SOURCES: &str =
     r#"dependencies = ['t']~[tool.unilock]~profile = 'wide'~[tool.uv.sources]~t = { index = 'Beta' }|t [{"version": "1"}, {"version": "2", "source": "beta"}, {"version": "3", "source": "c"}]~u [{"version": "5", "requires_dist": ["t>1", "t; os_name == 'a'", "v"]}]|p 0: t t!==1!==3 ~t 1: 2: 3: ~u 5: t>1 t!==1!==3 t;aA t!==1!==3;aA v ~
-dependencies = ['t']~[tool.uv.sources]~t = { index = 'beta' }|t [{"version": "1"}]~u []|p 0: t ~t 1: ~u ~
+dependencies = ['t']~[tool.uv.sources]~t = { index = 'beta' }|t [{"version": "1"}]~u []|
 dependencies = ['t']~[tool.unilock]~profile = 'wide'~[tool.uv.sources]~t = { index = 'beta', marker = "os_name == 'a'" }|t [{"version": "1"}, {"version": "2", "source": "beta"}]~u []|p 0: t t!==1;aA t!==2;bB ~t 1: 2: ~u ~
 dependencies = ["t; os_name == 'a'"]~[tool.unilock]~profile = 'wide'~[tool.uv.sources]~t = { index = 'beta', marker = "os_name == 'a'" }|t [{"version": "1"}, {"version": "2", "source": "beta"}]~u []|p 0: t;aA t!==1;aA t!==2; ~t 1: 2: ~u ~
 dependencies = ['t']~[tool.unilock]~profile = 'wide'~[tool.uv.sources]~t = [{ index = 'beta', marker = "os_name == 'a'" }, { path = '../t', marker = "os_name != 'a' and python_version < '3'" }]|t [{"version": "1"}, {"version": "2", "source": "beta"}, {"version": "3", "source": "direct"}]~u []|p 0: t t!==1!==3;aA t!==1!==2; t!==2!==3;bB ~t 1: 2: 3: ~u ~
@@ -75,7 +75,7 @@ fn fit(project: &Package, first: &Package, second: &Package) -> bool
     {
         return false;
     }
-    release_count(first) < 100 && release_count(second) < 100 && !have_one_name(first, second)
+    release_count(first) < 9_000 && release_count(second) < 9_000 && !have_one_name(first, second)
 }
 
 fn are_catalog(packages: &[Package]) -> bool
