@@ -122,6 +122,8 @@ class Judging(Folder):
 class RoundTrip(Judging):
     def scenarios(self) -> Iterator[Case]:
         names = os.environ.get("SCENARIOS", "").split()
+        # what stands at the path of a source
+        self.write("t/pyproject.toml", '[project]\nname = "t"\nversion = "1"\n')
         for path in sorted(FOLDER.glob("*.txt")):
             found = SCENARIO.read(path)
             is_asked = path.stem in names if names else path.stem != BY_URL
