@@ -3,6 +3,7 @@
 from __future__ import annotations
 
 import os
+import select
 import subprocess
 import sys
 import tempfile
@@ -20,6 +21,10 @@ RIGHT, WRONG, FAILED, TIMED_OUT = "right", "wrong", "failed", "timed out"
 LACKING = "lacking"
 # Statuses that say that the project isn't as wanted; all others but 0 say that the job couldn't be done.
 SAYS_WRONG = {"verify": {9}, "check": {1, 4, 9}, "lock": {1, 4}, "outdated": {1}, "judge": {1}}
+
+
+# A file system in memory, where the system has one: files for small jobs cost less there.
+IN_MEMORY = "/dev/shm"
 
 
 @dataclass(frozen=True)
@@ -77,7 +82,7 @@ def done(task: Task, archive: bytes = b"", room: str | None = None) -> Row:
 
 def done_all(tasks: tuple[Task, ...], archives: Mapping[str, bytes]) -> list[Row]:
     """Does the jobs of a batch here, one after another; `archives` has the indexes that go with it."""
-    with tempfile.TemporaryDirectory(prefix="unilock-many-") as room:
+    with tempfile.TemporaryDirectory(prefix="unilock-many-", dir=quick_folder()) as room:
         return [done(it, archives.get(it.index, b""), room) for it in tasks]
 
 
@@ -102,24 +107,56 @@ def console_line(text: str) -> str:
 def answered(task: Task, folder: str, index: str, room: str | None = None) -> tuple[str, str]:
     """What a job on these folders comes to, and what was said."""
     words = command(task.job, folder, index)
-    environment = {**os.environ, "PYTHONPATH": os.pathsep.join([str(Path(__file__).parent.parent), *python_path()])}
     # The program is handed a project by its profile; a tool that is called hands it on so by itself.
     with profile.handed(words[1:], room=room) as (asked, told):
         try:
-            run = subprocess.run(
-                [words[0], *asked],
-                capture_output=True,
-                stdin=subprocess.DEVNULL,
-                env=environment,
-                timeout=task.timeout,
-                check=False,
-            )
+            status, body = ended([words[0], *asked], task.timeout, room)
         except subprocess.TimeoutExpired:
             return TIMED_OUT, f"it took longer than {task.timeout:g} seconds"
-        text = told(run.stdout or run.stderr).decode("utf-8", "replace")
-    if run.returncode == 0:
+        text = told(body).decode("utf-8", "replace")
+    if status == 0:
         return RIGHT, text if task.job == "outdated" else ""
-    return (WRONG if run.returncode in SAYS_WRONG[task.job] else FAILED), text or f"status {run.returncode}"
+    return (WRONG if status in SAYS_WRONG[task.job] else FAILED), text or f"status {status}"
+
+
+def ended(words: list[str], timeout: float, room: str | None) -> tuple[int, bytes]:
+    """The status of a process, and what it wrote to standard output, or else to standard error. Files take both, since
+    a pipe wants a reader beside it."""
+    environment = None
+    if words[0] == sys.executable:
+        path = os.pathsep.join([str(Path(__file__).parent.parent), *python_path()])
+        environment = {**os.environ, "PYTHONPATH": path}
+    with tempfile.TemporaryFile(dir=room) as output, tempfile.TemporaryFile(dir=room) as errors:
+        with subprocess.Popen(
+            words, stdin=subprocess.DEVNULL, stdout=output, stderr=errors, env=environment
+        ) as process:
+            try:
+                wait(process, timeout)
+            except BaseException:
+                process.kill()
+                raise
+        output.seek(0)
+        errors.seek(0)
+        return process.returncode, output.read() or errors.read()
+
+
+def wait(process: subprocess.Popen[bytes], timeout: float) -> None:
+    """Waits for the end of a process: by the system where it tells, since Python looks at intervals."""
+    if not hasattr(os, "pidfd_open"):
+        process.wait(timeout)
+        return
+    ending = os.pidfd_open(process.pid)
+    try:
+        if not select.select([ending], [], [], timeout)[0]:
+            raise subprocess.TimeoutExpired(process.args, timeout)
+    finally:
+        os.close(ending)
+    process.wait()
+
+
+def quick_folder() -> str | None:
+    """Where files of small jobs are put: in memory, or else where temporary files usually are."""
+    return IN_MEMORY if os.access(IN_MEMORY, os.W_OK | os.X_OK) else None
 
 
 def python_path() -> list[str]:

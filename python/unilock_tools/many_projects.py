@@ -23,8 +23,11 @@ def lock_name(folder: Path, job: str) -> str:
 
 def below(top: Path, job: str) -> Iterator[Path]:
     for at, folders, files in os.walk(top):
-        folders[:] = sorted(it for it in folders if it not in HIDDEN)
-        if PROJECT in files and lock_name(Path(at), job):
+        is_project = PROJECT in files and bool(lock_name(Path(at), job))
+        # The documents of a project's own index folder are many, and no projects.
+        passed_over = HIDDEN | {INDEX} if is_project else HIDDEN
+        folders[:] = sorted(it for it in folders if it not in passed_over)
+        if is_project:
             yield Path(at)
 
 

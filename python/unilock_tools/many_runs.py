@@ -114,9 +114,11 @@ def hold_interrupts() -> None:
     signal.pthread_sigmask(signal.SIG_BLOCK, {signal.SIGINT})
 
 
-def serve(connection: Connection) -> None:
+def serve(connection: Connection, others: Iterable[Connection] = ()) -> None:
     """Does the batches that come by a connection until it is closed; an interrupt ends it, and the job that it does, in
-    silence."""
+    silence. `others` are connections that aren't this process's, which it would keep open."""
+    for it in others:
+        it.close()
     for number in (signal.SIGTERM, signal.SIGINT):
         signal.signal(number, lambda *given: sys.exit(INTERRUPTED))
     signal.pthread_sigmask(signal.SIG_UNBLOCK, {signal.SIGINT})
@@ -127,14 +129,22 @@ def serve(connection: Connection) -> None:
 
 class Processes:
     """Processes of this machine that do batches. Each has a thread that hands them to it, so one that is lost is lost
-    with the batch that it does alone, and another one takes its place."""
+    with the batch that it does alone, and another one takes its place.
+
+    A copy of this process is there at once where a new interpreter reads all modules first. But it is a safe one on Linux
+    alone, and only while this process has one thread: so the first ones are copies there, and those that come later new.
+    """
 
     def __init__(self, count: int) -> None:
-        self.threads = concurrent.futures.ThreadPoolExecutor(count, initializer=hold_interrupts)
         self.of_thread = threading.local()
         self.begun: list[BaseProcess] = []
+        self.ready: list[Connection] = []
         self.lock = threading.Lock()
         self.is_closed = False
+        if sys.platform == "linux" and threading.active_count() == 1:
+            for _ in range(count):
+                self.ready.append(self.begin("fork", self.ready))
+        self.threads = concurrent.futures.ThreadPoolExecutor(count, initializer=hold_interrupts)
 
     def submit(self, batch: Batch) -> concurrent.futures.Future[list[Row]]:
         return self.threads.submit(self.done, batch)
@@ -156,14 +166,21 @@ class Processes:
             with self.lock:
                 if self.is_closed:
                     raise Lost("it wasn't begun")
-                context = multiprocessing.get_context("spawn")
-                found, other = context.Pipe()
-                begun = context.Process(target=serve, args=(other,), daemon=True)
-                begun.start()
-                other.close()
-                self.begun.append(begun)
+                found = self.ready.pop() if self.ready else self.begin("spawn")
             self.of_thread.connection = found
         return found
+
+    def begin(self, method: str, others: Iterable[Connection] = ()) -> Connection:
+        """Begins a process, and answers the connection to it; `others` are those that a copy of this one closes."""
+        context: Any = multiprocessing.get_context(method)
+        found, other = context.Pipe()
+        more = ([*others, found],) if method == "fork" else ()
+        begun: BaseProcess = context.Process(target=serve, args=(other, *more), daemon=True)
+        begun.start()
+        other.close()
+        self.begun.append(begun)
+        connection: Connection = found
+        return connection
 
     def close(self) -> None:
         """Ends all processes, with what they still do."""
