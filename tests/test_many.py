@@ -284,6 +284,27 @@ class Rows(Projects):
         with self.assertRaisesRegex(console.Refused, "a lock of another tool"):
             many_projects.projects([str(self.top / "all" / "c")], "judge")
 
+    def test_a_projects_own_index_folder_isnt_searched(self) -> None:
+        for folder in ("all/a", "all/a/ix/b", "all/ix/c"):
+            self.write(f"{folder}/pyproject.toml", "[project]\n")
+            self.write(f"{folder}/unilock.lock", "right")
+        found = many_projects.projects([str(self.top / "all")], "verify")
+        self.assertEqual([it.name for it in found], ["a", "c"])
+
+    def test_ends_of_processes(self) -> None:
+        def each_way() -> None:
+            self.assertEqual(many_jobs.ended(["sh", "-c", "echo a; echo b >&2; exit 3"], 60, None), (3, b"a\n"))
+            self.assertEqual(many_jobs.ended(["sh", "-c", "echo b >&2"], 60, str(self.top)), (0, b"b\n"))
+            with self.assertRaises(subprocess.TimeoutExpired):
+                many_jobs.ended(["sleep", "60"], 0.1, None)
+
+        each_way()
+        if hasattr(os, "pidfd_open"):
+            # As where the system doesn't tell of ends.
+            self.addCleanup(setattr, os, "pidfd_open", os.pidfd_open)
+            del os.pidfd_open
+            each_way()
+
     def test_files_are_sent_to_a_cluster_alone(self) -> None:
         self.project("a", "right")
         self.tool("verify", "a", "--send", status=2)

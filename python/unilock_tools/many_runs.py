@@ -131,8 +131,8 @@ class Processes:
     """Processes of this machine that do batches. Each has a thread that hands them to it, so one that is lost is lost
     with the batch that it does alone, and another one takes its place.
 
-    A copy of this process is there at once where a new interpreter reads all modules first. But it is a safe one on Linux
-    alone, and only while this process has one thread: so the first ones are copies there, and those that come later new.
+    A copy of this process is there at once, where a new interpreter reads all modules first. But it is a safe one on
+    Linux alone, and while this process has one thread: so the first ones are copies there, and later ones are new.
     """
 
     def __init__(self, count: int) -> None:
